@@ -1,0 +1,13 @@
+pub mod Edits
+pub mod Given
+pub mod Joins
+pub mod NameLines
+pub mod Numbers
+pub mod Ranges
+pub mod Runs
+pub mod ScriptLines
+pub mod ScriptNames
+pub mod Sessions
+pub mod Stops
+pub mod Taken
+pub mod WholeTexts

@@ -1,0 +1,49 @@
+use Rattle.std.proofs.Common.{rules, ◌≡◌, Some, IfSome, subst}
+use Rattle.std.proofs.lemmas.Result.{err_from_is_err_and}
+use Rattle.plansys.proofs.Given.{no_session, no_domain, no_script, no_form, gives}
+use Rattle.plansys.specs.Input.{script_file}
+use Rattle.plansys.specs.DomainForm.{domain_from}
+use Rattle.plansys.specs.Scripts.{script_from}
+use Rattle.plansys.specs.Faults.{word_texts, IsJudged}
+use Rattle.plansys.proofs.inputs.read_input.Goals as goal
+
+pub returns-then-not-is_session-clause-cause : goal.returns-then-not-is_session-clause-cause
+returns-then-not-is_session-clause-cause g c = no_session (word_texts c.args.words.now) (g.F.Files.text_of c.args.files.now) (g.F.Files.faults c.args.files.now) (g.F.Files.faults c.args.files.now) (search rules)
+
+pub returns-in_err-domain_text-clause-cause : goal.returns-in_err-domain_text-clause-cause
+returns-in_err-domain_text-clause-cause g c =
+    let ws = word_texts c.args.words.now in
+    let p = err_from_is_err_and c.from_residual.result c.from_residual.ensures.1 in
+    rw (p.1, p.2) (no_domain ws (g.F.Files.text_of c.args.files.now) (g.F.Files.faults c.args.files.now) (g.F.Files.faults c.read_text.new.files) c.in_err-domain_text.field-0.0 (search rules) c.in_err-domain_text.ensures.cause)
+
+pub returns-in_err-script-clause-cause : goal.returns-in_err-script-clause-cause
+returns-in_err-script-clause-cause g c =
+    let ws = word_texts c.args.words.now in
+    let told = g.F.Files.text_of c.args.files.now in
+    let later = g.F.Files.text_of c.read_text.new.files in
+    let before = g.F.Files.faults c.args.files.now in
+    let middle = g.F.Files.faults c.read_text.new.files in
+    let now = g.F.Files.faults c.read_text-2.new.files in
+    let p = err_from_is_err_and c.from_residual-in_err-script.result c.from_residual-in_err-script.ensures.1 in
+    rw (p.1, p.2) (no_script ws told later c.in_ok-domain_text.domain_text.items before middle now c.in_err-script.field-0.0 (search rules) c.in_ok-domain_text.ensures.short c.in_ok-domain_text.ensures.text (c.read_text.ensures.same (script_file ws)) c.read_text.ensures.later c.in_err-script.ensures.cause)
+
+pub returns-in_err-domain-clause-cause : goal.returns-in_err-domain-clause-cause
+returns-in_err-domain-clause-cause g c =
+    let ws = word_texts c.args.words.now in
+    let told = g.F.Files.text_of c.args.files.now in
+    let script = c.in_ok-script.script.items in
+    let read = subst (λ t. IfSome t (λ x. script ≡ x)) (c.read_text.ensures.same (script_file ws)) c.in_ok-script.ensures.text in
+    let judged = subst (λ t. IsJudged (domain_from t c.in_ok-domain_text.domain_text.items) c.in_err-domain.field-0.0) c.requires (subst (λ t. IsJudged (domain_from c.args.names.now t) c.in_err-domain.field-0.0) c.as_slice.ensures.value c.in_err-domain.ensures.cause) in
+    let p = err_from_is_err_and c.from_residual-in_err-domain.result c.from_residual-in_err-domain.ensures.1 in
+    rw (p.1, p.2) (no_form ws told c.in_ok-domain_text.domain_text.items script (g.F.Files.faults c.args.files.now) (g.F.Files.faults c.read_text-2.new.files) c.in_err-domain.field-0.0 (search rules) c.in_ok-domain_text.ensures.short c.in_ok-domain_text.ensures.text c.in_ok-script.ensures.short read judged)
+
+pub returns-clause-ok : goal.returns-clause-ok
+returns-clause-ok g c =
+    let ws = word_texts c.args.words.now in
+    let told = g.F.Files.text_of c.args.files.now in
+    let script = c.in_ok-script.script.items in
+    let read = subst (λ t. IfSome t (λ x. script ≡ x)) (c.read_text.ensures.same (script_file ws)) c.in_ok-script.ensures.text in
+    let domain = subst (λ t. domain_from t c.in_ok-domain_text.domain_text.items ≡ Some (c.in_ok-domain.domain, c.judge_domain.new.names)) c.requires (subst (λ t. domain_from c.args.names.now t ≡ Some (c.in_ok-domain.domain, c.judge_domain.new.names)) c.as_slice.ensures.value c.in_ok-domain.ensures.ok) in
+    gives ws told c.in_ok-domain_text.domain_text.items script c.in_ok-domain.domain c.judge_domain.new.names c.read_script.new.names c.in_ok-lines.lines (search rules) c.in_ok-domain_text.ensures.short c.in_ok-domain_text.ensures.text c.in_ok-script.ensures.short read domain
+    (subst (λ t. (script_from c.judge_domain.new.names t).0 ≡ c.in_ok-lines.lines) c.as_slice-2.ensures.value c.in_ok-lines.ensures.lines)
+    (subst (λ t. (script_from c.judge_domain.new.names t).1 ≡ c.read_script.new.names) c.as_slice-2.ensures.value c.in_ok-lines.ensures.table)

@@ -1,0 +1,47 @@
+use Rattle.std.proofs.Common.{arith, ◌≡◌, length, subst, refl}
+use Rattle.plansys.proofs.NameLines.{AreLines-names}
+use Rattle.std.proofs.lemmas.Option.{slice_get_read}
+use Rattle.plansys.specs.Session.{input_with}
+use Rattle.plansys.proofs.Sessions.{IsSoFar, begins, takes_line, cuts_line, cut_before, nothing_written, is_done, on_err, as_number}
+use Rattle.plansys.proofs.session.run.Goals as goal
+
+pub returns-in_err-problem-clause-cut : goal.returns-in_err-problem-clause-cut
+returns-in_err-problem-clause-cut g c = on_err c.from_residual.result (nothing_written (input_with c.args.expert.now c.args.lines.now) c.args.names.now (g.O.Sink.taken c.args.out.now))
+
+pub returns-in_err-put-clause-cut : goal.returns-in_err-put-clause-cut
+returns-in_err-put-clause-cut g c = on_err c.from_residual-in_err-put.result (cut_before (input_with c.args.expert.now c.args.lines.now) c.args.names.now (g.O.Sink.taken c.args.out.now) (g.O.Sink.taken c.put.new.sink) c.in_err-put.ensures.err)
+
+pub loop-i-init : goal.loop-i-init
+loop-i-init g c =
+    let i = input_with c.args.expert.now c.args.lines.now in
+    rw c.in_ok-problem.ensures (record {
+      so_far = begins i c.args.names.now (g.O.Sink.taken c.args.out.now) (g.O.Sink.taken c.put.new.sink) c.in_ok-put.ensures.ok;
+      facts = λ k d lt. absurd (omega arith);
+      later = c.put.ensures.cause.later;
+    })
+
+pub returns-in_err-refuses-clause-cut : goal.returns-in_err-refuses-clause-cut
+returns-in_err-refuses-clause-cut g c =
+    let i = input_with c.args.expert.now c.args.lines.now in
+    let next = slice_get_read c.args.lines.now (length c.args.lines.now) c.loop-i.i c.index-lines-i.result refl (omega arith) c.index-lines-i.is in
+    on_err c.from_residual-in_err-refuses.result (cuts_line i c.args.names.now c.loop-i.problem c.loop-i.refused c.loop-i.i c.index-lines-i.result (g.O.Sink.taken c.args.out.now) (g.O.Sink.taken c.loop-i.out) (g.O.Sink.taken c.take_line.new.out) c.loop-i.invariant.so_far next c.in_err-refuses.ensures.cut)
+
+pub loop-i-preserved : goal.loop-i-preserved
+loop-i-preserved g c =
+    let i = input_with c.args.expert.now c.args.lines.now in
+    let next = slice_get_read c.args.lines.now (length c.args.lines.now) c.loop-i.i c.index-lines-i.result refl (omega arith) c.index-lines-i.is in
+    record {
+      so_far = rw c.in_ok-refuses.ensures.refuses (takes_line i c.args.names.now c.loop-i.problem c.take_line.new.problem c.loop-i.refused c.loop-i.i c.index-lines-i.result (g.O.Sink.taken c.args.out.now) (g.O.Sink.taken c.loop-i.out) (g.O.Sink.taken c.take_line.new.out) c.loop-i.invariant.so_far next c.in_ok-refuses.ensures.known c.in_ok-refuses.ensures.text);
+      facts = c.in_ok-refuses.ensures.facts;
+      later = omega (arith, c.loop-i.invariant.later, c.take_line.ensures.cause.later);
+    }
+
+pub returns-clause-done : goal.returns-clause-done
+returns-clause-done g c =
+    let i = input_with c.args.expert.now c.args.lines.now in
+    let names = c.args.names.now in
+    let all : c.loop-i.i ≡ length c.args.lines.now = omega arith in
+    let start = g.O.Sink.taken c.args.out.now in
+    let now = g.O.Sink.taken c.loop-i.out in
+    let so_far = subst (λ n. IsSoFar i names c.loop-i.problem c.loop-i.refused n start now) all c.loop-i.invariant.so_far in
+    rw (c.from.ensures, as_number c.loop-i.refused) (is_done i names c.loop-i.problem c.loop-i.refused start now (AreLines-names names c.requires.names) so_far)

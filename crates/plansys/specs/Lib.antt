@@ -1,0 +1,7 @@
+pub mod DomainForm
+pub mod Faults
+pub mod Headline
+pub mod Input
+pub mod Scripts
+pub mod Session
+pub mod Steps

@@ -1,0 +1,37 @@
+-- What a session writes.
+use Rattle.std.specs.Prelude.{◌≡◌, ℕ, List, Option, All}
+use Rattle.std.specs.Io.KnownBytes.{Appends}
+use Rattle.ps_world.specs.Names.{Table}
+use Rattle.ps_world.specs.History.{IsHistory, IsWhole, status_of}
+use Rattle.ps_world.specs.Journal.{journal_text, AreEntriesIn}
+use Rattle.ps_world.specs.declared.domains.Domain.{Domain}
+use Rattle.ps_world.specs.declared.inputs.Line.{Line}
+use Rattle.ps_world.specs.declared.inputs.Input.{Input}
+use Rattle.ps_world.specs.declared.journal.Entry.{Entry}
+use Rattle.ps_text.specs.Causes.{AppendsFront}
+
+-- the input of a domain and its lines
+abbrev pub input_with : Domain → List Line → Input
+input_with d lines = record { domain = d; lines = lines }
+
+-- The bytes are those of a whole session of this input, which ends with this status: their entries, read from the
+-- bytes line by line, are a legal history in which each line of the terminal has its entry, by the terminal's hand;
+-- the bytes are just the text of that history; and the status is a function of it.
+pub record IsSession (i : Input) (names : Table) (bytes : List ℕ) (status : ℕ) : Type 0 where
+  pub journal : List Entry
+  pub entries : AreEntriesIn names bytes journal
+  pub text : journal_text names i journal ≡ bytes
+  pub history : IsHistory names i journal
+  pub whole : IsWhole i journal
+  pub hands : All (λ e. e.hand ≡ 0) journal
+  pub answer : status ≡ status_of journal
+
+-- what a sink took is a whole session
+abbrev pub IsDone : Input → Table → Option (List ℕ) → Option (List ℕ) → ℕ → Type 0
+IsDone i names old new status = (bytes : List ℕ) × Appends old new bytes × IsSession i names bytes status
+
+-- what a sink took is a front of the text of a history
+pub record IsCut (i : Input) (names : Table) (old new : Option (List ℕ)) : Type 0 where
+  pub journal : List Entry
+  pub history : IsHistory names i journal
+  pub text : AppendsFront old new (journal_text names i journal)

@@ -1,0 +1,40 @@
+-- How a line of the terminal is answered.
+use Rattle.std.specs.Prelude.{ℕ, Result, Ok, Err}
+use Rattle.ps_world.specs.Knowledge.{edited}
+use Rattle.ps_world.specs.declared.domains.Domain.{Domain}
+use Rattle.ps_world.specs.declared.known.Knowledge.{Knowledge}
+use Rattle.ps_world.specs.declared.edits.Edit.{Edit}
+use Rattle.ps_world.specs.declared.edits.EditRefusal.{EditRefusal}
+use Rattle.ps_world.specs.declared.inputs.Command.TheVariants as command
+use Rattle.ps_world.specs.declared.inputs.Line.{Line}
+use Rattle.ps_world.specs.declared.inputs.Line.TheVariants.{Good, Bad}
+use Rattle.ps_world.specs.declared.journal.By.{By}
+use Rattle.ps_world.specs.declared.journal.By.TheVariants.{Terminal}
+use Rattle.ps_world.specs.declared.journal.Refusal.TheVariants as refusal
+use Rattle.ps_world.specs.declared.journal.Event.{Event}
+use Rattle.ps_world.specs.declared.journal.Event.TheVariants as event
+use Rattle.ps_world.specs.declared.journal.Entry.{Entry}
+use Rattle.ps_text.specs.declared.sinks.SinkRefusal.{SinkRefusal}
+use Rattle.ps_text.specs.declared.sinks.SinkRefusal.TheVariants as sink
+use Rattle.plansys.specs.declared.session.Broken.{Broken}
+use Rattle.plansys.specs.declared.session.Broken.TheVariants.{Write, OutOfMemory}
+
+-- an entry that the terminal makes
+abbrev pub by_terminal : Event → Entry
+by_terminal what = record { hand = 0; what = what }
+
+-- the event of an edit with this outcome
+abbrev pub edit_event : By → Edit → Result Knowledge EditRefusal → Event
+edit_event by edit (Ok k) = event.Edit by edit
+edit_event by edit (Err r) = event.Refused by (refusal.Edit r)
+
+-- the event that answers the line with number n, where k is known
+abbrev pub event_of : Domain → Knowledge → ℕ → Line → Event
+event_of d k n (Good (command.Edit edit)) = edit_event (Terminal n) edit (edited d k edit)
+event_of d k n (Good (command.Ask query)) = event.Ask query
+event_of d k n (Bad cause) = event.Refused (Terminal n) (refusal.Line cause)
+
+-- what a sink's refusal breaks a session off by
+abbrev pub broken_by : SinkRefusal → Broken
+broken_by sink.Failed = Write
+broken_by sink.OutOfMemory = OutOfMemory

@@ -1,0 +1,132 @@
+//! The top call.
+ghost use Rattle.std.specs.Prelude.{◌≡◌, ◌<◌, ◌≤◌, ◌⊎◌, ℕ, List, IfOk, IfErr};
+ghost use Rattle.std.specs.Io.KnownBytes.{Appends, Keeps};
+ghost use Rattle.ps_text.specs.Causes.{Rose, AppendsFront};
+ghost use Rattle.plansys.specs.Input.{input_of, cannot_write_line, out_of_memory_line};
+ghost use Rattle.plansys.specs.Headline.{IsAnswered, IsFront, IsEnded, IsHalfTold, Says, LeadsTo};
+ghost use Rattle.plansys.specs.Faults.{word_texts, fault_line, fault_status, IsStopped};
+
+use super::faults::{Fault, Stop, fault_line};
+use super::inputs::read_input;
+use super::session::{Broken, run};
+use ps_domain::Expert;
+use ps_text::{Files, Names, Sink, SinkRefusal, put};
+use ps_world::Input;
+use std::alloc::Global;
+
+/// Reads the input and does its session. The answer is the session's status, 0 or 1.
+fn attempt<F: Files, O: Sink>(
+    alloc: Global,
+    words: &[String],
+    files: &mut F,
+    out: &mut O,
+) -> Result<u8, Stop>
+    ensures answered { IfOk result (IsAnswered (input_of (word_texts words.now) (F.text_of files.old)) (O.taken out.old) (O.taken out.new)) }
+    ensures small { IfOk result (λ status. status < 2) }
+    ensures stopped { IfErr result (IsStopped (input_of (word_texts words.now) (F.text_of files.old)) (word_texts words.now) (F.text_of files.old) (F.faults files.old) (F.faults files.new) (O.taken out.old) (O.taken out.new) (O.faults out.old) (O.faults out.new)) }
+{
+    let mut names = Names::new(alloc)?;
+    let Input { domain, lines } = read_input(alloc, words, &mut names, files)?;
+    let expert = Expert::new(alloc, domain)?;
+    let status = run(alloc, &names, &expert, lines.as_slice(), out)?;
+    Ok(status)
+}
+
+/// Says to `err` what is at fault, and gives the status.
+fn tell<E: Sink>(alloc: Global, words: &[String], fault: Fault, err: &mut E) -> u8
+    ensures told { result ≡ fault_status fault → Appends (E.taken err.old) (E.taken err.new) (fault_line (word_texts words.now) fault) }
+    ensures cut { result ≡ 5 → Rose (E.faults err.old) (E.faults err.new) × AppendsFront (E.taken err.old) (E.taken err.new) (fault_line (word_texts words.now) fault) }
+    ensures memory { result ≡ 6 → Says (E.taken err.old) (E.taken err.new) out_of_memory_line (E.refusals err.old) (E.refusals err.new)
+        ⊎ (AppendsFront (E.taken err.old) (E.taken err.new) (fault_line (word_texts words.now) fault) × Rose (E.refusals err.old) (E.refusals err.new)) }
+    ensures cases { (result ≡ fault_status fault) ⊎ (result ≡ 5) ⊎ (result ≡ 6) }
+{
+    match fault_line(alloc, words, fault) {
+        Ok(line) => match put(err, line.as_slice()) {
+            Ok(()) => fault.status(),
+            Err(SinkRefusal::Failed) => 5,
+            Err(SinkRefusal::OutOfMemory) => 6,
+        },
+        Err(_) => {
+            last_words(err, b"plansys: out of memory\n");
+            6
+        }
+    }
+}
+
+/// Says a last line to `err`. A write that is refused changes nothing else.
+fn last_words<E: Sink>(err: &mut E, line: &[u8])
+    ensures { Says (E.taken err.old) (E.taken err.new) line.now (E.refusals err.old) (E.refusals err.new) }
+{
+    let _ = put(err, line);
+}
+
+/// Runs the program on these words, and gives its exit status:
+///
+/// | Status | Where |
+/// |---|---|
+/// | 0 | the session was done, and no line was refused |
+/// | 1 | the session was done, and a line was refused |
+/// | 2 | the words aren't `session --domain F --script F` |
+/// | 3 | a file is too long, or the domain's text isn't of the form that is built |
+/// | 4 | a file can't be read |
+/// | 5 | a write to `out` failed, or one to `err` of the line of status 2, 3 or 4 |
+/// | 6 | want of memory |
+///
+/// The first fault decides, in the order of the work: the words, the domain's file, the script's file, the domain's text.
+pub fn plansys<F: Files, O: Sink, E: Sink>(
+    alloc: Global,
+    words: &[String],
+    files: &mut F,
+    out: &mut O,
+    err: &mut E,
+) -> u8
+    // The headline: what `out` took is the text of one journal, which is a whole legal history of the input that the
+    // words and files give, and the status is that history's.
+    ensures session { result < 2
+        → IsAnswered (input_of (word_texts words.now) (F.text_of files.old)) (O.taken out.old) (O.taken out.new) result }
+    ensures silent { result < 2 → Keeps (E.taken err.old) (E.taken err.new) }
+
+    // The words, the texts or the files are at fault: nothing of a session was written, and `err` took the line that says so.
+    ensures usage { result ≡ 2 → IsEnded (input_of (word_texts words.now) (F.text_of files.old)) (word_texts words.now) (F.text_of files.old)
+        (F.faults files.old) (F.faults files.new) 2 (O.taken out.old) (O.taken out.new) (E.taken err.old) (E.taken err.new) }
+    ensures refused { result ≡ 3 → IsEnded (input_of (word_texts words.now) (F.text_of files.old)) (word_texts words.now) (F.text_of files.old)
+        (F.faults files.old) (F.faults files.new) 3 (O.taken out.old) (O.taken out.new) (E.taken err.old) (E.taken err.new) }
+    ensures unread { result ≡ 4 → IsEnded (input_of (word_texts words.now) (F.text_of files.old)) (word_texts words.now) (F.text_of files.old)
+        (F.faults files.old) (F.faults files.new) 4 (O.taken out.old) (O.taken out.new) (E.taken err.old) (E.taken err.new) }
+    ensures unread_failed { result ≡ 4 → Rose (F.faults files.old) (F.faults files.new) }
+
+    // A write failed: to `out`, which then has a front of a history's text, or to `err`, of the line of status 2, 3 or 4.
+    ensures unwritten { result ≡ 5
+        → (Rose (O.faults out.old) (O.faults out.new)
+        × IsFront (input_of (word_texts words.now) (F.text_of files.old)) (O.taken out.old) (O.taken out.new)
+        × Says (E.taken err.old) (E.taken err.new) cannot_write_line (E.refusals err.old) (E.refusals err.new))
+        ⊎ (Rose (E.faults err.old) (E.faults err.new)
+        × IsHalfTold (input_of (word_texts words.now) (F.text_of files.old)) (word_texts words.now) (F.text_of files.old)
+        (F.faults files.old) (F.faults files.new) (O.taken out.old) (O.taken out.new) (E.taken err.old) (E.taken err.new)) }
+
+    // Want of memory, in the program or in a sink.
+    ensures memory { result ≡ 6
+        → (IsFront (input_of (word_texts words.now) (F.text_of files.old)) (O.taken out.old) (O.taken out.new)
+        × Says (E.taken err.old) (E.taken err.new) out_of_memory_line (E.refusals err.old) (E.refusals err.new))
+        ⊎ (Rose (E.refusals err.old) (E.refusals err.new)
+        × IsHalfTold (input_of (word_texts words.now) (F.text_of files.old)) (word_texts words.now) (F.text_of files.old)
+        (F.faults files.old) (F.faults files.new) (O.taken out.old) (O.taken out.new) (E.taken err.old) (E.taken err.new)) }
+
+    // Where memory suffices and neither a read nor a write fails, the words and texts alone decide the status.
+    ensures complete { LeadsTo (input_of (word_texts words.now) (F.text_of files.old)) result ⊎ (result ≡ 6)
+        ⊎ Rose (F.faults files.old) (F.faults files.new) ⊎ Rose (O.faults out.old) (O.faults out.new) ⊎ Rose (E.faults err.old) (E.faults err.new) }
+    ensures no_other { result < 7 }
+{
+    match attempt(alloc, words, files, out) {
+        Ok(status) => status,
+        Err(Stop::Due(fault)) => tell(alloc, words, fault, err),
+        Err(Stop::Broken(Broken::Write)) => {
+            last_words(err, b"plansys: cannot write\n");
+            5
+        }
+        Err(Stop::Broken(Broken::OutOfMemory)) => {
+            last_words(err, b"plansys: out of memory\n");
+            6
+        }
+    }
+}

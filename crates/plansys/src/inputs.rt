@@ -1,0 +1,102 @@
+//! The input of a call, from its words and its files.
+ghost use Rattle.std.specs.Prelude.{◌≡◌, ◌<◌, ◌≤◌, ◌^◌, ℕ, List, length, IfOk, IfErr, IfSome, OnOk, Some, All};
+ghost use Rattle.ps_world.specs.Tables.{IsLineOf};
+ghost use Rattle.ps_text.specs.Names.{AreNames};
+ghost use Rattle.plansys.specs.Input.{first_names, input_of, is_session, is_value, longest_file};
+ghost use Rattle.plansys.specs.Faults.{word_texts, file_of, IsNotHad, IsJudged, HasNoInput, Gives};
+ghost use Rattle.plansys.specs.DomainForm.{domain_from};
+
+use super::faults::{Fault, Source, Stop, file_named};
+use super::reading::{DomainRefusal, read_domain, read_script};
+use super::session::Broken;
+use ps_text::{FileRefusal, Files, Names};
+use ps_world::{Domain, Input};
+use std::alloc::Global;
+
+/// The most bytes of a file.
+const LONGEST_FILE: usize = 1_048_576;
+
+/// Whether the words are `session --domain F --script F`, where no F is empty or begins with `-`.
+pub fn is_session(words: &[String]) -> bool
+    ensures { result ≡ is_session (word_texts words.now) }
+{
+    words.len() == 5
+        && words[0].as_str() == "session"
+        && words[1].as_str() == "--domain"
+        && is_value(words[2].as_bytes())
+        && words[3].as_str() == "--script"
+        && is_value(words[4].as_bytes())
+}
+
+fn is_value(word: &[u8]) -> bool
+    ensures { result ≡ is_value word.now }
+{
+    match word.first() {
+        Some(first) => *first != b'-',
+        None => false,
+    }
+}
+
+/// The text of a file that the words name.
+fn read_text<F: Files>(
+    alloc: Global,
+    words: &[String],
+    source: Source,
+    files: &mut F,
+) -> Result<Vec<u8>, Stop>
+    ensures text { IfOk result (λ v. IfSome (F.text_of files.old (file_of (word_texts words.now) source)) (λ text. v.items ≡ text)) }
+    ensures short { IfOk result (λ v. length v.items ≤ longest_file) }
+    ensures same { (n : List ℕ) → F.text_of files.new n ≡ F.text_of files.old n }
+    ensures cause { IfErr result (IsNotHad source (F.text_of files.old (file_of (word_texts words.now) source)) (F.faults files.old) (F.faults files.new)) }
+    ensures later { F.faults files.old ≤ F.faults files.new }
+{
+    match files.read(alloc, file_named(words, source)) {
+        Ok(text) => {
+            if text.len() > LONGEST_FILE {
+                return Err(Stop::Due(Fault::TooLong(source)));
+            }
+            Ok(text)
+        }
+        Err(FileRefusal::Failed) => Err(Stop::Due(Fault::Unread(source))),
+        Err(FileRefusal::OutOfMemory) => Err(Stop::Broken(Broken::OutOfMemory)),
+    }
+}
+
+/// Judges the domain's text.
+fn judge_domain(alloc: Global, names: &mut Names, text: &[u8]) -> Result<Domain, Stop>
+    ensures ok { IfOk result (λ d. domain_from names.old text.now ≡ Some (d, names.new)) }
+    ensures cause { IfErr result (IsJudged (domain_from names.old text.now)) }
+{
+    match read_domain(alloc, names, text) {
+        Ok(domain) => Ok(domain),
+        Err(DomainRefusal::NotBuilt) => Err(Stop::Due(Fault::NotBuilt)),
+        Err(DomainRefusal::OutOfMemory) => Err(Stop::Broken(Broken::OutOfMemory)),
+    }
+}
+
+/// The input that the words and the texts of the files give. Its names are put into the table, which has none yet
+/// but `object`.
+pub fn read_input<F: Files>(
+    alloc: Global,
+    words: &[String],
+    names: &mut Names,
+    files: &mut F,
+) -> Result<Input, Stop>
+    requires { names.old ≡ first_names }
+    ensures ok { IfOk result (λ i. Gives (input_of (word_texts words.now) (F.text_of files.old)) i names.new) }
+    ensures few { IfOk result (λ i. length i.lines < 2 ^ 32) }
+    ensures named { IfOk result (λ i. All (IsLineOf (length names.new)) i.lines) }
+    ensures names { OnOk result (AreNames names.new) }
+    ensures cause { IfErr result (HasNoInput (input_of (word_texts words.now) (F.text_of files.old)) (word_texts words.now) (F.text_of files.old) (F.faults files.old) (F.faults files.new)) }
+    ensures later { F.faults files.old ≤ F.faults files.new }
+{
+    if !is_session(words) {
+        return Err(Stop::Due(Fault::Usage));
+    }
+    let domain_text = read_text(alloc, words, Source::Domain, files)?;
+    let script = read_text(alloc, words, Source::Script, files)?;
+    let domain = judge_domain(alloc, names, domain_text.as_slice())?;
+    let lines = read_script(alloc, names, script.as_slice())?;
+    let _count = names.len();
+    Ok(Input { domain, lines })
+}

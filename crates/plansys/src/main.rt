@@ -1,0 +1,60 @@
+//! plansys: a planning system for teams of robots.
+#![tactic(auto)]
+
+mod calls;
+mod faults;
+mod inputs;
+mod reading;
+mod real;
+mod session;
+#[cfg(test)]
+mod tests;
+mod texts;
+
+use calls::plansys;
+use real::{RealFiles, RealSink};
+use std::io::ErrorKind;
+use std::process::ExitCode;
+use std::{env, io};
+
+const HELP: &str = "\
+plansys session --domain FILE --script FILE
+    Does the lines of a script over a domain, and writes the journal.
+    plansys session --domain samples/first/domain.pddl --script samples/first/script
+plansys --help
+plansys --version
+";
+
+const VERSION: &str = "plansys 0.1.0\n";
+
+/// The words after the program's name. Words of which one isn't UTF-8 are read as none, which is a faulty command line.
+fn words(rt: &HostRuntime) -> io::Result<Vec<String>> {
+    match env::args(rt) {
+        Ok(all) => Ok(all.skip(1).collect(rt.alloc())?),
+        Err(error) if error.kind() == ErrorKind::InvalidData => Ok(Vec::new(rt.alloc())),
+        Err(error) => Err(error),
+    }
+}
+
+/// What the program says of itself, if it is asked.
+fn answer_of(words: &[String]) -> Option<&'static str> {
+    match words {
+        [word] if word.as_str() == "--help" => Some(HELP),
+        [word] if word.as_str() == "--version" => Some(VERSION),
+        _ => None,
+    }
+}
+
+fn main(rt: HostRuntime) -> io::Result<ExitCode> {
+    let words = words(&rt)?;
+    if let Some(answer) = answer_of(&words) {
+        print!(rt; "{answer}")?;
+        return Ok(ExitCode::SUCCESS);
+    }
+    let alloc = rt.alloc();
+    let mut out = RealSink::new(rt.stdout());
+    let mut err = RealSink::new(rt.stderr());
+    let mut files = RealFiles::new(rt);
+    let status = plansys(alloc, &words, &mut files, &mut out, &mut err);
+    Ok(ExitCode::from(status))
+}

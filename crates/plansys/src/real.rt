@@ -1,0 +1,94 @@
+//! The files and the streams of the system. They tell no content, and count their failures.
+ghost use Rattle.std.specs.Prelude.{None};
+ghost use Rattle.std.specs.Io.{WritesAtMost};
+
+use ps_text::{FileRefusal, Files, Sink, SinkRefusal, risen};
+use std::alloc::Global;
+use std::fs::File;
+use std::io::{ErrorKind, Read, Write};
+use std::{io, rt};
+
+/// As many bytes are read of a file: one more than it may have.
+const MOST_READ: u64 = 1_048_577;
+
+/// The files of the system.
+#[derive(Drop)]
+pub struct RealFiles<R> {
+    rt: R,
+    faults: u64,
+}
+
+impl<R> RealFiles<R> {
+    pub fn new(rt: R) -> Self {
+        RealFiles { rt, faults: 0 }
+    }
+}
+
+/// The bytes of a file, of which no more are read than one more than it may have.
+fn read_file<R: rt::Files>(rt: &R, alloc: Global, name: &str) -> io::Result<Vec<u8>> {
+    let file = File::open(rt, name)?;
+    let mut bytes = Vec::new(alloc);
+    file.take(MOST_READ).read_to_end(&mut bytes)?;
+    Ok(bytes)
+}
+
+impl<R: rt::Files> Files for RealFiles<R> {
+    ghost text_of = { λ _ _. None };
+
+    ghost faults = { λ files. files.faults };
+
+    fn read(&mut self, alloc: Global, name: &str) -> Result<Vec<u8>, FileRefusal> {
+        match read_file(&self.rt, alloc, name) {
+            Ok(bytes) => Ok(bytes),
+            Err(error) if error.kind() == ErrorKind::OutOfMemory => Err(FileRefusal::OutOfMemory),
+            Err(_) => {
+                self.faults = risen(self.faults);
+                Err(FileRefusal::Failed)
+            }
+        }
+    }
+}
+
+/// A stream of the system that takes bytes.
+#[derive(Drop)]
+pub struct RealSink<W> {
+    writer: W,
+    faults: u64,
+}
+
+impl<W: Write> RealSink<W> {
+    pub fn new(writer: W) -> Self {
+        RealSink { writer, faults: 0 }
+    }
+}
+
+/// Takes a front of the bytes. A write that was interrupted is tried again.
+fn write_some<W: Write>(writer: &mut W, bytes: &[u8]) -> io::Result<usize>
+    ensures { WritesAtMost result bytes.now }
+{
+    for _ in 0..u64::MAX {
+        match writer.write(bytes) {
+            Err(error) if error.kind() == ErrorKind::Interrupted => {}
+            done => return done,
+        }
+    }
+    Ok(0)
+}
+
+impl<W: Write> Sink for RealSink<W> {
+    ghost taken = { λ _. None };
+
+    ghost faults = { λ sink. sink.faults };
+
+    ghost refusals = { λ sink. sink.faults };
+
+    fn write(&mut self, bytes: &[u8]) -> Result<usize, SinkRefusal> {
+        match write_some(&mut self.writer, bytes) {
+            Ok(count) if count > 0 || bytes.is_empty() => Ok(count),
+            _ => {
+                self.faults = risen(self.faults);
+                Err(SinkRefusal::Failed)
+            }
+        }
+    }
+}

@@ -1,0 +1,173 @@
+//! The session: each line of the terminal in turn, with its entry and its reply lines.
+ghost use Rattle.std.specs.Prelude.{◌≡◌, ◌≢◌, ◌++◌, ◌<◌, ◌≤◌, ◌^◌, ℕ, Bool, length, map, IfOk, OnOk, OnErr, All, slice_index_or};
+ghost use Rattle.std.specs.Io.KnownBytes.{Appends};
+ghost use Rattle.ps_text.specs.Names.{AreNames};
+ghost use Rattle.ps_text.specs.Causes.{HasCause, AppendsFront};
+ghost use Rattle.ps_world.specs.Knowledge.{edited};
+ghost use Rattle.ps_world.specs.History.{known_after, is_refusal};
+ghost use Rattle.ps_world.specs.Journal.{entry_text, header};
+ghost use Rattle.ps_world.specs.Tables.{IsLineOf, IsEditOf, IsFactOf, IsEventOf};
+ghost use Rattle.plansys.specs.Steps.{by_terminal, edit_event, event_of};
+ghost use Rattle.plansys.specs.Session.{IsDone, IsCut, input_with};
+ghost use Rattle.ps_world.specs.declared.journal.Event.TheVariants.{Refused};
+ghost use Rattle.ps_world.specs.declared.journal.Refusal.TheVariants.{Edit as RefusedEdit};
+ghost use Rattle.ps_world.specs.declared.edits.EditRefusal.TheVariants.{OutOfMemory as NoMemory};
+ghost use Rattle.plansys.specs.declared.session.Broken.TheVariants.{Write, OutOfMemory};
+
+use super::texts::entry_text;
+use ps_domain::Expert;
+use ps_problem::Problem;
+use ps_text::{Names, Sink, SinkRefusal, put};
+use ps_world::{By, Command, Edit, EditRefusal, Entry, Event, Line, Refusal};
+use std::alloc::{AllocError, AllocFailed, Global};
+
+/// Why a session was broken off.
+#[derive(Clone, Copy, PartialEq, Eq, Debug)]
+pub enum Broken {
+    /// A write failed.
+    Write,
+    /// Want of memory.
+    OutOfMemory,
+}
+
+impl From<AllocError> for Broken {
+    ghost from_gives = { λ _ b. b ≡ OutOfMemory };
+
+    fn from(_error: AllocError) -> Broken {
+        Broken::OutOfMemory
+    }
+}
+
+impl From<SinkRefusal> for Broken {
+    ghost use Rattle.plansys.specs.Steps.{broken_by};
+
+    ghost from_gives = { λ refusal b. b ≡ broken_by refusal };
+
+    fn from(refusal: SinkRefusal) -> Broken {
+        match refusal {
+            SinkRefusal::Failed => Broken::Write,
+            SinkRefusal::OutOfMemory => Broken::OutOfMemory,
+        }
+    }
+}
+
+/// Does the session of these lines, and gives its status: 1 where a line was refused, else 0.
+pub fn run<O: Sink>(
+    alloc: Global,
+    names: &Names,
+    expert: &Expert,
+    lines: &[Line],
+    out: &mut O,
+) -> Result<u8, Broken>
+    requires few { length lines.now < 2 ^ 32 }
+    requires named { All (IsLineOf (length names.now)) lines.now }
+    requires names { AreNames names.now }
+    ensures small { IfOk result (λ status. status < 2) }
+    ensures done { IfOk result (λ status. IsDone (input_with expert.now lines.now) names.now (O.taken out.old) (O.taken out.new) status) }
+    ensures cut { OnErr result (IsCut (input_with expert.now lines.now) names.now (O.taken out.old) (O.taken out.new)) }
+    ensures cause { HasCause Write (O.faults out.old) (O.faults out.new) result }
+{
+    let mut problem = Problem::new(alloc, expert)?;
+    put(out, b"plansys-journal 1\n")?;
+    let mut refused = false;
+    for (i, line) in lines.iter().enumerate() {
+        let number = i as u32 + 1;
+        let refuses = take_line(alloc, names, expert, &mut problem, number, line, out)?;
+        refused |= refuses;
+    }
+    Ok(u8::from(refused))
+}
+
+/// Answers the line with this number, and writes its entry and its reply lines by one `put`.
+/// Answers whether the line was refused.
+fn take_line<O: Sink>(
+    alloc: Global,
+    names: &Names,
+    expert: &Expert,
+    problem: &mut Problem,
+    number: u32,
+    line: &Line,
+    out: &mut O,
+) -> Result<bool, Broken>
+    requires line { IsLineOf (length names.now) line.now }
+    requires facts { All (IsFactOf (length names.now)) problem.old.facts }
+    ensures refuses { IfOk result (λ refused. refused ≡ is_refusal (event_of expert.now problem.old number line.now)) }
+    ensures known { OnOk result (problem.new ≡ known_after expert.now problem.old (event_of expert.now problem.old number line.now)) }
+    ensures facts { OnOk result (All (IsFactOf (length names.now)) problem.new.facts) }
+    ensures text { OnOk result (Appends (O.taken out.old) (O.taken out.new) (entry_text names.now problem.old (by_terminal (event_of expert.now problem.old number line.now)))) }
+    ensures cut { OnErr result (AppendsFront (O.taken out.old) (O.taken out.new) (entry_text names.now problem.old (by_terminal (event_of expert.now problem.old number line.now)))) }
+    ensures cause { HasCause Write (O.faults out.old) (O.faults out.new) result }
+{
+    let what = answer(expert, problem, number, line, names)?;
+    let entry = Entry { hand: 0, what };
+    let text = entry_text(alloc, names, problem, &entry)?;
+    put(out, text.as_slice())?;
+    Ok(matches!(what, Event::Refused { .. }))
+}
+
+/// What a line brings. An edit that is accepted is made.
+fn answer(
+    expert: &Expert,
+    problem: &mut Problem,
+    number: u32,
+    line: &Line,
+    names: &Names,
+) -> Result<Event, AllocError>
+    requires line { IsLineOf (length names.now) line.now }
+    requires facts { All (IsFactOf (length names.now)) problem.old.facts }
+    ensures event { IfOk result (λ event. event ≡ event_of expert.now problem.old number line.now) }
+    ensures known { IfOk result (λ event. problem.new ≡ known_after expert.now problem.old event) }
+    ensures named { IfOk result (λ event. IsEventOf (length names.now) event) }
+    ensures facts { OnOk result (All (IsFactOf (length names.now)) problem.new.facts) }
+{
+    let by = By::Terminal(number);
+    match line {
+        Line::Good(Command::Edit(edit)) => {
+            let event = answer_edit(expert, problem, by, edit, names)?;
+            Ok(event)
+        }
+        Line::Good(Command::Ask(query)) => Ok(Event::Ask(*query)),
+        Line::Bad(cause) => Ok(Event::Refused {
+            by,
+            why: Refusal::Line(*cause),
+        }),
+    }
+}
+
+/// Makes an edit, or refuses it.
+fn answer_edit(
+    expert: &Expert,
+    problem: &mut Problem,
+    by: By,
+    edit: &Edit,
+    names: &Names,
+) -> Result<Event, AllocError>
+    requires edit { IsEditOf (length names.now) edit.now }
+    requires facts { All (IsFactOf (length names.now)) problem.old.facts }
+    ensures event { IfOk result (λ event. event ≡ edit_event by edit.now (edited expert.now problem.old edit.now)) }
+    ensures known { IfOk result (λ event. problem.new ≡ known_after expert.now problem.old event) }
+    ensures named { IfOk result (λ event. IsEventOf (length names.now) event) }
+    ensures facts { OnOk result (All (IsFactOf (length names.now)) problem.new.facts) }
+{
+    match problem.edit(expert, edit) {
+        Ok(_) => Ok(Event::Edit { by, edit: *edit }),
+        Err(refusal) => {
+            let event = refusal_event(by, refusal)?;
+            Ok(event)
+        }
+    }
+}
+
+/// The event of a refused edit. Want of memory is none.
+fn refusal_event(by: By, refusal: EditRefusal) -> Result<Event, AllocError>
+    ensures event { IfOk result (λ event. event ≡ Refused by (RefusedEdit refusal)) }
+    ensures memory { OnOk result (refusal ≢ NoMemory) }
+{
+    match refusal {
+        EditRefusal::OutOfMemory => Err(AllocError),
+        _ => Ok(Event::Refused {
+            by,
+            why: Refusal::Edit(refusal),
+        }),
+    }
+}

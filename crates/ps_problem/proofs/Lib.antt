@@ -1,0 +1,4 @@
+pub mod Additions
+pub mod Facts
+pub mod Keys
+pub mod Typed

@@ -1,0 +1,139 @@
+-- Tables of names: what putting a text into one keeps.
+use Rattle.std.proofs.Common.{◌≡◌, ℕ, zero, suc, ◌+◌, ◌<◌, ◌≤◌, true, false, cond, List, [], ◌∷◌, ◌++◌, length, map, Some, slice_get, get_or, codes, refl, sym, ap, ◌∙◌, inl, inr, arith}
+use Rattle.std.proofs.lemmas.List.{length_push, map_push, get_or_append_left, get_or_push}
+use Rattle.std.proofs.lemmas.List.Elements.{All-push}
+use Rattle.std.proofs.lemmas.List.Folds.{list_any_at}
+use Rattle.std.proofs.lemmas.Option.{slice_get_within}
+use Rattle.std.proofs.lemmas.Bool.{cases_Bool, cases_lt, false≢true, or_parts}
+use Rattle.std.specs.Cmp.Lexicographic.{bytes_decides}
+use Rattle.std.specs.List.{list_any, position_or_len}
+use Rattle.ps_world.specs.Names.{Table}
+use Rattle.ps_world.specs.Lines.{same_text}
+use Rattle.ps_text.specs.Names.{place_of, interned, IsNameText, AreNames}
+use Rattle.ps_text.proofs.Folds.{position_or_len-map, list_any-map}
+
+pub same_text-refl : (text : List ℕ) → same_text text text ≡ true
+same_text-refl text = (bytes_decides text text).1 refl
+
+pub same_text-same : (a b : List ℕ) → same_text a b ≡ true → a ≡ b
+same_text-same a b = (bytes_decides a b).0
+
+-- ---- what a table is after a text is put into it
+
+pub interned-there : (t : Table) (text : List ℕ) → list_any (same_text text) t ≡ true → interned t text ≡ t
+interned-there t text h = rw h refl
+
+pub interned-new : (t : Table) (text : List ℕ) → list_any (same_text text) t ≡ false → interned t text ≡ t ++ text ∷ []
+interned-new t text h = rw h refl
+
+pub length-interned : (t : Table) (text : List ℕ) → length t ≤ length (interned t text)
+length-interned t text =
+    elim (cases_Bool (list_any (same_text text) t)) [
+      | inl e ↦ rw (interned-there t text e) (omega arith)
+      | inr e ↦ rw (interned-new t text e) (omega (arith, length_push t text))
+    ]
+
+slice_get-append : {X : Type 0} (xs ys : List X) (i : ℕ) (x : X) → slice_get xs i ≡ Some x → slice_get (xs ++ ys) i ≡ Some x
+slice_get-append [] ys i x h = cc
+slice_get-append (y ∷ xs) ys zero x h = h
+slice_get-append (y ∷ xs) ys (suc i) x h = slice_get-append xs ys i x h
+
+slice_get-push : {X : Type 0} (xs : List X) (x : X) → slice_get (xs ++ x ∷ []) (length xs) ≡ Some x
+slice_get-push [] x = refl
+slice_get-push (y ∷ xs) x = slice_get-push xs x
+
+-- an old text keeps its place
+pub slice_get-interned : (t : Table) (text : List ℕ) (i : ℕ) (x : List ℕ) → slice_get t i ≡ Some x → slice_get (interned t text) i ≡ Some x
+slice_get-interned t text i x h =
+    elim (cases_Bool (list_any (same_text text) t)) [
+      | inl e ↦ rw (interned-there t text e) h
+      | inr e ↦ rw (interned-new t text e) (slice_get-append t (text ∷ []) i x h)
+    ]
+
+-- a set of vectors, seen as the table of their items
+module _ {V : Type 0} (items : V → List ℕ) (vs ws : List V) (v : V) (text : List ℕ) (is : items v ≡ text) where
+  pub place_of-view : position_or_len (λ y. same_text (items v) (items y)) vs ≡ place_of (map items vs) text
+  place_of-view = rw (is, position_or_len-map items (same_text text) vs)
+
+  pub interned-view : ws ≡ cond (list_any (λ y. same_text (items v) (items y)) vs) vs (vs ++ v ∷ []) → map items ws ≡ interned (map items vs) text
+  interned-view e =
+      elim (cases_Bool (list_any (same_text text) (map items vs))) [
+        | inl h ↦ rw (interned-there (map items vs) text h, e, is, list_any-map items (same_text text) vs, h)
+        | inr h ↦ rw (interned-new (map items vs) text h, e, is, list_any-map items (same_text text) vs, h) (map_push items vs v ∙ rw is)
+      ]
+
+-- ---- the place of a text
+
+suc_is : (n : ℕ) → 1 + n ≡ suc n
+suc_is n = omega arith
+
+place_of-other : (x : List ℕ) (t : Table) (text : List ℕ) → same_text text x ≡ false → place_of (x ∷ t) text ≡ suc (place_of t text)
+place_of-other x t text e = rw e (suc_is (place_of t text))
+
+place_of-there : (t : Table) (text : List ℕ) → list_any (same_text text) t ≡ true → slice_get t (place_of t text) ≡ Some text
+place_of-there [] text h = cc
+place_of-there (x ∷ t) text h =
+    elim (cases_Bool (same_text text x)) [
+      | inl e ↦ rw e (ap Some (sym (same_text-same text x e)))
+      | inr e ↦ ap (slice_get (x ∷ t)) (place_of-other x t text e) ∙ place_of-there t text (rw e at h)
+    ]
+
+place_of-new : (t : Table) (text : List ℕ) → list_any (same_text text) t ≡ false → place_of t text ≡ length t
+place_of-new [] text h = refl
+place_of-new (x ∷ t) text h =
+    let parts = or_parts (same_text text x) (list_any (same_text text) t) h in
+    place_of-other x t text parts.0 ∙ ap suc (place_of-new t text parts.1)
+
+-- a text is at its place once it is put into the table
+pub place_of-interned : (t : Table) (text : List ℕ) → slice_get (interned t text) (place_of t text) ≡ Some text
+place_of-interned t text =
+    elim (cases_Bool (list_any (same_text text) t)) [
+      | inl e ↦ rw (interned-there t text e) (place_of-there t text e)
+      | inr e ↦ rw (interned-new t text e, place_of-new t text e) (slice_get-push t text)
+    ]
+
+pub place_of-within : (t : Table) (text : List ℕ) → place_of t text < length (interned t text)
+place_of-within t text = slice_get_within (interned t text) (place_of t text) text (place_of-interned t text)
+
+-- ---- a table of names stays one
+
+module _ (t : Table) (text : List ℕ) (new : list_any (same_text text) t ≡ false) where
+  other : (i : ℕ) → i < length t → get_or t i [] ≡ text → ⊥
+  other i h e = false≢true (sym new ∙ list_any_at (same_text text) t i [] h (rw e (same_text-refl text)))
+
+  abbrev more : Table
+  more = t ++ text ∷ []
+
+  old : (i : ℕ) → i < length t → get_or more i [] ≡ get_or t i []
+  old i h = get_or_append_left t (text ∷ []) [] i h
+
+  last : (i : ℕ) → i < length more → length t ≤ i → get_or more i [] ≡ text
+  last i h l = get_or_push t text [] i (omega (arith, length_push t text))
+
+  apart-push : AreNames t → (i j : ℕ) → i < length more → j < length more → get_or more i [] ≡ get_or more j [] → i ≡ j
+  apart-push names i j hi hj e =
+      elim (cases_lt i (length t)) [
+        | inl li ↦ elim (cases_lt j (length t)) [
+          | inl lj ↦ names.apart i j li lj (sym (old i li) ∙ e ∙ old j lj)
+          | inr lj ↦ absurd (other i li (sym (old i li) ∙ e ∙ last j hj lj))
+        ]
+        | inr li ↦ elim (cases_lt j (length t)) [
+          | inl lj ↦ absurd (other j lj (sym (old j lj) ∙ sym e ∙ last i hi li))
+          | inr lj ↦ omega (arith, length_push t text)
+        ]
+      ]
+
+  pub AreNames-push : AreNames t → IsNameText text → AreNames more
+  AreNames-push h n =
+      record {
+        texts = All-push IsNameText t text h.texts n;
+        apart = apart-push h;
+        first = slice_get-append t (text ∷ []) 0 (codes "object") h.first;
+      }
+
+pub AreNames-interned : (t : Table) (text : List ℕ) → AreNames t → IsNameText text → AreNames (interned t text)
+AreNames-interned t text h n =
+    elim (cases_Bool (list_any (same_text text) t)) [
+      | inl e ↦ rw (interned-there t text e) h
+      | inr e ↦ rw (interned-new t text e) (AreNames-push t text e h n)
+    ]

@@ -1,0 +1,10 @@
+use Rattle.std.proofs.Common.{◌-◌, length}
+use Rattle.ps_text.specs.Words.{words}
+use Rattle.ps_text.proofs.Pieces.{Marked}
+use Rattle.ps_text.proofs.word_spans.Words.of.Given as goal
+
+abbrev pub invariant-loop-from : goal.invariant-loop-from
+invariant-loop-from l = Marked words l.bytes l.spans.items l.from
+
+abbrev pub decreases-loop-from : goal.decreases-loop-from
+decreases-loop-from l = length l.bytes - l.from

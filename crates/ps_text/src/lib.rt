@@ -1,0 +1,16 @@
+//! The words of a text, the table of its names, and the files and sinks of the outside.
+#![tactic(auto)]
+
+mod memory;
+mod reads;
+mod sinks;
+mod spans;
+mod table;
+mod word_spans;
+
+pub use memory::{MemFiles, MemSink, SureFiles, SureSink, risen};
+pub use reads::{FileRefusal, Files};
+pub use sinks::{Sink, SinkRefusal, put};
+pub use spans::{Span, lines};
+pub use table::{LONGEST_NAME, NameRefusal, Names, is_name};
+pub use word_spans::{Words, is_blank};

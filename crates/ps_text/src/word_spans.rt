@@ -1,0 +1,195 @@
+//! The words of a text.
+ghost use Rattle.std.specs.Prelude.{◌≡◌, ◌+◌, ◌<◌, ◌≤◌, ◌==◌, ◌∷◌, false, Some, drop, length, not, position, slice_get, slice_index, slice_range, IfOk};
+ghost use Rattle.std.specs.List.{position_or_len};
+ghost use Rattle.ps_text.specs.Words.{is_blank, is_paren, is_run_byte, reads_as, word_at, words};
+
+use super::spans::{Span, line_end};
+use std::alloc::{AllocError, Global};
+use std::marker::Model;
+
+/// Whether a byte is a blank: a space, a tab, a CR or an LF.
+pub fn is_blank(b: u8) -> bool
+    ensures { result ≡ is_blank b }
+{
+    b == b' ' || b == b'\t' || b == b'\r' || b == b'\n'
+}
+
+fn is_paren(b: u8) -> bool
+    ensures { result ≡ is_paren b }
+{
+    b == b'(' || b == b')'
+}
+
+fn is_run_byte(b: u8) -> bool
+    ensures { result ≡ is_run_byte b }
+{
+    !is_blank(b) && !is_paren(b) && b != b';'
+}
+
+fn first_other_byte(bytes: &[u8]) -> Option<usize>
+    ensures { result ≡ position (λ b. not (is_run_byte b)) bytes.now }
+{
+    bytes.iter().position(|b| !is_run_byte(*b))
+}
+
+/// The place of the first byte from a place on that is none of a longer word, or the text's length.
+fn run_end(bytes: &[u8], from: usize) -> usize
+    requires { from ≤ length bytes.now }
+    ensures end { result ≡ from + position_or_len (λ b. not (is_run_byte b)) (drop from bytes.now) }
+    ensures within { result ≤ length bytes.now }
+{
+    let rest = &bytes[from..];
+    from + first_other_byte(rest).unwrap_or(rest.len())
+}
+
+/// The end of the word that begins at a place.
+fn word_end(bytes: &[u8], from: usize) -> usize
+    requires within { from < length bytes.now }
+    requires black { is_blank (slice_index bytes.now from) ≡ false }
+    requires no_comment { (slice_index bytes.now from == 59) ≡ false }
+    ensures longer { from < result }
+    ensures within { result ≤ length bytes.now }
+    ensures word { words (drop from bytes.now) ≡ slice_range bytes.now from result ∷ words (drop result bytes.now) }
+{
+    if is_paren(bytes[from]) {
+        from + 1
+    } else {
+        run_end(bytes, from + 1)
+    }
+}
+
+/// The words of a text, which contracts see as their list.
+///
+/// Space, tab, CR and LF part words. `;` begins a comment up to the end of its line. `(` and `)` are words of their own.
+#[derive(Drop)]
+pub struct Words<'a> {
+    bytes: &'a [u8],
+    spans: Vec<Span>,
+}
+
+impl<'a> Model for Words<'a> {
+    ghost use Rattle.std.specs.Prelude.{ℕ, List};
+    ghost use Rattle.ps_text.specs.Words.{AreWithin, pieces};
+
+    ghost Value = { List (List ℕ) };
+
+    ghost view = { λ w. pieces w.bytes.now w.spans.items };
+
+    ghost invariant = { λ w. AreWithin w.bytes.now w.spans.items };
+}
+
+impl<'a> Words<'a> {
+    /// The words of these bytes. The only error is want of memory.
+    pub fn of(alloc: Global, bytes: &'a [u8]) -> Result<Words<'a>, AllocError>
+        ensures { IfOk result (λ w. w ≡ words bytes.now) }
+    {
+        let mut spans = Vec::new(alloc);
+        let mut from = 0;
+        while from < bytes.len() {
+            let b = bytes[from];
+            if is_blank(b) {
+                from += 1;
+            } else if b == b';' {
+                from = line_end(bytes, from + 1);
+            } else {
+                let to = word_end(bytes, from);
+                spans.push(Span { from, to })?;
+                from = to;
+            }
+        }
+        Ok(Words { bytes, spans })
+    }
+
+    /// How many words.
+    pub fn len(&self) -> usize
+        ensures { result ≡ length self.now }
+    {
+        self.spans.len()
+    }
+
+    /// Whether there is no word.
+    pub fn is_empty(&self) -> bool
+        ensures { result ≡ (length self.now == 0) }
+    {
+        self.len() == 0
+    }
+
+    /// The word at place `i`, counted from 0.
+    pub fn word(&self, i: usize) -> &[u8]
+        requires { i < length self.now }
+        ensures word { slice_get self.now i ≡ Some result.now }
+        ensures place { word_at self.now i ≡ result.now }
+    {
+        let span = self.spans[i];
+        &self.bytes[span.from..span.to]
+    }
+
+    /// Whether the word at place `i` is this fixed word, in any case of its letters. The fixed word is in lower case and not empty, so past the end it is false.
+    pub fn reads(&self, i: usize, fixed: &[u8]) -> bool
+        ensures { result ≡ reads_as (word_at self.now i) fixed.now }
+    {
+        if i < self.len() {
+            reads_as(self.word(i), fixed)
+        } else {
+            fixed.is_empty()
+        }
+    }
+}
+
+/// Whether a word is this fixed text, in any case of its letters.
+fn reads_as(word: &[u8], fixed: &[u8]) -> bool
+    ensures { result ≡ reads_as word.now fixed.now }
+{
+    if word.len() != fixed.len() {
+        return false;
+    }
+    for (i, b) in word.iter().enumerate() {
+        if b.to_ascii_lowercase() != fixed[i] {
+            return false;
+        }
+    }
+    true
+}
+
+#[cfg(test)]
+mod tests {
+    use super::*;
+    use crate::spans::lines;
+    use std::test::Fail;
+
+    #[test]
+    fn words_of_a_text(rt: HostRuntime) -> Result<(), Fail> {
+        let words = Words::of(rt.alloc(), b"(a ?B-c; x (\n d)\t;")?;
+        assert_eq!(rt; words.len(), 5);
+        assert!(rt; !words.is_empty());
+        for (i, fixed) in [
+            (0, b"(".as_slice()),
+            (1, b"a".as_slice()),
+            (2, b"?b-c".as_slice()),
+            (3, b"d".as_slice()),
+            (4, b")".as_slice()),
+        ] {
+            assert!(rt; words.reads(i, fixed), "at {i}");
+            assert!(rt; !words.reads(i, b"x"), "at {i}");
+            assert!(rt; !words.reads(i + 5, fixed), "past {i}");
+        }
+        assert_eq!(rt; words.word(2), b"?B-c".as_slice());
+        Ok(())
+    }
+
+    #[test]
+    fn lines_of_a_text(rt: HostRuntime) -> Result<(), Fail> {
+        for (text, wanted) in [
+            (b"a\r\n\nb".as_slice(), [(0, 2), (3, 3), (4, 5)].as_slice()),
+            (b"a\n".as_slice(), [(0, 1)].as_slice()),
+            (b"".as_slice(), [].as_slice()),
+        ] {
+            let found = lines(rt.alloc(), text)?;
+            assert_eq!(rt; found.len(), wanted.len());
+            for (span, (from, to)) in found.iter().zip(wanted) {
+                assert_eq!(rt; (span.from, span.to), (*from, *to));
+            }
+        }
+        Ok(())
+    }
+}

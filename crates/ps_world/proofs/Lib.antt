@@ -1,0 +1,7 @@
+pub mod Climbs
+pub mod Digits
+pub mod Faults
+pub mod Journals
+pub mod ReadBack
+pub mod ShortLists
+pub mod Tables

@@ -1,0 +1,12 @@
+pub mod Args
+pub mod Facts
+pub mod History
+pub mod Journal
+pub mod Knowledge
+pub mod Laws
+pub mod Lines
+pub mod Names
+pub mod Refusals
+pub mod Sample
+pub mod Tables
+pub mod Texts

@@ -1,0 +1,112 @@
+//! The domain of a session: its types and predicates (PDDL 2.1, section 2).
+ghost use Rattle.std.specs.Prelude.{◌≡◌};
+ghost use Rattle.std.specs.Option.{option_copied};
+ghost use Rattle.std.specs.List.{list_any};
+ghost use Rattle.ps_world.specs.Names.{same_name};
+ghost use Rattle.ps_world.specs.Knowledge.{is_type, parent_of, is_below, predicate_of};
+
+use super::lists::{Duplicate, Seq};
+use super::names::Name;
+use std::alloc::{AllocError, Global};
+
+/// A name with its type: a parameter, or a type with its parent.
+#[derive(Clone, Copy, PartialEq, Eq)]
+pub struct Param {
+    pub name: Name,
+    pub kind: Name,
+}
+
+impl Duplicate for Param {
+    fn copy(&self, _alloc: Global) -> Result<Self, AllocError> {
+        Ok(*self)
+    }
+}
+
+/// A declared predicate. It has at most 6 parameters.
+#[derive(PartialEq, Eq, Drop)]
+pub struct Decl {
+    pub name: Name,
+    pub params: Seq<Param>,
+}
+
+impl Duplicate for Decl {
+    fn copy(&self, alloc: Global) -> Result<Self, AllocError> {
+        Ok(Decl {
+            name: self.name,
+            params: self.params.copy(alloc)?,
+        })
+    }
+}
+
+/// A domain. Its lists are in the order of the text.
+#[derive(PartialEq, Eq, Drop)]
+pub struct Domain {
+    pub name: Name,
+    /// The types, each with its parent. `object` is none of them.
+    pub types: Seq<Param>,
+    pub predicates: Seq<Decl>,
+}
+
+impl Duplicate for Domain {
+    fn copy(&self, alloc: Global) -> Result<Self, AllocError> {
+        Ok(Domain {
+            name: self.name,
+            types: self.types.copy(alloc)?,
+            predicates: self.predicates.copy(alloc)?,
+        })
+    }
+}
+
+/// Whether one of these has the name.
+fn declares(params: &[Param], name: Name) -> bool
+    ensures { result ≡ list_any (λ p. same_name name p.name) params.now }
+{
+    params.iter().any(|p| name == p.name)
+}
+
+impl Domain {
+    /// Whether the domain has this type: `object`, or one that it declares.
+    pub fn is_type(&self, name: Name) -> bool
+        ensures { result ≡ is_type self.now name }
+    {
+        name == Name::OBJECT || declares(self.types.as_slice(), name)
+    }
+
+    /// The parent of a declared type. None where the type isn't declared.
+    pub fn parent_of(&self, name: Name) -> Option<Name>
+        ensures { result ≡ parent_of self.now name }
+    {
+        self.types
+            .as_slice()
+            .iter()
+            .find(|t| name == t.name)
+            .map(|t| t.kind)
+    }
+
+    /// Whether the first type is the second or below it.
+    pub fn is_below(&self, low: Name, high: Name) -> bool
+        ensures { result ≡ is_below self.now low high }
+    {
+        let mut at = low;
+        for _climbed in 0..self.types.len() {
+            if at == high {
+                return true;
+            }
+            match self.parent_of(at) {
+                Some(parent) => at = parent,
+                None => return false,
+            }
+        }
+        at == high
+    }
+
+    /// The declaration of a predicate. None where it isn't declared.
+    pub fn predicate(&self, name: Name) -> Option<&Decl>
+        ensures { option_copied result ≡ predicate_of self.now name }
+    {
+        self.predicates
+            .as_slice()
+            .iter()
+            .find(|decl| name == decl.name)
+    }
+}

@@ -1,0 +1,23 @@
+//! The plain data of a planning session, the definitions that every contract above cites, and the slow functions that equal them.
+#![tactic(auto)]
+
+mod domains;
+mod edits;
+mod facts;
+mod inputs;
+mod journal;
+mod known;
+mod laws;
+mod lists;
+mod names;
+mod plain;
+
+pub use domains::{Decl, Domain, Param};
+pub use edits::{Edit, EditRefusal};
+pub use facts::Fact;
+pub use inputs::{Command, Input, Line, LineCause, Query};
+pub use journal::{By, Entry, Event, Refusal};
+pub use known::{Knowledge, MOST_INSTANCES};
+pub use lists::{Duplicate, Seq};
+pub use names::{Args, MOST_ARGUMENTS, Name};
+pub use plain::edit_plain;
