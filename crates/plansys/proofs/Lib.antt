@@ -9,5 +9,6 @@ pub mod ScriptLines
 pub mod ScriptNames
 pub mod Sessions
 pub mod Stops
+pub mod TableNames
 pub mod Taken
 pub mod WholeTexts

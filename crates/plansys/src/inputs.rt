@@ -97,6 +97,5 @@ pub fn read_input<F: Files>(
     let script = read_text(alloc, words, Source::Script, files)?;
     let domain = judge_domain(alloc, names, domain_text.as_slice())?;
     let lines = read_script(alloc, names, script.as_slice())?;
-    let _count = names.len();
     Ok(Input { domain, lines })
 }

@@ -98,7 +98,7 @@ fn take_line<O: Sink>(
     ensures cut { OnErr result (AppendsFront (O.taken out.old) (O.taken out.new) (entry_text names.now problem.old (by_terminal (event_of expert.now problem.old number line.now)))) }
     ensures cause { HasCause Write (O.faults out.old) (O.faults out.new) result }
 {
-    let what = answer(expert, problem, number, line, names)?;
+    let what = answer(expert, problem, number, line)?;
     let entry = Entry { hand: 0, what };
     let text = entry_text(alloc, names, problem, &entry)?;
     put(out, text.as_slice())?;
@@ -111,19 +111,17 @@ fn answer(
     problem: &mut Problem,
     number: u32,
     line: &Line,
-    names: &Names,
 ) -> Result<Event, AllocError>
-    requires line { IsLineOf (length names.now) line.now }
-    requires facts { All (IsFactOf (length names.now)) problem.old.facts }
     ensures event { IfOk result (λ event. event ≡ event_of expert.now problem.old number line.now) }
     ensures known { IfOk result (λ event. problem.new ≡ known_after expert.now problem.old event) }
-    ensures named { IfOk result (λ event. IsEventOf (length names.now) event) }
-    ensures facts { OnOk result (All (IsFactOf (length names.now)) problem.new.facts) }
+    // What could be printed with a table of names still can.
+    ensures named { IfOk result (λ event. (count : ℕ) → IsLineOf count line.now → All (IsFactOf count) problem.old.facts → IsEventOf count event) }
+    ensures facts { OnOk result ((count : ℕ) → IsLineOf count line.now → All (IsFactOf count) problem.old.facts → All (IsFactOf count) problem.new.facts) }
 {
     let by = By::Terminal(number);
     match line {
         Line::Good(Command::Edit(edit)) => {
-            let event = answer_edit(expert, problem, by, edit, names)?;
+            let event = answer_edit(expert, problem, by, edit)?;
             Ok(event)
         }
         Line::Good(Command::Ask(query)) => Ok(Event::Ask(*query)),
@@ -140,14 +138,11 @@ fn answer_edit(
     problem: &mut Problem,
     by: By,
     edit: &Edit,
-    names: &Names,
 ) -> Result<Event, AllocError>
-    requires edit { IsEditOf (length names.now) edit.now }
-    requires facts { All (IsFactOf (length names.now)) problem.old.facts }
     ensures event { IfOk result (λ event. event ≡ edit_event by edit.now (edited expert.now problem.old edit.now)) }
     ensures known { IfOk result (λ event. problem.new ≡ known_after expert.now problem.old event) }
-    ensures named { IfOk result (λ event. IsEventOf (length names.now) event) }
-    ensures facts { OnOk result (All (IsFactOf (length names.now)) problem.new.facts) }
+    ensures named { IfOk result (λ event. (count : ℕ) → IsEditOf count edit.now → All (IsFactOf count) problem.old.facts → IsEventOf count event) }
+    ensures facts { OnOk result ((count : ℕ) → IsEditOf count edit.now → All (IsFactOf count) problem.old.facts → All (IsFactOf count) problem.new.facts) }
 {
     match problem.edit(expert, edit) {
         Ok(_) => Ok(Event::Edit { by, edit: *edit }),

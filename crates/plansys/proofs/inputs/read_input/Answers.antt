@@ -1,5 +1,7 @@
 use Rattle.std.proofs.Common.{rules, ◌≡◌, Some, IfSome, subst}
 use Rattle.std.proofs.lemmas.Result.{err_from_is_err_and}
+use Rattle.plansys.proofs.TableNames.{AreNames-first, after_domain, after_script}
+use Rattle.ps_text.specs.Names.{AreNames}
 use Rattle.plansys.proofs.Given.{no_session, no_domain, no_script, no_form, gives}
 use Rattle.plansys.specs.Input.{script_file}
 use Rattle.plansys.specs.DomainForm.{domain_from}
@@ -47,3 +49,9 @@ returns-clause-ok g c =
     gives ws told c.in_ok-domain_text.domain_text.items script c.in_ok-domain.domain c.judge_domain.new.names c.read_script.new.names c.in_ok-lines.lines (search rules) c.in_ok-domain_text.ensures.short c.in_ok-domain_text.ensures.text c.in_ok-script.ensures.short read domain
     (subst (λ t. (script_from c.judge_domain.new.names t).0 ≡ c.in_ok-lines.lines) c.as_slice-2.ensures.value c.in_ok-lines.ensures.lines)
     (subst (λ t. (script_from c.judge_domain.new.names t).1 ≡ c.read_script.new.names) c.as_slice-2.ensures.value c.in_ok-lines.ensures.table)
+
+pub returns-clause-names : goal.returns-clause-names
+returns-clause-names g c =
+    let first : AreNames c.args.names.now = rw c.requires AreNames-first in
+    let domain = after_domain c.args.names.now c.judge_domain.new.names c.as_slice.result.now c.in_ok-domain.domain c.in_ok-domain.ensures.ok first in
+    subst AreNames c.in_ok-lines.ensures.table (after_script c.judge_domain.new.names c.as_slice-2.result.now domain)
