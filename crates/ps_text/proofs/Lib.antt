@@ -1,5 +1,9 @@
+pub mod Cuts
+pub mod Digits
 pub mod Folds
 pub mod Pieces
+pub mod Printed
 pub mod Puts
 pub mod Tables
+pub mod TokenSteps
 pub mod WordSteps

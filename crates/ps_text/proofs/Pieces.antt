@@ -47,11 +47,6 @@ module _ (parts : List ℕ → List (List ℕ)) (bytes : List ℕ) where
   pub Marked-none : Marked parts bytes [] 0
   Marked-none = record { place = omega arith; joined = refl; within = All-nil (IsWithin bytes); few = omega arith }
 
-  -- a place further on with the same parts after it
-  pub Marked-skip : (spans : List Span) (from next : ℕ) → Marked parts bytes spans from → from ≤ next → next ≤ length bytes → parts (drop from bytes) ≡ parts (drop next bytes) → Marked parts bytes spans next
-  Marked-skip spans from next m h l e =
-      record { place = l; joined = ap (λ l. pieces bytes spans ++ l) (sym e) ∙ m.joined; within = m.within; few = omega arith }
-
   -- one more part
   pub Marked-more : (spans more : List Span) (s : Span) (next : ℕ) → Marked parts bytes spans s.from → more ≡ spans ++ s ∷ [] → s.from ≤ s.to → s.to ≤ length bytes → s.from < next → next ≤ length bytes
       → parts (drop s.from bytes) ≡ slice_range bytes s.from s.to ∷ parts (drop next bytes) → Marked parts bytes more next

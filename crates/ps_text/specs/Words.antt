@@ -1,7 +1,6 @@
 -- The words of a text, and the pieces of it that spans mark.
 use Rattle.std.specs.Prelude.{ℕ, ◌≤◌, Bool, false, not, ◌&&◌, ◌||◌, ◌==◌, List, [], ◌∷◌, if◌then◌else◌, map, length, slice_index_or, slice_range, All}
-use Rattle.ps_world.specs.Lines.{lengthened}
-use Rattle.ps_world.specs.Lines.{same_text}
+use Rattle.ps_world.specs.Lines.{lengthened, same_text}
 use Rattle.ps_text.specs.Names.{folded}
 use Rattle.ps_text.specs.declared.spans.Span.{Span}
 

@@ -1,6 +1,8 @@
 //! The words of a text, the table of its names, and the files and sinks of the outside.
 #![tactic(auto)]
 
+mod decimals;
+mod lexing;
 mod memory;
 mod reads;
 mod sinks;
@@ -8,6 +10,8 @@ mod spans;
 mod table;
 mod word_spans;
 
+pub use decimals::{NUMBER_BYTES, NumRefusal, print_number, read_number};
+pub use lexing::{Class, LexRefusal, Token, tokens};
 pub use memory::{MemFiles, MemSink, SureFiles, SureSink, risen};
 pub use reads::{FileRefusal, Files};
 pub use sinks::{Sink, SinkRefusal, put};

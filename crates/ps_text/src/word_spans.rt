@@ -1,6 +1,7 @@
 //! The words of a text.
-ghost use Rattle.std.specs.Prelude.{◌≡◌, ◌+◌, ◌<◌, ◌≤◌, ◌==◌, ◌∷◌, false, Some, drop, length, not, position, slice_get, slice_index, slice_range, IfOk};
+ghost use Rattle.std.specs.Prelude.{◌≡◌, ◌+◌, ◌<◌, ◌≤◌, ◌==◌, false, Some, drop, length, not, position, slice_get, slice_index, IfOk, MatchOption};
 ghost use Rattle.std.specs.List.{position_or_len};
+ghost use Rattle.ps_text.specs.Tokens.{IsFirstWord, IsGap, IsNextWord};
 ghost use Rattle.ps_text.specs.Words.{is_blank, is_paren, is_run_byte, reads_as, word_at, words};
 
 use super::spans::{Span, line_end};
@@ -49,13 +50,50 @@ fn word_end(bytes: &[u8], from: usize) -> usize
     requires no_comment { (slice_index bytes.now from == 59) ≡ false }
     ensures longer { from < result }
     ensures within { result ≤ length bytes.now }
-    ensures word { words (drop from bytes.now) ≡ slice_range bytes.now from result ∷ words (drop result bytes.now) }
+    ensures word { IsFirstWord bytes.now (record { from = from; to = result }) }
 {
     if is_paren(bytes[from]) {
         from + 1
     } else {
         run_end(bytes, from + 1)
     }
+}
+
+/// The place from a place on where the next word begins, or the text's length.
+fn word_start(bytes: &[u8], mut from: usize) -> usize
+    requires { from ≤ length bytes.now }
+    ensures later { from ≤ result }
+    ensures within { result ≤ length bytes.now }
+    ensures gap { IsGap bytes.now from result }
+    ensures black { result < length bytes.now → is_blank (slice_index bytes.now result) ≡ false }
+    ensures no_comment { result < length bytes.now → (slice_index bytes.now result == 59) ≡ false }
+{
+    while from < bytes.len() {
+        let b = bytes[from];
+        if is_blank(b) {
+            from += 1;
+        } else if b == b';' {
+            from = line_end(bytes, from + 1);
+        } else {
+            return from;
+        }
+    }
+    from
+}
+
+/// The span of the next word from a place on, or None where there is no word.
+pub(crate) fn next_word(bytes: &[u8], from: usize) -> Option<Span>
+    requires { from ≤ length bytes.now }
+    ensures { MatchOption result (IsGap bytes.now from (length bytes.now)) (IsNextWord bytes.now from) }
+{
+    let from = word_start(bytes, from);
+    if from == bytes.len() {
+        return None;
+    }
+    Some(Span {
+        from,
+        to: word_end(bytes, from),
+    })
 }
 
 /// The words of a text, which contracts see as their list.
@@ -85,17 +123,9 @@ impl<'a> Words<'a> {
     {
         let mut spans = Vec::new(alloc);
         let mut from = 0;
-        while from < bytes.len() {
-            let b = bytes[from];
-            if is_blank(b) {
-                from += 1;
-            } else if b == b';' {
-                from = line_end(bytes, from + 1);
-            } else {
-                let to = word_end(bytes, from);
-                spans.push(Span { from, to })?;
-                from = to;
-            }
+        while let Some(span) = next_word(bytes, from) {
+            spans.push(span)?;
+            from = span.to;
         }
         Ok(Words { bytes, spans })
     }

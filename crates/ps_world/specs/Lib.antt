@@ -6,6 +6,7 @@ pub mod Knowledge
 pub mod Laws
 pub mod Lines
 pub mod Names
+pub mod Numbers
 pub mod Refusals
 pub mod Sample
 pub mod Tables

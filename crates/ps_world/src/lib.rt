@@ -10,6 +10,7 @@ mod known;
 mod laws;
 mod lists;
 mod names;
+mod numbers;
 mod plain;
 
 pub use domains::{Decl, Domain, Param};
@@ -20,4 +21,5 @@ pub use journal::{By, Entry, Event, Refusal};
 pub use known::{Knowledge, MOST_INSTANCES};
 pub use lists::{Duplicate, Seq};
 pub use names::{Args, MOST_ARGUMENTS, Name};
+pub use numbers::{MOST_THOUSANDTHS, Num};
 pub use plain::edit_plain;

@@ -1,0 +1,216 @@
+//! The tokens of a text.
+ghost use Rattle.std.specs.Prelude.{◌≡◌, IfErr, IfOk};
+ghost use Rattle.ps_text.specs.Tokens.{AreTokens, RefusesText, begins_digit, begins_number, class_at, class_of, fault_of_word, is_marked, is_sign, is_sign_byte};
+ghost use Rattle.ps_text.specs.declared.lexing.LexRefusal.TheVariants.{OutOfMemory};
+
+use super::decimals::read_number;
+use super::table::is_name;
+use super::word_spans::next_word;
+use std::alloc::{AllocError, AllocFailed, Global};
+
+/// What a word is. The first class that fits is its class.
+#[derive(Clone, Copy, PartialEq, Eq, Debug)]
+pub enum Class {
+    LeftParen,
+    RightParen,
+    /// One of `+ * / = < > <= >= -`.
+    Sign,
+    /// `?` and a name.
+    Variable,
+    /// `:` and a name.
+    Keyword,
+    /// A number, which begins with a digit, or with `-` and a digit.
+    Number,
+    /// `#t` in lower case.
+    Continuous,
+    Name,
+}
+
+/// A word of a text: its class, and its bytes from one place up to another, which isn't in it.
+#[derive(Clone, Copy, PartialEq, Eq, Debug)]
+pub struct Token {
+    pub class: Class,
+    pub from: usize,
+    pub to: usize,
+}
+
+/// Why a text has no tokens. Bytes are counted from 0.
+#[derive(Clone, Copy, PartialEq, Eq, Debug)]
+pub enum LexRefusal {
+    /// The word that begins here has no class, and doesn't begin as a number.
+    Bad { at: usize },
+    /// The word that begins here begins as a number, and is none.
+    Number { at: usize },
+    /// Want of memory.
+    OutOfMemory,
+}
+
+impl From<AllocError> for LexRefusal {
+    ghost from_gives = { λ _ e. e ≡ OutOfMemory };
+
+    fn from(_e: AllocError) -> LexRefusal {
+        LexRefusal::OutOfMemory
+    }
+}
+
+impl<T: Drop> From<AllocFailed<T>> for LexRefusal {
+    ghost from_gives = { λ _ e. e ≡ OutOfMemory };
+
+    fn from(_e: AllocFailed<T>) -> LexRefusal {
+        LexRefusal::OutOfMemory
+    }
+}
+
+fn is_sign_byte(b: u8) -> bool
+    ensures { result ≡ is_sign_byte b }
+{
+    (b == b'+' || b == b'*' || b == b'/') || (b == b'=' || b == b'<' || b == b'>' || b == b'-')
+}
+
+fn is_sign(word: &[u8]) -> bool
+    ensures { result ≡ is_sign word.now }
+{
+    match word {
+        [] => false,
+        [b] => is_sign_byte(*b),
+        _ => word == b"<=".as_slice() || word == b">=".as_slice(),
+    }
+}
+
+/// Whether a word is this byte and then a name.
+fn is_marked(mark: u8, word: &[u8]) -> bool
+    ensures { result ≡ is_marked mark word.now }
+{
+    match word {
+        [first, rest @ ..] => *first == mark && is_name(rest),
+        [] => false,
+    }
+}
+
+fn begins_digit(text: &[u8]) -> bool
+    ensures { result ≡ begins_digit text.now }
+{
+    match text {
+        [first, ..] => first.is_ascii_digit(),
+        [] => false,
+    }
+}
+
+fn begins_number(word: &[u8]) -> bool
+    ensures { result ≡ begins_number word.now }
+{
+    match word {
+        [b'-', rest @ ..] => begins_digit(rest),
+        _ => begins_digit(word),
+    }
+}
+
+fn class_of(word: &[u8]) -> Option<Class>
+    ensures { result ≡ class_of word.now }
+{
+    if word == b"(".as_slice() {
+        return Some(Class::LeftParen);
+    }
+    if word == b")".as_slice() {
+        return Some(Class::RightParen);
+    }
+    if is_sign(word) {
+        return Some(Class::Sign);
+    }
+    if is_marked(b'?', word) {
+        return Some(Class::Variable);
+    }
+    if is_marked(b':', word) {
+        return Some(Class::Keyword);
+    }
+    if begins_number(word) {
+        return read_number(word).is_ok().then_some(Class::Number);
+    }
+    if word == b"#t".as_slice() {
+        return Some(Class::Continuous);
+    }
+    is_name(word).then_some(Class::Name)
+}
+
+/// The fault of a word without a class.
+fn fault_of_word(at: usize, word: &[u8]) -> LexRefusal
+    ensures { result ≡ fault_of_word at word.now }
+{
+    if begins_number(word) {
+        LexRefusal::Number { at }
+    } else {
+        LexRefusal::Bad { at }
+    }
+}
+
+fn class_at(at: usize, word: &[u8]) -> Result<Class, LexRefusal>
+    ensures { result ≡ class_at at word.now }
+{
+    class_of(word).ok_or(fault_of_word(at, word))
+}
+
+/// The words of a text, in order, each with its class. Blanks and comments give none.
+///
+/// The first word without a class is refused: as `Number` where it begins as a number, and as `Bad` otherwise. `OutOfMemory` may come at any time.
+pub fn tokens(alloc: Global, bytes: &[u8]) -> Result<Vec<Token>, LexRefusal>
+    ensures ok { IfOk result (λ v. AreTokens bytes.now v.items) }
+    ensures refused { IfErr result (λ r. RefusesText r bytes.now) }
+{
+    let mut tokens = Vec::new(alloc);
+    let mut from = 0;
+    while let Some(span) = next_word(bytes, from) {
+        let class = class_at(span.from, &bytes[span.from..span.to])?;
+        tokens.push(Token {
+            class,
+            from: span.from,
+            to: span.to,
+        })?;
+        from = span.to;
+    }
+    Ok(tokens)
+}
+
+#[cfg(test)]
+mod tests {
+    use super::*;
+    use std::test::Fail;
+
+    #[test]
+    fn tokens_of_a_text(rt: HostRuntime) -> Result<(), Fail> {
+        let found = tokens(rt.alloc(), b"(a;b\n-5 <= ?x :key #t N_-9)- ;")?;
+        let wanted = [
+            (Class::LeftParen, 0, 1),
+            (Class::Name, 1, 2),
+            (Class::Number, 5, 7),
+            (Class::Sign, 8, 10),
+            (Class::Variable, 11, 13),
+            (Class::Keyword, 14, 18),
+            (Class::Continuous, 19, 21),
+            (Class::Name, 22, 26),
+            (Class::RightParen, 26, 27),
+            (Class::Sign, 27, 28),
+        ];
+        assert_eq!(rt; found.len(), wanted.len());
+        for (token, (class, from, to)) in found.iter().zip(wanted) {
+            assert_eq!(rt; *token, Token { class, from, to });
+        }
+        Ok(())
+    }
+
+    #[test]
+    fn texts_without_tokens(rt: HostRuntime) {
+        for (text, refusal) in [
+            (b"a ;_\n _b 9x".as_slice(), LexRefusal::Bad { at: 6 }),
+            (b"(:3)".as_slice(), LexRefusal::Bad { at: 1 }),
+            (b"?9".as_slice(), LexRefusal::Bad { at: 0 }),
+            (b"#T".as_slice(), LexRefusal::Bad { at: 0 }),
+            (b"< <==".as_slice(), LexRefusal::Bad { at: 2 }),
+            (b"--1".as_slice(), LexRefusal::Bad { at: 0 }),
+            (b"9a _a".as_slice(), LexRefusal::Number { at: 0 }),
+            (b"1 -1.2345".as_slice(), LexRefusal::Number { at: 2 }),
+        ] {
+            let found = tokens(rt.alloc(), text).map(|all| all.len());
+            assert_eq!(rt; found, Err(refusal), "{text:?}");
+        }
+    }
+}
