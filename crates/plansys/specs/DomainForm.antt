@@ -153,10 +153,17 @@ abbrev pub is_sound : List Name → Domain → Bool
 is_sound declared d =
     nat_le (length d.types) 256 && are_distinct declared && nat_le (length d.predicates) 256 && are_distinct (map (λ decl. decl.name) d.predicates) && list_all (is_sound_decl d) d.predicates
 
--- the domain of this name: the parent of each type is `object`, which is none of the types itself
+-- the domain of this name, with no constant, function or action: the parent of each type is `object`, which is none of the types itself
 abbrev pub domain_with : Name → Form → Domain
 domain_with name form =
-    record { name = name; types = typed object (filter (λ n. not (same_name n object)) form.types); predicates = form.predicates }
+    record {
+      name = name;
+      types = typed object (filter (λ n. not (same_name n object)) form.types);
+      constants = [];
+      predicates = form.predicates;
+      functions = [];
+      actions = [];
+    }
 
 -- this domain, if it is sound
 abbrev pub if_sound : Name → Form → Option Domain

@@ -15,8 +15,11 @@ pub struct Expert {
 
 impl Model for Expert {
     ghost use Rattle.ps_world.specs.declared.domains.Domain.{Domain};
+    ghost use Rattle.ps_world.specs.contracts.domains.Domain.{the_row};
 
     ghost Value = { Domain };
+
+    ghost coded = { the_row.coded };
 
     ghost view = { λ e. e.domain };
 }
@@ -92,7 +95,10 @@ mod tests {
         Ok(Domain {
             name: Name(7),
             types: Seq::of(types),
+            constants: Seq::new(alloc),
             predicates: Seq::of(vec![in alloc; decl]?),
+            functions: Seq::new(alloc),
+            actions: Seq::new(alloc),
         })
     }
 

@@ -29,13 +29,17 @@ impl Model for Problem {
 }
 
 impl Problem {
-    /// What a session opens with: no instance and no fact. The only error is want of memory.
+    /// What a session opens with: the domain's constants as its instances, and no fact. The only error is want of memory.
     pub fn new(alloc: Global, expert: &Expert) -> Result<Problem, AllocError>
         ensures { IfOk result (λ p. p ≡ opening expert.now) }
     {
+        let mut instances = BTreeMap::new(alloc);
+        for constant in expert.domain().constants.as_slice() {
+            instances.insert(constant.name, constant.kind)?;
+        }
         Ok(Problem {
             alloc,
-            instances: BTreeMap::new(alloc),
+            instances,
             facts: BTreeSet::new(alloc),
         })
     }
@@ -207,7 +211,10 @@ mod tests {
         let domain = Domain {
             name: Name(12),
             types: Seq::of(types),
+            constants: Seq::new(alloc),
             predicates: Seq::of(vec![in alloc; decl]?),
+            functions: Seq::new(alloc),
+            actions: Seq::new(alloc),
         };
         Expert::new(alloc, domain)
     }

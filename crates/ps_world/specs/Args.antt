@@ -1,7 +1,6 @@
 -- The fields of a short list of names.
-use Rattle.std.specs.Prelude.{◌≡◌, ◌-◌, ◌≤◌, List, ◌++◌, length, take, drop, replicate}
-use Rattle.std.proofs.Common.{arith}
-use Rattle.std.proofs.lemmas.List.{length-take-le, take-append-drop}
+use Rattle.std.specs.Prelude.{◌≡◌, List, length, take}
+use Rattle.ps_world.specs.ShortLists.{IsFilled, filled, filled-taken, length-taken}
 use Rattle.ps_world.specs.declared.names.Name.{Name}
 use Rattle.ps_world.specs.declared.names.Args.TheInside.{Inside}
 
@@ -9,22 +8,18 @@ use Rattle.ps_world.specs.declared.names.Args.TheInside.{Inside}
 abbrev pub blank : Name
 blank = record { 0 = 0 }
 
--- there is room for six names, and the places after the names are blank
-pub record IsFilled (a : Inside) : Type 0 where
-  pub room : length a.names ≡ 6
-  pub within : a.count ≤ 6
-  pub blank_after : drop a.count a.names ≡ replicate (6 - a.count) blank
+-- the fields are those of a short list
+abbrev pub IsArgs : Inside → Type 0
+IsArgs a = IsFilled blank a.names a.count
 
 -- the names
 abbrev pub names_of : Inside → List Name
 names_of a = take a.count a.names
 
 -- the fields that hold these names
-abbrev pub filled : List Name → Inside
-filled ns = record { names = ns ++ replicate (6 - length ns) blank; count = length ns }
+abbrev pub fields_of : List Name → Inside
+fields_of ns = record { names = filled blank ns; count = length ns }
 
-pub filled-names_of : (a : Inside) → IsFilled a → filled (names_of a) ≡ a
-filled-names_of a h =
-    let len : length (take a.count a.names) ≡ a.count = length-take-le a.count a.names (omega arith) in
-    let all : take a.count a.names ++ replicate (6 - length (take a.count a.names)) blank ≡ a.names = rw (len, ← h.blank_after) (take-append-drop a.count a.names) in
-    λ i. record { names = all i; count = len i }
+pub fields_of-names_of : (a : Inside) → IsArgs a → fields_of (names_of a) ≡ a
+fields_of-names_of a h =
+    λ i. record { names = filled-taken blank a.names a.count h i; count = length-taken blank a.names a.count h i }

@@ -1,5 +1,5 @@
 -- What is known, and how an edit changes it.
-use Rattle.std.specs.Prelude.{ℕ, Bool, false, ◌||◌, ◌==◌, ◌+◌, suc, zero, nat_le, if◌then◌else◌, Option, Some, None, Result, Ok, Err, List, [], ◌∷◌, length, find}
+use Rattle.std.specs.Prelude.{ℕ, Bool, false, ◌||◌, ◌==◌, ◌+◌, suc, zero, nat_le, if◌then◌else◌, Option, Some, None, Result, Ok, Err, List, [], ◌∷◌, length, find, fold}
 use Rattle.std.specs.List.{list_any}
 use Rattle.std.specs.Option.{option_map, option_map_or}
 use Rattle.std.specs.BTreeMap.{insert_entry}
@@ -93,6 +93,10 @@ abbrev pub edited : Domain → Knowledge → Edit → Result Knowledge EditRefus
 edited d k (AddInstance n t) = if is_type d t then with_instance k n t (kind_of k n) else Err NoType
 edited d k (AddFact f) = with_fact k f (fault_of_fact d k f)
 
--- what a session opens with
+-- instances with a constant put in, with its type
+abbrev pub with_constant : List (Name × Name) → Param → List (Name × Name)
+with_constant instances c = insert_entry name_cmp instances c.name c.kind
+
+-- what a session opens with: the constants as its instances, and no fact
 abbrev pub opening : Domain → Knowledge
-opening d = record { instances = []; facts = [] }
+opening d = record { instances = fold with_constant [] d.constants; facts = [] }

@@ -1,4 +1,9 @@
 pub mod Args
+pub mod Codes
+pub mod CondFalls
+pub mod CondViews
+pub mod ExprFalls
+pub mod ExprViews
 pub mod Facts
 pub mod History
 pub mod Journal
@@ -8,6 +13,10 @@ pub mod Lines
 pub mod Names
 pub mod Numbers
 pub mod Refusals
+pub mod Same
 pub mod Sample
+pub mod ShortLists
 pub mod Tables
+pub mod Terms
 pub mod Texts
+pub mod Trees

@@ -31,7 +31,10 @@ abbrev pub sample_domain : Domain
 sample_domain = record {
   name = name 0;
   types = record { name = name 1; kind = object } ∷ record { name = name 2; kind = object } ∷ [];
+  constants = [];
   predicates = record { name = name 3; params = record { name = name 4; kind = name 1 } ∷ record { name = name 5; kind = name 2 } ∷ [] } ∷ [];
+  functions = [];
+  actions = [];
 }
 
 -- robot_at with these two arguments

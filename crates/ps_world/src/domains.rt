@@ -1,15 +1,16 @@
-//! The domain of a session: its types and predicates (PDDL 2.1, section 2).
+//! The domain of a session: what it declares (PDDL 2.1, section 2).
 ghost use Rattle.std.specs.Prelude.{◌≡◌};
 ghost use Rattle.std.specs.Option.{option_copied};
 ghost use Rattle.std.specs.List.{list_any};
 ghost use Rattle.ps_world.specs.Names.{same_name};
 ghost use Rattle.ps_world.specs.Knowledge.{is_type, parent_of, is_below, predicate_of};
 
+use super::actions::ActionDef;
 use super::lists::{Duplicate, Seq};
 use super::names::Name;
 use std::alloc::{AllocError, Global};
 
-/// A name with its type: a parameter, or a type with its parent.
+/// A name with its type: a parameter, a constant, or a type with its parent.
 #[derive(Clone, Copy, PartialEq, Eq)]
 pub struct Param {
     pub name: Name,
@@ -22,7 +23,7 @@ impl Duplicate for Param {
     }
 }
 
-/// A declared predicate. It has at most 6 parameters.
+/// A declared predicate or function. It has at most 6 parameters.
 #[derive(PartialEq, Eq, Drop)]
 pub struct Decl {
     pub name: Name,
@@ -44,7 +45,11 @@ pub struct Domain {
     pub name: Name,
     /// The types, each with its parent. `object` is none of them.
     pub types: Seq<Param>,
+    /// The constants, each with its type.
+    pub constants: Seq<Param>,
     pub predicates: Seq<Decl>,
+    pub functions: Seq<Decl>,
+    pub actions: Seq<ActionDef>,
 }
 
 impl Duplicate for Domain {
@@ -52,7 +57,10 @@ impl Duplicate for Domain {
         Ok(Domain {
             name: self.name,
             types: self.types.copy(alloc)?,
+            constants: self.constants.copy(alloc)?,
             predicates: self.predicates.copy(alloc)?,
+            functions: self.functions.copy(alloc)?,
+            actions: self.actions.copy(alloc)?,
         })
     }
 }

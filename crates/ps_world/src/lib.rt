@@ -1,8 +1,11 @@
 //! The plain data of a planning session, the definitions that every contract above cites, and the slow functions that equal them.
 #![tactic(auto)]
 
+mod actions;
+mod conditions;
 mod domains;
 mod edits;
+mod expressions;
 mod facts;
 mod inputs;
 mod journal;
@@ -12,9 +15,13 @@ mod lists;
 mod names;
 mod numbers;
 mod plain;
+mod schemas;
 
+pub use actions::{ActionDef, Effect, NumOp};
+pub use conditions::{BoxedCond, Cond, Conds, Rel};
 pub use domains::{Decl, Domain, Param};
 pub use edits::{Edit, EditRefusal};
+pub use expressions::{BoxedExpr, Expr, Op};
 pub use facts::Fact;
 pub use inputs::{Command, Input, Line, LineCause, Query};
 pub use journal::{By, Entry, Event, Refusal};
@@ -23,3 +30,4 @@ pub use lists::{Duplicate, Seq};
 pub use names::{Args, MOST_ARGUMENTS, Name};
 pub use numbers::{MOST_THOUSANDTHS, Num};
 pub use plain::edit_plain;
+pub use schemas::{Lifted, Term, Terms};

@@ -38,15 +38,15 @@ impl Model for Args {
 
     ghost Value = { List Name };
 
-    ghost use Rattle.ps_world.specs.Args.{IsFilled, names_of, filled, filled-names_of};
+    ghost use Rattle.ps_world.specs.Args.{IsArgs, names_of, fields_of, fields_of-names_of};
 
     ghost view = { names_of };
 
-    ghost invariant = { IsFilled };
+    ghost invariant = { IsArgs };
 
-    ghost inverse = { filled };
+    ghost inverse = { fields_of };
 
-    ghost inverse_ok = { filled-names_of };
+    ghost inverse_ok = { fields_of-names_of };
 }
 
 impl Args {

@@ -247,12 +247,15 @@ mod tests {
         Ok(Domain {
             name: Name::OBJECT,
             types: Seq::of(vec![in alloc; one, two]?),
+            constants: Seq::new(alloc),
             predicates: Seq::of(vec![in alloc;
                 Decl {
                     name: name(3),
                     params
                 },
             ]?),
+            functions: Seq::new(alloc),
+            actions: Seq::new(alloc),
         })
     }
 

@@ -253,7 +253,10 @@ fn read_lexemes(alloc: Global, lexemes: Vec<Lexeme>) -> Result<Domain, DomainRef
     let domain = Domain {
         name,
         types,
+        constants: Seq::new(alloc),
         predicates,
+        functions: Seq::new(alloc),
+        actions: Seq::new(alloc),
     };
     if is_sound(alloc, &declared, &domain)? {
         Ok(domain)

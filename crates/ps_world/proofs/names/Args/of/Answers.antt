@@ -1,6 +1,7 @@
 use Rattle.std.proofs.Common.{arith}
-use Rattle.ps_world.proofs.ShortLists.{IsFilled-filled}
+use Rattle.ps_world.specs.Args.{blank}
+use Rattle.ps_world.proofs.ShortLists.{IsFilled-written}
 use Rattle.ps_world.proofs.names.Args.of.Goals as goal
 
 pub invariant_of-result : goal.invariant_of-result
-invariant_of-result c = IsFilled-filled c.args.names.now c.copy_from_slice.new.self c.copy_from_slice.ensures.after (omega arith)
+invariant_of-result c = IsFilled-written blank c.args.names.now c.copy_from_slice.new.self c.copy_from_slice.ensures.after (omega arith)

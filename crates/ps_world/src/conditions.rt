@@ -1,0 +1,345 @@
+//! Conditions. Contracts see a boxed condition as its tree, `CondTree` of specs/Trees.antt, and a list of conditions as the list of their trees.
+ghost use Rattle.std.specs.Prelude.{◌≡◌, ◌==◌, [], length, map, IfOk};
+ghost use Rattle.ps_world.specs.Same.{is_same};
+ghost use Rattle.ps_world.specs.Trees.{cond_tree_code, conds_code};
+ghost use Rattle.ps_world.specs.CondViews.{cond_tree};
+
+use super::expressions::Expr;
+use super::lists::Duplicate;
+use super::names::Name;
+use super::schemas::{Lifted, Term};
+use std::alloc::{AllocError, Global};
+use std::marker::Model;
+
+/// How two numbers are compared.
+#[derive(Clone, Copy, PartialEq, Eq)]
+pub enum Rel {
+    Lt,
+    Le,
+    Eq,
+    Ge,
+    Gt,
+}
+
+/// A condition.
+#[cycle(cond)]
+#[derive(Drop)]
+pub enum Cond {
+    /// All of these.
+    And(Conds),
+    Not(BoxedCond),
+    /// The fact is known.
+    Holds(Lifted),
+    /// Both are the same.
+    Same(Term, Term),
+    /// The numbers compare so.
+    Cmp(Rel, Expr, Expr),
+    /// The instance has this type or one below it.
+    IsA(Term, Name),
+}
+
+/// A list of conditions, which contracts see as the list of their trees.
+#[cycle(cond)]
+#[derive(Drop)]
+pub struct Conds {
+    items: Vec<Cond>,
+}
+
+/// One condition, behind a box. Contracts see its tree.
+#[cycle(cond)]
+#[derive(Drop)]
+pub struct BoxedCond {
+    inner: Box<Cond>,
+}
+
+impl Model for Conds {
+    ghost use Rattle.std.specs.Prelude.{List, map};
+    ghost use Rattle.ps_world.specs.Trees.{CondTree, conds_code, conds_rank};
+
+    ghost Value = { List CondTree };
+
+    ghost coded = { conds_code };
+
+    ghost use Rattle.ps_world.specs.CondViews.{cond_tree};
+
+    ghost view = { λ a. map cond_tree a.items.items };
+
+    ghost size = { conds_rank };
+
+    ghost use Rattle.ps_world.specs.CondFalls.{conds_fall};
+
+    ghost size_decreases = { λ a h. conds_fall a.items.items };
+}
+
+impl Model for BoxedCond {
+    ghost use Rattle.ps_world.specs.Trees.{CondTree, cond_tree_code, cond_rank};
+
+    ghost Value = { CondTree };
+
+    ghost coded = { cond_tree_code };
+
+    ghost use Rattle.ps_world.specs.CondViews.{cond_tree};
+
+    ghost view = { λ a. cond_tree a.inner.value };
+
+    ghost size = { cond_rank };
+
+    ghost use Rattle.ps_world.specs.CondFalls.{cond_falls};
+
+    ghost size_decreases = { λ a h. cond_falls a.inner.value };
+}
+
+impl Conds {
+    /// A list of no conditions.
+    pub fn new(alloc: Global) -> Self
+        ensures { result ≡ [] }
+    {
+        Conds {
+            items: Vec::new(alloc),
+        }
+    }
+
+    /// The list of these conditions. It takes no memory.
+    pub fn of(items: Vec<Cond>) -> Self
+        ensures { result ≡ map cond_tree items.items }
+    {
+        Conds { items }
+    }
+
+    /// How many conditions.
+    pub fn len(&self) -> usize
+        ensures { result ≡ length self.now }
+    {
+        self.items.len()
+    }
+
+    /// Whether there is no condition.
+    pub fn is_empty(&self) -> bool
+        ensures { result ≡ (length self.now == 0) }
+    {
+        self.items.is_empty()
+    }
+
+    /// The conditions in order.
+    pub fn as_slice(&self) -> &[Cond]
+        ensures { map cond_tree result.now ≡ self.now }
+    {
+        self.items.as_slice()
+    }
+}
+
+impl BoxedCond {
+    /// The condition, put into a box. The only error is want of memory.
+    pub fn new(alloc: Global, inner: Cond) -> Result<Self, AllocError>
+        ensures { IfOk result (λ b. b ≡ cond_tree inner) }
+    {
+        Ok(BoxedCond {
+            inner: Box::new(alloc, inner)?,
+        })
+    }
+
+    /// The condition.
+    pub fn get(&self) -> &Cond
+        ensures { cond_tree result.now ≡ self.now }
+    {
+        &self.inner
+    }
+}
+
+#[cycle(copy_cond)]
+fn copy_cond(alloc: Global, cond: &Cond) -> Result<Cond, AllocError>
+    ensures { IfOk result (λ c. c ≡ cond.now) }
+{
+    match cond {
+        Cond::And(parts) => Ok(Cond::And(copy_conds(alloc, parts)?)),
+        Cond::Not(inner) => Ok(Cond::Not(copy_boxed_cond(alloc, inner)?)),
+        Cond::Holds(lifted) => Ok(Cond::Holds(*lifted)),
+        Cond::Same(one, other) => Ok(Cond::Same(*one, *other)),
+        Cond::Cmp(rel, left, right) => {
+            let left = left.copy(alloc)?;
+            let right = right.copy(alloc)?;
+            Ok(Cond::Cmp(*rel, left, right))
+        }
+        Cond::IsA(term, kind) => Ok(Cond::IsA(*term, *kind)),
+    }
+}
+
+#[cycle(copy_cond)]
+fn copy_boxed_cond(alloc: Global, boxed: &BoxedCond) -> Result<BoxedCond, AllocError>
+    ensures { IfOk result (λ c. c ≡ boxed.now) }
+{
+    let inner = copy_cond(alloc, &boxed.inner)?;
+    Ok(BoxedCond {
+        inner: Box::new(alloc, inner)?,
+    })
+}
+
+#[cycle(copy_cond)]
+fn copy_conds(alloc: Global, conds: &Conds) -> Result<Conds, AllocError>
+    ensures { IfOk result (λ c. c ≡ conds.now) }
+{
+    let mut items = Vec::with_capacity(alloc, conds.items.len())?;
+    for cond in &conds.items {
+        items.push(copy_cond(alloc, cond)?)?;
+    }
+    Ok(Conds { items })
+}
+
+impl Duplicate for Cond {
+    fn copy(&self, alloc: Global) -> Result<Self, AllocError> {
+        copy_cond(alloc, self)
+    }
+}
+
+impl Duplicate for BoxedCond {
+    fn copy(&self, alloc: Global) -> Result<Self, AllocError> {
+        copy_boxed_cond(alloc, self)
+    }
+}
+
+impl Duplicate for Conds {
+    fn copy(&self, alloc: Global) -> Result<Self, AllocError> {
+        copy_conds(alloc, self)
+    }
+}
+
+#[cycle(same_cond)]
+fn is_same_cond(a: &Cond, b: &Cond) -> bool
+    ensures { result ≡ is_same cond_tree_code (cond_tree a.now) (cond_tree b.now) }
+{
+    match (a, b) {
+        (Cond::And(a), Cond::And(b)) => is_same_conds(a, b),
+        (Cond::Not(a), Cond::Not(b)) => is_same_boxed_cond(a, b),
+        (Cond::Holds(a), Cond::Holds(b)) => a == b,
+        (Cond::Same(one, other), Cond::Same(one_b, other_b)) => one == one_b && other == other_b,
+        (Cond::Cmp(rel, left, right), Cond::Cmp(rel_b, left_b, right_b)) => {
+            rel == rel_b && left == left_b && right == right_b
+        }
+        (Cond::IsA(term, kind), Cond::IsA(term_b, kind_b)) => term == term_b && kind == kind_b,
+        _ => false,
+    }
+}
+
+#[cycle(same_cond)]
+fn is_same_boxed_cond(a: &BoxedCond, b: &BoxedCond) -> bool
+    ensures { result ≡ is_same cond_tree_code a.now b.now }
+{
+    is_same_cond(&a.inner, &b.inner)
+}
+
+#[cycle(same_cond)]
+fn is_same_conds(a: &Conds, b: &Conds) -> bool
+    ensures { result ≡ is_same conds_code a.now b.now }
+{
+    if a.items.len() != b.items.len() {
+        return false;
+    }
+    for (i, cond) in a.items.iter().enumerate() {
+        if !is_same_cond(cond, &b.items[i]) {
+            return false;
+        }
+    }
+    true
+}
+
+impl PartialEq for Cond {
+    ghost use Rattle.std.specs.Cmp.{partial_equiv_from_equiv, on_equiv};
+    ghost use Rattle.std.specs.Ordering.{on};
+    ghost use Rattle.ps_world.specs.Same.{is_same, is_same_equiv};
+    ghost use Rattle.ps_world.specs.Trees.{cond_tree_code};
+    ghost use Rattle.ps_world.specs.CondViews.{cond_tree};
+
+    ghost eq = { on cond_tree (is_same cond_tree_code) };
+
+    ghost laws = { partial_equiv_from_equiv (on_equiv cond_tree (is_same_equiv cond_tree_code)) };
+
+    fn eq(&self, other: &Self) -> bool {
+        is_same_cond(self, other)
+    }
+}
+
+impl Eq for Cond {
+    ghost use Rattle.std.specs.Cmp.{on_equiv};
+    ghost use Rattle.ps_world.specs.Same.{is_same_equiv};
+    ghost use Rattle.ps_world.specs.Trees.{cond_tree_code};
+    ghost use Rattle.ps_world.specs.CondViews.{cond_tree};
+
+    ghost laws = { on_equiv cond_tree (is_same_equiv cond_tree_code) };
+}
+
+impl PartialEq for BoxedCond {
+    ghost use Rattle.std.specs.Cmp.{partial_equiv_from_equiv};
+    ghost use Rattle.ps_world.specs.Same.{is_same, is_same_equiv};
+    ghost use Rattle.ps_world.specs.Trees.{cond_tree_code};
+
+    ghost eq = { is_same cond_tree_code };
+
+    ghost laws = { partial_equiv_from_equiv (is_same_equiv cond_tree_code) };
+
+    fn eq(&self, other: &Self) -> bool {
+        is_same_boxed_cond(self, other)
+    }
+}
+
+impl Eq for BoxedCond {
+    ghost use Rattle.ps_world.specs.Same.{is_same_equiv};
+    ghost use Rattle.ps_world.specs.Trees.{cond_tree_code};
+
+    ghost laws = { is_same_equiv cond_tree_code };
+}
+
+impl PartialEq for Conds {
+    ghost use Rattle.std.specs.Cmp.{partial_equiv_from_equiv};
+    ghost use Rattle.ps_world.specs.Same.{is_same, is_same_equiv};
+    ghost use Rattle.ps_world.specs.Trees.{conds_code};
+
+    ghost eq = { is_same conds_code };
+
+    ghost laws = { partial_equiv_from_equiv (is_same_equiv conds_code) };
+
+    fn eq(&self, other: &Self) -> bool {
+        is_same_conds(self, other)
+    }
+}
+
+impl Eq for Conds {
+    ghost use Rattle.ps_world.specs.Same.{is_same_equiv};
+    ghost use Rattle.ps_world.specs.Trees.{conds_code};
+
+    ghost laws = { is_same_equiv conds_code };
+}
+
+#[cfg(test)]
+mod tests {
+    use super::*;
+    use crate::{BoxedExpr, Num, Op, Terms};
+    use std::test::Fail;
+
+    /// That the fact with this head is not known, and its function compares so with 1 + 1.
+    fn nested(alloc: Global, head: u64, rel: Rel) -> Result<Cond, Fail> {
+        let terms = Terms::of(&[Term::Var(0), Term::Const(Name(7))]).ok_or("two terms")?;
+        let lifted = Lifted {
+            head: Name(head),
+            terms,
+        };
+        let one = Num::new(1000).ok_or("one")?;
+        let unlike = Cond::Not(BoxedCond::new(alloc, Cond::Holds(lifted))?);
+        let left = BoxedExpr::new(alloc, Expr::Num(one))?;
+        let right = BoxedExpr::new(alloc, Expr::Num(one))?;
+        let sum = Expr::Bin(Op::Add, left, right);
+        let compared = Cond::Cmp(rel, Expr::Fun(lifted), sum);
+        Ok(Cond::And(Conds::of(vec![in alloc; unlike, compared]?)))
+    }
+
+    #[test]
+    fn copies_and_compares(rt: HostRuntime) -> Result<(), Fail> {
+        let alloc = rt.alloc();
+        let cond = nested(alloc, 3, Rel::Lt)?;
+        let copied = cond.copy(alloc)?;
+        assert!(rt; copied == cond);
+        for (head, rel) in [(3, Rel::Gt), (4, Rel::Lt)] {
+            assert!(rt; nested(alloc, head, rel)? != cond);
+        }
+        Ok(())
+    }
+}

@@ -1,0 +1,158 @@
+//! Facts with parameters in them, as conditions and effects speak of them.
+ghost use Rattle.std.specs.Prelude.{◌≡◌, ◌==◌, ◌<◌, ◌≤◌, length, slice_index_or};
+ghost use Rattle.std.specs.Option.{SomeIff};
+
+use super::lists::Duplicate;
+use super::names::{MOST_ARGUMENTS, Name};
+use std::alloc::{AllocError, Global};
+use std::marker::Model;
+
+/// What stands at the place of an argument.
+#[derive(Clone, Copy)]
+pub enum Term {
+    /// A variable, by its number.
+    Var(u8),
+    /// A constant.
+    Const(Name),
+}
+
+impl PartialEq for Term {
+    ghost use Rattle.std.specs.Cmp.{partial_equiv_from_equiv};
+    ghost use Rattle.ps_world.specs.Same.{is_same, is_same_equiv};
+    ghost use Rattle.ps_world.specs.Codes.{term_code};
+
+    ghost eq = { is_same term_code };
+
+    ghost laws = { partial_equiv_from_equiv (is_same_equiv term_code) };
+
+    fn eq(&self, other: &Self) -> bool {
+        match (self, other) {
+            (Term::Var(a), Term::Var(b)) => a == b,
+            (Term::Const(a), Term::Const(b)) => a == b,
+            _ => false,
+        }
+    }
+}
+
+impl Eq for Term {
+    ghost use Rattle.ps_world.specs.Same.{is_same_equiv};
+    ghost use Rattle.ps_world.specs.Codes.{term_code};
+
+    ghost laws = { is_same_equiv term_code };
+}
+
+impl Duplicate for Term {
+    fn copy(&self, _alloc: Global) -> Result<Self, AllocError> {
+        Ok(*self)
+    }
+}
+
+/// The arguments of a fact with parameters: at most 6 terms, which contracts see as their list.
+#[derive(Clone, Copy)]
+pub struct Terms {
+    terms: [Term; MOST_ARGUMENTS],
+    count: usize,
+}
+
+impl Model for Terms {
+    ghost use Rattle.std.specs.Prelude.{List};
+    ghost use Rattle.ps_world.specs.declared.schemas.Term.{Term};
+
+    ghost Value = { List Term };
+
+    ghost use Rattle.ps_world.specs.Terms.{IsTerms, terms_of, fields_of, fields_of-terms_of};
+
+    ghost view = { terms_of };
+
+    ghost invariant = { IsTerms };
+
+    ghost inverse = { fields_of };
+
+    ghost inverse_ok = { fields_of-terms_of };
+}
+
+impl Terms {
+    /// These terms, or None exactly where there are more than 6.
+    pub fn of(terms: &[Term]) -> Option<Terms>
+        ensures { SomeIff result (length terms.now ≤ MOST_ARGUMENTS) terms.now }
+    {
+        if terms.len() > MOST_ARGUMENTS {
+            return None;
+        }
+        let mut filled = [Term::Var(0); MOST_ARGUMENTS];
+        filled[..terms.len()].copy_from_slice(terms);
+        Some(Terms {
+            terms: filled,
+            count: terms.len(),
+        })
+    }
+
+    /// How many terms.
+    pub fn len(&self) -> usize
+        ensures { result ≡ length self.now }
+    {
+        self.count
+    }
+
+    /// Whether there is no term.
+    pub fn is_empty(&self) -> bool
+        ensures { result ≡ (length self.now == 0) }
+    {
+        self.count == 0
+    }
+
+    /// The term at place `i`, counted from 0.
+    pub fn get(&self, i: usize) -> Term
+        requires { i < length self.now }
+        ensures { result ≡ slice_index_or self.now i result }
+    {
+        self.as_slice()[i]
+    }
+
+    /// The terms in order.
+    pub fn as_slice(&self) -> &[Term]
+        ensures { result.now ≡ self.now }
+    {
+        &self.terms[..self.count]
+    }
+}
+
+impl PartialEq for Terms {
+    ghost use Rattle.std.specs.Cmp.{partial_equiv_from_equiv};
+    ghost use Rattle.ps_world.specs.Same.{is_same, is_same_equiv};
+    ghost use Rattle.ps_world.specs.Codes.{terms_code};
+
+    ghost eq = { is_same terms_code };
+
+    ghost laws = { partial_equiv_from_equiv (is_same_equiv terms_code) };
+
+    fn eq(&self, other: &Self) -> bool {
+        self.as_slice() == other.as_slice()
+    }
+}
+
+impl Eq for Terms {
+    ghost use Rattle.ps_world.specs.Same.{is_same_equiv};
+    ghost use Rattle.ps_world.specs.Codes.{terms_code};
+
+    ghost laws = { is_same_equiv terms_code };
+}
+
+impl Duplicate for Terms {
+    fn copy(&self, _alloc: Global) -> Result<Self, AllocError> {
+        Ok(*self)
+    }
+}
+
+/// A predicate or a function, and its arguments.
+#[derive(Clone, Copy, PartialEq, Eq)]
+pub struct Lifted {
+    pub head: Name,
+    pub terms: Terms,
+}
+
+impl Duplicate for Lifted {
+    fn copy(&self, _alloc: Global) -> Result<Self, AllocError> {
+        Ok(*self)
+    }
+}
