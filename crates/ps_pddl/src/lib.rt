@@ -1,0 +1,15 @@
+//! The language of planning domains: what their texts may be.
+#![tactic(auto)]
+
+mod faults;
+mod laws;
+mod marks;
+mod rules;
+mod shape;
+mod symbols;
+mod wanted;
+
+pub use faults::{Form, ShapeFault};
+pub use laws::{faults_are_first, faults_are_real, faults_are_told};
+pub use marks::Mark;
+pub use shape::judge;
