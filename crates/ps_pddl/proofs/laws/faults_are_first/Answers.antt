@@ -1,5 +1,0 @@
-use Rattle.ps_pddl.proofs.OneFault.{faults_are_first}
-use Rattle.ps_pddl.proofs.laws.faults_are_first.Goals as goal
-
-pub returns : goal.returns
-returns c = faults_are_first

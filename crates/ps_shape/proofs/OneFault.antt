@@ -1,0 +1,99 @@
+-- A text's fault is the only one, is told by the marks up to it, and is none of a domain's text.
+use Rattle.std.proofs.Common.{◌≡◌, ℕ, ◌+◌, ◌<◌, ◌≤◌, List, [], ◌++◌, length, take, drop, None, Some, refl, sym, ◌∙◌, ap, subst, inl, inr, append_assoc, append-nil, arith}
+use Rattle.std.proofs.lemmas.Bool.{cases_lt}
+use Rattle.std.proofs.lemmas.List.{take_all, take-take, take-append-drop}
+use Rattle.std.proofs.lemmas.Option.{slice_get_within}
+use Rattle.ps_shape.specs.Fronts.{IsFront, IsFirstMisfit}
+use Rattle.ps_shape.specs.Symbols.{level}
+use Rattle.ps_shape.specs.Forms.{told_at}
+use Rattle.ps_shape.specs.Laws.{FaultsAreFirst, FaultsAreReal}
+use Rattle.ps_shape.specs.Shape.{IsDomainShape, IsTooDeep, IsShallow, IsDepth, deepest, form_here, wanted}
+use Rattle.ps_shape.specs.declared.marks.Mark.{Mark}
+use Rattle.ps_shape.specs.declared.marks.Mark.TheVariants.{Open}
+use Rattle.ps_shape.specs.declared.faults.ShapeFault.TheVariants.{Unsupported, Depth, Unexpected, OutOfMemory}
+use Rattle.ps_shape.proofs.Places.{slice_get-take}
+
+-- a beginning of a front is a front
+front_take : {T : Type 0} (L : List T → Type 0) (k n : ℕ) (ts : List T) → k ≤ n → IsFront L (take n ts) → IsFront L (take k ts)
+front_take L k n ts h f =
+    let split : take k ts ++ drop k (take n ts) ≡ take n ts = ap (λ x. x ++ drop k (take n ts)) (sym (take-take k n ts h)) ∙ take-append-drop k (take n ts) in
+    let whole = append_assoc (take k ts) (drop k (take n ts)) f.0 in
+    (drop k (take n ts) ++ f.0, subst L (ap (λ x. x ++ f.0) (sym split) ∙ whole) f.1)
+
+-- there is one first misfit
+first_at_or_after : {T : Type 0} (L : List T → Type 0) (ts : List T) (a b : ℕ) → IsFront L (take b ts) → b ≤ length ts → IsFirstMisfit L ts a → b ≤ a
+first_at_or_after L ts a b f within bad =
+    elim (cases_lt a b) [
+      | inl h ↦ absurd (bad.here (omega arith) (front_take L (a + 1) b ts (omega arith) f))
+      | inr h ↦ h
+    ]
+
+-- the level at a place is that of the beginning
+deep_in : (ms : List Mark) (n at : ℕ) → at < n → IsTooDeep ms at → IsTooDeep (take n ms) at
+deep_in ms n at h deep = (slice_get-take n ms at h ∙ deep.0, subst (λ (x : List Mark). deepest ≤ level (wanted x)) (sym (take-take at n ms (omega arith))) deep.1)
+
+misfit_after_depth : (ms : List Mark) (deep at : ℕ) → IsDepth ms deep → IsFirstMisfit IsDomainShape ms at → IsShallow (take (at + 1) ms) → ⊥
+misfit_after_depth ms deep at d bad shallow =
+    let inside : deep < length ms = slice_get_within ms deep Open d.deep.0 in
+    let after : deep ≤ at = first_at_or_after IsDomainShape ms at deep d.before (omega arith) bad in
+    shallow deep (deep_in ms (at + 1) deep (omega arith) d.deep)
+
+same_misfit : (ms : List Mark) (a b : ℕ) → IsFirstMisfit IsDomainShape ms a → IsFirstMisfit IsDomainShape ms b → a ≡ b
+same_misfit ms a b x y =
+    let h : a ≤ b = first_at_or_after IsDomainShape ms b a x.before x.within y in
+    let k : b ≤ a = first_at_or_after IsDomainShape ms a b y.before y.within x in
+    omega arith
+
+depth_order : (ms : List Mark) (a b : ℕ) → IsDepth ms a → IsDepth ms b → b ≤ a
+depth_order ms a b x y =
+    elim (cases_lt a b) [
+      | inl h ↦ absurd (y.shallow a (deep_in ms b a h x.deep))
+      | inr h ↦ h
+    ]
+
+pub faults_are_first : FaultsAreFirst
+faults_are_first OutOfMemory s ms due _ x y = absurd (due refl)
+faults_are_first (Unsupported at what) OutOfMemory ms _ due x y = absurd (due refl)
+faults_are_first (Depth at) OutOfMemory ms _ due x y = absurd (due refl)
+faults_are_first (Unexpected at) OutOfMemory ms _ due x y = absurd (due refl)
+faults_are_first (Unsupported at what) (Unsupported there other) ms _ _ x y =
+    let same : x.0 ≡ y.0 = same_misfit ms x.0 y.0 x.2.misfit y.2.misfit in
+    let form : form_here ms x.0 ≡ Some other = subst (λ (k : ℕ). form_here ms k ≡ Some other) (sym same) y.2.form in
+    let one : Some what ≡ Some other = sym x.2.form ∙ form in
+    let what_is : what ≡ other = cc in
+    let here : at ≡ there = x.1 ∙ ap (λ f. told_at f x.0) what_is ∙ ap (λ k. told_at other k) same ∙ sym y.1 in
+    cc
+faults_are_first (Unsupported at what) (Depth there) ms _ _ x y = absurd (misfit_after_depth ms there x.0 y x.2.misfit x.2.shallow)
+faults_are_first (Unsupported at what) (Unexpected there) ms _ _ x y =
+    let same : x.0 ≡ there = same_misfit ms x.0 there x.2.misfit y.misfit in
+    let form : form_here ms there ≡ Some what = subst (λ (k : ℕ). form_here ms k ≡ Some what) same x.2.form in
+    let none : form_here ms there ≡ None = y.supported in
+    cc
+faults_are_first (Depth at) (Unsupported there other) ms _ _ x y = absurd (misfit_after_depth ms at y.0 x y.2.misfit y.2.shallow)
+faults_are_first (Depth at) (Depth there) ms _ _ x y =
+    let h : there ≤ at = depth_order ms at there x y in
+    let k : at ≤ there = depth_order ms there at y x in
+    let same : at ≡ there = omega arith in
+    ap Depth same
+faults_are_first (Depth at) (Unexpected there) ms _ _ x y = absurd (misfit_after_depth ms at there x y.misfit y.shallow)
+faults_are_first (Unexpected at) (Unsupported there other) ms _ _ x y =
+    let same : at ≡ y.0 = same_misfit ms at y.0 x.misfit y.2.misfit in
+    let form : form_here ms at ≡ Some other = subst (λ (k : ℕ). form_here ms k ≡ Some other) (sym same) y.2.form in
+    let none : form_here ms at ≡ None = x.supported in
+    cc
+faults_are_first (Unexpected at) (Depth there) ms _ _ x y = absurd (misfit_after_depth ms there at y x.misfit x.shallow)
+faults_are_first (Unexpected at) (Unexpected there) ms _ _ x y = ap Unexpected (same_misfit ms at there x.misfit y.misfit)
+
+-- a text of the language has no misfit
+no_misfit : (ms : List Mark) (at : ℕ) → IsFirstMisfit IsDomainShape ms at → IsDomainShape ms → ⊥
+no_misfit ms at bad good =
+    let all : take (length ms) ms ≡ ms = take_all (length ms) ms (omega arith) in
+    let front : IsFront IsDomainShape (take (length ms) ms) = ([], subst IsDomainShape (sym (append-nil (take (length ms) ms) ∙ all)) good) in
+    let here : at ≡ length ms = (let h : length ms ≤ at = first_at_or_after IsDomainShape ms at (length ms) front (omega arith) bad in let k : at ≤ length ms = bad.within in omega arith) in
+    bad.end here good
+
+pub faults_are_real : FaultsAreReal
+faults_are_real (Unsupported at what) ms _ x good flat = no_misfit ms x.0 x.2.misfit good
+faults_are_real (Depth at) ms _ x good flat = flat at x.deep
+faults_are_real (Unexpected at) ms _ x good flat = no_misfit ms at x.misfit good
+faults_are_real OutOfMemory ms due x good flat = absurd (due refl)

@@ -1,0 +1,184 @@
+-- The grammar of a domain's text, a rule a line: the symbol wanted, the mark that it may begin with, and what is wanted after that mark.
+use Rattle.std.specs.Prelude.{Bool, true, List, [], ◌∷◌, Option, None, Some, if◌then◌else◌}
+use Rattle.ps_shape.specs.Symbols.{none_seen}
+use Rattle.ps_shape.specs.Marks.{is, is_name, is_keyword, is_change, is_predicate_name, is_fact_name}
+use Rattle.ps_shape.specs.declared.marks.Mark.{Mark}
+use Rattle.ps_shape.specs.declared.marks.Mark.TheVariants.{Open, Close, Plus, Times, Divide, Equal, Less, Greater, LessEqual, GreaterEqual, Minus, Duration, Variable, Requirements, Types, Constants, Predicates, Functions, DurativeAction, Parameters, DurationKey, ConditionKey, EffectKey, Number, Define, Domain, At, Over, Start, End, All, And, Not, NumberWord}
+use Rattle.ps_shape.specs.declared.symbols.Symbol.{Symbol}
+use Rattle.ps_shape.specs.declared.symbols.Symbol.TheVariants.{The, AnyName, InText, InList, InAction, InCondition, InEffect, InValue}
+use Rattle.ps_shape.specs.declared.symbols.Seen.{Seen}
+use Rattle.ps_shape.specs.declared.symbols.TextPart.{TextPart}
+use Rattle.ps_shape.specs.declared.symbols.ListPart.{ListPart}
+use Rattle.ps_shape.specs.declared.symbols.ActionPart.{ActionPart}
+use Rattle.ps_shape.specs.declared.symbols.ConditionPart.{ConditionPart}
+use Rattle.ps_shape.specs.declared.symbols.EffectPart.{EffectPart}
+use Rattle.ps_shape.specs.declared.symbols.ValuePart.{ValuePart}
+use Rattle.ps_shape.specs.declared.symbols.TextPart.TheVariants as text
+use Rattle.ps_shape.specs.declared.symbols.ListPart.TheVariants as list
+use Rattle.ps_shape.specs.declared.symbols.ActionPart.TheVariants as action
+use Rattle.ps_shape.specs.declared.symbols.ConditionPart.TheVariants as condition
+use Rattle.ps_shape.specs.declared.symbols.EffectPart.TheVariants as effect
+use Rattle.ps_shape.specs.declared.symbols.ValuePart.TheVariants as value
+
+-- these symbols where the mark passes
+abbrev pub where_it_is : Bool → List Symbol → Option (List Symbol)
+where_it_is passes new = if passes then Some new else None
+
+-- a section that stands at most once
+abbrev pub once : Bool → ListPart → Seen → Option (List Symbol)
+once before part seen = if before then None else Some (InList part ∷ InText (text.Sections seen) ∷ [])
+
+-- SECTION: (:requirements KEYWORD*) | (:types TLIST) | (:constants TLIST) | (:predicates DECL*) | (:functions FDECL*) | ACTION
+abbrev pub section_rule : Seen → Mark → Option (List Symbol)
+section_rule seen Requirements = once seen.requirements list.Keywords (record seen { requirements = true })
+section_rule seen Types = once seen.types list.Names (record seen { types = true })
+section_rule seen Constants = once seen.constants list.Names (record seen { constants = true })
+section_rule seen Predicates = once seen.predicates list.Predicates (record seen { predicates = true })
+section_rule seen Functions = once seen.functions list.Functions (record seen { functions = true })
+section_rule seen DurativeAction = Some (AnyName ∷ InAction action.AfterName ∷ InText (text.Sections seen) ∷ [])
+section_rule _ _ = None
+
+-- DOMAIN: (define (domain NAME) SECTION*)
+abbrev pub text_rule : TextPart → Mark → Option (List Symbol)
+text_rule text.Whole Open = Some (The Define ∷ InText text.Title ∷ InText (text.Sections none_seen) ∷ [])
+text_rule text.Title Open = Some (InText text.TitleWord ∷ AnyName ∷ The Close ∷ [])
+text_rule text.TitleWord Domain = Some []
+text_rule (text.Sections seen) Open = Some (InText (text.SectionHead seen) ∷ [])
+text_rule (text.Sections seen) Close = Some []
+text_rule (text.SectionHead seen) m = section_rule seen m
+text_rule _ _ = None
+
+-- TLIST: names; a run of names may be followed by - NAME
+-- DECL: (NAME VLIST), where VLIST is a TLIST of variables
+-- FDECL: DECL [- number]
+abbrev pub list_rule : ListPart → Mark → Option (List Symbol)
+list_rule list.Keywords Close = Some []
+list_rule list.Keywords m = where_it_is (is_keyword m) (InList list.Keywords ∷ [])
+list_rule list.Names Close = Some []
+list_rule list.Names m = where_it_is (is_name m) (InList list.NameRun ∷ [])
+list_rule list.NameRun Close = Some []
+list_rule list.NameRun Minus = Some (InList list.TypeName ∷ InList list.Names ∷ [])
+list_rule list.NameRun m = where_it_is (is_name m) (InList list.NameRun ∷ [])
+list_rule list.Variables Close = Some []
+list_rule list.Variables Variable = Some (InList list.VariableRun ∷ [])
+list_rule list.VariableRun Close = Some []
+list_rule list.VariableRun Minus = Some (InList list.TypeName ∷ InList list.Variables ∷ [])
+list_rule list.VariableRun Variable = Some (InList list.VariableRun ∷ [])
+list_rule list.TypeName m = where_it_is (is_name m) []
+list_rule list.Predicates Close = Some []
+list_rule list.Predicates Open = Some (InList list.PredicateHead ∷ InList list.Variables ∷ InList list.Predicates ∷ [])
+list_rule list.PredicateHead m = where_it_is (is_predicate_name m) []
+list_rule list.Functions Close = Some []
+list_rule list.Functions Open = Some (AnyName ∷ InList list.Variables ∷ InList list.FunctionRun ∷ [])
+list_rule list.FunctionRun Close = Some []
+list_rule list.FunctionRun Open = Some (AnyName ∷ InList list.Variables ∷ InList list.FunctionRun ∷ [])
+list_rule list.FunctionRun Minus = Some (InList list.FunctionType ∷ InList list.Functions ∷ [])
+list_rule list.FunctionType NumberWord = Some []
+list_rule _ _ = None
+
+-- ACTION: (:durative-action NAME :parameters (VLIST) :duration (= ?duration X) [:condition TC] [:effect TE])
+abbrev pub action_rule : ActionPart → Mark → Option (List Symbol)
+action_rule action.AfterName Parameters = Some (InAction action.Parameters ∷ InAction action.AfterParameters ∷ [])
+action_rule action.Parameters Open = Some (InList list.Variables ∷ [])
+action_rule action.AfterParameters DurationKey = Some (InAction action.Duration ∷ InAction action.AfterDuration ∷ [])
+action_rule action.Duration Open = Some (InAction action.DurationHead ∷ [])
+action_rule action.DurationHead Equal = Some (The Duration ∷ InValue value.Value ∷ The Close ∷ [])
+action_rule action.AfterDuration Close = Some []
+action_rule action.AfterDuration ConditionKey = Some (InCondition condition.Form ∷ InAction action.AfterCondition ∷ [])
+action_rule action.AfterDuration EffectKey = Some (InEffect effect.Form ∷ The Close ∷ [])
+action_rule action.AfterCondition Close = Some []
+action_rule action.AfterCondition EffectKey = Some (InEffect effect.Form ∷ The Close ∷ [])
+action_rule _ _ = None
+
+-- C: (and C*) | (not C) | (NAME TERM*) | (= X X) | (REL X X), where REL is < <= >= >
+abbrev pub condition_head_rule : Mark → Option (List Symbol)
+condition_head_rule And = Some (InCondition condition.Conditions ∷ [])
+condition_head_rule Not = Some (InCondition condition.Condition ∷ The Close ∷ [])
+condition_head_rule Equal = Some (InValue value.Value ∷ InValue value.Value ∷ The Close ∷ [])
+condition_head_rule Less = Some (InValue value.Value ∷ InValue value.Value ∷ The Close ∷ [])
+condition_head_rule LessEqual = Some (InValue value.Value ∷ InValue value.Value ∷ The Close ∷ [])
+condition_head_rule GreaterEqual = Some (InValue value.Value ∷ InValue value.Value ∷ The Close ∷ [])
+condition_head_rule Greater = Some (InValue value.Value ∷ InValue value.Value ∷ The Close ∷ [])
+condition_head_rule m = where_it_is (is_fact_name m) (InValue value.Terms ∷ [])
+
+-- TC: () | (and TC*) | (at start C) | (over all C) | (at end C)
+abbrev pub condition_rule : ConditionPart → Mark → Option (List Symbol)
+condition_rule condition.Form Open = Some (InCondition condition.FormHead ∷ [])
+condition_rule condition.FormHead Close = Some []
+condition_rule condition.FormHead And = Some (InCondition condition.TimedList ∷ [])
+condition_rule condition.FormHead At = Some (InEffect effect.StartOrEnd ∷ InCondition condition.Condition ∷ InEffect effect.FormEnd ∷ [])
+condition_rule condition.FormHead Over = Some (The All ∷ InCondition condition.Condition ∷ InEffect effect.FormEnd ∷ [])
+condition_rule condition.TimedList Close = Some []
+condition_rule condition.TimedList Open = Some (InCondition condition.TimedHead ∷ InCondition condition.TimedList ∷ [])
+condition_rule condition.TimedHead Close = Some []
+condition_rule condition.TimedHead And = Some (InCondition condition.TimedList ∷ [])
+condition_rule condition.TimedHead At = Some (InEffect effect.StartOrEnd ∷ InCondition condition.Condition ∷ The Close ∷ [])
+condition_rule condition.TimedHead Over = Some (The All ∷ InCondition condition.Condition ∷ The Close ∷ [])
+condition_rule condition.Condition Open = Some (InCondition condition.Head ∷ [])
+condition_rule condition.Conditions Close = Some []
+condition_rule condition.Conditions Open = Some (InCondition condition.Head ∷ InCondition condition.Conditions ∷ [])
+condition_rule condition.Head m = condition_head_rule m
+condition_rule _ _ = None
+
+-- E: (and E*) | (NAME TERM*) | (not (NAME TERM*)) | (NOP (NAME TERM*) X), where NOP is assign increase decrease scale-up scale-down
+abbrev pub effect_head_rule : Mark → Option (List Symbol)
+effect_head_rule And = Some (InEffect effect.Effects ∷ [])
+effect_head_rule Not = Some (InValue value.Atom ∷ The Close ∷ [])
+effect_head_rule m =
+    if is_change m
+    then Some (InValue value.Atom ∷ InValue value.Value ∷ The Close ∷ [])
+    else where_it_is (is_predicate_name m) (InValue value.Terms ∷ [])
+
+-- TE: () | (and TE*) | (at start E) | (at end E)
+abbrev pub effect_rule : EffectPart → Mark → Option (List Symbol)
+effect_rule effect.Form Open = Some (InEffect effect.FormHead ∷ [])
+effect_rule effect.FormHead Close = Some []
+effect_rule effect.FormHead And = Some (InEffect effect.TimedList ∷ [])
+effect_rule effect.FormHead At = Some (InEffect effect.StartOrEnd ∷ InEffect effect.Effect ∷ InEffect effect.FormEnd ∷ [])
+effect_rule effect.TimedList Close = Some []
+effect_rule effect.TimedList Open = Some (InEffect effect.TimedHead ∷ InEffect effect.TimedList ∷ [])
+effect_rule effect.TimedHead Close = Some []
+effect_rule effect.TimedHead And = Some (InEffect effect.TimedList ∷ [])
+effect_rule effect.TimedHead At = Some (InEffect effect.StartOrEnd ∷ InEffect effect.Effect ∷ The Close ∷ [])
+effect_rule effect.Effect Open = Some (InEffect effect.Head ∷ [])
+effect_rule effect.Effects Close = Some []
+effect_rule effect.Effects Open = Some (InEffect effect.Head ∷ InEffect effect.Effects ∷ [])
+effect_rule effect.Head m = effect_head_rule m
+effect_rule effect.StartOrEnd Start = Some []
+effect_rule effect.StartOrEnd End = Some []
+effect_rule effect.FormEnd Close = Some []
+effect_rule _ _ = None
+
+-- X: NUMBER | NAME | VARIABLE | (NAME TERM*) | (- X) | (OP X X), where OP is + - * /
+-- TERM: NAME | VARIABLE
+abbrev pub value_rule : ValuePart → Mark → Option (List Symbol)
+value_rule value.Atom Open = Some (AnyName ∷ InValue value.Terms ∷ [])
+value_rule value.Terms Close = Some []
+value_rule value.Terms Variable = Some (InValue value.Terms ∷ [])
+value_rule value.Terms m = where_it_is (is_name m) (InValue value.Terms ∷ [])
+value_rule value.Value Number = Some []
+value_rule value.Value Variable = Some []
+value_rule value.Value Open = Some (InValue value.Head ∷ [])
+value_rule value.Value m = where_it_is (is_name m) []
+value_rule value.Head Minus = Some (InValue value.Value ∷ InValue value.ValueOrEnd ∷ [])
+value_rule value.Head Plus = Some (InValue value.Value ∷ InValue value.Value ∷ The Close ∷ [])
+value_rule value.Head Times = Some (InValue value.Value ∷ InValue value.Value ∷ The Close ∷ [])
+value_rule value.Head Divide = Some (InValue value.Value ∷ InValue value.Value ∷ The Close ∷ [])
+value_rule value.Head m = where_it_is (is_name m) (InValue value.Terms ∷ [])
+value_rule value.ValueOrEnd Close = Some []
+value_rule value.ValueOrEnd Number = Some (The Close ∷ [])
+value_rule value.ValueOrEnd Variable = Some (The Close ∷ [])
+value_rule value.ValueOrEnd Open = Some (InValue value.Head ∷ The Close ∷ [])
+value_rule value.ValueOrEnd m = where_it_is (is_name m) (The Close ∷ [])
+value_rule _ _ = None
+
+-- what a symbol leads to at a mark: each symbol stands for what begins with such a mark and goes on with these
+abbrev pub step : Symbol → Mark → Option (List Symbol)
+step (The wanted) m = where_it_is (is wanted m) []
+step AnyName m = where_it_is (is_name m) []
+step (InText part) m = text_rule part m
+step (InList part) m = list_rule part m
+step (InAction part) m = action_rule part m
+step (InCondition part) m = condition_rule part m
+step (InEffect part) m = effect_rule part m
+step (InValue part) m = value_rule part m

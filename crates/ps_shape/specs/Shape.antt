@@ -1,0 +1,79 @@
+-- The shape of a domain's text, and the first fault of a text.
+use Rattle.std.specs.Prelude.{◌≡◌, ℕ, ◌+◌, ◌≤◌, List, [], ◌∷◌, ◌++◌, Option, None, Some, take, slice_get, unwrap_or}
+use Rattle.std.specs.Option.{option_and_then}
+use Rattle.ps_shape.specs.Fronts.{IsFront, IsFirstMisfit}
+use Rattle.ps_shape.specs.Symbols.{level}
+use Rattle.ps_shape.specs.Rules.{step}
+use Rattle.ps_shape.specs.Forms.{unsupported, told_at}
+use Rattle.ps_shape.specs.declared.marks.Mark.{Mark}
+use Rattle.ps_shape.specs.declared.marks.Mark.TheVariants.{Open}
+use Rattle.ps_shape.specs.declared.symbols.Symbol.{Symbol}
+use Rattle.ps_shape.specs.declared.symbols.Symbol.TheVariants.{InText}
+use Rattle.ps_shape.specs.declared.symbols.TextPart.TheVariants.{Whole}
+use Rattle.ps_shape.specs.declared.faults.Form.{Form}
+use Rattle.ps_shape.specs.declared.faults.ShapeFault.{ShapeFault}
+use Rattle.ps_shape.specs.declared.faults.ShapeFault.TheVariants.{Unsupported, Depth, Unexpected, OutOfMemory}
+
+-- What is wanted, from left to right, derives these marks: each symbol by a rule, from its first mark on.
+pub data Derives : List Symbol → List Mark → Type 0 where
+  nothing : Derives [] []
+  by_rule : (s : Symbol) (st : List Symbol) (m : Mark) (ms : List Mark) (new : List Symbol) → step s m ≡ Some new → Derives (new ++ st) ms → Derives (s ∷ st) (m ∷ ms)
+
+-- the marks are those of a domain's text
+abbrev pub IsDomainShape : List Mark → Type 0
+IsDomainShape ms = Derives (InText Whole ∷ []) ms
+
+-- what is wanted after one mark more
+abbrev pub next_wanted : List Symbol → Mark → Option (List Symbol)
+next_wanted [] m = None
+next_wanted (s ∷ st) m = option_and_then (λ new. Some (new ++ st)) (step s m)
+
+-- what is wanted after these marks more
+abbrev pub run : List Symbol → List Mark → Option (List Symbol)
+run st [] = Some st
+run st (m ∷ ms) = option_and_then (λ next. run next ms) (next_wanted st m)
+
+-- what is wanted after the marks that begin a domain's text
+abbrev pub wanted : List Mark → List Symbol
+wanted ms = unwrap_or (run (InText Whole ∷ []) ms) []
+
+-- how many levels of parentheses may stand open
+abbrev pub deepest : ℕ
+deepest = 64
+
+-- the mark here is a parenthesis that opens one level too many
+abbrev pub IsTooDeep : List Mark → ℕ → Type 0
+IsTooDeep ms at = (slice_get ms at ≡ Some Open) × (deepest ≤ level (wanted (take at ms)))
+
+-- no parenthesis opens too many levels
+abbrev pub IsShallow : List Mark → Type 0
+IsShallow ms = (at : ℕ) → IsTooDeep ms at → ⊥
+
+-- the unsupported form that the mark here begins, if it doesn't fit
+abbrev pub form_here : List Mark → ℕ → Option Form
+form_here ms at = option_and_then (λ m. unsupported (slice_get (wanted (take at ms)) 0) m (slice_get ms (at + 1))) (slice_get ms at)
+
+-- The mark here is the first that doesn't fit, no parenthesis up to it opens too many levels, and it begins an unsupported form.
+pub record IsUnsupported (ms : List Mark) (at : ℕ) (what : Form) : Type 0 where
+  pub misfit : IsFirstMisfit IsDomainShape ms at
+  pub shallow : IsShallow (take (at + 1) ms)
+  pub form : form_here ms at ≡ Some what
+
+-- The marks before begin a domain's text, and the parenthesis here is the first that opens too many levels.
+pub record IsDepth (ms : List Mark) (at : ℕ) : Type 0 where
+  pub before : IsFront IsDomainShape (take at ms)
+  pub shallow : IsShallow (take at ms)
+  pub deep : IsTooDeep ms at
+
+-- The mark here is the first that doesn't fit, or more is wanted; no parenthesis up to it opens too many levels, and it begins no unsupported form.
+pub record IsUnexpected (ms : List Mark) (at : ℕ) : Type 0 where
+  pub misfit : IsFirstMisfit IsDomainShape ms at
+  pub shallow : IsShallow (take (at + 1) ms)
+  pub supported : form_here ms at ≡ None
+
+-- the error is the first fault of the marks, unless memory ran out
+abbrev pub Refuses : ShapeFault → List Mark → Type 0
+Refuses (Unsupported at what) ms = (begins : ℕ) × (at ≡ told_at what begins) × IsUnsupported ms begins what
+Refuses (Depth at) ms = IsDepth ms at
+Refuses (Unexpected at) ms = IsUnexpected ms at
+Refuses OutOfMemory ms = Unit {0}

@@ -1,0 +1,30 @@
+-- One mark, where some symbols are wanted.
+use Rattle.std.specs.Prelude.{◌≡◌, ℕ, ◌≤◌, List, Option, None, Some, slice_get}
+use Rattle.ps_shape.specs.Symbols.{level}
+use Rattle.ps_shape.specs.Forms.{unsupported, told_at}
+use Rattle.ps_shape.specs.Shape.{next_wanted, deepest}
+use Rattle.ps_shape.specs.declared.marks.Mark.{Mark}
+use Rattle.ps_shape.specs.declared.marks.Mark.TheVariants.{Open}
+use Rattle.ps_shape.specs.declared.symbols.Symbol.{Symbol}
+use Rattle.ps_shape.specs.declared.faults.Form.{Form}
+use Rattle.ps_shape.specs.declared.faults.ShapeFault.{ShapeFault}
+use Rattle.ps_shape.specs.declared.faults.ShapeFault.TheVariants.{Unsupported, Depth, Unexpected, OutOfMemory}
+
+-- the mark opens a level too many
+abbrev pub IsOver : List Symbol → Mark → Type 0
+IsOver st m = (m ≡ Open) × (deepest ≤ level st)
+
+-- the mark fits, and these symbols are wanted after it
+abbrev pub Passes : List Symbol → Mark → List Symbol → Type 0
+Passes st m new = (next_wanted st m ≡ Some new) × (IsOver st m → ⊥)
+
+-- the unsupported form that the mark begins if it doesn't fit; the last argument is the mark after it
+abbrev pub form_of : List Symbol → Mark → Option Mark → Option Form
+form_of st m after = unsupported (slice_get st 0) m after
+
+-- the error is the fault at this mark, unless memory ran out
+abbrev pub Fails : List Symbol → Mark → Option Mark → ℕ → ShapeFault → Type 0
+Fails st m after at (Unsupported place what) = (place ≡ told_at what at) × (next_wanted st m ≡ None) × (IsOver st m → ⊥) × (form_of st m after ≡ Some what)
+Fails st m after at (Depth place) = (place ≡ at) × IsOver st m
+Fails st m after at (Unexpected place) = (place ≡ at) × (next_wanted st m ≡ None) × (IsOver st m → ⊥) × (form_of st m after ≡ None)
+Fails st m after at OutOfMemory = Unit {0}

@@ -1,0 +1,17 @@
+//! Laws of the definitions: each is the contract of a function that does nothing.
+ghost use Rattle.ps_shape.specs.Laws.{FaultsAreTold, FaultsAreFirst, FaultsAreReal};
+
+/// A text's fault is one whatever follows the marks that tell it.
+pub fn faults_are_told()
+    ensures { FaultsAreTold }
+{}
+
+/// A text has one fault at most.
+pub fn faults_are_first()
+    ensures { FaultsAreFirst }
+{}
+
+/// A text with a fault is no domain's, or too deep.
+pub fn faults_are_real()
+    ensures { FaultsAreReal }
+{}

@@ -1,0 +1,290 @@
+//! The grammar of a domain's text as a table: what a symbol leads to at a mark.
+ghost use Rattle.std.specs.Prelude.{◌≡◌, ◌≤◌, ◌+◌, Some, None, IfSome, option_map, if◌then◌else◌};
+ghost use Rattle.ps_shape.specs.Symbols.{weight, level, symbols};
+ghost use Rattle.ps_shape.specs.Rules.{step, text_rule, section_rule, list_rule, action_rule, condition_rule, condition_head_rule, effect_rule, effect_head_rule, value_rule, once};
+ghost use Rattle.ps_shape.specs.declared.symbols.Symbol.TheVariants.{InText, InList, InAction, InCondition, InEffect, InValue};
+
+use super::marks::Mark;
+use super::symbols::Symbol::{
+    AnyName, InAction, InCondition, InEffect, InList, InText, InValue, The,
+};
+use super::symbols::Then::{Nothing, One, Three, Two};
+use super::symbols::{
+    ActionPart, ConditionPart, EffectPart, ListPart, Seen, Symbol, TextPart, Then, ValuePart,
+};
+
+/// What the symbol leads to at the mark, if the mark fits.
+pub fn step(symbol: Symbol, mark: Mark) -> Option<Then>
+    ensures rule { option_map symbols result ≡ step symbol mark }
+    ensures few { IfSome result (λ next. level (symbols next) ≤ weight symbol + 1) }
+{
+    match symbol {
+        The(wanted) => at(mark == wanted, Nothing),
+        AnyName => at(mark.is_name(), Nothing),
+        InText(part) => text_rule(part, mark),
+        InList(part) => list_rule(part, mark),
+        InAction(part) => action_rule(part, mark),
+        InCondition(part) => condition_rule(part, mark),
+        InEffect(part) => effect_rule(part, mark),
+        InValue(part) => value_rule(part, mark),
+    }
+}
+
+fn at(fits: bool, next: Then) -> Option<Then>
+    ensures { result ≡ (if fits then Some next else None) }
+{
+    if fits { Some(next) } else { None }
+}
+
+fn text_rule(part: TextPart, mark: Mark) -> Option<Then>
+    ensures rule { option_map symbols result ≡ text_rule part mark }
+    ensures few { IfSome result (λ next. level (symbols next) ≤ weight (InText part) + 1) }
+{
+    match (part, mark) {
+        (TextPart::Whole, Mark::Open) => Some(Three(
+            The(Mark::Define),
+            InText(TextPart::Title),
+            InText(TextPart::Sections(Seen::none())),
+        )),
+        (TextPart::Title, Mark::Open) => Some(Three(
+            InText(TextPart::TitleWord),
+            AnyName,
+            The(Mark::Close),
+        )),
+        (TextPart::TitleWord, Mark::Domain) => Some(Nothing),
+        (TextPart::Sections(seen), Mark::Open) => Some(One(InText(TextPart::SectionHead(seen)))),
+        (TextPart::Sections(_), Mark::Close) => Some(Nothing),
+        (TextPart::SectionHead(seen), _) => section_rule(seen, mark),
+        _ => None,
+    }
+}
+
+fn section_rule(seen: Seen, mark: Mark) -> Option<Then>
+    ensures rule { option_map symbols result ≡ section_rule seen mark }
+    ensures few { IfSome result (λ next. level (symbols next) ≤ 3) }
+{
+    match mark {
+        Mark::Requirements => once(
+            seen.requirements,
+            ListPart::Keywords,
+            seen.with_requirements(),
+        ),
+        Mark::Types => once(seen.types, ListPart::Names, seen.with_types()),
+        Mark::Constants => once(seen.constants, ListPart::Names, seen.with_constants()),
+        Mark::Predicates => once(
+            seen.predicates,
+            ListPart::Predicates,
+            seen.with_predicates(),
+        ),
+        Mark::Functions => once(seen.functions, ListPart::Functions, seen.with_functions()),
+        Mark::DurativeAction => Some(Three(
+            AnyName,
+            InAction(ActionPart::AfterName),
+            InText(TextPart::Sections(seen)),
+        )),
+        _ => None,
+    }
+}
+
+/// The list of a section that stands at most once, and the sections after it.
+fn once(before: bool, part: ListPart, seen: Seen) -> Option<Then>
+    requires { weight (InList part) ≤ 1 }
+    ensures rule { option_map symbols result ≡ once before part seen }
+    ensures few { IfSome result (λ next. level (symbols next) ≤ 3) }
+{
+    if before {
+        return None;
+    }
+    Some(Two(InList(part), InText(TextPart::Sections(seen))))
+}
+
+fn list_rule(part: ListPart, mark: Mark) -> Option<Then>
+    ensures rule { option_map symbols result ≡ list_rule part mark }
+    ensures few { IfSome result (λ next. level (symbols next) ≤ weight (InList part) + 1) }
+{
+    let again = InList(part);
+    let names = InList(ListPart::NameRun);
+    let variables = InList(ListPart::Variables);
+    let functions = InList(ListPart::FunctionRun);
+    let kind = InList(ListPart::TypeName);
+    match (part, mark) {
+        (ListPart::Keywords, Mark::Close) => Some(Nothing),
+        (ListPart::Keywords, _) => at(mark.is_keyword(), One(again)),
+        (ListPart::Names | ListPart::NameRun, Mark::Close) => Some(Nothing),
+        (ListPart::NameRun, Mark::Minus) => Some(Two(kind, InList(ListPart::Names))),
+        (ListPart::Names, _) => at(mark.is_name(), One(names)),
+        (ListPart::NameRun, _) => at(mark.is_name(), One(names)),
+        (ListPart::Variables | ListPart::VariableRun, Mark::Close) => Some(Nothing),
+        (ListPart::Variables, Mark::Variable) => Some(One(InList(ListPart::VariableRun))),
+        (ListPart::VariableRun, Mark::Variable) => Some(One(again)),
+        (ListPart::VariableRun, Mark::Minus) => Some(Two(kind, variables)),
+        (ListPart::TypeName, _) => at(mark.is_name(), Nothing),
+        (ListPart::Predicates, Mark::Close) => Some(Nothing),
+        (ListPart::Predicates, Mark::Open) => {
+            Some(Three(InList(ListPart::PredicateHead), variables, again))
+        }
+        (ListPart::PredicateHead, _) => at(mark.is_predicate_name(), Nothing),
+        (ListPart::Functions | ListPart::FunctionRun, Mark::Close) => Some(Nothing),
+        (ListPart::Functions, Mark::Open) => Some(Three(AnyName, variables, functions)),
+        (ListPart::FunctionRun, Mark::Open) => Some(Three(AnyName, variables, functions)),
+        (ListPart::FunctionRun, Mark::Minus) => {
+            Some(Two(InList(ListPart::FunctionType), InList(ListPart::Functions)))
+        }
+        (ListPart::FunctionType, Mark::NumberWord) => Some(Nothing),
+        _ => None,
+    }
+}
+
+fn action_rule(part: ActionPart, mark: Mark) -> Option<Then>
+    ensures rule { option_map symbols result ≡ action_rule part mark }
+    ensures few { IfSome result (λ next. level (symbols next) ≤ weight (InAction part) + 1) }
+{
+    let end = The(Mark::Close);
+    let condition = InCondition(ConditionPart::Form);
+    let effect = InEffect(EffectPart::Form);
+    let duration = InAction(ActionPart::Duration);
+    let after_condition = InAction(ActionPart::AfterCondition);
+    match (part, mark) {
+        (ActionPart::AfterName, Mark::Parameters) => Some(Two(
+            InAction(ActionPart::Parameters),
+            InAction(ActionPart::AfterParameters),
+        )),
+        (ActionPart::Parameters, Mark::Open) => Some(One(InList(ListPart::Variables))),
+        (ActionPart::AfterParameters, Mark::DurationKey) => {
+            Some(Two(duration, InAction(ActionPart::AfterDuration)))
+        }
+        (ActionPart::Duration, Mark::Open) => Some(One(InAction(ActionPart::DurationHead))),
+        (ActionPart::DurationHead, Mark::Equal) => {
+            Some(Three(The(Mark::Duration), InValue(ValuePart::Value), end))
+        }
+        (ActionPart::AfterDuration, Mark::Close) => Some(Nothing),
+        (ActionPart::AfterDuration, Mark::ConditionKey) => Some(Two(condition, after_condition)),
+        (ActionPart::AfterDuration, Mark::EffectKey) => Some(Two(effect, end)),
+        (ActionPart::AfterCondition, Mark::Close) => Some(Nothing),
+        (ActionPart::AfterCondition, Mark::EffectKey) => Some(Two(effect, end)),
+        _ => None,
+    }
+}
+
+fn condition_rule(part: ConditionPart, mark: Mark) -> Option<Then>
+    ensures rule { option_map symbols result ≡ condition_rule part mark }
+    ensures few { IfSome result (λ next. level (symbols next) ≤ weight (InCondition part) + 1) }
+{
+    let end = The(Mark::Close);
+    let form_end = InEffect(EffectPart::FormEnd);
+    let time = InEffect(EffectPart::StartOrEnd);
+    let condition = InCondition(ConditionPart::Condition);
+    let head = InCondition(ConditionPart::Head);
+    let timed_head = InCondition(ConditionPart::TimedHead);
+    let timed_list = InCondition(ConditionPart::TimedList);
+    match (part, mark) {
+        (ConditionPart::Form, Mark::Open) => Some(One(InCondition(ConditionPart::FormHead))),
+        (ConditionPart::FormHead, Mark::Close) => Some(Nothing),
+        (ConditionPart::FormHead, Mark::And) => Some(One(timed_list)),
+        (ConditionPart::FormHead, Mark::At) => Some(Three(time, condition, form_end)),
+        (ConditionPart::FormHead, Mark::Over) => Some(Three(The(Mark::All), condition, form_end)),
+        (ConditionPart::TimedList, Mark::Close) => Some(Nothing),
+        (ConditionPart::TimedList, Mark::Open) => Some(Two(timed_head, timed_list)),
+        (ConditionPart::TimedHead, Mark::Close) => Some(Nothing),
+        (ConditionPart::TimedHead, Mark::And) => Some(One(timed_list)),
+        (ConditionPart::TimedHead, Mark::At) => Some(Three(time, condition, end)),
+        (ConditionPart::TimedHead, Mark::Over) => Some(Three(The(Mark::All), condition, end)),
+        (ConditionPart::Condition, Mark::Open) => Some(One(head)),
+        (ConditionPart::Conditions, Mark::Close) => Some(Nothing),
+        (ConditionPart::Conditions, Mark::Open) => Some(Two(head, InCondition(part))),
+        (ConditionPart::Head, _) => condition_head_rule(mark),
+        _ => None,
+    }
+}
+
+fn condition_head_rule(mark: Mark) -> Option<Then>
+    ensures rule { option_map symbols result ≡ condition_head_rule mark }
+    ensures few { IfSome result (λ next. level (symbols next) ≤ 2) }
+{
+    let value = InValue(ValuePart::Value);
+    let end = The(Mark::Close);
+    match mark {
+        Mark::And => Some(One(InCondition(ConditionPart::Conditions))),
+        Mark::Not => Some(Two(InCondition(ConditionPart::Condition), end)),
+        Mark::Equal | Mark::Less | Mark::Greater | Mark::LessEqual | Mark::GreaterEqual => {
+            Some(Three(value, value, end))
+        }
+        _ => at(mark.is_fact_name(), One(InValue(ValuePart::Terms))),
+    }
+}
+
+fn effect_rule(part: EffectPart, mark: Mark) -> Option<Then>
+    ensures rule { option_map symbols result ≡ effect_rule part mark }
+    ensures few { IfSome result (λ next. level (symbols next) ≤ weight (InEffect part) + 1) }
+{
+    let time = InEffect(EffectPart::StartOrEnd);
+    let effect = InEffect(EffectPart::Effect);
+    let head = InEffect(EffectPart::Head);
+    let timed_head = InEffect(EffectPart::TimedHead);
+    let timed_list = InEffect(EffectPart::TimedList);
+    match (part, mark) {
+        (EffectPart::Form, Mark::Open) => Some(One(InEffect(EffectPart::FormHead))),
+        (EffectPart::FormHead, Mark::Close) => Some(Nothing),
+        (EffectPart::FormHead, Mark::And) => Some(One(timed_list)),
+        (EffectPart::FormHead, Mark::At) => {
+            Some(Three(time, effect, InEffect(EffectPart::FormEnd)))
+        }
+        (EffectPart::TimedList, Mark::Close) => Some(Nothing),
+        (EffectPart::TimedList, Mark::Open) => Some(Two(timed_head, timed_list)),
+        (EffectPart::TimedHead, Mark::Close) => Some(Nothing),
+        (EffectPart::TimedHead, Mark::And) => Some(One(timed_list)),
+        (EffectPart::TimedHead, Mark::At) => Some(Three(time, effect, The(Mark::Close))),
+        (EffectPart::Effect, Mark::Open) => Some(One(head)),
+        (EffectPart::Effects, Mark::Close) => Some(Nothing),
+        (EffectPart::Effects, Mark::Open) => Some(Two(head, InEffect(part))),
+        (EffectPart::Head, _) => effect_head_rule(mark),
+        (EffectPart::StartOrEnd, Mark::Start | Mark::End) => Some(Nothing),
+        (EffectPart::FormEnd, Mark::Close) => Some(Nothing),
+        _ => None,
+    }
+}
+
+fn effect_head_rule(mark: Mark) -> Option<Then>
+    ensures rule { option_map symbols result ≡ effect_head_rule mark }
+    ensures few { IfSome result (λ next. level (symbols next) ≤ 2) }
+{
+    let atom = InValue(ValuePart::Atom);
+    let end = The(Mark::Close);
+    match mark {
+        Mark::And => Some(One(InEffect(EffectPart::Effects))),
+        Mark::Not => Some(Two(atom, end)),
+        Mark::Assign | Mark::Increase | Mark::Decrease | Mark::ScaleUp | Mark::ScaleDown => {
+            Some(Three(atom, InValue(ValuePart::Value), end))
+        }
+        _ => at(mark.is_predicate_name(), One(InValue(ValuePart::Terms))),
+    }
+}
+
+fn value_rule(part: ValuePart, mark: Mark) -> Option<Then>
+    ensures rule { option_map symbols result ≡ value_rule part mark }
+    ensures few { IfSome result (λ next. level (symbols next) ≤ weight (InValue part) + 1) }
+{
+    let value = InValue(ValuePart::Value);
+    let head = InValue(ValuePart::Head);
+    let terms = One(InValue(ValuePart::Terms));
+    let end = The(Mark::Close);
+    match (part, mark) {
+        (ValuePart::Atom, Mark::Open) => Some(Two(AnyName, InValue(ValuePart::Terms))),
+        (ValuePart::Terms, Mark::Close) => Some(Nothing),
+        (ValuePart::Terms, Mark::Variable) => Some(terms),
+        (ValuePart::Terms, _) => at(mark.is_name(), terms),
+        (ValuePart::Value, Mark::Number | Mark::Variable) => Some(Nothing),
+        (ValuePart::Value, Mark::Open) => Some(One(head)),
+        (ValuePart::Value, _) => at(mark.is_name(), Nothing),
+        (ValuePart::Head, Mark::Minus) => Some(Two(value, InValue(ValuePart::ValueOrEnd))),
+        (ValuePart::Head, Mark::Plus | Mark::Times | Mark::Divide) => {
+            Some(Three(value, value, end))
+        }
+        (ValuePart::Head, _) => at(mark.is_name(), terms),
+        (ValuePart::ValueOrEnd, Mark::Close) => Some(Nothing),
+        (ValuePart::ValueOrEnd, Mark::Number | Mark::Variable) => Some(One(end)),
+        (ValuePart::ValueOrEnd, Mark::Open) => Some(Two(head, end)),
+        (ValuePart::ValueOrEnd, _) => at(mark.is_name(), One(end)),
+        _ => None,
+    }
+}
