@@ -10,10 +10,10 @@ use Rattle.std.specs.Char.{digit_value, is_ascii_digit}
 use Rattle.std.specs.List.{list_all, position_or_len}
 use Rattle.std.specs.Result.{result_map_both}
 use Rattle.std.specs.Str.Parse.{digits_value, digits_value_after}
-use Rattle.ps_world.specs.Numbers.{IsCount}
+use Rattle.ps_world.specs.Numbers.{IsCount, magnitude_text, number_text}
 use Rattle.ps_text.proofs.Digits.{list_all-get_or, value-append}
 use Rattle.ps_text.proofs.Pieces.{first-no}
-use Rattle.ps_text.specs.Decimals.{are_digits, count_of, fraction_part, is_coarse, is_plain, is_point, magnitude_of, magnitude_text, number_of, number_text, whole_part}
+use Rattle.ps_text.specs.Decimals.{are_digits, count_of, fraction_part, is_coarse, is_plain, is_point, magnitude_of, number_of, whole_part}
 
 -- ---- digits, the last first
 

@@ -4,7 +4,7 @@ use Rattle.std.specs.Char.{is_ascii_digit}
 use Rattle.std.specs.List.{list_all, before_first, after_first}
 use Rattle.std.specs.Result.{result_map_both}
 use Rattle.std.specs.Str.Parse.{digits_value}
-use Rattle.ps_world.specs.Numbers.{IsCount}
+use Rattle.ps_world.specs.Numbers.{IsCount, number_text}
 use Rattle.ps_text.specs.declared.decimals.NumRefusal.{NumRefusal}
 use Rattle.ps_text.specs.declared.decimals.NumRefusal.TheVariants.{NotNumber, TooFine, TooLarge}
 
@@ -48,19 +48,6 @@ magnitude_of text = if is_plain text then (if is_coarse text then (if nat_le (co
 abbrev pub number_of : List ℕ → Result ℤ NumRefusal
 number_of [] = Err NotNumber
 number_of (b ∷ bs) = if b == 45 then result_map_both (λ n. neg_ℤ (pos n)) (λ e. e) (magnitude_of bs) else result_map_both pos (λ e. e) (magnitude_of (b ∷ bs))
-
--- `.` and the last three digits of a count
-abbrev pub decimals_text : ℕ → List ℕ
-decimals_text n = 46 ∷ (48 + n / 100 % 10) ∷ (48 + n / 10 % 10) ∷ (48 + n % 10) ∷ []
-
--- a count of thousandths, with three decimals
-abbrev pub magnitude_text : ℕ → List ℕ
-magnitude_text n = decimal (n / 1000) ++ decimals_text n
-
--- a count of thousandths, with a `-` where it is negative and with three decimals
-abbrev pub number_text : ℤ → List ℕ
-number_text (pos n) = magnitude_text n
-number_text (negsuc n) = 45 ∷ magnitude_text (suc n)
 
 -- A printed number is read back as itself.
 abbrev pub PrintedNumbersAreRead : Type 0

@@ -3,8 +3,8 @@ ghost use Rattle.std.specs.Prelude.{◌≡◌, ◌+◌, ◌^◌, ◌<◌, ◌≤
 ghost use Rattle.std.specs.Char.{is_ascii_digit};
 ghost use Rattle.std.specs.List.{list_all, position_or_len};
 ghost use Rattle.std.specs.Str.Parse.{digits_value_after};
-ghost use Rattle.ps_world.specs.Numbers.{IsCount};
-ghost use Rattle.ps_text.specs.Decimals.{PrintedNumbersAreRead, are_digits, count_of, decimals_text, first_decimals, fraction_part, is_coarse, is_plain, is_point, magnitude_of, magnitude_text, number_of, number_text, whole_part};
+ghost use Rattle.ps_world.specs.Numbers.{IsCount, decimals_text, magnitude_text, number_text};
+ghost use Rattle.ps_text.specs.Decimals.{PrintedNumbersAreRead, are_digits, count_of, first_decimals, fraction_part, is_coarse, is_plain, is_point, magnitude_of, number_of, whole_part};
 
 use ps_world::{MOST_THOUSANDTHS, Num};
 

@@ -12,6 +12,7 @@ use Rattle.ps_world.specs.declared.facts.Fact.{Fact}
 use Rattle.ps_world.specs.declared.domains.Param.{Param}
 use Rattle.ps_world.specs.declared.domains.Decl.{Decl}
 use Rattle.ps_world.specs.declared.domains.Domain.{Domain}
+use Rattle.ps_world.specs.declared.actions.ActionDef.{ActionDef}
 use Rattle.ps_world.specs.declared.known.Knowledge.{Knowledge}
 use Rattle.ps_world.specs.declared.edits.Edit.{Edit}
 use Rattle.ps_world.specs.declared.edits.Edit.TheVariants.{AddInstance, AddFact}
@@ -39,6 +40,18 @@ is_below d low high = climbs (length d.types) d low high
 -- the declaration of a predicate
 abbrev pub predicate_of : Domain → Name → Option Decl
 predicate_of d head = find (λ decl. same_name head decl.name) d.predicates
+
+-- the declaration of a function
+abbrev pub function_of : Domain → Name → Option Decl
+function_of d head = find (λ decl. same_name head decl.name) d.functions
+
+-- a declared action
+abbrev pub action_of : Domain → Name → Option ActionDef
+action_of d n = find (λ action. same_name n action.name) d.actions
+
+-- a declared constant, with its type
+abbrev pub constant_of : Domain → Name → Option Param
+constant_of d n = find (λ p. same_name n p.name) d.constants
 
 -- the type of an instance
 abbrev pub kind_of : Knowledge → Name → Option Name

@@ -4,6 +4,7 @@ pub mod CondFalls
 pub mod CondViews
 pub mod ExprFalls
 pub mod ExprViews
+pub mod DomainTexts
 pub mod Facts
 pub mod History
 pub mod Journal

@@ -1,5 +1,5 @@
 //! Conditions. Contracts see a boxed condition as its tree, `CondTree` of specs/Trees.antt, and a list of conditions as the list of their trees.
-ghost use Rattle.std.specs.Prelude.{◌≡◌, ◌==◌, [], length, map, IfOk};
+ghost use Rattle.std.specs.Prelude.{◌≡◌, ◌==◌, [], ◌∷◌, ◌++◌, length, map, IfOk, OnOk, OnErr};
 ghost use Rattle.ps_world.specs.Same.{is_same};
 ghost use Rattle.ps_world.specs.Trees.{cond_tree_code, conds_code};
 ghost use Rattle.ps_world.specs.CondViews.{cond_tree};
@@ -104,6 +104,15 @@ impl Conds {
         ensures { result ≡ map cond_tree items.items }
     {
         Conds { items }
+    }
+
+    /// Puts a condition at the end. The only error is want of memory, and then nothing changes.
+    pub fn push(&mut self, cond: Cond) -> Result<(), AllocError>
+        ensures ok { OnOk result (self.new ≡ self.old ++ cond_tree cond ∷ []) }
+        ensures err { OnErr result (self.new ≡ self.old) }
+    {
+        self.items.push(cond)?;
+        Ok(())
     }
 
     /// How many conditions.

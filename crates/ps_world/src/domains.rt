@@ -3,7 +3,7 @@ ghost use Rattle.std.specs.Prelude.{◌≡◌};
 ghost use Rattle.std.specs.Option.{option_copied};
 ghost use Rattle.std.specs.List.{list_any};
 ghost use Rattle.ps_world.specs.Names.{same_name};
-ghost use Rattle.ps_world.specs.Knowledge.{is_type, parent_of, is_below, predicate_of};
+ghost use Rattle.ps_world.specs.Knowledge.{is_type, parent_of, is_below, predicate_of, function_of, action_of, constant_of};
 
 use super::actions::ActionDef;
 use super::lists::{Duplicate, Seq};
@@ -116,5 +116,35 @@ impl Domain {
             .as_slice()
             .iter()
             .find(|decl| name == decl.name)
+    }
+
+    /// The declaration of a function. None where it isn't declared.
+    pub fn function(&self, name: Name) -> Option<&Decl>
+        ensures { option_copied result ≡ function_of self.now name }
+    {
+        self.functions
+            .as_slice()
+            .iter()
+            .find(|decl| name == decl.name)
+    }
+
+    /// A declared action. None where it isn't declared.
+    pub fn action(&self, name: Name) -> Option<&ActionDef>
+        ensures { option_copied result ≡ action_of self.now name }
+    {
+        self.actions
+            .as_slice()
+            .iter()
+            .find(|action| name == action.name)
+    }
+
+    /// A declared constant, with its type. None where it isn't declared.
+    pub fn constant(&self, name: Name) -> Option<&Param>
+        ensures { option_copied result ≡ constant_of self.now name }
+    {
+        self.constants
+            .as_slice()
+            .iter()
+            .find(|constant| name == constant.name)
     }
 }

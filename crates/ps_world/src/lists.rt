@@ -1,5 +1,5 @@
 //! The list of all plain data, and copying.
-ghost use Rattle.std.specs.Prelude.{◌≡◌, ◌==◌, [], length, IfOk};
+ghost use Rattle.std.specs.Prelude.{◌≡◌, ◌==◌, [], ◌∷◌, ◌++◌, length, IfOk, OnOk, OnErr};
 ghost use Rattle.std.specs.Cmp.Lexicographic.{pointwise, slice_cmp, slice_partial_cmp, lists_per, lists_equiv, lists_po, lists_total, lists_agrees, lists_ties};
 
 use std::alloc::{AllocError, Global};
@@ -71,6 +71,17 @@ impl<T> Seq<T> {
         ensures { result.now ≡ self.now }
     {
         self.items.as_slice()
+    }
+}
+
+impl<T: Drop> Seq<T> {
+    /// Puts a value at the end. The only error is want of memory, and then nothing changes.
+    pub fn push(&mut self, item: T) -> Result<(), AllocError>
+        ensures ok { OnOk result (self.new ≡ self.old ++ item ∷ []) }
+        ensures err { OnErr result (self.new ≡ self.old) }
+    {
+        self.items.push(item)?;
+        Ok(())
     }
 }
 

@@ -30,6 +30,9 @@ impl Model for Num {
 }
 
 impl Num {
+    /// Zero.
+    pub const ZERO: Num = Num { milli: 0 };
+
     /// The number of this count of thousandths, or None exactly where the absolute value passes 10^15.
     pub fn new(milli: i64) -> Option<Num>
         ensures { SomeIff result (IsCount milli) milli }

@@ -1,6 +1,6 @@
 use Rattle.std.proofs.Common.{pos, SFits, w64, ◌≤ℤ◌, ◌<ℤ◌, ◌≡◌, ◌∷◌, length, arith, rules, ap, ◌∙◌, sym, unsigned_abs}
 use Rattle.std.proofs.lemmas.Int.{ints, to_z-of_z}
-use Rattle.ps_text.specs.Decimals.{magnitude_text, number_text}
+use Rattle.ps_world.specs.Numbers.{magnitude_text, number_text}
 use Rattle.ps_text.proofs.Printed.{drop-before, number_text-plain, number_text-minus}
 use Rattle.ps_text.proofs.decimals.write_number.Goals as goal
 
