@@ -1,16 +1,17 @@
 //! The domain expert.
 ghost use Rattle.std.specs.Prelude.{◌≡◌, IfOk};
 ghost use Rattle.std.specs.Option.{option_copied};
-ghost use Rattle.ps_world.specs.Knowledge.{is_type, is_below, predicate_of};
+ghost use Rattle.ps_world.specs.Knowledge.{is_type, is_below, predicate_of, function_of, action_of};
 
-use ps_world::{Decl, Domain, Name};
+use super::declared::Declared;
+use ps_world::{ActionDef, Decl, Domain, Name};
 use std::alloc::{AllocError, Global};
 use std::marker::Model;
 
 /// The domain expert, which answers what its domain declares. Contracts see it as its domain.
 #[derive(Drop)]
 pub struct Expert {
-    domain: Domain,
+    declared: Declared,
 }
 
 impl Model for Expert {
@@ -21,99 +22,81 @@ impl Model for Expert {
 
     ghost coded = { the_row.coded };
 
-    ghost view = { λ e. e.domain };
+    ghost view = { λ e. e.declared };
 }
 
 impl Expert {
     /// The expert on this domain. The only error is want of memory.
-    pub fn new(_alloc: Global, domain: Domain) -> Result<Expert, AllocError>
+    pub fn new(alloc: Global, domain: Domain) -> Result<Expert, AllocError>
         ensures { IfOk result (λ e. e ≡ domain) }
     {
-        Ok(Expert { domain })
+        let declared = Declared::of(alloc, domain)?;
+        Ok(Expert { declared })
     }
 
     /// The domain.
     pub fn domain(&self) -> &Domain
         ensures { result.now ≡ self.now }
     {
-        &self.domain
+        self.declared.domain()
     }
 
     /// Whether the domain has this type: `object`, or one that it declares.
     pub fn is_type(&self, name: Name) -> bool
         ensures { result ≡ is_type self.now name }
     {
-        self.domain.is_type(name)
+        self.declared.is_type(name)
     }
 
     /// Whether the first type is the second or below it.
     pub fn is_subtype(&self, low: Name, high: Name) -> bool
         ensures { result ≡ is_below self.now low high }
     {
-        self.domain.is_below(low, high)
+        self.declared.is_below(low, high)
     }
 
     /// The declaration of a predicate. None exactly where it isn't declared.
     pub fn predicate(&self, name: Name) -> Option<&Decl>
         ensures { option_copied result ≡ predicate_of self.now name }
     {
-        self.domain.predicate(name)
+        self.declared.predicate(name)
+    }
+
+    /// The declaration of a function. None exactly where it isn't declared.
+    pub fn function(&self, name: Name) -> Option<&Decl>
+        ensures { option_copied result ≡ function_of self.now name }
+    {
+        self.declared.function(name)
+    }
+
+    /// A declared action. None exactly where it isn't declared.
+    pub fn action(&self, name: Name) -> Option<&ActionDef>
+        ensures { option_copied result ≡ action_of self.now name }
+    {
+        self.declared.action(name)
     }
 }
 
 #[cfg(test)]
 mod tests {
     use super::*;
-    use ps_world::{Param, Seq};
+    use crate::samples::{AT, HALL, HUMANOID, MOVE, ROBOT, ROOM, SPEED, UNKNOWN, rooms};
+    use std::process::Abort;
     use std::test::Fail;
 
-    const ROBOT: Name = Name(1);
-
-    const ROOM: Name = Name(2);
-
-    const HUMANOID: Name = Name(3);
-
-    const ROBOT_AT: Name = Name(4);
-
-    const UNKNOWN: Name = Name(9);
-
-    fn declared(name: Name, kind: Name) -> Param {
-        Param { name, kind }
-    }
-
-    fn rooms(alloc: Global) -> Result<Domain, AllocError> {
-        let types = vec![in alloc;
-            declared(HUMANOID, ROBOT),
-            declared(ROBOT, Name::OBJECT),
-            declared(ROOM, Name::OBJECT),
-        ]?;
-        let params = vec![in alloc; declared(Name(5), ROBOT), declared(Name(6), ROOM)]?;
-        let decl = Decl {
-            name: ROBOT_AT,
-            params: Seq::of(params),
-        };
-        Ok(Domain {
-            name: Name(7),
-            types: Seq::of(types),
-            constants: Seq::new(alloc),
-            predicates: Seq::of(vec![in alloc; decl]?),
-            functions: Seq::new(alloc),
-            actions: Seq::new(alloc),
-        })
-    }
-
-    #[test]
-    fn answers_what_is_declared(rt: HostRuntime) -> Result<(), Fail> {
-        let expert = Expert::new(rt.alloc(), rooms(rt.alloc())?)?;
+    fn answers_with_types(rt: &impl Abort, expert: &Expert) {
         let types = [
             (Name::OBJECT, true),
             (ROBOT, true),
             (HUMANOID, true),
-            (ROBOT_AT, false),
+            (AT, false),
         ];
         for (name, want) in types {
             assert_eq!(rt; expert.is_type(name), want, "{name:?}");
         }
+    }
+
+    fn answers_what_is_below(rt: &impl Abort, expert: &Expert) {
         let pairs = [
             (HUMANOID, ROBOT, true),
             (HUMANOID, Name::OBJECT, true),
@@ -125,10 +108,37 @@ mod tests {
         for (low, high, want) in pairs {
             assert_eq!(rt; expert.is_subtype(low, high), want, "{low:?} {high:?}");
         }
-        let wanted = expert.predicate(ROBOT_AT).map(|decl| decl.params.len());
-        assert_eq!(rt; wanted, Some(2));
-        assert!(rt; expert.predicate(UNKNOWN).is_none());
-        assert_eq!(rt; expert.domain().types.len(), 3);
+    }
+
+    /// How many parameters the predicate, the function and the action of a name have.
+    fn counts_of(expert: &Expert, name: Name) -> [Option<usize>; 3] {
+        [
+            expert.predicate(name).map(|decl| decl.params.len()),
+            expert.function(name).map(|decl| decl.params.len()),
+            expert.action(name).map(|action| action.params.len()),
+        ]
+    }
+
+    fn answers_with_declarations(rt: &impl Abort, expert: &Expert) {
+        let rows = [
+            (AT, [Some(2), Some(1), None]),
+            (SPEED, [None, Some(2), None]),
+            (MOVE, [None, None, Some(2)]),
+            (HALL, [None, None, Some(0)]),
+            (UNKNOWN, [None, None, None]),
+        ];
+        for (name, counts) in rows {
+            assert_eq!(rt; counts_of(expert, name), counts, "{name:?}");
+        }
+    }
+
+    #[test]
+    fn answers_what_is_declared(rt: HostRuntime) -> Result<(), Fail> {
+        let expert = Expert::new(rt.alloc(), rooms(rt.alloc())?)?;
+        answers_with_types(&rt, &expert);
+        answers_what_is_below(&rt, &expert);
+        answers_with_declarations(&rt, &expert);
+        assert_eq!(rt; expert.domain().types.len(), 4);
         Ok(())
     }
 }
