@@ -1,0 +1,31 @@
+-- Tables that keep their names.
+use Rattle.std.proofs.Common.{◌≡◌, ℕ, zero, suc, ◌<◌, true, false, if◌then◌else◌, List, [], ◌∷◌, ◌++◌, length, slice_get, Option, None, Some, refl, ◌∙◌, ap, arith}
+use Rattle.std.specs.List.{list_any}
+use Rattle.std.proofs.lemmas.Option.{slice_get_within, slice_get-get_or}
+use Rattle.ps_world.specs.Lines.{same_text}
+use Rattle.ps_world.specs.Names.{Table}
+use Rattle.ps_text.specs.Names.{interned}
+use Rattle.ps_pddl.specs.Lexemes.{named}
+use Rattle.ps_pddl.specs.Reading.{Keeps}
+
+pub kept_same : (t u : Table) → u ≡ t → Keeps t u
+kept_same t u e n lt = ap (λ x. slice_get x n) e
+
+pub kept_along : (t u v : Table) → Keeps t u → Keeps u v → Keeps t v
+kept_along t u v p q n lt =
+    let here = p n lt ∙ slice_get-get_or t n [] lt in
+    q n (slice_get_within u n _ here) ∙ p n lt
+
+get-append : (t u : Table) (n : ℕ) → n < length t → slice_get (t ++ u) n ≡ slice_get t n
+get-append [] u n lt = absurd (omega (arith, lt))
+get-append (x ∷ t) u zero lt = refl
+get-append (x ∷ t) u (suc n) lt = get-append t u n (omega (arith, lt))
+
+kept_interned : (t : Table) (name : List ℕ) → Keeps t (interned t name)
+kept_interned t name n lt =
+    elim (list_any (same_text name) t) as (λ b. slice_get (if b then t else t ++ name ∷ []) n ≡ slice_get t n) [ true ↦ refl | false ↦ get-append t (name ∷ []) n lt ]
+
+-- a table with a name keeps those that it had
+pub kept_named : (t : Table) (o : Option (List ℕ)) → Keeps t (named t o)
+kept_named t None = λ n lt. refl
+kept_named t (Some name) = kept_interned t name

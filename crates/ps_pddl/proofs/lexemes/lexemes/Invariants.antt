@@ -1,0 +1,12 @@
+use Rattle.std.proofs.Common.{◌≡◌, ◌++◌, drop}
+use Rattle.ps_pddl.specs.Lexemes.{lexemes_of}
+use Rattle.ps_pddl.specs.Reading.{Keeps}
+use Rattle.ps_pddl.proofs.lexemes.lexemes.Given as goal
+
+-- the words are those that stand, and those of the tokens that are left
+abbrev pub invariant-loop-token : goal.invariant-loop-token
+invariant-loop-token l = record {
+  words : (lexemes_of l.bytes l.fn.names l.tokens).0 ≡ l.lexemes.items ++ (lexemes_of l.bytes l.names (drop l.token-index l.tokens)).0;
+  table : (lexemes_of l.bytes l.fn.names l.tokens).1 ≡ (lexemes_of l.bytes l.names (drop l.token-index l.tokens)).1;
+  kept : Keeps l.fn.names l.names;
+}

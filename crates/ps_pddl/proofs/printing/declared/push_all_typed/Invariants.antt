@@ -1,0 +1,7 @@
+use Rattle.std.proofs.Common.{◌≡◌, ◌++◌, map, take}
+use Rattle.ps_world.specs.DomainTexts.{after_spaces, typed_text}
+use Rattle.ps_pddl.proofs.printing.declared.push_all_typed.Given as goal
+
+abbrev pub invariant-loop-param : goal.invariant-loop-param
+invariant-loop-param l =
+    l.text.items ≡ l.initial.text.items ++ after_spaces (map (typed_text l.names) (take l.param-index l.params))

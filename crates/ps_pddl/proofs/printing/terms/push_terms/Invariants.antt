@@ -1,0 +1,7 @@
+use Rattle.std.proofs.Common.{◌≡◌, ◌++◌, map, drop}
+use Rattle.ps_world.specs.DomainTexts.{after_spaces, term_text}
+use Rattle.ps_pddl.proofs.printing.terms.push_terms.Given as goal
+
+abbrev pub invariant-loop-term : goal.invariant-loop-term
+invariant-loop-term l =
+    l.text.items ++ after_spaces (map (term_text l.names l.params) (drop l.term-index l.terms)) ≡ l.initial.text.items ++ after_spaces (map (term_text l.names l.params) l.terms)

@@ -1,0 +1,77 @@
+-- What a list of typed names declares.
+use Rattle.std.specs.Prelude.{ℕ, Bool, true, not, ◌&&◌, nat_le, if◌then◌else◌, Option, Some, None, Ok, Err, List, [], ◌∷◌, ◌++◌, filter, length}
+use Rattle.std.specs.List.{list_any}
+use Rattle.ps_world.specs.Names.{same_name, object}
+use Rattle.ps_world.specs.Knowledge.{is_type}
+use Rattle.ps_world.specs.declared.names.Name.{Name}
+use Rattle.ps_world.specs.declared.domains.Param.{Param}
+use Rattle.ps_world.specs.declared.domains.Domain.{Domain}
+use Rattle.ps_shape.specs.Marks.{is}
+use Rattle.ps_shape.specs.declared.marks.Mark.TheVariants.{Minus}
+use Rattle.ps_pddl.specs.Nested.{Nesteds, none, more}
+use Rattle.ps_pddl.specs.Places.{word_of, head}
+use Rattle.ps_pddl.specs.Steps.{Read, ◌>>=◌, unless}
+use Rattle.ps_pddl.specs.declared.lexemes.Lexeme.{Lexeme}
+use Rattle.ps_pddl.specs.declared.refusals.Cap.{Cap}
+use Rattle.ps_pddl.specs.declared.refusals.Cap.TheVariants as cap
+use Rattle.ps_pddl.specs.declared.refusals.DomainRefusal.{DomainRefusal}
+use Rattle.ps_pddl.specs.declared.refusals.DomainRefusal.TheVariants.{Unknown, Twice, Limit}
+use Rattle.ps_pddl.specs.declared.meaning.lists.Listing.{Listing}
+use Rattle.ps_pddl.specs.declared.meaning.lists.Listing.TheVariants.{Types, Constants, Params}
+
+-- what is at fault with one name more in a list, where there are so many: it is one too many, or it is there already
+abbrev pub fault_of_new : Cap → ℕ → ℕ → Bool → Lexeme → Option DomainRefusal
+fault_of_new which most count taken l =
+    if nat_le most count then Some (Limit l.at which) else (if taken then Some (Twice l.at l.name) else None)
+
+-- which limit a list has
+abbrev pub cap_of : Listing → Cap
+cap_of Types = cap.Types
+cap_of Constants = cap.Instances
+cap_of Params = cap.Params
+
+-- how many names it has at most
+abbrev pub most_of : Listing → ℕ
+most_of Types = 256
+most_of Constants = 1000
+most_of Params = 6
+
+-- whether a name counts: `object` among the types with the parent `object` has no effect
+abbrev pub counts : Listing → Param → Bool
+counts Types p = not (same_name p.name object && same_name p.kind object)
+counts listing p = true
+
+-- those that count
+abbrev pub kept : Listing → List Param → List Param
+kept listing ps = filter (counts listing) ps
+
+-- how many count, if this one does
+abbrev pub counted : Listing → Param → List Param → ℕ
+counted listing p ps = if counts listing p then length (kept listing ps) else 0
+
+-- the list with one name more
+abbrev pub with_name : Listing → Lexeme → Name → List Param → Read (List Param)
+with_name listing l kind before =
+    let p : Param = record { name = l.name; kind = kind } in
+    unless (fault_of_new (cap_of listing) (most_of listing) (counted listing p before) (list_any (λ q. same_name l.name q.name) before) l)
+    (Ok (before ++ p ∷ []))
+
+-- the type of the run of names that goes on here: the name after the next `-`, or `object`
+abbrev pub kind_ahead : Nesteds → Name
+kind_ahead none = object
+kind_ahead (more t ts) = if is Minus (word_of t).mark then (head ts).name else kind_ahead ts
+
+abbrev mutual
+  -- TLIST: names, of which a run before `- NAME` has that type and the rest `object`; these names follow those before
+  pub listed : Domain → Listing → Nesteds → List Param → Read (List Param)
+  listed d listing none before = Ok before
+  listed d listing (more t ts) before =
+      if is Minus (word_of t).mark then listed_type d listing ts before
+      else (with_name listing (word_of t) (kind_ahead ts) before >>= λ before. listed d listing ts before)
+
+  -- the name of a type, and the names after it
+  pub listed_type : Domain → Listing → Nesteds → List Param → Read (List Param)
+  listed_type d listing none before = Ok before
+  listed_type d listing (more t ts) before =
+      if is_type d (word_of t).name then listed d listing ts before
+      else Err (Unknown (word_of t).at (word_of t).name)

@@ -1,0 +1,128 @@
+-- What a domain's text means: the domain that its nested lists declare, or the first fault of their meaning.
+use Rattle.std.specs.Prelude.{pos, if◌then◌else◌, Option, Some, None, Ok, List, [], ◌∷◌, ◌++◌, length}
+use Rattle.std.specs.List.{list_any}
+use Rattle.ps_world.specs.Names.{same_name}
+use Rattle.ps_world.specs.declared.names.Name.{Name}
+use Rattle.ps_world.specs.declared.domains.Param.{Param}
+use Rattle.ps_world.specs.declared.domains.Decl.{Decl}
+use Rattle.ps_world.specs.declared.domains.Domain.{Domain}
+use Rattle.ps_world.specs.declared.actions.ActionDef.{ActionDef}
+use Rattle.ps_world.specs.declared.expressions.Expr.{Expr}
+use Rattle.ps_world.specs.declared.expressions.Expr.TheVariants.{Num}
+use Rattle.ps_shape.specs.Marks.{is}
+use Rattle.ps_shape.specs.declared.marks.Mark.TheVariants as mark
+use Rattle.ps_pddl.specs.Nested.{Nested, Nesteds, word, group, none, more}
+use Rattle.ps_pddl.specs.Places.{items, items_at, at, head, rest, after, section}
+use Rattle.ps_pddl.specs.Lists.{fault_of_new, listed}
+use Rattle.ps_pddl.specs.Types.{with_types}
+use Rattle.ps_pddl.specs.Values.{value}
+use Rattle.ps_pddl.specs.Conditions as condition
+use Rattle.ps_pddl.specs.Effects as effect
+use Rattle.ps_pddl.specs.Steps.{Read, ◌>>=◌, unless}
+use Rattle.ps_pddl.specs.declared.refusals.Cap.{Cap}
+use Rattle.ps_pddl.specs.declared.refusals.Cap.TheVariants as cap
+use Rattle.ps_pddl.specs.declared.meaning.lists.Listing.TheVariants.{Constants, Params}
+use Rattle.ps_pddl.specs.declared.meaning.parts.Parts.{Parts}
+use Rattle.ps_pddl.specs.declared.meaning.changes.Changes.{Changes}
+
+-- ---- predicates and functions
+
+-- DECL: (NAME VLIST), after others of its list, of which there are at most 256
+abbrev pub declared : Domain → Cap → Nesteds → List Decl → Read (List Decl)
+declared d which ts before =
+    let name = (head ts).name in
+    unless (fault_of_new which 256 (length before) (list_any (λ decl. same_name name decl.name) before) (head ts))
+    (listed d Params (rest ts) [] >>= λ ps. Ok (before ++ record { name = name; params = ps } ∷ []))
+
+-- DECL*, after others; what stands between them says only that functions are numbers
+abbrev pub all_declared : Domain → Cap → Nesteds → List Decl → Read (List Decl)
+all_declared d which none before = Ok before
+all_declared d which (more (word l) ts) before = all_declared d which ts before
+all_declared d which (more (group inside) ts) before =
+    declared d which inside before >>= λ before. all_declared d which ts before
+
+-- ---- actions
+
+-- (= ?duration X)
+abbrev pub duration : Domain → List Param → Option Nested → Read Expr
+duration d ps None = Ok (Num (pos 0))
+duration d ps (Some x) = value d ps x
+
+-- the parts of a condition, of which there are none where no condition is written
+abbrev pub parts : Domain → List Param → Option Nested → Read Parts
+parts d ps None = Ok (record { start = []; over = []; end = [] })
+parts d ps (Some form) = condition.timed d ps form (record { start = []; over = []; end = [] })
+
+-- the same of an effect
+abbrev pub changes : Domain → List Param → Option Nested → Read Changes
+changes d ps None = Ok (record { at_start = []; at_end = [] })
+changes d ps (Some form) = effect.timed d ps form (record { at_start = []; at_end = [] })
+
+-- an action's body, where these are its name and its parameters
+abbrev pub action_body : Domain → Name → List Param → Nesteds → Read ActionDef
+action_body d name ps ts =
+    duration d ps (at (items_at (after mark.DurationKey ts)) 2) >>= λ time.
+    parts d ps (at (after mark.ConditionKey ts) 0) >>= λ condition.
+    changes d ps (at (after mark.EffectKey ts) 0) >>= λ effect.
+    Ok (record {
+      name = name;
+      params = ps;
+      duration = time;
+      start = condition.start;
+      over = condition.over;
+      end = condition.end;
+      at_start = effect.at_start;
+      at_end = effect.at_end;
+    })
+
+-- ACTION: (:durative-action NAME :parameters (VLIST) :duration (= ?duration X) [:condition TC] [:effect TE])
+abbrev pub action : Domain → Nesteds → List ActionDef → Read (List ActionDef)
+action d ts before =
+    let name = (head ts).name in
+    unless (fault_of_new cap.Actions 256 (length before) (list_any (λ action. same_name name action.name) before) (head ts))
+    (listed d Params (items_at (after mark.Parameters ts)) [] >>= λ ps. action_body d name ps ts >>= λ a. Ok (before ++ a ∷ []))
+
+-- the actions among these sections, after others
+abbrev pub actions : Domain → Nesteds → List ActionDef → Read (List ActionDef)
+actions d none before = Ok before
+actions d (more t ts) before =
+    if is mark.DurativeAction (head (items t)).mark
+    then (action d (rest (items t)) before >>= λ before. actions d ts before)
+    else actions d ts before
+
+-- ---- the domain
+
+-- a domain that declares nothing
+abbrev pub bare : Name → Domain
+bare name = record { name = name; types = []; constants = []; predicates = []; functions = []; actions = [] }
+
+-- the domain with the constants of a list
+abbrev pub with_constants : Domain → Nesteds → Read Domain
+with_constants d ts = listed d Constants ts [] >>= λ constants. Ok (record d { constants = constants })
+
+-- the same with predicates
+abbrev pub with_predicates : Domain → Nesteds → Read Domain
+with_predicates d ts = all_declared d cap.Predicates ts [] >>= λ predicates. Ok (record d { predicates = predicates })
+
+-- the same with functions
+abbrev pub with_functions : Domain → Nesteds → Read Domain
+with_functions d ts = all_declared d cap.Functions ts [] >>= λ functions. Ok (record d { functions = functions })
+
+-- the same with the actions of sections
+abbrev pub with_actions : Domain → Nesteds → Read Domain
+with_actions d ts = actions d ts [] >>= λ actions. Ok (record d { actions = actions })
+
+-- the domain that sections declare: types, constants, predicates, functions and actions are judged in this order
+abbrev pub from_sections : Name → Nesteds → Read Domain
+from_sections name ts =
+    with_types (bare name) (section mark.Types ts) >>= λ d.
+    with_constants d (section mark.Constants ts) >>= λ d.
+    with_predicates d (section mark.Predicates ts) >>= λ d.
+    with_functions d (section mark.Functions ts) >>= λ d.
+    with_actions d ts
+
+-- DOMAIN: (define (domain NAME) SECTION*)
+unfoldable pub domain_of : Nesteds → Read Domain
+domain_of text =
+    let inside = items_at text in
+    from_sections (head (rest (items_at (rest inside)))).name (rest (rest inside))

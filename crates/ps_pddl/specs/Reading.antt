@@ -1,0 +1,72 @@
+-- What a domain's text is read as.
+use Rattle.std.specs.Prelude.{◌≡◌, ℕ, ◌<◌, ◌⊎◌, Err, List, map, length, slice_get}
+use Rattle.std.specs.Option.{option_map_or}
+use Rattle.ps_world.specs.Names.{Table}
+use Rattle.ps_world.specs.declared.domains.Domain.{Domain}
+use Rattle.ps_text.specs.Tokens.{AreTokens, IsFirstFault}
+use Rattle.ps_text.specs.declared.lexing.Token.{Token}
+use Rattle.ps_text.specs.declared.lexing.LexRefusal.{LexRefusal}
+use Rattle.ps_text.specs.declared.lexing.LexRefusal.TheVariants.{Bad, Number}
+use Rattle.ps_text.specs.declared.lexing.LexRefusal.TheVariants as lexing
+use Rattle.ps_shape.specs.Shape.{IsDomainShape, IsShallow}
+use Rattle.ps_shape.specs.Shape as shape
+use Rattle.ps_shape.specs.declared.marks.Mark.{Mark}
+use Rattle.ps_shape.specs.declared.faults.ShapeFault.{ShapeFault}
+use Rattle.ps_shape.specs.declared.faults.ShapeFault.TheVariants as fault
+use Rattle.ps_pddl.specs.Lexemes.{lexemes_of}
+use Rattle.ps_pddl.specs.Nested.{Nesteds}
+use Rattle.ps_pddl.specs.Spelling.{SpellAll}
+use Rattle.ps_pddl.specs.Meaning.{domain_of}
+use Rattle.ps_pddl.specs.Steps.{Read}
+use Rattle.ps_pddl.specs.declared.lexemes.Lexeme.{Lexeme}
+use Rattle.ps_pddl.specs.declared.refusals.Cap.TheVariants.{Depth}
+use Rattle.ps_pddl.specs.declared.refusals.DomainRefusal.{DomainRefusal}
+use Rattle.ps_pddl.specs.declared.refusals.DomainRefusal.TheVariants.{Lex, Unexpected, Unsupported, Limit, OutOfMemory}
+
+-- the marks of words
+abbrev pub marks : List Lexeme → List Mark
+marks ls = map (λ l. l.mark) ls
+
+-- the byte at which a word begins, or the text's length past the last
+abbrev pub place : List ℕ → List Lexeme → ℕ → ℕ
+place bytes ls i = option_map_or (λ l. l.at) (slice_get ls i) (length bytes)
+
+-- a word without a class, with its byte
+abbrev pub unlexed : LexRefusal → DomainRefusal
+unlexed (Bad at) = Lex at
+unlexed (Number at) = Lex at
+unlexed lexing.OutOfMemory = OutOfMemory
+
+-- a fault of the shape, with its byte
+abbrev pub misshapen : List ℕ → List Lexeme → ShapeFault → DomainRefusal
+misshapen bytes ls (fault.Unsupported i what) = Unsupported (place bytes ls i) what
+misshapen bytes ls (fault.Depth i) = Limit (place bytes ls i) Depth
+misshapen bytes ls (fault.Unexpected i) = Unexpected (place bytes ls i)
+misshapen bytes ls fault.OutOfMemory = OutOfMemory
+
+-- the refusal tells the first fault of the shape, or want of memory
+abbrev pub RefusesShape : List ℕ → List Lexeme → DomainRefusal → Type 0
+RefusesShape bytes ls OutOfMemory = Unit {0}
+RefusesShape bytes ls refusal = (f : ShapeFault) × (refusal ≡ misshapen bytes ls f) × shape.Refuses f (marks ls) × (f ≡ fault.OutOfMemory → ⊥)
+
+-- The text has these words, and the table has their names.
+pub record HasWords (table : Table) (bytes : List ℕ) (ls : List Lexeme) (after : Table) : Type 0 where
+  pub tokens : List Token
+  pub are_tokens : AreTokens bytes tokens
+  pub words : lexemes_of bytes table tokens ≡ (ls, after)
+
+-- What a text is read as, with a table of names before it and the table after it. A word without a class comes first,
+-- then the first fault of the shape, and a text of the right shape is what its nested lists mean.
+pub data IsRead (table : Table) (bytes : List ℕ) : Read Domain → Table → Type 0 where
+  without_class : (at : ℕ) → IsFirstFault bytes at (Bad at) ⊎ IsFirstFault bytes at (Number at) → IsRead table bytes (Err (Lex at)) table
+  without_shape : (ls : List Lexeme) (after : Table) (f : ShapeFault) → HasWords table bytes ls after → shape.Refuses f (marks ls) → (f ≡ fault.OutOfMemory → ⊥) → IsRead table bytes (Err (misshapen bytes ls f)) after
+  with_meaning : (ls : List Lexeme) (after : Table) (ts : Nesteds) (read : Read Domain) → HasWords table bytes ls after → IsDomainShape (marks ls) → IsShallow (marks ls) → SpellAll ts ls → domain_of ts ≡ read → IsRead table bytes read after
+
+-- a refusal is the first fault, or want of memory
+abbrev pub IsRefused : Table → List ℕ → DomainRefusal → Table → Type 0
+IsRefused table bytes OutOfMemory after = Unit {0}
+IsRefused table bytes refusal after = IsRead table bytes (Err refusal) after
+
+-- old names keep their texts
+abbrev pub Keeps : Table → Table → Type 0
+Keeps table after = (n : ℕ) → n < length table → slice_get after n ≡ slice_get table n

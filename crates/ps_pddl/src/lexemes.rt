@@ -1,0 +1,301 @@
+//! The words of a domain's text, each by what the grammar and the meaning need of it.
+ghost use Rattle.std.specs.Prelude.{◌≡◌, Some, true, drop, IfOk, OnErr, OnOk};
+ghost use Rattle.ps_text.specs.Names.{folded, interned, is_name};
+ghost use Rattle.ps_text.specs.Tokens.{AreTokens, class_of};
+ghost use Rattle.ps_text.specs.Words.{reads_as};
+ghost use Rattle.ps_shape.specs.declared.marks.Mark.TheVariants as mark;
+ghost use Rattle.ps_pddl.specs.Lexemes.{IsTokenOf, fixed_names, keywords, lexeme_of, lexemes_of, mark_in, mark_of, name_within, named, number_or_zero, numbered, signs, table_after};
+ghost use Rattle.ps_pddl.specs.Reading.{Keeps};
+
+use ps_shape::Mark;
+use ps_text::{Class, NameRefusal, Names, Token, read_number};
+use ps_world::{Name, Num};
+use std::alloc::{AllocError, Global};
+
+/// A word of a domain's text.
+#[derive(Clone, Copy)]
+pub struct Lexeme {
+    /// What it is to the grammar.
+    pub mark: Mark,
+    /// The name that it is, or the variable's without its `?`. It is `object` for any other word.
+    pub name: Name,
+    /// The number that it is. It is zero for any other word.
+    pub number: Num,
+    /// The place of its first byte.
+    pub at: usize,
+}
+
+/// Whether a word is this fixed text, in any case of its letters.
+fn reads_as(word: &[u8], fixed: &[u8]) -> bool
+    ensures { result ≡ reads_as word.now fixed.now }
+{
+    if word.len() != fixed.len() {
+        return false;
+    }
+    for (i, b) in word.iter().enumerate() {
+        if b.to_ascii_lowercase() != fixed[i] {
+            return false;
+        }
+    }
+    true
+}
+
+fn mark_of_sign(word: &[u8]) -> Mark
+    ensures { result ≡ mark_in signs mark.Minus word.now }
+{
+    if word == b"+".as_slice() {
+        return Mark::Plus;
+    }
+    if word == b"*".as_slice() {
+        return Mark::Times;
+    }
+    if word == b"/".as_slice() {
+        return Mark::Divide;
+    }
+    if word == b"=".as_slice() {
+        return Mark::Equal;
+    }
+    if word == b"<".as_slice() {
+        return Mark::Less;
+    }
+    if word == b">".as_slice() {
+        return Mark::Greater;
+    }
+    if word == b"<=".as_slice() {
+        return Mark::LessEqual;
+    }
+    if word == b">=".as_slice() {
+        return Mark::GreaterEqual;
+    }
+    Mark::Minus
+}
+
+fn mark_of_keyword(word: &[u8]) -> Mark
+    ensures { result ≡ mark_in keywords mark.Keyword (folded word.now) }
+{
+    if reads_as(word, b":requirements") {
+        Mark::Requirements
+    } else if reads_as(word, b":types") {
+        Mark::Types
+    } else if reads_as(word, b":constants") {
+        Mark::Constants
+    } else if reads_as(word, b":predicates") {
+        Mark::Predicates
+    } else if reads_as(word, b":functions") {
+        Mark::Functions
+    } else if reads_as(word, b":durative-action") {
+        Mark::DurativeAction
+    } else if reads_as(word, b":parameters") {
+        Mark::Parameters
+    } else if reads_as(word, b":duration") {
+        Mark::DurationKey
+    } else if reads_as(word, b":condition") {
+        Mark::ConditionKey
+    } else if reads_as(word, b":effect") {
+        Mark::EffectKey
+    } else if reads_as(word, b":action") {
+        Mark::Action
+    } else if reads_as(word, b":derived") {
+        Mark::Derived
+    } else if reads_as(word, b":constraints") {
+        Mark::Constraints
+    } else {
+        Mark::Keyword
+    }
+}
+
+fn mark_of_name(word: &[u8]) -> Mark
+    ensures { result ≡ mark_in fixed_names mark.Name (folded word.now) }
+{
+    if reads_as(word, b"define") {
+        Mark::Define
+    } else if reads_as(word, b"domain") {
+        Mark::Domain
+    } else if reads_as(word, b"problem") {
+        Mark::Problem
+    } else if reads_as(word, b"at") {
+        Mark::At
+    } else if reads_as(word, b"over") {
+        Mark::Over
+    } else if reads_as(word, b"start") {
+        Mark::Start
+    } else if reads_as(word, b"end") {
+        Mark::End
+    } else if reads_as(word, b"all") {
+        Mark::All
+    } else if reads_as(word, b"and") {
+        Mark::And
+    } else if reads_as(word, b"not") {
+        Mark::Not
+    } else if reads_as(word, b"or") {
+        Mark::Or
+    } else if reads_as(word, b"imply") {
+        Mark::Imply
+    } else if reads_as(word, b"exists") {
+        Mark::Exists
+    } else if reads_as(word, b"forall") {
+        Mark::Forall
+    } else if reads_as(word, b"when") {
+        Mark::When
+    } else {
+        mark_of_later_name(word)
+    }
+}
+
+/// The mark of a name that is none of the first of the fixed names.
+fn mark_of_later_name(word: &[u8]) -> Mark
+    ensures { result ≡ mark_in (drop 15 fixed_names) mark.Name (folded word.now) }
+{
+    if reads_as(word, b"preference") {
+        Mark::Preference
+    } else if reads_as(word, b"assign") {
+        Mark::Assign
+    } else if reads_as(word, b"increase") {
+        Mark::Increase
+    } else if reads_as(word, b"decrease") {
+        Mark::Decrease
+    } else if reads_as(word, b"scale-up") {
+        Mark::ScaleUp
+    } else if reads_as(word, b"scale-down") {
+        Mark::ScaleDown
+    } else if reads_as(word, b"either") {
+        Mark::Either
+    } else if reads_as(word, b"number") {
+        Mark::NumberWord
+    } else {
+        Mark::Name
+    }
+}
+
+/// What a word of a class is to the grammar, in either case of its letters.
+fn mark_of(class: Class, word: &[u8]) -> Mark
+    ensures { result ≡ mark_of class word.now }
+{
+    match class {
+        Class::LeftParen => Mark::Open,
+        Class::RightParen => Mark::Close,
+        Class::Sign => mark_of_sign(word),
+        Class::Variable => if reads_as(word, b"?duration") {
+            Mark::Duration
+        } else {
+            Mark::Variable
+        },
+        Class::Keyword => mark_of_keyword(word),
+        Class::Number => Mark::Number,
+        Class::Continuous => Mark::Continuous,
+        Class::Name => mark_of_name(word),
+    }
+}
+
+/// The name that a text is, where it is known to be one. The only error is want of memory, which changes nothing.
+fn number_of(names: &mut Names, text: &[u8]) -> Result<Name, AllocError>
+    requires { is_name text.now ≡ true }
+    ensures ok { IfOk result (λ n. n ≡ numbered names.old (Some (folded text.now))) }
+    ensures table { OnOk result (names.new ≡ named names.old (Some (folded text.now))) }
+    ensures err { OnErr result (names.new ≡ names.old) }
+{
+    match names.intern(text) {
+        Ok(name) => Ok(name),
+        Err(NameRefusal::OutOfMemory) => Err(AllocError),
+        Err(_) => unreachable!(),
+    }
+}
+
+/// The name within a word, which is put into the table. The only error is want of memory, which changes nothing.
+fn name_within(names: &mut Names, class: Class, word: &[u8]) -> Result<Name, AllocError>
+    requires { class_of word.now ≡ Some class }
+    ensures ok { IfOk result (λ n. n ≡ numbered names.old (name_within class word.now)) }
+    ensures table { OnOk result (names.new ≡ named names.old (name_within class word.now)) }
+    ensures err { OnErr result (names.new ≡ names.old) }
+{
+    match class {
+        Class::Name => number_of(names, word),
+        Class::Variable => number_of(names, &word[1..]),
+        _ => Ok(Name::OBJECT),
+    }
+}
+
+/// The number that a text is, or zero.
+fn number_or_zero(text: &[u8]) -> Num
+    ensures { result ≡ number_or_zero text.now }
+{
+    read_number(text).unwrap_or(Num::ZERO)
+}
+
+/// A token as a word of the domain's text. Its name is put into the table. The only error is want of memory, which changes nothing.
+fn lexeme_of(names: &mut Names, bytes: &[u8], token: Token) -> Result<Lexeme, AllocError>
+    requires { IsTokenOf bytes.now token }
+    ensures ok { IfOk result (λ l. l ≡ lexeme_of bytes.now names.old token) }
+    ensures table { OnOk result (names.new ≡ table_after bytes.now names.old token) }
+    ensures err { OnErr result (names.new ≡ names.old) }
+{
+    let word = &bytes[token.from..token.to];
+    let name = name_within(names, token.class, word)?;
+    Ok(Lexeme {
+        mark: mark_of(token.class, word),
+        name,
+        number: number_or_zero(word),
+        at: token.from,
+    })
+}
+
+/// The words of a domain's text, in order. Their names are put into the table; old ones keep their numbers and texts.
+/// The only error is want of memory.
+pub fn lexemes(
+    alloc: Global,
+    names: &mut Names,
+    bytes: &[u8],
+    tokens: &[Token],
+) -> Result<Vec<Lexeme>, AllocError>
+    requires { AreTokens bytes.now tokens.now }
+    ensures ok { IfOk result (λ v. lexemes_of bytes.now names.old tokens.now ≡ (v.items, names.new)) }
+    ensures kept { Keeps names.old names.new }
+{
+    let mut lexemes = Vec::new(alloc);
+    for token in tokens {
+        lexemes.push(lexeme_of(names, bytes, *token)?)?;
+    }
+    Ok(lexemes)
+}
+
+#[cfg(test)]
+mod tests {
+    use super::*;
+    use ps_text::tokens;
+    use std::test::Fail;
+
+    #[test]
+    fn words_have_marks_names_and_places(rt: HostRuntime) -> Result<(), Fail> {
+        let mut names = Names::new(rt.alloc())?;
+        let text =
+            b"(DEFINE ;_\n-5.25 ?Duration ?duration- :Types :types-2 #t <= - Leia leia ?LEIA Scale-Up number object)";
+        let found = lexemes(rt.alloc(), &mut names, text, &tokens(rt.alloc(), text)?)?;
+        let wanted = [
+            (Mark::Open, 0, 0, 0),
+            (Mark::Define, 1, 0, 1),
+            (Mark::Number, 0, -5250, 11),
+            (Mark::Duration, 2, 0, 17),
+            (Mark::Variable, 3, 0, 27),
+            (Mark::Types, 0, 0, 38),
+            (Mark::Keyword, 0, 0, 45),
+            (Mark::Continuous, 0, 0, 54),
+            (Mark::LessEqual, 0, 0, 57),
+            (Mark::Minus, 0, 0, 60),
+            (Mark::Name, 4, 0, 62),
+            (Mark::Name, 4, 0, 67),
+            (Mark::Variable, 4, 0, 72),
+            (Mark::ScaleUp, 5, 0, 78),
+            (Mark::NumberWord, 6, 0, 87),
+            (Mark::Name, 0, 0, 94),
+            (Mark::Close, 0, 0, 100),
+        ];
+        assert_eq!(rt; found.len(), wanted.len());
+        for (word, (mark, name, milli, at)) in found.iter().zip(wanted) {
+            assert_eq!(rt; word.mark, mark, "at {at}");
+            assert_eq!(rt; word.name.0, name, "at {at}");
+            assert_eq!(rt; word.number.milli(), milli, "at {at}");
+            assert_eq!(rt; word.at, at);
+        }
+        Ok(())
+    }
+}

@@ -1,0 +1,205 @@
+//! What a list of typed names declares.
+ghost use Rattle.std.specs.Prelude.{◌≡◌, ◌+◌, Ok, List, [], drop, map, true, false, IfErr, IfOk, OnOk};
+ghost use Rattle.std.specs.List.{list_any};
+ghost use Rattle.ps_world.specs.Names.{same_name};
+ghost use Rattle.ps_world.specs.Knowledge.{is_type};
+ghost use Rattle.ps_world.specs.declared.domains.Param.{Param};
+ghost use Rattle.ps_pddl.specs.Nested.{nesteds};
+ghost use Rattle.ps_pddl.specs.NestedViews.{nested};
+ghost use Rattle.ps_pddl.specs.Lists.{cap_of, counted, counts, fault_of_new, kind_ahead, listed, listed_type, most_of, with_name};
+ghost use Rattle.ps_pddl.specs.Steps.{Refuses};
+ghost use Rattle.ps_pddl.specs.declared.meaning.lists.Listing.{Listing};
+ghost use Rattle.ps_pddl.specs.declared.refusals.DomainRefusal.TheVariants.{Unknown};
+
+use crate::lexemes::Lexeme;
+use crate::places::{head, word_of};
+use crate::refusals::{Cap, DomainRefusal};
+use crate::trees::Tree;
+use ps_domain::Declared;
+use ps_shape::Mark;
+use ps_world::{MOST_ARGUMENTS, MOST_INSTANCES, Name, Param};
+use std::alloc::Global;
+
+/// How many types a domain has at most.
+const MOST_TYPES: usize = 256;
+
+/// What a list of typed names declares.
+#[derive(Clone, Copy, PartialEq, Eq, Debug)]
+pub enum Listing {
+    /// The types, each with its parent.
+    Types,
+    /// The constants of a domain.
+    Constants,
+    /// The parameters of a predicate, a function or an action.
+    Params,
+}
+
+impl Listing {
+    /// Which limit a list has.
+    fn cap(self) -> Cap
+        ensures { result ≡ cap_of self }
+    {
+        match self {
+            Listing::Types => Cap::Types,
+            Listing::Constants => Cap::Instances,
+            Listing::Params => Cap::Params,
+        }
+    }
+
+    /// How many names it has at most.
+    fn most(self) -> usize
+        ensures { result ≡ most_of self }
+    {
+        match self {
+            Listing::Types => MOST_TYPES,
+            Listing::Constants => MOST_INSTANCES,
+            Listing::Params => MOST_ARGUMENTS,
+        }
+    }
+
+    /// Whether a name counts. `object` among the types has no effect where its parent is `object` too.
+    pub fn counts(self, param: &Param) -> bool
+        ensures { result ≡ counts self param.now }
+    {
+        match self {
+            Listing::Types => !(param.name == Name::OBJECT && param.kind == Name::OBJECT),
+            Listing::Constants | Listing::Params => true,
+        }
+    }
+
+    /// How many count, if this one does.
+    fn counted(self, param: &Param, before: &[Param]) -> usize
+        ensures { result ≡ counted self param.now before.now }
+    {
+        if self.counts(param) {
+            before.iter().filter(|p| self.counts(p)).count()
+        } else {
+            0
+        }
+    }
+}
+
+/// What is at fault with one name more in a list of so many, if anything is: it is one too many, or it is there already.
+pub fn fault_of_new(
+    which: Cap,
+    most: usize,
+    count: usize,
+    taken: bool,
+    word: Lexeme,
+) -> Option<DomainRefusal>
+    ensures { result ≡ fault_of_new which most count taken word }
+{
+    if most <= count {
+        Some(DomainRefusal::Limit { at: word.at, which })
+    } else if taken {
+        Some(DomainRefusal::Twice {
+            at: word.at,
+            name: word.name,
+        })
+    } else {
+        None
+    }
+}
+
+/// The type of the run of names that goes on at this place: the name after the next `-`, or `object`.
+fn kind_ahead(trees: &[Tree], from: usize) -> Name
+    ensures { result ≡ kind_ahead (nesteds (map nested (drop from trees.now))) }
+{
+    let mut i = from;
+    while i < trees.len() {
+        if word_of(&trees[i]).mark == Mark::Minus {
+            return head(&trees[i + 1..]).name;
+        }
+        i += 1;
+    }
+    Name::OBJECT
+}
+
+/// Whether one of these has the name.
+fn is_taken(before: &[Param], name: Name) -> bool
+    ensures { result ≡ list_any (λ p. same_name name p.name) before.now }
+{
+    before.iter().any(|p| name == p.name)
+}
+
+/// Puts a name with its type at the end of a list.
+fn add_name(
+    listing: Listing,
+    word: Lexeme,
+    kind: Name,
+    before: &mut Vec<Param>,
+) -> Result<(), DomainRefusal>
+    ensures ok { OnOk result (with_name listing word kind before.old.items ≡ Ok before.new.items) }
+    ensures err { IfErr result (λ r. Refuses (with_name listing word kind before.old.items) r) }
+{
+    let param = Param {
+        name: word.name,
+        kind,
+    };
+    let count = listing.counted(&param, before);
+    let taken = is_taken(before, word.name);
+    match fault_of_new(listing.cap(), listing.most(), count, taken, word) {
+        Some(fault) => Err(fault),
+        None => {
+            before.push(param)?;
+            Ok(())
+        }
+    }
+}
+
+/// Passes over the name of a type at this place, if anything stands there. The refusal is that it is no type.
+fn pass_type(d: &Declared, trees: &[Tree], at: usize) -> Result<(), DomainRefusal>
+    ensures ok { OnOk result ((listing : Listing) (before : List Param) →
+        listed_type d.now listing (nesteds (map nested (drop at trees.now))) before
+        ≡ listed d.now listing (nesteds (map nested (drop (at + 1) trees.now))) before) }
+    ensures err { IfErr result (λ r. (listing : Listing) (before : List Param) →
+        Refuses (listed_type d.now listing (nesteds (map nested (drop at trees.now))) before) r) }
+{
+    match trees.get(at) {
+        None => Ok(()),
+        Some(tree) => pass_word(d, word_of(tree)),
+    }
+}
+
+/// Passes over the name of a type. The refusal is that it is no type.
+fn pass_word(d: &Declared, word: Lexeme) -> Result<(), DomainRefusal>
+    ensures ok { OnOk result (is_type d.now word.name ≡ true) }
+    ensures err { IfErr result (λ r. (is_type d.now word.name ≡ false) × (r ≡ Unknown word.at word.name)) }
+{
+    if d.is_type(word.name) {
+        Ok(())
+    } else {
+        Err(DomainRefusal::Unknown {
+            at: word.at,
+            name: word.name,
+        })
+    }
+}
+
+/// The names that a list declares, each with its type: names, of which a run before `- NAME` has that type and the rest `object`.
+/// The refusal is the first fault. The text is gone through twice, and the list before each name is within the limit.
+pub fn listed(
+    alloc: Global,
+    d: &Declared,
+    listing: Listing,
+    trees: &[Tree],
+) -> Result<Vec<Param>, DomainRefusal>
+    ensures ok { IfOk result (λ v. listed d.now listing (nesteds (map nested trees.now)) [] ≡ Ok v.items) }
+    ensures err { IfErr result (λ r. Refuses (listed d.now listing (nesteds (map nested trees.now)) []) r) }
+{
+    let mut all = Vec::new(alloc);
+    let mut kind = kind_ahead(trees, 0);
+    let mut i = 0;
+    while i < trees.len() {
+        let word = word_of(&trees[i]);
+        i += 1;
+        if word.mark == Mark::Minus {
+            pass_type(d, trees, i)?;
+            i += 1;
+            kind = kind_ahead(trees, i);
+        } else {
+            add_name(listing, word, kind, &mut all)?;
+        }
+    }
+    Ok(all)
+}

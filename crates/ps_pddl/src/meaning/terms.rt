@@ -1,0 +1,194 @@
+//! What names and variables stand for in an action, and what a head with arguments means.
+ghost use Rattle.std.specs.Prelude.{◌≡◌, ◌≤◌, [], Ok, Some, IfOk, IfErr, length, map, position};
+ghost use Rattle.ps_world.specs.Names.{same_name};
+ghost use Rattle.ps_pddl.specs.Nested.{nesteds};
+ghost use Rattle.ps_pddl.specs.NestedViews.{nested};
+ghost use Rattle.ps_pddl.specs.Terms.{applied, argument, arguments, fact, lifted, resolved, term_of, value_of, variable_of};
+ghost use Rattle.ps_pddl.specs.Steps.{Refuses};
+ghost use Rattle.ps_pddl.specs.declared.refusals.DomainRefusal.TheVariants.{Unknown};
+
+use crate::lexemes::Lexeme;
+use crate::places::{count, word_of};
+use crate::refusals::DomainRefusal;
+use crate::trees::Tree;
+use ps_domain::Declared;
+use ps_shape::Mark;
+use ps_world::{Decl, Lifted, Name, Param, Term, Terms};
+use std::alloc::Global;
+
+/// The most parameters of an action, a predicate or a function.
+pub const MOST_PARAMS: usize = 6;
+
+/// A term with its type.
+#[derive(Clone, Copy)]
+pub struct Typed {
+    pub term: Term,
+    pub kind: Name,
+}
+
+/// The place of a parameter.
+fn place_of(params: &[Param], name: Name) -> Option<usize>
+    ensures { result ≡ position (λ p. same_name name p.name) params.now }
+{
+    params.iter().position(|param| name == param.name)
+}
+
+/// A parameter as a term with its type: its number is its place.
+fn variable_of(params: &[Param], name: Name) -> Option<Typed>
+    requires { length params.now ≤ MOST_PARAMS }
+    ensures { result ≡ variable_of params.now name }
+{
+    match place_of(params, name) {
+        Some(place) => Some(Typed {
+            term: Term::Var(place as u8),
+            kind: params[place].kind,
+        }),
+        None => None,
+    }
+}
+
+/// A declared parameter or constant as a term with its type.
+fn term_of(domain: &Declared, params: &[Param], mark: Mark, name: Name) -> Option<Typed>
+    requires { length params.now ≤ MOST_PARAMS }
+    ensures { result ≡ term_of domain.now params.now mark name }
+{
+    match mark {
+        Mark::Variable => variable_of(params, name),
+        _ => {
+            let constant = domain.constant(name)?;
+            Some(Typed {
+                term: Term::Const(name),
+                kind: constant.kind,
+            })
+        }
+    }
+}
+
+/// The fault of a name or a variable that isn't declared.
+fn unknown(word: Lexeme) -> DomainRefusal
+    ensures { result ≡ Unknown word.at word.name }
+{
+    DomainRefusal::Unknown {
+        at: word.at,
+        name: word.name,
+    }
+}
+
+/// The term that a word is, with its type. It may be `Unknown`.
+pub fn resolved(domain: &Declared, params: &[Param], word: Lexeme) -> Result<Typed, DomainRefusal>
+    requires { length params.now ≤ MOST_PARAMS }
+    ensures { result ≡ resolved domain.now params.now word }
+{
+    match term_of(domain, params, word.mark, word.name) {
+        Some(term) => Ok(term),
+        None => Err(unknown(word)),
+    }
+}
+
+/// The term that a word is where this type is wanted: `Unknown` comes before `Kind`.
+fn argument(
+    domain: &Declared,
+    params: &[Param],
+    want: Name,
+    word: Lexeme,
+) -> Result<Term, DomainRefusal>
+    requires { length params.now ≤ MOST_PARAMS }
+    ensures { result ≡ argument domain.now params.now want word }
+{
+    let at = word.at;
+    let Typed { term, kind } = resolved(domain, params, word)?;
+    if domain.is_below(kind, want) {
+        Ok(term)
+    } else {
+        Err(DomainRefusal::Kind { at })
+    }
+}
+
+/// The arguments, one for each parameter of what is declared.
+fn arguments(
+    alloc: Global,
+    domain: &Declared,
+    params: &[Param],
+    wants: &[Param],
+    trees: &[Tree],
+) -> Result<Vec<Term>, DomainRefusal>
+    requires few { length params.now ≤ MOST_PARAMS }
+    requires enough { length wants.now ≤ length trees.now }
+    ensures ok { IfOk result (λ v. arguments domain.now params.now wants.now (nesteds (map nested trees.now)) [] ≡ Ok v.items) }
+    ensures err { IfErr result (λ r. Refuses (arguments domain.now params.now wants.now (nesteds (map nested trees.now)) []) r) }
+{
+    let mut terms = Vec::new(alloc);
+    for (i, want) in wants.iter().enumerate() {
+        terms.push(argument(domain, params, want.kind, word_of(&trees[i]))?)?;
+    }
+    Ok(terms)
+}
+
+/// A head with its arguments, of which there are 6 at most.
+fn lifted(head: Lexeme, terms: &[Term]) -> Result<Lifted, DomainRefusal>
+    ensures { result ≡ lifted head terms.now }
+{
+    match Terms::of(terms) {
+        Some(terms) => Ok(Lifted {
+            head: head.name,
+            terms,
+        }),
+        None => Err(DomainRefusal::Arity { at: head.at }),
+    }
+}
+
+/// A head that is declared so, with arguments that suit it: `Arity` comes before what is at fault with an argument.
+fn applied(
+    alloc: Global,
+    domain: &Declared,
+    params: &[Param],
+    decl: &Decl,
+    head: Lexeme,
+    trees: &[Tree],
+) -> Result<Lifted, DomainRefusal>
+    requires { length params.now ≤ MOST_PARAMS }
+    ensures ok { IfOk result (λ l. applied domain.now params.now (Some decl.now) head (nesteds (map nested trees.now)) ≡ Ok l) }
+    ensures err { IfErr result (λ r. Refuses (applied domain.now params.now (Some decl.now) head (nesteds (map nested trees.now))) r) }
+{
+    if decl.params.len() != count(trees) {
+        return Err(DomainRefusal::Arity { at: head.at });
+    }
+    let terms = arguments(alloc, domain, params, decl.params.as_slice(), trees)?;
+    lifted(head, terms.as_slice())
+}
+
+/// A fact: a declared predicate with arguments that suit it. `Unknown` at the head comes before `Arity`.
+pub fn fact(
+    alloc: Global,
+    domain: &Declared,
+    params: &[Param],
+    head: Lexeme,
+    trees: &[Tree],
+) -> Result<Lifted, DomainRefusal>
+    requires { length params.now ≤ MOST_PARAMS }
+    ensures ok { IfOk result (λ l. fact domain.now params.now head (nesteds (map nested trees.now)) ≡ Ok l) }
+    ensures err { IfErr result (λ r. Refuses (fact domain.now params.now head (nesteds (map nested trees.now))) r) }
+{
+    match domain.predicate(head.name) {
+        Some(decl) => applied(alloc, domain, params, decl, head, trees),
+        None => Err(unknown(head)),
+    }
+}
+
+/// The value of a declared function at arguments that suit it. `Unknown` at the head comes before `Arity`.
+pub fn value_of(
+    alloc: Global,
+    domain: &Declared,
+    params: &[Param],
+    head: Lexeme,
+    trees: &[Tree],
+) -> Result<Lifted, DomainRefusal>
+    requires { length params.now ≤ MOST_PARAMS }
+    ensures ok { IfOk result (λ l. value_of domain.now params.now head (nesteds (map nested trees.now)) ≡ Ok l) }
+    ensures err { IfErr result (λ r. Refuses (value_of domain.now params.now head (nesteds (map nested trees.now))) r) }
+{
+    match domain.function(head.name) {
+        Some(decl) => applied(alloc, domain, params, decl, head, trees),
+        None => Err(unknown(head)),
+    }
+}

@@ -1,0 +1,116 @@
+//! Reading a domain's text.
+ghost use Rattle.std.specs.Prelude.{◌≡◌, Ok, IfErr, IfOk, OnOk};
+ghost use Rattle.ps_shape.specs.Shape.{IsDomainShape, IsShallow};
+ghost use Rattle.ps_pddl.specs.Reading.{IsRead, IsRefused, Keeps, RefusesShape, marks, misshapen, place};
+
+use super::lexemes::{Lexeme, lexemes};
+use super::meaning::domain_of;
+use super::refusals::{Cap, DomainRefusal};
+use super::trees::trees_of;
+use ps_shape::{Mark, ShapeFault, judge};
+use ps_text::{Names, tokens};
+use ps_world::Domain;
+use std::alloc::{AllocError, Global};
+
+/// The domain that a text declares. Its names are put into the table. After a refusal the table may have new names; old ones keep
+/// their numbers and texts.
+///
+/// The refusal is the first fault, where each phase runs only if the one before found none: `Lex`, at the first word without a class;
+/// the first of `Unsupported`, `Limit` of depth and `Unexpected` in the order of the text; then, in the order types, constants,
+/// predicates, functions, actions, each in the order of the text, the first of `Limit`, `Twice`, `Unknown`, `Arity` and `Kind`, with
+/// `Cycle` after all types. `OutOfMemory` may come at any time.
+pub fn read_domain(alloc: Global, names: &mut Names, bytes: &[u8]) -> Result<Domain, DomainRefusal>
+    ensures ok { IfOk result (λ d. IsRead names.old bytes.now (Ok d) names.new) }
+    ensures refused { IfErr result (λ r. IsRefused names.old bytes.now r names.new) }
+    ensures kept { Keeps names.old names.new }
+{
+    let tokens = tokens(alloc, bytes)?;
+    let words = lexemes(alloc, names, bytes, &tokens)?;
+    check_shape(alloc, bytes, &words)?;
+    let trees = trees_of(alloc, &words)?;
+    domain_of(alloc, trees.as_slice())
+}
+
+/// Whether words are of a domain's shape. The error is the first fault.
+fn check_shape(alloc: Global, bytes: &[u8], words: &[Lexeme]) -> Result<(), DomainRefusal>
+    ensures ok { OnOk result (IsDomainShape (marks words.now) × IsShallow (marks words.now)) }
+    ensures fault { IfErr result (λ r. RefusesShape bytes.now words.now r) }
+{
+    let marks = marks_of(alloc, words)?;
+    match judge(alloc, &marks) {
+        Ok(()) => Ok(()),
+        Err(fault) => Err(misshapen(bytes, words, fault)),
+    }
+}
+
+fn marks_of(alloc: Global, words: &[Lexeme]) -> Result<Vec<Mark>, AllocError>
+    ensures { IfOk result (λ v. v.items ≡ marks words.now) }
+{
+    words.iter().map(|word| word.mark).collect(alloc)
+}
+
+/// A fault of the shape, with its byte.
+fn misshapen(bytes: &[u8], words: &[Lexeme], fault: ShapeFault) -> DomainRefusal
+    ensures { result ≡ misshapen bytes.now words.now fault }
+{
+    match fault {
+        ShapeFault::Unsupported { at, what } => DomainRefusal::Unsupported {
+            at: place(bytes, words, at),
+            what,
+        },
+        ShapeFault::Depth { at } => DomainRefusal::Limit {
+            at: place(bytes, words, at),
+            which: Cap::Depth,
+        },
+        ShapeFault::Unexpected { at } => DomainRefusal::Unexpected {
+            at: place(bytes, words, at),
+        },
+        ShapeFault::OutOfMemory => DomainRefusal::OutOfMemory,
+    }
+}
+
+/// The byte at which a word begins, or the text's length past the last.
+fn place(bytes: &[u8], words: &[Lexeme], i: usize) -> usize
+    ensures { result ≡ place bytes.now words.now i }
+{
+    match words.get(i) {
+        Some(word) => word.at,
+        None => bytes.len(),
+    }
+}
+
+#[cfg(test)]
+mod tests {
+    use super::*;
+    use ps_shape::Form;
+    use std::test::Fail;
+
+    #[test]
+    fn faults_have_bytes(rt: HostRuntime) -> Result<(), Fail> {
+        for (text, refusal) in [
+            (b"(define _)".as_slice(), DomainRefusal::Lex { at: 8 }),
+            (b"(define 1.)".as_slice(), DomainRefusal::Lex { at: 8 }),
+            (b"".as_slice(), DomainRefusal::Unexpected { at: 0 }),
+            (
+                b"(define (domain d)".as_slice(),
+                DomainRefusal::Unexpected { at: 18 },
+            ),
+            (
+                b"(define (domain d)) ; d\n  d".as_slice(),
+                DomainRefusal::Unexpected { at: 26 },
+            ),
+            (
+                b"(define (Problem p))".as_slice(),
+                DomainRefusal::Unsupported {
+                    at: 9,
+                    what: Form::Problem,
+                },
+            ),
+        ] {
+            let mut names = Names::new(rt.alloc())?;
+            let found = read_domain(rt.alloc(), &mut names, text).err();
+            assert_eq!(rt; found, Some(refusal), "{text:?}");
+        }
+        Ok(())
+    }
+}
