@@ -4,11 +4,9 @@ pub mod Joins
 pub mod NameLines
 pub mod Numbers
 pub mod Ranges
-pub mod Runs
 pub mod ScriptLines
 pub mod ScriptNames
 pub mod Sessions
 pub mod Stops
 pub mod TableNames
 pub mod Taken
-pub mod WholeTexts

@@ -1,16 +1,18 @@
 -- What an attempt comes to.
-use Rattle.std.proofs.Common.{◌≡◌, ℕ, Option, Some, None, List, inl, inr, refl, subst}
-use Rattle.std.specs.Io.KnownBytes.{Keeps}
+use Rattle.std.proofs.Common.{◌≡◌, ℕ, ◌<◌, ◌⊎◌, Option, Some, None, List, inl, inr, refl, sym, subst}
+use Rattle.std.specs.Io.KnownBytes.{Appends, Keeps}
 use Rattle.ps_world.specs.Names.{Table}
+use Rattle.ps_world.specs.DomainTexts.{domain_text}
 use Rattle.ps_world.specs.declared.domains.Domain.{Domain}
 use Rattle.ps_world.specs.declared.inputs.Line.{Line}
 use Rattle.ps_world.specs.declared.inputs.Input.{Input}
-use Rattle.ps_text.specs.Causes.{Rose}
+use Rattle.ps_text.specs.Causes.{Rose, AppendsFront}
 use Rattle.plansys.specs.Session.{input_with, IsDone, IsCut}
 use Rattle.plansys.specs.Input.{Outcome}
-use Rattle.plansys.specs.Input.Outcome.{given, fault, untold}
-use Rattle.plansys.specs.Headline.{IsAnswered, IsFront}
-use Rattle.plansys.specs.Faults.{Gives, HasNoInput, IsStopped}
+use Rattle.plansys.specs.Input.Outcome.{given, checked, fault, untold}
+use Rattle.plansys.specs.Headline.{IsAnswered, IsFront, IsFault, IsDue, LeadsTo}
+use Rattle.plansys.specs.Headline.IsDue.{misused, no_domain, domain_too_long, script_too_long, domain_unread, script_unread}
+use Rattle.plansys.specs.Faults.{Gives, GivesDomain, HasNoInput, IsStopped}
 use Rattle.plansys.specs.declared.faults.Stop.{Stop}
 use Rattle.plansys.specs.declared.faults.Stop.TheVariants.{Due, Broken}
 use Rattle.plansys.specs.declared.session.Broken.{Broken as Break}
@@ -23,20 +25,36 @@ Keeps-same (Some xs) = refl
 
 -- a whole session of the input that was given
 pub answered : (outcome : Outcome) (i : Input) (names : Table) (old new : Option (List ℕ)) (status : ℕ) → Gives outcome i names → IsDone i names old new status → IsAnswered outcome old new status
-answered (given j table) i names old new status g d =
-    subst (λ x. IsDone x table old new status) g.0 (subst (λ x. IsDone i x old new status) g.1 d)
+answered (given domain script) i names old new status g d = (i, names, g, d)
+answered (checked domain) i names old new status g d = absurd g
 answered (fault s l) i names old new status g d = absurd g
 answered untold i names old new status g d = tt
 
 -- a front of its text
 pub front : (outcome : Outcome) (i : Input) (names : Table) (old new : Option (List ℕ)) → Gives outcome i names → IsCut i names old new → IsFront outcome old new
-front (given j table) i names old new g d = inr (subst (λ x. IsCut x table old new) g.0 (subst (λ x. IsCut i x old new) g.1 d))
+front (given domain script) i names old new g d = inr (i, names, g, d)
+front (checked domain) i names old new g d = absurd g
 front (fault s l) i names old new g d = absurd g
 front untold i names old new g d = tt
 
+-- the text of the domain that was given
+pub printed : (outcome : Outcome) (d : Domain) (names : Table) (old new : Option (List ℕ)) → GivesDomain outcome d names → Appends old new (domain_text names d) → IsAnswered outcome old new 0
+printed (given domain script) d names old new g a = absurd g
+printed (checked domain) d names old new g a = (refl, (d, names, g, a))
+printed (fault s l) d names old new g a = absurd g
+printed untold d names old new g a = tt
+
+-- a front of it
+pub half_printed : (outcome : Outcome) (d : Domain) (names : Table) (old new : Option (List ℕ)) → GivesDomain outcome d names → AppendsFront old new (domain_text names d) → IsFront outcome old new
+half_printed (given domain script) d names old new g a = absurd g
+half_printed (checked domain) d names old new g a = inr (d, names, g, a)
+half_printed (fault s l) d names old new g a = absurd g
+half_printed untold d names old new g a = tt
+
 -- nothing was written
 pub no_front : (outcome : Outcome) (t : Option (List ℕ)) → IsFront outcome t t
-no_front (given i names) t = inl (Keeps-same t)
+no_front (given domain script) t = inl (Keeps-same t)
+no_front (checked domain) t = inl (Keeps-same t)
 no_front (fault s l) t = Keeps-same t
 no_front untold t = tt
 
@@ -54,3 +72,43 @@ stopped_in outcome ws texts before now old new f f' OutOfMemory h r = h
 -- an input of these parts
 pub same_input : (i : Input) (d : Domain) (lines : List Line) → d ≡ i.domain → lines ≡ i.lines → input_with d lines ≡ i
 same_input i d lines p q = λ j. record { domain = p j; lines = q j }
+
+-- ---- what an outcome leads to
+
+pub leads-answered : (outcome : Outcome) (old new : Option (List ℕ)) (status : ℕ) → status < 2 → IsAnswered outcome old new status → LeadsTo outcome status
+leads-answered (given domain script) old new status lt h = inl (h.0, h.1, h.2, lt)
+leads-answered (checked domain) old new status lt h = inl (h.1.0, h.1.1, h.1.2, h.0)
+leads-answered (fault s l) old new status lt h = absurd h
+leads-answered untold old new status lt h = tt
+
+leads-fault : (outcome : Outcome) (status : ℕ) (line : List ℕ) → IsFault outcome status line → LeadsTo outcome status
+leads-fault (given domain script) status line h = inr (line, h.1, sym h.0)
+leads-fault (checked domain) status line h = inr (line, h.1, sym h.0)
+leads-fault (fault s l) status line h = sym h.0
+leads-fault untold status line h = tt
+
+-- the status that is due is what the outcome leads to, or a read failed
+leads-due : (outcome : Outcome) (ws : List (List ℕ)) (texts : List ℕ → Option (List ℕ)) (before now status : ℕ) (line : List ℕ) → IsDue outcome ws texts before now status line → LeadsTo outcome status ⊎ Rose before now
+leads-due outcome ws texts before now status line h =
+    elim h as (λ s l d. LeadsTo outcome s ⊎ Rose before now) [
+      | misused f ↦ inl (leads-fault outcome _ _ f)
+      | no_domain r t told f ↦ inl (leads-fault outcome _ _ f)
+      | domain_too_long f ↦ inl (leads-fault outcome _ _ f)
+      | script_too_long f ↦ inl (leads-fault outcome _ _ f)
+      | domain_unread words rose ↦ inr rose
+      | script_unread words short rose ↦ inr rose
+    ]
+
+-- a fault was told with its status, or telling it failed
+pub completed : (outcome : Outcome) (ws : List (List ℕ)) (texts : List ℕ → Option (List ℕ)) (before now status result out_before out_now err_before err_now : ℕ) (line : List ℕ) → IsDue outcome ws texts before now status line → (result ≡ status) ⊎ (result ≡ 5) ⊎ (result ≡ 6) → (result ≡ 5 → Rose err_before err_now) → LeadsTo outcome result ⊎ (result ≡ 6) ⊎ Rose before now ⊎ Rose out_before out_now ⊎ Rose err_before err_now
+completed outcome ws texts before now status result out_before out_now err_before err_now line due cases rose =
+    elim cases [
+      | inl same ↦ elim (leads-due outcome ws texts before now status line due) [
+        | inl leads ↦ inl (subst (λ s. LeadsTo outcome s) (sym same) leads)
+        | inr unread ↦ inr (inr (inl unread))
+      ]
+      | inr other ↦ elim other [
+        | inl five ↦ inr (inr (inr (inr (rose five))))
+        | inr six ↦ inr (inl six)
+      ]
+    ]

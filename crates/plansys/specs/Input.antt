@@ -1,14 +1,14 @@
 -- The input of a call: what its words and the texts of its files say.
-use Rattle.std.specs.Prelude.{ℕ, Bool, not, ◌&&◌, ◌==◌, nat_lt, if◌then◌else◌, Option, Some, None, List, [], ◌∷◌, ◌++◌, codes, length, slice_index_or}
+use Rattle.std.specs.Prelude.{◌≡◌, ℕ, Bool, not, ◌&&◌, ◌||◌, ◌==◌, nat_lt, if◌then◌else◌, Option, Some, None, Ok, Err, List, [], ◌∷◌, ◌++◌, codes, length, slice_index_or}
 use Rattle.ps_world.specs.Names.{Table}
 use Rattle.ps_world.specs.Journal.{line_end}
 use Rattle.ps_world.specs.Lines.{same_text}
 use Rattle.ps_world.specs.declared.domains.Domain.{Domain}
-use Rattle.ps_world.specs.declared.inputs.Line.{Line}
 use Rattle.ps_world.specs.declared.inputs.Input.{Input}
-use Rattle.plansys.specs.DomainForm.{domain_from}
+use Rattle.ps_pddl.specs.Reading.{IsRead}
+use Rattle.ps_pddl.specs.declared.refusals.DomainRefusal.{DomainRefusal}
+use Rattle.plansys.specs.DomainFaults.{cause_text}
 use Rattle.plansys.specs.Scripts.{script_from}
-use Rattle.plansys.specs.Session.{input_with}
 
 -- The words.
 
@@ -25,6 +25,18 @@ abbrev pub is_session : List (List ℕ) → Bool
 is_session ws =
     length ws == 5 && same_text (argument ws 0) (codes "session") && same_text (argument ws 1) (codes "--domain") && is_value (argument ws 2) && same_text (argument ws 3) (codes "--script") && is_value (argument ws 4)
 
+-- whether the first word is that of a mode that always returns
+abbrev pub is_quiet : List (List ℕ) → Bool
+is_quiet ws = same_text (argument ws 0) (codes "check")
+
+-- check --domain F
+abbrev pub is_check : List (List ℕ) → Bool
+is_check ws = length ws == 3 && is_quiet ws && same_text (argument ws 1) (codes "--domain") && is_value (argument ws 2)
+
+-- the words are of a form, so that the third of them names a domain's file
+abbrev pub names_domain : List (List ℕ) → Bool
+names_domain ws = is_session ws || is_check ws
+
 -- the name of the domain's file
 abbrev pub domain_file : List (List ℕ) → List ℕ
 domain_file ws = argument ws 2
@@ -39,9 +51,9 @@ script_file ws = argument ws 4
 abbrev pub usage_line : List ℕ
 usage_line = codes "plansys: usage" ++ line_end
 
--- the domain's text isn't of the form that is built
-abbrev pub not_built_line : List ℕ
-not_built_line = codes "plansys: domain: NotBuilt" ++ line_end
+-- the domain's text is no domain, for this cause
+abbrev pub domain_line : List ℕ → List ℕ
+domain_line cause = codes "plansys: domain: " ++ (cause ++ line_end)
 
 -- a file is too long
 abbrev pub too_long_line : List ℕ → List ℕ
@@ -65,10 +77,11 @@ out_of_memory_line = codes "plansys: out of memory" ++ line_end
 abbrev pub longest_file : ℕ
 longest_file = 1048576
 
--- What a call is given: an input with its table of names, or what is at fault, with the status and the line that
--- say so. It isn't told where the files don't tell a text that matters.
+-- What a call is given: for a session the texts of the domain and the script, for a check the domain's text, or what
+-- is at fault, with the status and the line that say so. It isn't told where the files don't tell a text that matters.
 pub data Outcome : Type 0 where
-  given : Input → Table → Outcome
+  given : List ℕ → List ℕ → Outcome
+  checked : List ℕ → Outcome
   fault : ℕ → List ℕ → Outcome
   untold : Outcome
 
@@ -77,25 +90,37 @@ abbrev pub with_text : List ℕ → (List ℕ → Outcome) → Option (List ℕ)
 with_text file use_of None = untold
 with_text file use_of (Some text) = if nat_lt longest_file (length text) then fault 3 (too_long_line file) else use_of text
 
--- the input of a domain and a script's lines, with the table after them
-abbrev pub with_lines : Domain → List Line × Table → Outcome
-with_lines d script = given (input_with d script.0) script.1
+-- what a domain's text gives with a script's
+abbrev pub with_script : List ℕ → Option (List ℕ) → List ℕ → Outcome
+with_script file told domain = with_text file (λ script. given domain script) told
 
--- what a domain gives with a script's text
-abbrev pub with_domain : List ℕ → Option (Domain × Table) → Outcome
-with_domain script None = fault 3 not_built_line
-with_domain script (Some d) = with_lines d.0 (script_from d.1 script)
+-- The texts that the words and the texts by file name give. The domain's file is read, then the script's.
+unfoldable pub input_of : List (List ℕ) → (List ℕ → Option (List ℕ)) → Outcome
+input_of ws texts =
+    if is_session ws then with_text (domain_file ws) (with_script (script_file ws) (texts (script_file ws))) (texts (domain_file ws))
+    else (if is_check ws then with_text (domain_file ws) checked (texts (domain_file ws))
+    else fault 2 usage_line)
+
+-- What the texts are read as. The domain's text is judged first. Names are numbered in the order in which the texts have
+-- them, the domain's first.
 
 -- the table before any text: the name `object` alone
 abbrev pub first_names : Table
 first_names = codes "object" ∷ []
 
--- The input that the words and the texts by file name give. The domain's file is read, then the script's; then the
--- domain's text is judged. Names are numbered in the order in which the texts have them, the domain's first.
-unfoldable pub input_of : List (List ℕ) → (List ℕ → Option (List ℕ)) → Outcome
-input_of ws texts =
-    if is_session ws
-    then with_text (domain_file ws) (λ domain.
-    with_text (script_file ws) (λ script. with_domain script (domain_from first_names domain)) (texts (script_file ws)))
-    (texts (domain_file ws))
-    else fault 2 usage_line
+-- a domain's text is read as this domain, with this table after it
+abbrev pub IsDomain : List ℕ → Domain → Table → Type 0
+IsDomain text d after = IsRead first_names text (Ok d) after
+
+-- a domain's text is no domain, and this line says why
+pub record IsNoDomain (text line : List ℕ) : Type 0 where
+  pub refusal : DomainRefusal
+  pub after : Table
+  pub read : IsRead first_names text (Err refusal) after
+  pub told : domain_line (cause_text after refusal) ≡ line
+
+-- the texts of a domain and a script are read as this input, with this table after them
+pub record IsInput (domain script : List ℕ) (i : Input) (names : Table) : Type 0 where
+  pub between : Table
+  pub read : IsDomain domain i.domain between
+  pub lines : script_from between script ≡ (i.lines, names)

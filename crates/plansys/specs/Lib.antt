@@ -1,4 +1,4 @@
-pub mod DomainForm
+pub mod DomainFaults
 pub mod Faults
 pub mod Headline
 pub mod Input

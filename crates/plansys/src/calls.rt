@@ -1,17 +1,20 @@
-//! The top call.
-ghost use Rattle.std.specs.Prelude.{◌≡◌, ◌<◌, ◌≤◌, ◌⊎◌, ℕ, List, IfOk, IfErr};
+//! The top calls.
+ghost use Rattle.std.specs.Prelude.{◌≡◌, ◌≢◌, ◌<◌, ◌≤◌, ◌⊎◌, ℕ, List, true, false, IfOk, IfErr, OnOk, OnErr};
 ghost use Rattle.std.specs.Io.KnownBytes.{Appends, Keeps};
-ghost use Rattle.ps_text.specs.Causes.{Rose, AppendsFront};
-ghost use Rattle.plansys.specs.Input.{input_of, cannot_write_line, out_of_memory_line};
+ghost use Rattle.ps_world.specs.DomainTexts.{domain_text};
+ghost use Rattle.ps_text.specs.Causes.{HasCause, Rose, AppendsFront};
+ghost use Rattle.plansys.specs.Input.{input_of, is_quiet, cannot_write_line, out_of_memory_line};
 ghost use Rattle.plansys.specs.Headline.{IsAnswered, IsFront, IsEnded, IsHalfTold, Says, LeadsTo};
 ghost use Rattle.plansys.specs.Faults.{word_texts, fault_line, fault_status, IsStopped};
+ghost use Rattle.plansys.specs.declared.session.Broken.TheVariants.{Write};
 
 use super::faults::{Fault, Stop, fault_line};
-use super::inputs::read_input;
+use super::inputs::{is_quiet, read_checked, read_input};
 use super::session::{Broken, run};
 use ps_domain::Expert;
+use ps_pddl::print_domain;
 use ps_text::{Files, Names, Sink, SinkRefusal, put};
-use ps_world::Input;
+use ps_world::{Domain, Input};
 use std::alloc::Global;
 
 /// Reads the input and does its session. The answer is the session's status, 0 or 1.
@@ -21,6 +24,7 @@ fn attempt<F: Files, O: Sink>(
     files: &mut F,
     out: &mut O,
 ) -> Result<u8, Stop>
+    requires { is_quiet (word_texts words.now) ≡ false }
     ensures answered { IfOk result (IsAnswered (input_of (word_texts words.now) (F.text_of files.old)) (O.taken out.old) (O.taken out.new)) }
     ensures small { IfOk result (λ status. status < 2) }
     ensures stopped { IfErr result (IsStopped (input_of (word_texts words.now) (F.text_of files.old)) (word_texts words.now) (F.text_of files.old) (F.faults files.old) (F.faults files.new) (O.taken out.old) (O.taken out.new) (O.faults out.old) (O.faults out.new)) }
@@ -32,6 +36,34 @@ fn attempt<F: Files, O: Sink>(
     Ok(status)
 }
 
+/// Writes the canonical text of a domain by one `put`.
+fn print<O: Sink>(alloc: Global, names: &Names, domain: &Domain, out: &mut O) -> Result<(), Broken>
+    ensures done { OnOk result (Appends (O.taken out.old) (O.taken out.new) (domain_text names.now domain.now)) }
+    ensures cut { OnErr result (AppendsFront (O.taken out.old) (O.taken out.new) (domain_text names.now domain.now)) }
+    ensures cause { HasCause Write (O.faults out.old) (O.faults out.new) result }
+{
+    let text = print_domain(alloc, names, domain)?;
+    put(out, text.as_slice())?;
+    Ok(())
+}
+
+/// Reads the domain of a check and writes its canonical text.
+fn check<F: Files, O: Sink>(
+    alloc: Global,
+    words: &[String],
+    files: &mut F,
+    out: &mut O,
+) -> Result<(), Stop>
+    requires { is_quiet (word_texts words.now) ≡ true }
+    ensures printed { OnOk result (IsAnswered (input_of (word_texts words.now) (F.text_of files.old)) (O.taken out.old) (O.taken out.new) 0) }
+    ensures stopped { IfErr result (IsStopped (input_of (word_texts words.now) (F.text_of files.old)) (word_texts words.now) (F.text_of files.old) (F.faults files.old) (F.faults files.new) (O.taken out.old) (O.taken out.new) (O.faults out.old) (O.faults out.new)) }
+{
+    let mut names = Names::new(alloc)?;
+    let domain = read_checked(alloc, words, &mut names, files)?;
+    print(alloc, &names, &domain, out)?;
+    Ok(())
+}
+
 /// Says to `err` what is at fault, and gives the status.
 fn tell<E: Sink>(alloc: Global, words: &[String], fault: Fault, err: &mut E) -> u8
     ensures told { result ≡ fault_status fault → Appends (E.taken err.old) (E.taken err.new) (fault_line (word_texts words.now) fault) }
@@ -40,7 +72,7 @@ fn tell<E: Sink>(alloc: Global, words: &[String], fault: Fault, err: &mut E) -> 
         ⊎ (AppendsFront (E.taken err.old) (E.taken err.new) (fault_line (word_texts words.now) fault) × Rose (E.refusals err.old) (E.refusals err.new)) }
     ensures cases { (result ≡ fault_status fault) ⊎ (result ≡ 5) ⊎ (result ≡ 6) }
 {
-    match fault_line(alloc, words, fault) {
+    match fault_line(alloc, words, &fault) {
         Ok(line) => match put(err, line.as_slice()) {
             Ok(()) => fault.status(),
             Err(SinkRefusal::Failed) => 5,
@@ -60,33 +92,33 @@ fn last_words<E: Sink>(err: &mut E, line: &[u8])
     let _ = put(err, line);
 }
 
-/// Runs the program on these words, and gives its exit status:
+/// Does the modes that always return, of which there is `check`, and gives the exit status:
 ///
 /// | Status | Where |
 /// |---|---|
-/// | 0 | the session was done, and no line was refused |
-/// | 1 | the session was done, and a line was refused |
-/// | 2 | the words aren't `session --domain F --script F` |
-/// | 3 | a file is too long, or the domain's text isn't of the form that is built |
-/// | 4 | a file can't be read |
+/// | 0 | the domain was written in its canonical text |
+/// | 2 | the words aren't `check --domain F` |
+/// | 3 | the file is too long, or its text is no domain |
+/// | 4 | the file can't be read |
 /// | 5 | a write to `out` failed, or one to `err` of the line of status 2, 3 or 4 |
 /// | 6 | want of memory |
 ///
-/// The first fault decides, in the order of the work: the words, the domain's file, the script's file, the domain's text.
-pub fn plansys<F: Files, O: Sink, E: Sink>(
+/// The first fault decides, in the order of the work: the words, the file, its text.
+pub fn plansys_quiet<F: Files, O: Sink, E: Sink>(
     alloc: Global,
     words: &[String],
     files: &mut F,
     out: &mut O,
     err: &mut E,
 ) -> u8
-    // The headline: what `out` took is the text of one journal, which is a whole legal history of the input that the
-    // words and files give, and the status is that history's.
-    ensures session { result < 2
-        → IsAnswered (input_of (word_texts words.now) (F.text_of files.old)) (O.taken out.old) (O.taken out.new) result }
-    ensures silent { result < 2 → Keeps (E.taken err.old) (E.taken err.new) }
+    requires { is_quiet (word_texts words.now) ≡ true }
 
-    // The words, the texts or the files are at fault: nothing of a session was written, and `err` took the line that says so.
+    // `out` took the canonical text of the domain that the text under the file's name is.
+    ensures printed { result ≡ 0
+        → IsAnswered (input_of (word_texts words.now) (F.text_of files.old)) (O.taken out.old) (O.taken out.new) 0 }
+    ensures silent { result ≡ 0 → Keeps (E.taken err.old) (E.taken err.new) }
+
+    // The words, the texts or the files are at fault: nothing was written to `out`, and `err` took the line that says so.
     ensures usage { result ≡ 2 → IsEnded (input_of (word_texts words.now) (F.text_of files.old)) (word_texts words.now) (F.text_of files.old)
         (F.faults files.old) (F.faults files.new) 2 (O.taken out.old) (O.taken out.new) (E.taken err.old) (E.taken err.new) }
     ensures refused { result ≡ 3 → IsEnded (input_of (word_texts words.now) (F.text_of files.old)) (word_texts words.now) (F.text_of files.old)
@@ -95,7 +127,7 @@ pub fn plansys<F: Files, O: Sink, E: Sink>(
         (F.faults files.old) (F.faults files.new) 4 (O.taken out.old) (O.taken out.new) (E.taken err.old) (E.taken err.new) }
     ensures unread_failed { result ≡ 4 → Rose (F.faults files.old) (F.faults files.new) }
 
-    // A write failed: to `out`, which then has a front of a history's text, or to `err`, of the line of status 2, 3 or 4.
+    // A write failed: to `out`, which then has a front of the domain's text, or to `err`, of the line of status 2, 3 or 4.
     ensures unwritten { result ≡ 5
         → (Rose (O.faults out.old) (O.faults out.new)
         × IsFront (input_of (word_texts words.now) (F.text_of files.old)) (O.taken out.old) (O.taken out.new)
@@ -115,8 +147,83 @@ pub fn plansys<F: Files, O: Sink, E: Sink>(
     // Where memory suffices and neither a read nor a write fails, the words and texts alone decide the status.
     ensures complete { LeadsTo (input_of (word_texts words.now) (F.text_of files.old)) result ⊎ (result ≡ 6)
         ⊎ Rose (F.faults files.old) (F.faults files.new) ⊎ Rose (O.faults out.old) (O.faults out.new) ⊎ Rose (E.faults err.old) (E.faults err.new) }
+    ensures no_other { (result ≡ 0) ⊎ ((2 ≤ result) × (result < 7)) }
+{
+    match check(alloc, words, files, out) {
+        Ok(()) => 0,
+        Err(Stop::Due(fault)) => tell(alloc, words, fault, err),
+        Err(Stop::Broken(Broken::Write)) => {
+            last_words(err, b"plansys: cannot write\n");
+            5
+        }
+        Err(Stop::Broken(Broken::OutOfMemory)) => {
+            last_words(err, b"plansys: out of memory\n");
+            6
+        }
+    }
+}
+
+/// Runs the program on these words, and gives its exit status:
+///
+/// | Status | Where |
+/// |---|---|
+/// | 0 | the session was done, and no line was refused; or the domain was written in its canonical text |
+/// | 1 | the session was done, and a line was refused |
+/// | 2 | the words aren't `session --domain F --script F` or `check --domain F` |
+/// | 3 | a file is too long, or the domain's text is no domain |
+/// | 4 | a file can't be read |
+/// | 5 | a write to `out` failed, or one to `err` of the line of status 2, 3 or 4 |
+/// | 6 | want of memory |
+///
+/// The first fault decides, in the order of the work: the words, the domain's file, the script's file, the domain's text.
+pub fn plansys<F: Files, O: Sink, E: Sink>(
+    alloc: Global,
+    words: &[String],
+    files: &mut F,
+    out: &mut O,
+    err: &mut E,
+) -> u8
+    // The headline: what `out` took is the text of one journal, which is a whole legal history of the input that the
+    // words and files give, and the status is that history's. For a check `out` took the canonical text of the domain.
+    ensures session { result < 2
+        → IsAnswered (input_of (word_texts words.now) (F.text_of files.old)) (O.taken out.old) (O.taken out.new) result }
+    ensures silent { result < 2 → Keeps (E.taken err.old) (E.taken err.new) }
+
+    // The words, the texts or the files are at fault: nothing was written to `out`, and `err` took the line that says so.
+    ensures usage { result ≡ 2 → IsEnded (input_of (word_texts words.now) (F.text_of files.old)) (word_texts words.now) (F.text_of files.old)
+        (F.faults files.old) (F.faults files.new) 2 (O.taken out.old) (O.taken out.new) (E.taken err.old) (E.taken err.new) }
+    ensures refused { result ≡ 3 → IsEnded (input_of (word_texts words.now) (F.text_of files.old)) (word_texts words.now) (F.text_of files.old)
+        (F.faults files.old) (F.faults files.new) 3 (O.taken out.old) (O.taken out.new) (E.taken err.old) (E.taken err.new) }
+    ensures unread { result ≡ 4 → IsEnded (input_of (word_texts words.now) (F.text_of files.old)) (word_texts words.now) (F.text_of files.old)
+        (F.faults files.old) (F.faults files.new) 4 (O.taken out.old) (O.taken out.new) (E.taken err.old) (E.taken err.new) }
+    ensures unread_failed { result ≡ 4 → Rose (F.faults files.old) (F.faults files.new) }
+
+    // A write failed: to `out`, which then has a front of a history's text or the domain's, or to `err`, of the line of status 2, 3 or 4.
+    ensures unwritten { result ≡ 5
+        → (Rose (O.faults out.old) (O.faults out.new)
+        × IsFront (input_of (word_texts words.now) (F.text_of files.old)) (O.taken out.old) (O.taken out.new)
+        × Says (E.taken err.old) (E.taken err.new) cannot_write_line (E.refusals err.old) (E.refusals err.new))
+        ⊎ (Rose (E.faults err.old) (E.faults err.new)
+        × IsHalfTold (input_of (word_texts words.now) (F.text_of files.old)) (word_texts words.now) (F.text_of files.old)
+        (F.faults files.old) (F.faults files.new) (O.taken out.old) (O.taken out.new) (E.taken err.old) (E.taken err.new)) }
+
+    // Want of memory, in the program or in a sink.
+    ensures memory { result ≡ 6
+        → (IsFront (input_of (word_texts words.now) (F.text_of files.old)) (O.taken out.old) (O.taken out.new)
+        × Says (E.taken err.old) (E.taken err.new) out_of_memory_line (E.refusals err.old) (E.refusals err.new))
+        ⊎ (Rose (E.refusals err.old) (E.refusals err.new)
+        × IsHalfTold (input_of (word_texts words.now) (F.text_of files.old)) (word_texts words.now) (F.text_of files.old)
+        (F.faults files.old) (F.faults files.new) (O.taken out.old) (O.taken out.new) (E.taken err.old) (E.taken err.new)) }
+
+    // Where memory suffices and neither a read nor a write fails, the words and texts alone decide the status.
+    ensures complete { LeadsTo (input_of (word_texts words.now) (F.text_of files.old)) result ⊎ (result ≡ 6)
+        ⊎ Rose (F.faults files.old) (F.faults files.new) ⊎ Rose (O.faults out.old) (O.faults out.new) ⊎ Rose (E.faults err.old) (E.faults err.new) }
+    ensures check { is_quiet (word_texts words.now) ≡ true → result ≢ 1 }
     ensures no_other { result < 7 }
 {
+    if is_quiet(words) {
+        return plansys_quiet(alloc, words, files, out, err);
+    }
     match attempt(alloc, words, files, out) {
         Ok(status) => status,
         Err(Stop::Due(fault)) => tell(alloc, words, fault, err),

@@ -1,6 +1,6 @@
-//! What ends a call before its session, or breaks it off.
+//! What ends a call before its work, or breaks it off.
 ghost use Rattle.std.specs.Prelude.{◌≡◌, IfOk};
-ghost use Rattle.plansys.specs.Input.{too_long_line, cannot_read_line};
+ghost use Rattle.plansys.specs.Input.{domain_line, too_long_line, cannot_read_line};
 ghost use Rattle.plansys.specs.Faults.{fault_line, fault_status, file_of, word_texts};
 
 use super::session::Broken;
@@ -13,13 +13,13 @@ pub enum Source {
     Script,
 }
 
-/// What ends a call before its session.
-#[derive(Clone, Copy, PartialEq, Eq, Debug)]
+/// What ends a call before its work.
+#[derive(Debug, Drop)]
 pub enum Fault {
-    /// The words aren't of the form.
+    /// The words aren't of a form.
     Usage,
-    /// The domain's text isn't of the form that is built.
-    NotBuilt,
+    /// The domain's text is no domain, and these words say why.
+    NoDomain(Vec<u8>),
     /// A file is longer than 1,048,576 bytes.
     TooLong(Source),
     /// A file can't be read.
@@ -28,23 +28,24 @@ pub enum Fault {
 
 impl Fault {
     /// The status of the call.
-    pub fn status(self) -> u8
-        ensures { result ≡ fault_status self }
+    pub fn status(&self) -> u8
+        ensures { result ≡ fault_status self.now }
     {
         match self {
             Fault::Usage => 2,
-            Fault::NotBuilt | Fault::TooLong(_) => 3,
+            Fault::NoDomain(_) => 3,
+            Fault::TooLong(_) => 3,
             Fault::Unread(_) => 4,
         }
     }
 }
 
-/// Why there is no session, or no more of it.
-#[derive(Clone, Copy, PartialEq, Eq, Debug)]
+/// Why the work isn't begun, or isn't done.
+#[derive(Debug, Drop)]
 pub enum Stop {
-    /// No session begins.
+    /// The work isn't begun.
     Due(Fault),
-    /// The session was broken off, or memory is wanting before it.
+    /// The work was broken off, or memory is wanting before it.
     Broken(Broken),
 }
 
@@ -94,27 +95,36 @@ pub fn file_named(words: &[String], source: Source) -> &str
 }
 
 /// The line that says what is at fault.
-pub fn fault_line(alloc: Global, words: &[String], fault: Fault) -> Result<Vec<u8>, AllocError>
-    ensures { IfOk result (λ line. line.items ≡ fault_line (word_texts words.now) fault) }
+pub fn fault_line(alloc: Global, words: &[String], fault: &Fault) -> Result<Vec<u8>, AllocError>
+    ensures { IfOk result (λ line. line.items ≡ fault_line (word_texts words.now) fault.now) }
 {
     match fault {
         Fault::Usage => {
             let line = Vec::from_slice(alloc, b"plansys: usage\n")?;
             Ok(line)
         }
-        Fault::NotBuilt => {
-            let line = Vec::from_slice(alloc, b"plansys: domain: NotBuilt\n")?;
+        Fault::NoDomain(cause) => {
+            let line = domain_line(alloc, cause.as_slice())?;
             Ok(line)
         }
         Fault::TooLong(source) => {
-            let line = too_long_line(alloc, file_named(words, source))?;
+            let line = too_long_line(alloc, file_named(words, *source))?;
             Ok(line)
         }
         Fault::Unread(source) => {
-            let line = cannot_read_line(alloc, file_named(words, source))?;
+            let line = cannot_read_line(alloc, file_named(words, *source))?;
             Ok(line)
         }
     }
+}
+
+fn domain_line(alloc: Global, cause: &[u8]) -> Result<Vec<u8>, AllocError>
+    ensures { IfOk result (λ line. line.items ≡ domain_line cause.now) }
+{
+    let mut line = Vec::from_slice(alloc, b"plansys: domain: ")?;
+    line.extend_from_slice(cause)?;
+    line.push(b'\n')?;
+    Ok(line)
 }
 
 fn too_long_line(alloc: Global, file: &str) -> Result<Vec<u8>, AllocError>

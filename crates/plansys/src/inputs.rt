@@ -1,14 +1,15 @@
 //! The input of a call, from its words and its files.
-ghost use Rattle.std.specs.Prelude.{◌≡◌, ◌<◌, ◌≤◌, ◌^◌, ℕ, List, length, IfOk, IfErr, IfSome, OnOk, Some, All};
+ghost use Rattle.std.specs.Prelude.{◌≡◌, ◌<◌, ◌≤◌, ◌^◌, ℕ, List, length, Ok, true, false, IfOk, IfErr, IfSome, OnOk, All};
 ghost use Rattle.ps_world.specs.Tables.{IsLineOf};
 ghost use Rattle.ps_text.specs.Names.{AreNames};
-ghost use Rattle.plansys.specs.Input.{first_names, input_of, is_session, is_value, longest_file};
-ghost use Rattle.plansys.specs.Faults.{word_texts, file_of, IsNotHad, IsJudged, HasNoInput, Gives};
-ghost use Rattle.plansys.specs.DomainForm.{domain_from};
+ghost use Rattle.plansys.specs.Input.{IsDomain, argument, first_names, input_of, is_check, is_quiet, is_session, is_value, longest_file};
+ghost use Rattle.plansys.specs.Faults.{word_texts, file_of, IsNotHad, IsJudged, HasNoInput, Gives, GivesDomain};
 
+use super::causes::cause_text;
 use super::faults::{Fault, Source, Stop, file_named};
-use super::reading::{DomainRefusal, read_domain, read_script};
+use super::reading::read_script;
 use super::session::Broken;
+use ps_pddl::read_domain;
 use ps_text::{FileRefusal, Files, Names};
 use ps_world::{Domain, Input};
 use std::alloc::Global;
@@ -17,7 +18,7 @@ use std::alloc::Global;
 const LONGEST_FILE: usize = 1_048_576;
 
 /// Whether the words are `session --domain F --script F`, where no F is empty or begins with `-`.
-pub fn is_session(words: &[String]) -> bool
+fn is_session(words: &[String]) -> bool
     ensures { result ≡ is_session (word_texts words.now) }
 {
     words.len() == 5
@@ -26,6 +27,33 @@ pub fn is_session(words: &[String]) -> bool
         && is_value(words[2].as_bytes())
         && words[3].as_str() == "--script"
         && is_value(words[4].as_bytes())
+}
+
+/// The first word, or nothing.
+fn first_word(words: &[String]) -> &str
+    ensures { result.now ≡ argument (word_texts words.now) 0 }
+{
+    match words.first() {
+        Some(word) => word.as_str(),
+        None => "",
+    }
+}
+
+/// Whether the first word is that of a mode that always returns: `check`.
+pub fn is_quiet(words: &[String]) -> bool
+    ensures { result ≡ is_quiet (word_texts words.now) }
+{
+    first_word(words) == "check"
+}
+
+/// Whether the words are `check --domain F`, where F isn't empty and doesn't begin with `-`.
+fn is_check(words: &[String]) -> bool
+    ensures { result ≡ is_check (word_texts words.now) }
+{
+    words.len() == 3
+        && words[0].as_str() == "check"
+        && words[1].as_str() == "--domain"
+        && is_value(words[2].as_bytes())
 }
 
 fn is_value(word: &[u8]) -> bool
@@ -64,17 +92,40 @@ fn read_text<F: Files>(
 
 /// Judges the domain's text.
 fn judge_domain(alloc: Global, names: &mut Names, text: &[u8]) -> Result<Domain, Stop>
-    ensures ok { IfOk result (λ d. domain_from names.old text.now ≡ Some (d, names.new)) }
-    ensures cause { IfErr result (IsJudged (domain_from names.old text.now)) }
+    requires { names.old ≡ first_names }
+    ensures ok { IfOk result (λ d. IsDomain text.now d names.new) }
+    ensures cause { IfErr result (IsJudged text.now) }
 {
     match read_domain(alloc, names, text) {
         Ok(domain) => Ok(domain),
-        Err(DomainRefusal::NotBuilt) => Err(Stop::Due(Fault::NotBuilt)),
-        Err(DomainRefusal::OutOfMemory) => Err(Stop::Broken(Broken::OutOfMemory)),
+        Err(refusal) => {
+            let cause = cause_text(alloc, names, refusal)?;
+            Err(Stop::Due(Fault::NoDomain(cause)))
+        }
     }
 }
 
-/// The input that the words and the texts of the files give. Its names are put into the table, which has none yet
+/// The domain of a check. Its names are put into the table, which has none yet but `object`.
+pub fn read_checked<F: Files>(
+    alloc: Global,
+    words: &[String],
+    names: &mut Names,
+    files: &mut F,
+) -> Result<Domain, Stop>
+    requires names { names.old ≡ first_names }
+    requires quiet { is_quiet (word_texts words.now) ≡ true }
+    ensures ok { IfOk result (λ d. GivesDomain (input_of (word_texts words.now) (F.text_of files.old)) d names.new) }
+    ensures cause { IfErr result (HasNoInput (input_of (word_texts words.now) (F.text_of files.old)) (word_texts words.now) (F.text_of files.old) (F.faults files.old) (F.faults files.new)) }
+{
+    if !is_check(words) {
+        return Err(Stop::Due(Fault::Usage));
+    }
+    let text = read_text(alloc, words, Source::Domain, files)?;
+    let domain = judge_domain(alloc, names, text.as_slice())?;
+    Ok(domain)
+}
+
+/// The input of a session. Its names are put into the table, which has none yet
 /// but `object`.
 pub fn read_input<F: Files>(
     alloc: Global,
@@ -82,7 +133,8 @@ pub fn read_input<F: Files>(
     names: &mut Names,
     files: &mut F,
 ) -> Result<Input, Stop>
-    requires { names.old ≡ first_names }
+    requires names { names.old ≡ first_names }
+    requires not_quiet { is_quiet (word_texts words.now) ≡ false }
     ensures ok { IfOk result (λ i. Gives (input_of (word_texts words.now) (F.text_of files.old)) i names.new) }
     ensures few { IfOk result (λ i. length i.lines < 2 ^ 32) }
     ensures named { IfOk result (λ i. All (IsLineOf (length names.new)) i.lines) }

@@ -2,6 +2,7 @@
 #![tactic(auto)]
 
 mod calls;
+mod causes;
 mod faults;
 mod inputs;
 mod reading;
@@ -21,6 +22,9 @@ const HELP: &str = "\
 plansys session --domain FILE --script FILE
     Does the lines of a script over a domain, and writes the journal.
     plansys session --domain samples/first/domain.pddl --script samples/first/script
+plansys check --domain FILE
+    Reads a domain, and writes it in its canonical text.
+    plansys check --domain samples/rooms/domain.pddl
 plansys --help
 plansys --version
 ";

@@ -1,8 +1,5 @@
-//! Reading a domain and a script.
-mod domains;
-mod lexemes;
+//! Reading a script.
 mod numbers;
 mod scripts;
 
-pub use domains::{DomainRefusal, read_domain};
 pub use scripts::read_script;

@@ -24,6 +24,58 @@ const JOURNAL: &str = "plansys-journal 1
   (robot_at leia hall)
 ";
 
+/// A domain as it may be written.
+const ROOMS: &str = "; rooms
+(define (domain rooms)
+(:requirements :strips :typing :durative-actions)
+(:types robot room)
+(:predicates (robot_at ?r - robot ?ro - room) (connected ?a - room ?b - room) (battery_full ?r - robot) (battery_low ?r - robot) (charging_point_at ?ro - room))
+(:durative-action move
+:parameters (?r - robot ?a - room ?b - room)
+:duration (= ?duration 5)
+:condition (and (at start (connected ?a ?b)) (at start (robot_at ?r ?a)) (over all (battery_full ?r)))
+:effect (and (at start (not (robot_at ?r ?a))) (at end (robot_at ?r ?b)))) ; the robot is in b
+(:durative-action askcharge
+:parameters (?r - robot ?a - room ?b - room)
+:duration (= ?duration 5)
+:condition (and (at start (robot_at ?r ?a)) (at start (charging_point_at ?b)))
+:effect (and (at start (not (robot_at ?r ?a))) (at end (robot_at ?r ?b))))
+(:durative-action charge
+:parameters (?r - robot ?ro - room)
+:duration (= ?duration 5)
+:condition (and (at start (robot_at ?r ?ro)) (at start (charging_point_at ?ro)))
+:effect (and (at end (not (battery_low ?r))) (at end (battery_full ?r))))
+)
+";
+
+/// The canonical text of that domain.
+const CANONICAL_ROOMS: &str = "(define (domain rooms)
+(:types robot - object room - object)
+(:predicates (robot_at ?r - robot ?ro - room) (connected ?a - room ?b - room) (battery_full ?r - robot) (battery_low ?r - robot) (charging_point_at ?ro - room))
+(:durative-action move
+:parameters (?r - robot ?a - room ?b - room)
+:duration (= ?duration 5.000)
+:condition (and (at start (connected ?a ?b)) (at start (robot_at ?r ?a)) (over all (battery_full ?r)))
+:effect (and (at start (not (robot_at ?r ?a))) (at end (robot_at ?r ?b))))
+(:durative-action askcharge
+:parameters (?r - robot ?a - room ?b - room)
+:duration (= ?duration 5.000)
+:condition (and (at start (robot_at ?r ?a)) (at start (charging_point_at ?b)))
+:effect (and (at start (not (robot_at ?r ?a))) (at end (robot_at ?r ?b))))
+(:durative-action charge
+:parameters (?r - robot ?ro - room)
+:duration (= ?duration 5.000)
+:condition (and (at start (robot_at ?r ?ro)) (at start (charging_point_at ?ro)))
+:effect (and (at end (not (battery_low ?r))) (at end (battery_full ?r))))
+)
+";
+
+/// A duration of a form that isn't supported.
+const AT_MOST: &str =
+    "(define (domain d) (:durative-action a :parameters () :duration (<= ?duration 5)))";
+
+const CHECK: &str = "check --domain domain";
+
 const SESSION: &str = "session --domain domain --script script";
 
 fn words(alloc: Global, text: &str) -> Result<Vec<String>, AllocError> {
@@ -134,6 +186,12 @@ fn faults(rt: HostRuntime) -> Result<(), Fail> {
         "session --domain -d --script script",
         "session --domain domain --script script more",
         "check --domain domain --script script",
+        "check",
+        "check --domain",
+        "check --domain -x",
+        "check --domain domain script",
+        "check --script script",
+        "--domain domain check",
     ] {
         expect(
             &rt,
@@ -143,14 +201,8 @@ fn faults(rt: HostRuntime) -> Result<(), Fail> {
             (2, "", "plansys: usage\n"),
         )?;
     }
-    let not_built = (3, "", "plansys: domain: NotBuilt\n");
-    expect(
-        &rt,
-        alloc,
-        SESSION,
-        files(alloc, "(define (domain d))", SCRIPT)?,
-        not_built,
-    )?;
+    let refused = (3, "", "plansys: domain: Unsupported Duration 65\n");
+    expect(&rt, alloc, SESSION, files(alloc, AT_MOST, SCRIPT)?, refused)?;
     let call = "session --domain domain --script gone";
     let unread = (4, "", "plansys: cannot read gone\n");
     expect(&rt, alloc, call, files(alloc, DOMAIN, SCRIPT)?, unread)?;
@@ -167,6 +219,81 @@ fn faults(rt: HostRuntime) -> Result<(), Fail> {
         files,
         (3, "", "plansys: script: TooLong\n"),
     )?;
+    Ok(())
+}
+
+#[test]
+fn sessions_of_rooms(rt: HostRuntime) -> Result<(), Fail> {
+    let alloc = rt.alloc();
+    expect(
+        &rt,
+        alloc,
+        SESSION,
+        files(alloc, ROOMS, "")?,
+        (0, "plansys-journal 1\n", ""),
+    )?;
+    Ok(())
+}
+
+#[test]
+fn checks(rt: HostRuntime) -> Result<(), Fail> {
+    let alloc = rt.alloc();
+    for text in [ROOMS, CANONICAL_ROOMS] {
+        expect(
+            &rt,
+            alloc,
+            CHECK,
+            files(alloc, text, "")?,
+            (0, CANONICAL_ROOMS, ""),
+        )?;
+    }
+    for (text, cause) in [
+        ("(define (domain $))", "Lex 16"),
+        ("(define (domain d) x)", "Unexpected 19"),
+        (AT_MOST, "Unsupported Duration 65"),
+        ("(define (domain d) (:types a - Wheel))", "Unknown 31 wheel"),
+        ("(define (domain d) (:types x X))", "Twice 29 x"),
+        ("(define (domain d) (:types a - b b - a))", "Cycle a"),
+        (
+            "(define (domain d) (:predicates (p ?a ?b ?c ?d ?e ?f ?g)))",
+            "Limit 53 Params",
+        ),
+    ] {
+        let line = format!(in alloc; "plansys: domain: {cause}\n")?;
+        expect(
+            &rt,
+            alloc,
+            CHECK,
+            files(alloc, text, "")?,
+            (3, "", line.as_str()),
+        )?;
+    }
+    Ok(())
+}
+
+#[test]
+fn checks_that_fail(rt: HostRuntime) -> Result<(), Fail> {
+    let alloc = rt.alloc();
+    let call = "check --domain gone";
+    let unread = (4, "", "plansys: cannot read gone\n");
+    expect(&rt, alloc, call, files(alloc, ROOMS, "")?, unread)?;
+    let mut unreadable = files(alloc, ROOMS, "")?;
+    unreadable.fail_at(0)?;
+    let unread = (4, "", "plansys: cannot read domain\n");
+    expect(&rt, alloc, CHECK, unreadable, unread)?;
+    let long = vec![in alloc; b' '; 1_048_577]?;
+    let mut too_long = files(alloc, ROOMS, "")?;
+    too_long.put_text("domain", &long)?;
+    let line = (3, "", "plansys: domain: TooLong\n");
+    expect(&rt, alloc, CHECK, too_long, line)?;
+    let mut files = files(alloc, ROOMS, "")?;
+    let mut out = MemSink::new(alloc, 10);
+    let mut err = MemSink::new(alloc, 1000);
+    out.fail_at(1)?;
+    let call = words(alloc, CHECK)?;
+    assert_eq!(rt; plansys(alloc, &call, &mut files, &mut out, &mut err), 5);
+    assert_eq!(rt; out.bytes(), b"(define (d".as_slice());
+    assert_eq!(rt; err.bytes(), b"plansys: cannot write\n".as_slice());
     Ok(())
 }
 

@@ -31,7 +31,8 @@ pub fn entry_text(
     Ok(text)
 }
 
-fn push_number(alloc: Global, number: u64, text: &mut Vec<u8>) -> Result<(), AllocError>
+/// Adds a number in decimal digits.
+pub fn push_number(alloc: Global, number: u64, text: &mut Vec<u8>) -> Result<(), AllocError>
     ensures { OnOk result (text.new.items ≡ text.old.items ++ decimal number) }
 {
     let digits = number.to_string(alloc)?;
