@@ -108,15 +108,15 @@ at_time m c parts = at_end c parts
 
 -- (at start C) | (over all C) | (at end C), by the first word and what follows it
 abbrev pub timed_part : Domain → List Param → Mark → Mark → Nested → Parts → Read Parts
-timed_part d ps At time form parts = condition d ps form >>= λ c. Ok (at_time time c parts)
-timed_part d ps Over time form parts = condition d ps form >>= λ c. Ok (over_all c parts)
-timed_part d ps m time form parts = Ok parts
+timed_part d ps At moment form parts = condition d ps form >>= λ c. Ok (at_time moment c parts)
+timed_part d ps Over moment form parts = condition d ps form >>= λ c. Ok (over_all c parts)
+timed_part d ps m moment form parts = Ok parts
 
 -- the same of a list
 abbrev pub timed_form : Domain → List Param → Lexeme → Nesteds → Parts → Read Parts
 timed_form d ps l none parts = Ok parts
-timed_form d ps l (more time none) parts = Ok parts
-timed_form d ps l (more time (more form ts)) parts = timed_part d ps l.mark (word_of time).mark form parts
+timed_form d ps l (more moment none) parts = Ok parts
+timed_form d ps l (more moment (more form ts)) parts = timed_part d ps l.mark (word_of moment).mark form parts
 
 abbrev mutual
   -- TC: () | (and TC*) | (at start C) | (over all C) | (at end C), whose parts follow those before; `and` is flattened

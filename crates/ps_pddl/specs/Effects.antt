@@ -89,14 +89,14 @@ at_time d ps m e changes = effect d ps e changes.at_end >>= λ es. Ok (at_end ch
 
 -- (at start E) | (at end E), by the first word and what follows it
 abbrev pub timed_part : Domain → List Param → Mark → Mark → Nested → Changes → Read Changes
-timed_part d ps At time e changes = at_time d ps time e changes
-timed_part d ps m time e changes = Ok changes
+timed_part d ps At moment e changes = at_time d ps moment e changes
+timed_part d ps m moment e changes = Ok changes
 
 -- the same of a list
 abbrev pub timed_form : Domain → List Param → Lexeme → Nesteds → Changes → Read Changes
 timed_form d ps l none changes = Ok changes
-timed_form d ps l (more time none) changes = Ok changes
-timed_form d ps l (more time (more e ts)) changes = timed_part d ps l.mark (word_of time).mark e changes
+timed_form d ps l (more moment none) changes = Ok changes
+timed_form d ps l (more moment (more e ts)) changes = timed_part d ps l.mark (word_of moment).mark e changes
 
 abbrev mutual
   -- TE: () | (and TE*) | (at start E) | (at end E), whose effects follow those before; `and` is flattened
