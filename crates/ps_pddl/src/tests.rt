@@ -242,13 +242,13 @@ fn names_are_numbered_in_order(rt: HostRuntime) -> Result<(), Fail> {
     // object, define, domain, d, robot, at, r
     assert_eq!(rt; names.len(), 7);
     assert_eq!(rt; domain.name, Name(3));
-    assert_eq!(rt; domain.types.as_slice()[0].name, Name(4));
-    assert_eq!(rt; domain.types.as_slice()[0].kind, Name::OBJECT);
-    assert_eq!(rt; domain.predicates.as_slice()[0].name, Name(5));
-    assert_eq!(rt;
-        domain.predicates.as_slice()[0].params.as_slice()[0].name,
-        Name(6)
-    );
+    let kind = domain.types.as_slice().first().copied();
+    assert_eq!(rt; kind.map(|p| p.name), Some(Name(4)));
+    assert_eq!(rt; kind.map(|p| p.kind), Some(Name::OBJECT));
+    let decl = domain.predicates.as_slice().first();
+    assert_eq!(rt; decl.map(|decl| decl.name), Some(Name(5)));
+    let param = decl.and_then(|decl| decl.params.as_slice().first());
+    assert_eq!(rt; param.map(|p| p.name), Some(Name(6)));
     Ok(())
 }
 
