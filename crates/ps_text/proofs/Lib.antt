@@ -1,9 +1,13 @@
+pub mod Counts
 pub mod Cuts
 pub mod Digits
 pub mod Folds
+pub mod OneLexing
 pub mod Pieces
 pub mod Printed
 pub mod Puts
 pub mod Tables
+pub mod TextTokens
 pub mod TokenSteps
+pub mod WordPlaces
 pub mod WordSteps

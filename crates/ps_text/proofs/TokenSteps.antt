@@ -50,7 +50,7 @@ module _ (bytes : List ℕ) (tokens : List Token) (from : ℕ) (s : Span) (lexed
       let later = next.later in
       lexed.parts end (omega arith) ∙ ap (λ ws. before ++ ws) (next.gap end (omega arith) ∙ next.word end h)
 
-  IsWordAt-next : IsWordAt bytes s.from s.to
+  pub IsWordAt-next : IsWordAt bytes s.from s.to
   IsWordAt-next =
       record {
         longer = next.longer;
@@ -108,7 +108,7 @@ Lexed-all bytes tokens from lexed gap =
     }
 
 -- words that have the classes of tokens have classes
-have_classes : (ws : List (List ℕ)) (ts : List Token) → map class_of ws ≡ map (λ t. Some t.class) ts → All (λ w. IsSome (class_of w)) ws
+pub have_classes : (ws : List (List ℕ)) (ts : List Token) → map class_of ws ≡ map (λ t. Some t.class) ts → All (λ w. IsSome (class_of w)) ws
 have_classes [] ts e = All-nil (λ w. IsSome (class_of w))
 have_classes (w ∷ ws) [] e = absurd (cc)
 have_classes (w ∷ ws) (t ∷ ts) e =

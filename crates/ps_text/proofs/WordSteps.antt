@@ -13,10 +13,10 @@ is_other b = not (is_run_byte b)
 
 -- ---- the steps of the words of a text that begins with a byte
 
-words-blank : (b : ℕ) (bs : List ℕ) → is_blank b ≡ true → words (b ∷ bs) ≡ words bs
+pub words-blank : (b : ℕ) (bs : List ℕ) → is_blank b ≡ true → words (b ∷ bs) ≡ words bs
 words-blank b bs h = rw h
 
-words-comment : (b : ℕ) (bs : List ℕ) → (b == 59) ≡ true → words (b ∷ bs) ≡ skipped bs
+pub words-comment : (b : ℕ) (bs : List ℕ) → (b == 59) ≡ true → words (b ∷ bs) ≡ skipped bs
 words-comment b bs h = rw (eqb-true b 59 h)
 
 -- the answer of three tests, one after another
@@ -26,15 +26,15 @@ last_of p q r x y z w h k e = rw (h, k, e)
 third_of : {A : Type 0} (p q r : Bool) (x y z w : A) → p ≡ false → q ≡ false → r ≡ true → cond p x (cond q y (cond r z w)) ≡ z
 third_of p q r x y z w h k e = rw (h, k, e)
 
-words-alone : (b : ℕ) (bs : List ℕ) → is_blank b ≡ false → (b == 59) ≡ false → (is_run_byte b && goes_on bs) ≡ false → words (b ∷ bs) ≡ (b ∷ []) ∷ words bs
+pub words-alone : (b : ℕ) (bs : List ℕ) → is_blank b ≡ false → (b == 59) ≡ false → (is_run_byte b && goes_on bs) ≡ false → words (b ∷ bs) ≡ (b ∷ []) ∷ words bs
 words-alone b bs = last_of (is_blank b) (b == 59) (is_run_byte b && goes_on bs) (words bs) (skipped bs) (lengthened b (words bs)) ((b ∷ []) ∷ words bs)
 
-words-longer : (b : ℕ) (bs : List ℕ) → is_blank b ≡ false → (b == 59) ≡ false → (is_run_byte b && goes_on bs) ≡ true → words (b ∷ bs) ≡ lengthened b (words bs)
+pub words-longer : (b : ℕ) (bs : List ℕ) → is_blank b ≡ false → (b == 59) ≡ false → (is_run_byte b && goes_on bs) ≡ true → words (b ∷ bs) ≡ lengthened b (words bs)
 words-longer b bs = third_of (is_blank b) (b == 59) (is_run_byte b && goes_on bs) (words bs) (skipped bs) (lengthened b (words bs)) ((b ∷ []) ∷ words bs)
 
 -- ---- comments
 
-skipped-more : (b : ℕ) (bs : List ℕ) → (b == 10) ≡ false → skipped (b ∷ bs) ≡ skipped bs
+pub skipped-more : (b : ℕ) (bs : List ℕ) → (b == 10) ≡ false → skipped (b ∷ bs) ≡ skipped bs
 skipped-more b bs h = rw h
 
 words-skipped : (xs : List ℕ) → skipped xs ≡ words (drop (position_or_len is_lf xs) xs)
@@ -47,10 +47,10 @@ words-skipped (b ∷ bs) =
 
 -- ---- longer words
 
-run_parts : (b : ℕ) → is_run_byte b ≡ true → (is_blank b ≡ false) × ((is_paren b || b == 59) ≡ false)
+pub run_parts : (b : ℕ) → is_run_byte b ≡ true → (is_blank b ≡ false) × ((is_paren b || b == 59) ≡ false)
 run_parts b h = or_parts (is_blank b) (is_paren b || b == 59) (not-true _ h)
 
-words-run : (b : ℕ) (bs : List ℕ) → is_run_byte b ≡ true → words (b ∷ bs) ≡ (b ∷ take (position_or_len is_other bs) bs) ∷ words (drop (position_or_len is_other bs) bs)
+pub words-run : (b : ℕ) (bs : List ℕ) → is_run_byte b ≡ true → words (b ∷ bs) ≡ (b ∷ take (position_or_len is_other bs) bs) ∷ words (drop (position_or_len is_other bs) bs)
 words-run b [] h =
     let parts = run_parts b h in
     words-alone b [] parts.0 (or_parts _ _ parts.1).1 (and_right (is_run_byte b) false refl)

@@ -1,5 +1,6 @@
 pub mod Causes
 pub mod Decimals
+pub mod Laws
 pub mod Memory
 pub mod Names
 pub mod Tokens

@@ -2,6 +2,7 @@
 #![tactic(auto)]
 
 mod decimals;
+mod laws;
 mod lexing;
 mod memory;
 mod reads;
@@ -11,6 +12,7 @@ mod table;
 mod word_spans;
 
 pub use decimals::{NUMBER_BYTES, NumRefusal, print_number, read_number};
+pub use laws::{faults_are_one, texts_have_tokens, tokens_are_faultless, tokens_are_one};
 pub use lexing::{Class, LexRefusal, Token, tokens};
 pub use memory::{MemFiles, MemSink, SureFiles, SureSink, risen};
 pub use reads::{FileRefusal, Files};
