@@ -15,10 +15,10 @@ use Rattle.ps_text.specs.declared.lexing.Token.{Token}
 use Rattle.ps_text.proofs.Folds.{IsNameText-folded}
 use Rattle.ps_text.proofs.Tables.{AreNames-interned}
 use Rattle.ps_pddl.specs.Steps.{Read}
-use Rattle.ps_pddl.specs.Lexemes.{lexemes_of, name_within, named, table_after}
+use Rattle.ps_forms.specs.Lexemes.{lexemes_of, name_within, named, table_after}
 use Rattle.ps_pddl.specs.Reading.{HasWords, IsRead}
 use Rattle.ps_pddl.specs.Reading.IsRead.{without_class, without_shape, with_meaning}
-use Rattle.ps_pddl.specs.declared.lexemes.Lexeme.{Lexeme}
+use Rattle.ps_forms.specs.declared.lexemes.Lexeme.{Lexeme}
 use Rattle.plansys.specs.Input.{first_names}
 use Rattle.plansys.specs.Scripts.{commands, inside, is_ask, is_fact, is_instance, line_from, lines_from, numbered, script_from}
 use Rattle.plansys.proofs.ScriptLines.{table-instance, table-fact, table-ask, table-bad}

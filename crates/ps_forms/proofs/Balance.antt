@@ -28,11 +28,11 @@ use Rattle.ps_shape.specs.declared.symbols.EffectPart.{EffectPart}
 use Rattle.ps_shape.specs.declared.symbols.EffectPart.TheVariants as effect
 use Rattle.ps_shape.specs.declared.symbols.ValuePart.{ValuePart}
 use Rattle.ps_shape.specs.declared.symbols.ValuePart.TheVariants as value
-use Rattle.ps_pddl.specs.Spelling.{is_balanced}
+use Rattle.ps_forms.specs.Spelling.{is_balanced}
 
 -- ---- each mark
 
-abbrev every_mark : List Mark
+abbrev pub every_mark : List Mark
 every_mark =
     Open ∷ Close ∷ Plus ∷ Times ∷ Divide ∷ Equal ∷ Less ∷ Greater ∷ LessEqual ∷ GreaterEqual ∷ Minus ∷ Duration ∷ Variable ∷ Requirements ∷ Types
     ∷ Constants ∷ Predicates ∷ Functions ∷ DurativeAction ∷ Parameters ∷ DurationKey ∷ ConditionKey ∷ EffectKey ∷ Action ∷ Derived ∷ Constraints
@@ -51,7 +51,7 @@ one_of_all p (x ∷ ms) zero m all e =
 one_of_all p (x ∷ ms) (suc i) m all e = one_of_all p ms i m (and_parts _ _ all).1 e
 
 -- what a test says of every mark it says of each
-each_mark : (p : Mark → Bool) → list_all p every_mark ≡ true → (m : Mark) → p m ≡ true
+pub each_mark : (p : Mark → Bool) → list_all p every_mark ≡ true → (m : Mark) → p m ≡ true
 each_mark p all m = one_of_all p every_mark (tag_of the_type m) m all (has_mark m)
 
 -- ---- how many parentheses close

@@ -5,8 +5,8 @@ use Rattle.std.proofs.lemmas.Option.{slice_get_within, slice_get-get_or}
 use Rattle.ps_world.specs.Lines.{same_text}
 use Rattle.ps_world.specs.Names.{Table}
 use Rattle.ps_text.specs.Names.{interned}
-use Rattle.ps_pddl.specs.Lexemes.{named}
-use Rattle.ps_pddl.specs.Reading.{Keeps}
+use Rattle.ps_forms.specs.Lexemes.{named}
+use Rattle.ps_forms.specs.Lexemes.{Keeps}
 
 pub kept_same : (t u : Table) → u ≡ t → Keeps t u
 kept_same t u e n lt = ap (λ x. slice_get x n) e

@@ -4,8 +4,8 @@ use Rattle.std.proofs.lemmas.List.{drop_more}
 use Rattle.ps_world.specs.Names.{Table}
 use Rattle.ps_text.specs.declared.lexing.Class.TheVariants.{LeftParen}
 use Rattle.ps_text.specs.declared.lexing.Token.{Token}
-use Rattle.ps_pddl.specs.Lexemes.{lexeme_of, lexemes_of, table_after}
-use Rattle.ps_pddl.specs.declared.lexemes.Lexeme.{Lexeme}
+use Rattle.ps_forms.specs.Lexemes.{lexeme_of, lexemes_of, table_after}
+use Rattle.ps_forms.specs.declared.lexemes.Lexeme.{Lexeme}
 
 -- no token
 abbrev pub no_token : Token

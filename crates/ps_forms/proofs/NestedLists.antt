@@ -1,9 +1,9 @@
 -- Nested lists, as trees hold them.
 use Rattle.std.proofs.Common.{◌≡◌, ◌≤◌, ◌<◌, ℕ, zero, Some, None, List, [], ◌∷◌, length, map, drop, slice_index_or, refl, ap, suc, arith}
-use Rattle.ps_pddl.specs.Nested.{Nesteds, nesteds, none, more, rank, ranks}
-use Rattle.ps_pddl.specs.NestedViews.{nested}
-use Rattle.ps_pddl.specs.Places.{at, count, rest}
-use Rattle.ps_pddl.specs.declared.trees.Tree.{Tree}
+use Rattle.ps_forms.specs.Nested.{Nesteds, nesteds, none, more, rank, ranks}
+use Rattle.ps_forms.specs.NestedViews.{nested}
+use Rattle.ps_forms.specs.Places.{at, count, rest}
+use Rattle.ps_forms.specs.declared.trees.Tree.{Tree}
 
 pub length-count : (ts : List Tree) → length ts ≡ count (nesteds (map nested ts))
 length-count [] = refl

@@ -1,11 +1,11 @@
 -- Words are written by one list only.
 use Rattle.std.proofs.Common.{◌≡◌, List, [], ◌∷◌, ◌++◌, refl, sym, ◌∙◌, ap, subst, append_assoc}
 use Rattle.ps_shape.specs.declared.marks.Mark.TheVariants.{Close}
-use Rattle.ps_pddl.specs.Nested.{Nested, Nesteds, word, group, more}
-use Rattle.ps_pddl.specs.Spelling.{Spells, SpellAll}
-use Rattle.ps_pddl.specs.Spelling.Spells.{plain, between}
-use Rattle.ps_pddl.specs.Spelling.SpellAll.{nothing, one_more}
-use Rattle.ps_pddl.specs.declared.lexemes.Lexeme.{Lexeme}
+use Rattle.ps_forms.specs.Nested.{Nested, Nesteds, word, group, more}
+use Rattle.ps_forms.specs.Spelling.{Spells, SpellAll}
+use Rattle.ps_forms.specs.Spelling.Spells.{plain, between}
+use Rattle.ps_forms.specs.Spelling.SpellAll.{nothing, one_more}
+use Rattle.ps_forms.specs.declared.lexemes.Lexeme.{Lexeme}
 
 -- nothing follows, or a parenthesis that closes
 abbrev IsEnd : List Lexeme → Type 0

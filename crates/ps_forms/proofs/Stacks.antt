@@ -1,13 +1,13 @@
 -- Nested lists that are read word by word: what stands before each open parenthesis, the outermost first, and what stands after the last.
 use Rattle.std.proofs.Common.{◌≡◌, List, [], ◌∷◌, ◌++◌, map, refl, sym, ap, subst, append_assoc, append-nil}
 use Rattle.ps_shape.specs.declared.marks.Mark.TheVariants.{Open, Close}
-use Rattle.ps_pddl.specs.Nested.{Nested, Nesteds, word, group, none, more, followed, nesteds}
-use Rattle.ps_pddl.specs.NestedViews.{nested}
-use Rattle.ps_pddl.specs.Spelling.{Spells, SpellAll}
-use Rattle.ps_pddl.specs.Spelling.Spells.{plain, between}
-use Rattle.ps_pddl.specs.Spelling.SpellAll.{nothing, one_more}
-use Rattle.ps_pddl.specs.declared.lexemes.Lexeme.{Lexeme}
-use Rattle.ps_pddl.specs.declared.trees.Tree.{Tree}
+use Rattle.ps_forms.specs.Nested.{Nested, Nesteds, word, group, none, more, followed, nesteds}
+use Rattle.ps_forms.specs.NestedViews.{nested}
+use Rattle.ps_forms.specs.Spelling.{Spells, SpellAll}
+use Rattle.ps_forms.specs.Spelling.Spells.{plain, between}
+use Rattle.ps_forms.specs.Spelling.SpellAll.{nothing, one_more}
+use Rattle.ps_forms.specs.declared.lexemes.Lexeme.{Lexeme}
+use Rattle.ps_forms.specs.declared.trees.Tree.{Tree}
 
 -- these words are written so
 pub data Stacked : List Nesteds → Nesteds → List Lexeme → Type 0 where

@@ -9,7 +9,7 @@ use Rattle.ps_text.specs.Words.{pieces}
 use Rattle.ps_text.specs.declared.lexing.Class.{Class}
 use Rattle.ps_text.specs.declared.lexing.Class.TheVariants as class
 use Rattle.ps_text.specs.declared.lexing.Token.{Token}
-use Rattle.ps_pddl.specs.Lexemes.{IsTokenOf}
+use Rattle.ps_forms.specs.Lexemes.{IsTokenOf}
 
 -- the first class that fits, by what is tested
 abbrev first_class : (left right sign variable keyword begins number continuous name : Bool) → Option Class

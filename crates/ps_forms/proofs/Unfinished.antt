@@ -4,11 +4,11 @@ use Rattle.std.proofs.lemmas.Bool.Decides.{nat_tests}
 use Rattle.std.proofs.lemmas.List.{drop_all, drop_more, take_more, take_all}
 use Rattle.ps_shape.specs.declared.marks.Mark.{Mark}
 use Rattle.ps_shape.specs.declared.marks.Mark.TheVariants.{Open, Close}
-use Rattle.ps_pddl.specs.Nested.{Nesteds, word, group, none, followed}
-use Rattle.ps_pddl.specs.Reading.{marks}
-use Rattle.ps_pddl.specs.Spelling.{SpellAll, is_balanced}
-use Rattle.ps_pddl.specs.declared.lexemes.Lexeme.{Lexeme}
-use Rattle.ps_pddl.proofs.Stacks.{Stacked, stacked_all, stacked_close, stacked_open, stacked_word}
+use Rattle.ps_forms.specs.Nested.{Nesteds, word, group, none, followed}
+use Rattle.ps_forms.specs.Lexemes.{marks}
+use Rattle.ps_forms.specs.Spelling.{SpellAll, is_balanced}
+use Rattle.ps_forms.specs.declared.lexemes.Lexeme.{Lexeme}
+use Rattle.ps_forms.proofs.Stacks.{Stacked, stacked_all, stacked_close, stacked_open, stacked_word}
 
 -- the words up to a place are written so, and those that are left close what is open
 pub record IsUnfinished (ls : List Lexeme) (i : ℕ) (outer : List Nesteds) (us : Nesteds) : Type 0 where

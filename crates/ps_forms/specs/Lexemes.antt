@@ -1,5 +1,5 @@
 -- The words of a domain's text: the mark of each, its name by its number in a table, its number and its place.
-use Rattle.std.specs.Prelude.{◌≡◌, ℕ, ◌≤◌, ℤ, Option, Some, None, List, [], ◌∷◌, if◌then◌else◌, codes, drop, length, slice_range, pos}
+use Rattle.std.specs.Prelude.{◌≡◌, ℕ, ◌<◌, ◌≤◌, ℤ, Option, Some, None, List, [], ◌∷◌, if◌then◌else◌, codes, drop, length, map, slice_get, slice_range, pos}
 use Rattle.std.specs.Result.{result_unwrap_or}
 use Rattle.ps_world.specs.Lines.{same_text}
 use Rattle.ps_world.specs.Names.{Table, object}
@@ -13,7 +13,7 @@ use Rattle.ps_text.specs.declared.lexing.Class.TheVariants as class
 use Rattle.ps_text.specs.declared.lexing.Token.{Token}
 use Rattle.ps_shape.specs.declared.marks.Mark.{Mark}
 use Rattle.ps_shape.specs.declared.marks.Mark.TheVariants as mark
-use Rattle.ps_pddl.specs.declared.lexemes.Lexeme.{Lexeme}
+use Rattle.ps_forms.specs.declared.lexemes.Lexeme.{Lexeme}
 
 -- the signs
 abbrev pub signs : List (List ℕ × Mark)
@@ -103,3 +103,11 @@ lexemes_of bytes t [] = ([], t)
 lexemes_of bytes t (token ∷ tokens) =
     let more = lexemes_of bytes (table_after bytes t token) tokens in
     (lexeme_of bytes t token ∷ more.0, more.1)
+
+-- the marks of words
+abbrev pub marks : List Lexeme → List Mark
+marks ls = map (λ l. l.mark) ls
+
+-- old names keep their texts
+abbrev pub Keeps : Table → Table → Type 0
+Keeps table after = (n : ℕ) → n < length table → slice_get after n ≡ slice_get table n

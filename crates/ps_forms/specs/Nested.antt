@@ -3,8 +3,8 @@ use Rattle.std.specs.Prelude.{◌≡◌, ℕ, suc, max, List, [], ◌∷◌, ref
 use Rattle.std.specs.Coded.{Coded}
 use Rattle.std.proofs.Common.{ap}
 use base.Stored.{Gv, gnil, gnum, gcons}
-use Rattle.ps_pddl.specs.contracts.lexemes.Lexeme.{the_row}
-use Rattle.ps_pddl.specs.declared.lexemes.Lexeme.{Lexeme}
+use Rattle.ps_forms.specs.contracts.lexemes.Lexeme.{the_row}
+use Rattle.ps_forms.specs.declared.lexemes.Lexeme.{Lexeme}
 
 -- a word, or what stands between two parentheses
 mutual

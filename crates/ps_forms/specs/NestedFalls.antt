@@ -2,11 +2,11 @@
 use Rattle.std.specs.Prelude.{◌≤◌, max, List, [], ◌∷◌, map}
 use Rattle.std.proofs.Common.{arith}
 use denote.Param.Weighed.{most}
-use Rattle.ps_pddl.specs.Nested.{rank, ranks, nesteds}
-use Rattle.ps_pddl.specs.NestedViews.{nested}
-use Rattle.ps_pddl.specs.declared.trees.Tree.{Tree}
-use Rattle.ps_pddl.specs.declared.trees.Tree.TheVariants.{Word, Group}
-use Rattle.ps_pddl.specs.declared.trees.Trees.TheDeep.{deep-Tree}
+use Rattle.ps_forms.specs.Nested.{rank, ranks, nesteds}
+use Rattle.ps_forms.specs.NestedViews.{nested}
+use Rattle.ps_forms.specs.declared.trees.Tree.{Tree}
+use Rattle.ps_forms.specs.declared.trees.Tree.TheVariants.{Word, Group}
+use Rattle.ps_forms.specs.declared.trees.Trees.TheDeep.{deep-Tree}
 
 deep_le-rank : (t : Tree) → deep-Tree t ≤ rank (nested t)
 deep_le-rank (Word l) = omega arith

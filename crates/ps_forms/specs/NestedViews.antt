@@ -1,7 +1,7 @@
 -- One level of nested lists.
-use Rattle.ps_pddl.specs.Nested.{Nested, word, group}
-use Rattle.ps_pddl.specs.declared.trees.Tree.{Tree}
-use Rattle.ps_pddl.specs.declared.trees.Tree.TheVariants.{Word, Group}
+use Rattle.ps_forms.specs.Nested.{Nested, word, group}
+use Rattle.ps_forms.specs.declared.trees.Tree.{Tree}
+use Rattle.ps_forms.specs.declared.trees.Tree.TheVariants.{Word, Group}
 
 -- what a tree is to contracts
 abbrev pub nested : Tree → Nested

@@ -4,8 +4,8 @@ use Rattle.ps_world.specs.Names.{object}
 use Rattle.ps_shape.specs.Marks.{is}
 use Rattle.ps_shape.specs.declared.marks.Mark.{Mark}
 use Rattle.ps_shape.specs.declared.marks.Mark.TheVariants.{Close}
-use Rattle.ps_pddl.specs.Nested.{Nested, Nesteds, word, group, none, more}
-use Rattle.ps_pddl.specs.declared.lexemes.Lexeme.{Lexeme}
+use Rattle.ps_forms.specs.Nested.{Nested, Nesteds, word, group, none, more}
+use Rattle.ps_forms.specs.declared.lexemes.Lexeme.{Lexeme}
 
 -- no word
 abbrev pub no_word : Lexeme

@@ -4,8 +4,8 @@ ghost use Rattle.ps_text.specs.Names.{folded, interned, is_name};
 ghost use Rattle.ps_text.specs.Tokens.{AreTokens, class_of};
 ghost use Rattle.ps_text.specs.Words.{reads_as};
 ghost use Rattle.ps_shape.specs.declared.marks.Mark.TheVariants as mark;
-ghost use Rattle.ps_pddl.specs.Lexemes.{IsTokenOf, fixed_names, keywords, lexeme_of, lexemes_of, mark_in, mark_of, name_within, named, number_or_zero, numbered, signs, table_after};
-ghost use Rattle.ps_pddl.specs.Reading.{Keeps};
+ghost use Rattle.ps_forms.specs.Lexemes.{IsTokenOf, fixed_names, keywords, lexeme_of, lexemes_of, mark_in, mark_of, name_within, named, number_or_zero, numbered, signs, table_after};
+ghost use Rattle.ps_forms.specs.Lexemes.{Keeps};
 
 use ps_shape::Mark;
 use ps_text::{Class, NameRefusal, Names, Token, read_number};
@@ -241,7 +241,7 @@ fn lexeme_of(names: &mut Names, bytes: &[u8], token: Token) -> Result<Lexeme, Al
 
 /// The words of a domain's text, in order. Their names are put into the table; old ones keep their numbers and texts.
 /// The only error is want of memory.
-pub fn lexemes(
+pub fn lexemes_of(
     alloc: Global,
     names: &mut Names,
     bytes: &[u8],
@@ -269,7 +269,7 @@ mod tests {
         let mut names = Names::new(rt.alloc())?;
         let text =
             b"(DEFINE ;_\n-5.25 ?Duration ?duration- :Types :types-2 #t <= - Leia leia ?LEIA Scale-Up number object)";
-        let found = lexemes(rt.alloc(), &mut names, text, &tokens(rt.alloc(), text)?)?;
+        let found = lexemes_of(rt.alloc(), &mut names, text, &tokens(rt.alloc(), text)?)?;
         let wanted = [
             (Mark::Open, 0, 0, 0),
             (Mark::Define, 1, 0, 1),

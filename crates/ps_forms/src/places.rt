@@ -2,9 +2,9 @@
 //! elsewhere nothing is found, and no function fails.
 ghost use Rattle.std.specs.Prelude.{◌≡◌, length, map};
 ghost use Rattle.std.specs.Option.{option_copied, option_map};
-ghost use Rattle.ps_pddl.specs.Nested.{nesteds};
-ghost use Rattle.ps_pddl.specs.NestedViews.{nested};
-ghost use Rattle.ps_pddl.specs.Places.{after, at, count, head, items, items_at, no_word, rest, section, word_of};
+ghost use Rattle.ps_forms.specs.Nested.{nesteds};
+ghost use Rattle.ps_forms.specs.NestedViews.{nested};
+ghost use Rattle.ps_forms.specs.Places.{after, at, count, head, items, items_at, no_word, rest, section, word_of};
 
 use super::lexemes::Lexeme;
 use super::trees::Tree;

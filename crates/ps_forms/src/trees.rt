@@ -1,9 +1,9 @@
 //! A domain's text as nested lists of words. Contracts see them as `Nested` of specs/Nested.antt.
 ghost use Rattle.std.specs.Prelude.{◌≡◌, true, map, IfOk, OnOk};
-ghost use Rattle.ps_pddl.specs.Nested.{followed, nesteds, none};
-ghost use Rattle.ps_pddl.specs.NestedViews.{nested};
-ghost use Rattle.ps_pddl.specs.Reading.{marks};
-ghost use Rattle.ps_pddl.specs.Spelling.{SpellAll, is_balanced};
+ghost use Rattle.ps_forms.specs.Nested.{followed, nesteds, none};
+ghost use Rattle.ps_forms.specs.NestedViews.{nested};
+ghost use Rattle.ps_forms.specs.Lexemes.{marks};
+ghost use Rattle.ps_forms.specs.Spelling.{SpellAll, is_balanced};
 
 use super::lexemes::Lexeme;
 use ps_shape::Mark;
@@ -27,19 +27,19 @@ pub struct Trees {
 
 impl Model for Trees {
     ghost use Rattle.std.specs.Prelude.{map};
-    ghost use Rattle.ps_pddl.specs.Nested.{Nesteds, nesteds, nesteds_code, ranks};
+    ghost use Rattle.ps_forms.specs.Nested.{Nesteds, nesteds, nesteds_code, ranks};
 
     ghost Value = { Nesteds };
 
     ghost coded = { nesteds_code };
 
-    ghost use Rattle.ps_pddl.specs.NestedViews.{nested};
+    ghost use Rattle.ps_forms.specs.NestedViews.{nested};
 
     ghost view = { λ a. nesteds (map nested a.items.items) };
 
     ghost size = { ranks };
 
-    ghost use Rattle.ps_pddl.specs.NestedFalls.{trees_fall};
+    ghost use Rattle.ps_forms.specs.NestedFalls.{trees_fall};
 
     ghost size_decreases = { λ a h. trees_fall a.items.items };
 }

@@ -6,8 +6,8 @@ use Rattle.ps_world.specs.declared.actions.ActionDef.{ActionDef}
 use Rattle.ps_world.specs.declared.domains.Domain.{Domain}
 use Rattle.ps_world.specs.declared.domains.Param.{Param}
 use Rattle.ps_shape.specs.declared.marks.Mark.TheVariants as mark
-use Rattle.ps_pddl.specs.Nested.{Nesteds}
-use Rattle.ps_pddl.specs.Places.{after, head, items_at}
+use Rattle.ps_forms.specs.Nested.{Nesteds}
+use Rattle.ps_forms.specs.Places.{after, head, items_at}
 use Rattle.ps_pddl.specs.Lists.{fault_of_new, listed}
 use Rattle.ps_pddl.specs.Meaning.{action, action_body}
 use Rattle.ps_pddl.specs.Steps.{◌>>=◌, Refuses}

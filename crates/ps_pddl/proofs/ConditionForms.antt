@@ -5,12 +5,12 @@ use Rattle.ps_world.specs.declared.domains.Param.{Param}
 use Rattle.ps_shape.specs.Marks.{is}
 use Rattle.ps_shape.specs.declared.marks.Mark.TheVariants.{And, Not}
 use Rattle.ps_pddl.specs.Conditions.{form, nothing, plain_condition, stated, timed_form}
-use Rattle.ps_pddl.specs.Nested.{nesteds}
-use Rattle.ps_pddl.specs.NestedViews.{nested}
-use Rattle.ps_pddl.specs.Places.{head, rest}
-use Rattle.ps_pddl.specs.declared.lexemes.Lexeme.{Lexeme}
+use Rattle.ps_forms.specs.Nested.{nesteds}
+use Rattle.ps_forms.specs.NestedViews.{nested}
+use Rattle.ps_forms.specs.Places.{head, rest}
+use Rattle.ps_forms.specs.declared.lexemes.Lexeme.{Lexeme}
 use Rattle.ps_pddl.specs.declared.meaning.parts.Parts.{Parts}
-use Rattle.ps_pddl.specs.declared.trees.Tree.{Tree}
+use Rattle.ps_forms.specs.declared.trees.Tree.{Tree}
 
 pub with_one : (d : Domain) (ps : List Param) (l : Lexeme) (us : List Tree) → length us ≡ 1 → plain_condition d ps l (nesteds (map nested us)) ≡ stated d ps l (nesteds (map nested us))
 with_one d ps l [] h = absurd (omega (arith, h))

@@ -4,8 +4,8 @@ use Rattle.std.specs.List.{list_any}
 use Rattle.ps_world.specs.Names.{same_name}
 use Rattle.ps_world.specs.declared.domains.Decl.{Decl}
 use Rattle.ps_world.specs.declared.domains.Domain.{Domain}
-use Rattle.ps_pddl.specs.Nested.{Nesteds}
-use Rattle.ps_pddl.specs.Places.{head, rest}
+use Rattle.ps_forms.specs.Nested.{Nesteds}
+use Rattle.ps_forms.specs.Places.{head, rest}
 use Rattle.ps_pddl.specs.Lists.{fault_of_new, listed}
 use Rattle.ps_pddl.specs.Meaning.{declared}
 use Rattle.ps_pddl.specs.Steps.{Refuses}

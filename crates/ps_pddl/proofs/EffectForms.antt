@@ -6,12 +6,12 @@ use Rattle.ps_world.specs.declared.domains.Param.{Param}
 use Rattle.ps_shape.specs.Marks.{is}
 use Rattle.ps_shape.specs.declared.marks.Mark.TheVariants.{And, Not}
 use Rattle.ps_pddl.specs.Effects.{added, form, plain_effect, timed_form}
-use Rattle.ps_pddl.specs.Nested.{nesteds}
-use Rattle.ps_pddl.specs.NestedViews.{nested}
-use Rattle.ps_pddl.specs.Places.{head, rest}
-use Rattle.ps_pddl.specs.declared.lexemes.Lexeme.{Lexeme}
+use Rattle.ps_forms.specs.Nested.{nesteds}
+use Rattle.ps_forms.specs.NestedViews.{nested}
+use Rattle.ps_forms.specs.Places.{head, rest}
+use Rattle.ps_forms.specs.declared.lexemes.Lexeme.{Lexeme}
 use Rattle.ps_pddl.specs.declared.meaning.changes.Changes.{Changes}
-use Rattle.ps_pddl.specs.declared.trees.Tree.{Tree}
+use Rattle.ps_forms.specs.declared.trees.Tree.{Tree}
 
 pub with_one : (d : Domain) (ps : List Param) (l : Lexeme) (us : List Tree) (es : List Effect) → length us ≡ 1 → plain_effect d ps l (nesteds (map nested us)) es ≡ added d ps l (nesteds (map nested us)) es
 with_one d ps l [] es h = absurd (omega (arith, h))

@@ -8,15 +8,15 @@ use Rattle.ps_world.specs.declared.domains.Param.{Param}
 use Rattle.ps_world.specs.declared.domains.Domain.{Domain}
 use Rattle.ps_shape.specs.Marks.{is}
 use Rattle.ps_shape.specs.declared.marks.Mark.TheVariants.{Minus}
-use Rattle.ps_pddl.specs.Nested.{Nesteds, nesteds}
-use Rattle.ps_pddl.specs.NestedViews.{nested}
-use Rattle.ps_pddl.specs.Places.{word_of}
+use Rattle.ps_forms.specs.Nested.{Nesteds, nesteds}
+use Rattle.ps_forms.specs.NestedViews.{nested}
+use Rattle.ps_forms.specs.Places.{word_of}
 use Rattle.ps_pddl.specs.Lists.{fault_of_new, cap_of, most_of, counted, with_name, kind_ahead, listed, listed_type}
 use Rattle.ps_pddl.specs.Steps.{◌>>=◌, Refuses}
 use Rattle.ps_pddl.proofs.Steps.{refuses-first}
 use Rattle.ps_pddl.specs.declared.refusals.DomainRefusal.{DomainRefusal}
-use Rattle.ps_pddl.specs.declared.lexemes.Lexeme.{Lexeme}
-use Rattle.ps_pddl.specs.declared.trees.Tree.{Tree}
+use Rattle.ps_forms.specs.declared.lexemes.Lexeme.{Lexeme}
+use Rattle.ps_forms.specs.declared.trees.Tree.{Tree}
 use Rattle.ps_pddl.specs.declared.meaning.lists.Listing.{Listing}
 
 -- with nothing at fault the name follows those before

@@ -6,13 +6,13 @@ use Rattle.ps_world.specs.declared.domains.Param.{Param}
 use Rattle.ps_world.specs.declared.expressions.Expr.TheVariants.{Neg}
 use Rattle.ps_shape.specs.Marks.{is}
 use Rattle.ps_shape.specs.declared.marks.Mark.TheVariants.{Minus}
-use Rattle.ps_pddl.specs.Nested.{Nesteds, nesteds, rank, ranks}
-use Rattle.ps_pddl.specs.NestedViews.{nested}
-use Rattle.ps_pddl.specs.Places.{head, rest}
+use Rattle.ps_forms.specs.Nested.{Nesteds, nesteds, rank, ranks}
+use Rattle.ps_forms.specs.NestedViews.{nested}
+use Rattle.ps_forms.specs.Places.{head, rest}
 use Rattle.ps_pddl.specs.Steps.{◌>>=◌}
 use Rattle.ps_pddl.specs.Values.{function_value, operated, operation, operator_of, value}
-use Rattle.ps_pddl.specs.declared.trees.Tree.{Tree}
-use Rattle.ps_pddl.specs.declared.trees.Tree.TheVariants.{Group}
+use Rattle.ps_forms.specs.declared.trees.Tree.{Tree}
+use Rattle.ps_forms.specs.declared.trees.Tree.TheVariants.{Group}
 use Rattle.std.specs.Bool.{if◌then◌else◌}
 
 pub alone : (d : Domain) (ps : List Param) (us : List Tree) → length us ≡ 1 → operation d ps (nesteds (map nested us)) ≡ function_value d ps (head (nesteds (map nested us))) (rest (nesteds (map nested us)))

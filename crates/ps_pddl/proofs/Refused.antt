@@ -4,7 +4,7 @@ use Rattle.ps_world.specs.Names.{Table}
 use Rattle.ps_world.specs.declared.domains.Domain.{Domain}
 use Rattle.ps_text.specs.Tokens.{AreTokens, RefusesText}
 use Rattle.ps_text.specs.declared.lexing.Token.{Token}
-use Rattle.ps_pddl.specs.Lexemes.{lexemes_of}
+use Rattle.ps_forms.specs.Lexemes.{lexemes_of}
 use Rattle.ps_text.specs.declared.lexing.LexRefusal.{LexRefusal}
 use Rattle.ps_text.specs.declared.lexing.LexRefusal.TheVariants as lexing
 use Rattle.ps_shape.specs.Shape.{IsDomainShape, IsShallow}
@@ -12,12 +12,13 @@ use Rattle.ps_shape.specs.Shape as shape
 use Rattle.ps_shape.specs.declared.faults.ShapeFault.{ShapeFault}
 use Rattle.ps_shape.specs.declared.faults.ShapeFault.TheVariants as fault
 use Rattle.ps_pddl.specs.Meaning.{domain_of}
-use Rattle.ps_pddl.specs.Nested.{Nesteds}
-use Rattle.ps_pddl.specs.Reading.{HasWords, IsRead, IsRefused, RefusesShape, marks, misshapen, unlexed}
+use Rattle.ps_forms.specs.Nested.{Nesteds}
+use Rattle.ps_forms.specs.Lexemes.{marks}
+use Rattle.ps_pddl.specs.Reading.{HasWords, IsRead, IsRefused, RefusesShape, misshapen, unlexed}
 use Rattle.ps_pddl.specs.Reading.IsRead.{without_class, without_shape, with_meaning}
-use Rattle.ps_pddl.specs.Spelling.{SpellAll}
+use Rattle.ps_forms.specs.Spelling.{SpellAll}
 use Rattle.ps_pddl.specs.Steps.{Read, Refuses}
-use Rattle.ps_pddl.specs.declared.lexemes.Lexeme.{Lexeme}
+use Rattle.ps_forms.specs.declared.lexemes.Lexeme.{Lexeme}
 use Rattle.ps_pddl.specs.declared.refusals.DomainRefusal.{DomainRefusal}
 use Rattle.ps_pddl.specs.declared.refusals.DomainRefusal.TheVariants.{OutOfMemory}
 

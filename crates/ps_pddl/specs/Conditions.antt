@@ -12,12 +12,12 @@ use Rattle.ps_world.specs.declared.conditions.Cond.TheVariants as cond
 use Rattle.ps_shape.specs.Marks.{is}
 use Rattle.ps_shape.specs.declared.marks.Mark.{Mark}
 use Rattle.ps_shape.specs.declared.marks.Mark.TheVariants.{Number, Equal, Less, Greater, LessEqual, GreaterEqual, At, Over, Start, And, Not}
-use Rattle.ps_pddl.specs.Nested.{Nested, Nesteds, word, group, none, more}
-use Rattle.ps_pddl.specs.Places.{word_of}
+use Rattle.ps_forms.specs.Nested.{Nested, Nesteds, word, group, none, more}
+use Rattle.ps_forms.specs.Places.{word_of}
 use Rattle.ps_pddl.specs.Terms.{resolved, fact}
 use Rattle.ps_pddl.specs.Values.{value}
 use Rattle.ps_pddl.specs.Steps.{Read, ◌>>=◌}
-use Rattle.ps_pddl.specs.declared.lexemes.Lexeme.{Lexeme}
+use Rattle.ps_forms.specs.declared.lexemes.Lexeme.{Lexeme}
 use Rattle.ps_pddl.specs.declared.meaning.parts.Parts.{Parts}
 use Rattle.ps_pddl.specs.declared.refusals.DomainRefusal.TheVariants.{Kind}
 

@@ -9,12 +9,12 @@ use Rattle.ps_world.specs.declared.actions.Effect.TheVariants.{Add, Delete, Numb
 use Rattle.ps_shape.specs.Marks.{is}
 use Rattle.ps_shape.specs.declared.marks.Mark.{Mark}
 use Rattle.ps_shape.specs.declared.marks.Mark.TheVariants.{At, Start, And, Not, Assign, Increase, Decrease, ScaleUp, ScaleDown}
-use Rattle.ps_pddl.specs.Nested.{Nested, Nesteds, word, group, none, more}
-use Rattle.ps_pddl.specs.Places.{word_of, items, head, rest}
+use Rattle.ps_forms.specs.Nested.{Nested, Nesteds, word, group, none, more}
+use Rattle.ps_forms.specs.Places.{word_of, items, head, rest}
 use Rattle.ps_pddl.specs.Terms.{fact, value_of}
 use Rattle.ps_pddl.specs.Values.{value}
 use Rattle.ps_pddl.specs.Steps.{Read, ◌>>=◌}
-use Rattle.ps_pddl.specs.declared.lexemes.Lexeme.{Lexeme}
+use Rattle.ps_forms.specs.declared.lexemes.Lexeme.{Lexeme}
 use Rattle.ps_pddl.specs.declared.meaning.changes.Changes.{Changes}
 
 -- how the head of an effect changes a number

@@ -1,16 +1,11 @@
 pub mod Conditions
 pub mod Effects
 pub mod Laws
-pub mod Lexemes
 pub mod Lists
 pub mod Meaning
-pub mod Nested
-pub mod NestedFalls
-pub mod NestedViews
-pub mod Places
 pub mod Reading
-pub mod Spelling
 pub mod Steps
 pub mod Terms
 pub mod Types
 pub mod Values
+pub mod WellFormed

@@ -11,8 +11,8 @@ use Rattle.ps_world.specs.declared.expressions.Expr.{Expr}
 use Rattle.ps_world.specs.declared.expressions.Expr.TheVariants.{Num}
 use Rattle.ps_shape.specs.Marks.{is}
 use Rattle.ps_shape.specs.declared.marks.Mark.TheVariants as mark
-use Rattle.ps_pddl.specs.Nested.{Nested, Nesteds, word, group, none, more}
-use Rattle.ps_pddl.specs.Places.{items, items_at, at, head, rest, after, section}
+use Rattle.ps_forms.specs.Nested.{Nested, Nesteds, word, group, none, more}
+use Rattle.ps_forms.specs.Places.{items, items_at, at, head, rest, after, section}
 use Rattle.ps_pddl.specs.Lists.{fault_of_new, listed}
 use Rattle.ps_pddl.specs.Types.{with_types}
 use Rattle.ps_pddl.specs.Values.{value}
@@ -112,10 +112,10 @@ with_functions d ts = all_declared d cap.Functions ts [] >>= λ functions. Ok (r
 abbrev pub with_actions : Domain → Nesteds → Read Domain
 with_actions d ts = actions d ts [] >>= λ actions. Ok (record d { actions = actions })
 
--- the domain that sections declare: types, constants, predicates, functions and actions are judged in this order
-abbrev pub from_sections : Name → Nesteds → Read Domain
-from_sections name ts =
-    with_types (bare name) (section mark.Types ts) >>= λ d.
+-- the domain with what sections declare: types, constants, predicates, functions and actions are judged in this order
+abbrev pub with_sections : Domain → Nesteds → Read Domain
+with_sections d ts =
+    with_types d (section mark.Types ts) >>= λ d.
     with_constants d (section mark.Constants ts) >>= λ d.
     with_predicates d (section mark.Predicates ts) >>= λ d.
     with_functions d (section mark.Functions ts) >>= λ d.
@@ -125,4 +125,4 @@ from_sections name ts =
 unfoldable pub domain_of : Nesteds → Read Domain
 domain_of text =
     let inside = items_at text in
-    from_sections (head (rest (items_at (rest inside)))).name (rest (rest inside))
+    with_sections (bare (head (rest (items_at (rest inside)))).name) (rest (rest inside))

@@ -1,5 +1,5 @@
 -- What a domain's text is read as.
-use Rattle.std.specs.Prelude.{◌≡◌, ℕ, ◌<◌, ◌⊎◌, Err, List, map, length, slice_get}
+use Rattle.std.specs.Prelude.{◌≡◌, ℕ, ◌⊎◌, Err, List, length, slice_get}
 use Rattle.std.specs.Option.{option_map_or}
 use Rattle.ps_world.specs.Names.{Table}
 use Rattle.ps_world.specs.declared.domains.Domain.{Domain}
@@ -10,22 +10,17 @@ use Rattle.ps_text.specs.declared.lexing.LexRefusal.TheVariants.{Bad, Number}
 use Rattle.ps_text.specs.declared.lexing.LexRefusal.TheVariants as lexing
 use Rattle.ps_shape.specs.Shape.{IsDomainShape, IsShallow}
 use Rattle.ps_shape.specs.Shape as shape
-use Rattle.ps_shape.specs.declared.marks.Mark.{Mark}
 use Rattle.ps_shape.specs.declared.faults.ShapeFault.{ShapeFault}
 use Rattle.ps_shape.specs.declared.faults.ShapeFault.TheVariants as fault
-use Rattle.ps_pddl.specs.Lexemes.{lexemes_of}
-use Rattle.ps_pddl.specs.Nested.{Nesteds}
-use Rattle.ps_pddl.specs.Spelling.{SpellAll}
+use Rattle.ps_forms.specs.Lexemes.{lexemes_of, marks}
+use Rattle.ps_forms.specs.Nested.{Nesteds}
+use Rattle.ps_forms.specs.Spelling.{SpellAll}
 use Rattle.ps_pddl.specs.Meaning.{domain_of}
 use Rattle.ps_pddl.specs.Steps.{Read}
-use Rattle.ps_pddl.specs.declared.lexemes.Lexeme.{Lexeme}
+use Rattle.ps_forms.specs.declared.lexemes.Lexeme.{Lexeme}
 use Rattle.ps_pddl.specs.declared.refusals.Cap.TheVariants.{Depth}
 use Rattle.ps_pddl.specs.declared.refusals.DomainRefusal.{DomainRefusal}
 use Rattle.ps_pddl.specs.declared.refusals.DomainRefusal.TheVariants.{Lex, Unexpected, Unsupported, Limit, OutOfMemory}
-
--- the marks of words
-abbrev pub marks : List Lexeme → List Mark
-marks ls = map (λ l. l.mark) ls
 
 -- the byte at which a word begins, or the text's length past the last
 abbrev pub place : List ℕ → List Lexeme → ℕ → ℕ
@@ -66,7 +61,3 @@ pub data IsRead (table : Table) (bytes : List ℕ) : Read Domain → Table → T
 abbrev pub IsRefused : Table → List ℕ → DomainRefusal → Table → Type 0
 IsRefused table bytes OutOfMemory after = Unit {0}
 IsRefused table bytes refusal after = IsRead table bytes (Err refusal) after
-
--- old names keep their texts
-abbrev pub Keeps : Table → Table → Type 0
-Keeps table after = (n : ℕ) → n < length table → slice_get after n ≡ slice_get table n

@@ -12,10 +12,10 @@ use Rattle.ps_world.specs.declared.schemas.Term.TheVariants.{Var, Const}
 use Rattle.ps_world.specs.declared.schemas.Lifted.{Lifted}
 use Rattle.ps_shape.specs.declared.marks.Mark.{Mark}
 use Rattle.ps_shape.specs.declared.marks.Mark.TheVariants as mark
-use Rattle.ps_pddl.specs.Nested.{Nesteds, none, more}
-use Rattle.ps_pddl.specs.Places.{word_of, count}
+use Rattle.ps_forms.specs.Nested.{Nesteds, none, more}
+use Rattle.ps_forms.specs.Places.{word_of, count}
 use Rattle.ps_pddl.specs.Steps.{Read, ◌>>=◌}
-use Rattle.ps_pddl.specs.declared.lexemes.Lexeme.{Lexeme}
+use Rattle.ps_forms.specs.declared.lexemes.Lexeme.{Lexeme}
 use Rattle.ps_pddl.specs.declared.meaning.terms.Typed.{Typed}
 use Rattle.ps_pddl.specs.declared.refusals.DomainRefusal.TheVariants.{Unknown, Arity, Kind}
 

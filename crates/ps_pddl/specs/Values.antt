@@ -10,11 +10,11 @@ use Rattle.ps_world.specs.declared.expressions.Expr.TheVariants.{Num, Fun, Neg, 
 use Rattle.ps_shape.specs.Marks.{is}
 use Rattle.ps_shape.specs.declared.marks.Mark.{Mark}
 use Rattle.ps_shape.specs.declared.marks.Mark.TheVariants.{Number, Minus, Plus, Times, Divide}
-use Rattle.ps_pddl.specs.Nested.{Nested, Nesteds, word, group, none, more}
-use Rattle.ps_pddl.specs.Places.{word_of}
+use Rattle.ps_forms.specs.Nested.{Nested, Nesteds, word, group, none, more}
+use Rattle.ps_forms.specs.Places.{word_of}
 use Rattle.ps_pddl.specs.Terms.{resolved, value_of}
 use Rattle.ps_pddl.specs.Steps.{Read, ◌>>=◌}
-use Rattle.ps_pddl.specs.declared.lexemes.Lexeme.{Lexeme}
+use Rattle.ps_forms.specs.declared.lexemes.Lexeme.{Lexeme}
 use Rattle.ps_pddl.specs.declared.refusals.DomainRefusal.TheVariants.{Kind}
 
 -- a word where a number must stand: a term isn't one

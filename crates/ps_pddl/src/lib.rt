@@ -2,19 +2,17 @@
 #![tactic(auto)]
 
 mod laws;
-mod lexemes;
 mod meaning;
-mod places;
-mod printing;
 mod reading;
 mod refusals;
 #[cfg(test)]
 mod tests;
-mod trees;
 
-pub use laws::lists_are_told;
-pub use lexemes::Lexeme;
-pub use printing::{print_domain, push_action, push_condition, push_decl};
+pub use laws::{
+    canonical_texts_are_read, domains_are_well_formed, meanings_have_own_faults, readings_are_one,
+    readings_are_well_formed,
+};
+pub use ps_print::{print_domain, push_action, push_condition, push_decl};
 pub use ps_shape::Form;
 pub use reading::read_domain;
 pub use refusals::{Cap, DomainRefusal};

@@ -1,12 +1,12 @@
 //! Reading a domain's text.
 ghost use Rattle.std.specs.Prelude.{◌≡◌, Ok, IfErr, IfOk, OnOk};
 ghost use Rattle.ps_shape.specs.Shape.{IsDomainShape, IsShallow};
-ghost use Rattle.ps_pddl.specs.Reading.{IsRead, IsRefused, Keeps, RefusesShape, marks, misshapen, place};
+ghost use Rattle.ps_forms.specs.Lexemes.{Keeps, marks};
+ghost use Rattle.ps_pddl.specs.Reading.{IsRead, IsRefused, RefusesShape, misshapen, place};
 
-use super::lexemes::{Lexeme, lexemes};
 use super::meaning::domain_of;
 use super::refusals::{Cap, DomainRefusal};
-use super::trees::trees_of;
+use ps_forms::{Lexeme, lexemes_of, trees_of};
 use ps_shape::{Mark, ShapeFault, judge};
 use ps_text::{Names, tokens};
 use ps_world::Domain;
@@ -25,7 +25,7 @@ pub fn read_domain(alloc: Global, names: &mut Names, bytes: &[u8]) -> Result<Dom
     ensures kept { Keeps names.old names.new }
 {
     let tokens = tokens(alloc, bytes)?;
-    let words = lexemes(alloc, names, bytes, &tokens)?;
+    let words = lexemes_of(alloc, names, bytes, &tokens)?;
     check_shape(alloc, bytes, &words)?;
     let trees = trees_of(alloc, &words)?;
     domain_of(alloc, trees.as_slice())

@@ -1,18 +1,16 @@
 //! The parts of an action's effect, by the time at which they come.
 ghost use Rattle.std.specs.Prelude.{◌≡◌, ◌≤◌, Ok, IfErr, OnOk, length, map};
-ghost use Rattle.ps_pddl.specs.Nested.{nesteds};
-ghost use Rattle.ps_pddl.specs.NestedViews.{nested};
+ghost use Rattle.ps_forms.specs.Nested.{nesteds};
+ghost use Rattle.ps_forms.specs.NestedViews.{nested};
 ghost use Rattle.ps_pddl.specs.Effects.{all_timed, at_time, timed, timed_form, timed_list, timed_part};
 ghost use Rattle.ps_pddl.specs.Steps.{Refuses};
 
 use super::conditions::is_and;
 use super::effects::effect;
 use super::terms::MOST_PARAMS;
-use crate::lexemes::Lexeme;
-use crate::places::{head, rest, word_of};
 use crate::refusals::DomainRefusal;
-use crate::trees::Tree;
 use ps_domain::Declared;
+use ps_forms::{Lexeme, Tree, head, rest, word_of};
 use ps_shape::Mark;
 use ps_world::{Effect, Param, Seq};
 use std::alloc::Global;

@@ -2,16 +2,15 @@
 ghost use Rattle.std.specs.Prelude.{◌≡◌, Ok, [], map, IfErr, IfOk, OnOk};
 ghost use Rattle.std.specs.List.{list_any};
 ghost use Rattle.ps_world.specs.Names.{same_name};
-ghost use Rattle.ps_pddl.specs.Nested.{nesteds};
-ghost use Rattle.ps_pddl.specs.NestedViews.{nested};
+ghost use Rattle.ps_forms.specs.Nested.{nesteds};
+ghost use Rattle.ps_forms.specs.NestedViews.{nested};
 ghost use Rattle.ps_pddl.specs.Meaning.{all_declared, declared};
 ghost use Rattle.ps_pddl.specs.Steps.{Refuses};
 
 use super::lists::{Listing, fault_of_new, listed};
-use crate::places::{head, rest};
 use crate::refusals::{Cap, DomainRefusal};
-use crate::trees::Tree;
 use ps_domain::Declared;
+use ps_forms::{Tree, head, rest};
 use ps_world::{Decl, Name, Seq};
 use std::alloc::Global;
 

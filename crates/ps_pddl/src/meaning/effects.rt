@@ -1,18 +1,16 @@
 //! What an effect means (PDDL 2.1, section 5).
 ghost use Rattle.std.specs.Prelude.{◌≡◌, ◌≤◌, Ok, IfErr, OnOk, length, map};
-ghost use Rattle.ps_pddl.specs.Nested.{nesteds};
-ghost use Rattle.ps_pddl.specs.NestedViews.{nested};
+ghost use Rattle.ps_forms.specs.Nested.{nesteds};
+ghost use Rattle.ps_forms.specs.NestedViews.{nested};
 ghost use Rattle.ps_pddl.specs.Effects.{added, change_of, changed, deleted, deletion, effect, effects, form, plain_effect};
 ghost use Rattle.ps_pddl.specs.Steps.{Refuses};
 
 use super::conditions::{is_and, is_not};
 use super::terms::{MOST_PARAMS, fact, value_of};
 use super::values::value;
-use crate::lexemes::Lexeme;
-use crate::places::{count, head, items, rest};
 use crate::refusals::DomainRefusal;
-use crate::trees::Tree;
 use ps_domain::Declared;
+use ps_forms::{Lexeme, Tree, count, head, items, rest};
 use ps_shape::Mark;
 use ps_world::{Effect, NumOp, Param, Seq};
 use std::alloc::Global;

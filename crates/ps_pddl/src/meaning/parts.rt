@@ -1,17 +1,15 @@
 //! The parts of an action's condition, by the time at which they have to hold.
 ghost use Rattle.std.specs.Prelude.{◌≡◌, ◌≤◌, Ok, IfErr, OnOk, OnErr, length, map};
-ghost use Rattle.ps_pddl.specs.Nested.{nesteds};
-ghost use Rattle.ps_pddl.specs.NestedViews.{nested};
+ghost use Rattle.ps_forms.specs.Nested.{nesteds};
+ghost use Rattle.ps_forms.specs.NestedViews.{nested};
 ghost use Rattle.ps_pddl.specs.Conditions.{all_timed, at_time, over_all, timed, timed_form, timed_list, timed_part};
 ghost use Rattle.ps_pddl.specs.Steps.{Refuses};
 
 use super::conditions::{condition, is_and};
 use super::terms::MOST_PARAMS;
-use crate::lexemes::Lexeme;
-use crate::places::{head, rest, word_of};
 use crate::refusals::DomainRefusal;
-use crate::trees::Tree;
 use ps_domain::Declared;
+use ps_forms::{Lexeme, Tree, head, rest, word_of};
 use ps_shape::Mark;
 use ps_world::{Cond, Conds, Param};
 use std::alloc::{AllocError, Global};

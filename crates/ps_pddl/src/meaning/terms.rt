@@ -1,17 +1,15 @@
 //! What names and variables stand for in an action, and what a head with arguments means.
 ghost use Rattle.std.specs.Prelude.{◌≡◌, ◌≤◌, [], Ok, Some, IfOk, IfErr, length, map, position};
 ghost use Rattle.ps_world.specs.Names.{same_name};
-ghost use Rattle.ps_pddl.specs.Nested.{nesteds};
-ghost use Rattle.ps_pddl.specs.NestedViews.{nested};
+ghost use Rattle.ps_forms.specs.Nested.{nesteds};
+ghost use Rattle.ps_forms.specs.NestedViews.{nested};
 ghost use Rattle.ps_pddl.specs.Terms.{applied, argument, arguments, fact, lifted, resolved, term_of, value_of, variable_of};
 ghost use Rattle.ps_pddl.specs.Steps.{Refuses};
 ghost use Rattle.ps_pddl.specs.declared.refusals.DomainRefusal.TheVariants.{Unknown};
 
-use crate::lexemes::Lexeme;
-use crate::places::{count, word_of};
 use crate::refusals::DomainRefusal;
-use crate::trees::Tree;
 use ps_domain::Declared;
+use ps_forms::{Lexeme, Tree, count, word_of};
 use ps_shape::Mark;
 use ps_world::{Decl, Lifted, Name, Param, Term, Terms};
 use std::alloc::Global;

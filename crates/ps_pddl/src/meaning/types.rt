@@ -1,17 +1,16 @@
 //! What the list of types declares.
-ghost use Rattle.std.specs.Prelude.{◌≡◌, Ok, [], find, length, map, IfErr, IfOk};
-ghost use Rattle.ps_pddl.specs.Nested.{nesteds};
-ghost use Rattle.ps_pddl.specs.NestedViews.{nested};
+ghost use Rattle.std.specs.Prelude.{◌≡◌, Ok, [], find, length, map, IfErr, IfOk, OnOk};
+ghost use Rattle.ps_forms.specs.Nested.{nesteds};
+ghost use Rattle.ps_forms.specs.NestedViews.{nested};
 ghost use Rattle.ps_pddl.specs.Lists.{kept};
 ghost use Rattle.ps_pddl.specs.Steps.{Refuses};
 ghost use Rattle.ps_pddl.specs.Types.{acyclic, is_cyclic, leads_to, names_of, with_types};
 ghost use Rattle.ps_pddl.specs.declared.meaning.lists.Listing.TheVariants.{Types};
 
 use super::lists::{Listing, listed};
-use crate::places::word_of;
 use crate::refusals::DomainRefusal;
-use crate::trees::Tree;
 use ps_domain::Declared;
+use ps_forms::{Tree, word_of};
 use ps_shape::Mark;
 use ps_world::{Name, Param, Seq};
 use std::alloc::{AllocError, Global};
@@ -93,26 +92,25 @@ fn first_cyclic(d: &Declared) -> Option<Param>
         .find(|param| is_cyclic(d, param))
 }
 
-/// The domain, unless a type's parents lead back to it.
-fn acyclic(d: Declared) -> Result<Declared, DomainRefusal>
-    ensures ok { IfOk result (λ r. acyclic d (find (is_cyclic d) d.types) ≡ Ok r) }
-    ensures err { IfErr result (λ r. Refuses (acyclic d (find (is_cyclic d) d.types)) r) }
+/// Whether no type's parents lead back to it. The refusal names the first whose do.
+fn check_parents(d: &Declared) -> Result<(), DomainRefusal>
+    ensures ok { OnOk result (acyclic d.now (find (is_cyclic d.now) d.now.types) ≡ Ok d.now) }
+    ensures err { IfErr result (λ r. Refuses (acyclic d.now (find (is_cyclic d.now) d.now.types)) r) }
 {
-    match first_cyclic(&d) {
+    match first_cyclic(d) {
         Some(param) => Err(DomainRefusal::Cycle { name: param.name }),
-        None => Ok(d),
+        None => Ok(()),
     }
 }
 
-/// The domain with the types that a list declares. The refusal is the first fault: one of the list, or else the first type whose
-/// parents lead back to it.
-pub fn with_types(alloc: Global, d: Declared, trees: &[Tree]) -> Result<Declared, DomainRefusal>
-    ensures ok { IfOk result (λ r. with_types d (nesteds (map nested trees.now)) ≡ Ok r) }
-    ensures err { IfErr result (λ r. Refuses (with_types d (nesteds (map nested trees.now))) r) }
+/// Declares the types of a list. The refusal is the first fault: one of the list, or else the first type whose parents lead back to
+/// it.
+pub fn declare_types(alloc: Global, d: &mut Declared, trees: &[Tree]) -> Result<(), DomainRefusal>
+    ensures ok { OnOk result (with_types d.old (nesteds (map nested trees.now)) ≡ Ok d.new) }
+    ensures err { IfErr result (λ r. Refuses (with_types d.old (nesteds (map nested trees.now))) r) }
 {
-    let mut typed = d;
-    typed.set_types(alloc, Seq::of(names_of(alloc, trees)?))?;
-    let all = listed(alloc, &typed, Listing::Types, trees)?;
-    typed.set_types(alloc, Seq::of(kept(alloc, &all)?))?;
-    acyclic(typed)
+    d.set_types(alloc, Seq::of(names_of(alloc, trees)?))?;
+    let all = listed(alloc, d, Listing::Types, trees)?;
+    d.set_types(alloc, Seq::of(kept(alloc, &all)?))?;
+    check_parents(d)
 }

@@ -2,8 +2,8 @@
 ghost use Rattle.std.specs.Prelude.{◌≡◌, ◌≤◌, Ok, IfOk, IfErr, length, map};
 ghost use Rattle.ps_shape.specs.Marks.{is};
 ghost use Rattle.ps_shape.specs.declared.marks.Mark.TheVariants.{Minus};
-ghost use Rattle.ps_pddl.specs.Nested.{nesteds};
-ghost use Rattle.ps_pddl.specs.NestedViews.{nested};
+ghost use Rattle.ps_forms.specs.Nested.{nesteds};
+ghost use Rattle.ps_forms.specs.NestedViews.{nested};
 ghost use Rattle.ps_pddl.specs.Values.{function_value, operation, operator_of, plain_value, value};
 ghost use Rattle.ps_pddl.specs.Steps.{Refuses};
 ghost use Rattle.ps_pddl.specs.declared.refusals.DomainRefusal.TheVariants.{OutOfMemory};
@@ -11,11 +11,9 @@ ghost use Rattle.ps_world.specs.ExprViews.{expr_tree};
 ghost use Rattle.ps_world.specs.declared.expressions.Expr.TheVariants.{Neg, Bin};
 
 use super::terms::{MOST_PARAMS, resolved, value_of};
-use crate::lexemes::Lexeme;
-use crate::places::{head, rest};
 use crate::refusals::DomainRefusal;
-use crate::trees::Tree;
 use ps_domain::Declared;
+use ps_forms::{Lexeme, Tree, head, rest};
 use ps_shape::Mark;
 use ps_world::{BoxedExpr, Expr, Num, Op, Param};
 use std::alloc::Global;

@@ -1,8 +1,8 @@
 use Rattle.std.proofs.Common.{◌∙◌}
-use Rattle.ps_pddl.proofs.Kept.{kept_along, kept_named}
-use Rattle.ps_pddl.proofs.LexemeSteps.{table_more, words_more}
-use Rattle.ps_pddl.proofs.TokenNames.{are_tokens_of}
-use Rattle.ps_pddl.proofs.lexemes.lexemes.Goals as goal
+use Rattle.ps_forms.proofs.Kept.{kept_along, kept_named}
+use Rattle.ps_forms.proofs.LexemeSteps.{table_more, words_more}
+use Rattle.ps_forms.proofs.TokenNames.{are_tokens_of}
+use Rattle.ps_forms.proofs.lexemes.lexemes_of.Goals as goal
 
 pub lexeme_of-requires : goal.lexeme_of-requires
 lexeme_of-requires c = are_tokens_of c.args.bytes.now c.args.tokens.now c.requires c.loop-token.token-index _ c.loop-token-test.true

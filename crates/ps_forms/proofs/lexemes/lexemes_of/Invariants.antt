@@ -1,7 +1,7 @@
 use Rattle.std.proofs.Common.{◌≡◌, ◌++◌, drop}
-use Rattle.ps_pddl.specs.Lexemes.{lexemes_of}
-use Rattle.ps_pddl.specs.Reading.{Keeps}
-use Rattle.ps_pddl.proofs.lexemes.lexemes.Given as goal
+use Rattle.ps_forms.specs.Lexemes.{lexemes_of}
+use Rattle.ps_forms.specs.Lexemes.{Keeps}
+use Rattle.ps_forms.proofs.lexemes.lexemes_of.Given as goal
 
 -- the words are those that stand, and those of the tokens that are left
 abbrev pub invariant-loop-token : goal.invariant-loop-token

@@ -1,6 +1,6 @@
 use Rattle.std.proofs.Common.{◌≡◌, drop}
 use Rattle.ps_text.specs.Words.{reads_as}
-use Rattle.ps_pddl.proofs.lexemes.reads_as.Given as goal
+use Rattle.ps_forms.proofs.lexemes.reads_as.Given as goal
 
 -- the texts are alike if what is left of them is
 abbrev pub invariant-loop-i : goal.invariant-loop-i

@@ -1,8 +1,8 @@
 use Rattle.std.proofs.Common.{◌≡◌, ◌-◌, ◌≤◌, length, drop, map}
-use Rattle.ps_pddl.specs.Nested.{nesteds}
-use Rattle.ps_pddl.specs.NestedViews.{nested}
-use Rattle.ps_pddl.specs.Places.{after}
-use Rattle.ps_pddl.proofs.places.after.Given as goal
+use Rattle.ps_forms.specs.Nested.{nesteds}
+use Rattle.ps_forms.specs.NestedViews.{nested}
+use Rattle.ps_forms.specs.Places.{after}
+use Rattle.ps_forms.proofs.places.after.Given as goal
 
 -- what is looked for is what it is among those that are left
 abbrev pub invariant-loop-i : goal.invariant-loop-i

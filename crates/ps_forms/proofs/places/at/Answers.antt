@@ -1,6 +1,6 @@
 use Rattle.std.proofs.Common.{arith, rules}
-use Rattle.ps_pddl.proofs.NestedLists.{at-here, at-past}
-use Rattle.ps_pddl.proofs.places.at.Goals as goal
+use Rattle.ps_forms.proofs.NestedLists.{at-here, at-past}
+use Rattle.ps_forms.proofs.places.at.Goals as goal
 
 pub returns-then-i-trees : goal.returns-then-i-trees
 returns-then-i-trees c = at-here c.args.trees.now c.args.i _ (omega arith) (search rules)

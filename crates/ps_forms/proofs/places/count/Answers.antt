@@ -1,5 +1,5 @@
-use Rattle.ps_pddl.proofs.NestedLists.{length-count}
-use Rattle.ps_pddl.proofs.places.count.Goals as goal
+use Rattle.ps_forms.proofs.NestedLists.{length-count}
+use Rattle.ps_forms.proofs.places.count.Goals as goal
 
 pub returns-clause-count : goal.returns-clause-count
 returns-clause-count c = length-count c.args.trees.now

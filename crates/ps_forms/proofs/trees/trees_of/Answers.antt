@@ -1,10 +1,10 @@
 use Rattle.std.proofs.Common.{[], arith}
-use Rattle.ps_pddl.specs.Nested.{none}
-use Rattle.ps_pddl.specs.Spelling.SpellAll.{nothing}
-use Rattle.ps_pddl.proofs.Stacks.Stacked.{innermost}
-use Rattle.ps_pddl.proofs.Unfinished.{finished, next_close, next_open, next_word}
-use Rattle.ps_pddl.proofs.trees.trees_of.Goals as goal
-use Rattle.ps_pddl.proofs.trees.trees_of.Goals.{in-Open+in_ok-push-in-Open, in-Close+in-Some+in_ok-push-in-Close, in_default+in_ok-push-in_default}
+use Rattle.ps_forms.specs.Nested.{none}
+use Rattle.ps_forms.specs.Spelling.SpellAll.{nothing}
+use Rattle.ps_forms.proofs.Stacks.Stacked.{innermost}
+use Rattle.ps_forms.proofs.Unfinished.{finished, next_close, next_open, next_word}
+use Rattle.ps_forms.proofs.trees.trees_of.Goals as goal
+use Rattle.ps_forms.proofs.trees.trees_of.Goals.{in-Open+in_ok-push-in-Open, in-Close+in-Some+in_ok-push-in-Close, in_default+in_ok-push-in_default}
 
 pub loop-word-init : goal.loop-word-init
 loop-word-init c = rw (c.new-outer.ensures.items, c.none-inner.ensures) (record { stacked = innermost none [] nothing; balanced = c.requires })

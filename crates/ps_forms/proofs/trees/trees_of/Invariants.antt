@@ -1,5 +1,5 @@
-use Rattle.ps_pddl.proofs.Unfinished.{IsUnfinished}
-use Rattle.ps_pddl.proofs.trees.trees_of.Given as goal
+use Rattle.ps_forms.proofs.Unfinished.{IsUnfinished}
+use Rattle.ps_forms.proofs.trees.trees_of.Given as goal
 
 abbrev pub invariant-loop-word : goal.invariant-loop-word
 invariant-loop-word l = IsUnfinished l.words l.word-index l.outer.items l.inner

@@ -1,5 +1,5 @@
 use Rattle.std.proofs.lemmas.Result.{err_from_is_err_and}
-use Rattle.ps_pddl.proofs.Balance.{balanced_shape}
+use Rattle.ps_forms.proofs.Balance.{balanced_shape}
 use Rattle.ps_pddl.proofs.Refused.{has_words, is_spelt, meant, meant_fault, refused_class, refused_shape}
 use Rattle.ps_pddl.proofs.reading.read_domain.Goals as goal
 

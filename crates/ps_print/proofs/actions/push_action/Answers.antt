@@ -1,7 +1,7 @@
 use Rattle.std.proofs.Common.{refl}
 use Rattle.ps_world.specs.DomainTexts.{action_lines}
-use Rattle.ps_pddl.proofs.Pieces.{five_lines}
-use Rattle.ps_pddl.proofs.printing.actions.push_action.Goals as goal
+use Rattle.ps_print.proofs.Pieces.{five_lines}
+use Rattle.ps_print.proofs.actions.push_action.Goals as goal
 
 pub returns : goal.returns
 returns c =

@@ -1,7 +1,7 @@
 use Rattle.std.proofs.Common.{arith}
 use Rattle.ps_world.specs.DomainTexts.{action_lines}
-use Rattle.ps_pddl.proofs.Pieces.{lines_go_on}
-use Rattle.ps_pddl.proofs.printing.actions.push_actions.Goals as goal
+use Rattle.ps_print.proofs.Pieces.{lines_go_on}
+use Rattle.ps_print.proofs.actions.push_actions.Goals as goal
 
 pub loop-action-preserved : goal.loop-action-preserved
 loop-action-preserved c =

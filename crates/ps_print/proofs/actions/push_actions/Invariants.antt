@@ -2,7 +2,7 @@ use Rattle.std.proofs.Common.{◌≡◌, ◌++◌, drop}
 use Rattle.std.specs.List.{flat_map}
 use Rattle.ps_world.specs.Journal.{line_end}
 use Rattle.ps_world.specs.DomainTexts.{action_lines}
-use Rattle.ps_pddl.proofs.printing.actions.push_actions.Given as goal
+use Rattle.ps_print.proofs.actions.push_actions.Given as goal
 
 abbrev pub invariant-loop-action : goal.invariant-loop-action
 invariant-loop-action l =

@@ -2,8 +2,8 @@ use Rattle.std.proofs.Common.{codes}
 use Rattle.ps_world.specs.ExprViews.{expr_tree}
 use Rattle.ps_world.specs.DomainTexts.{expr_text}
 use Rattle.ps_world.specs.Journal.{line_end}
-use Rattle.ps_pddl.proofs.Pieces.{closed_line_of}
-use Rattle.ps_pddl.proofs.printing.actions.push_duration_line.Goals as goal
+use Rattle.ps_print.proofs.Pieces.{closed_line_of}
+use Rattle.ps_print.proofs.actions.push_duration_line.Goals as goal
 
 pub returns : goal.returns
 returns c =

@@ -1,8 +1,8 @@
 use Rattle.std.proofs.Common.{codes, map}
 use Rattle.ps_world.specs.DomainTexts.{spaced, param_text}
 use Rattle.ps_world.specs.Journal.{line_end}
-use Rattle.ps_pddl.proofs.Pieces.{closed_line_of}
-use Rattle.ps_pddl.proofs.printing.actions.push_parameters_line.Goals as goal
+use Rattle.ps_print.proofs.Pieces.{closed_line_of}
+use Rattle.ps_print.proofs.actions.push_parameters_line.Goals as goal
 
 pub returns : goal.returns
 returns c =

@@ -1,7 +1,7 @@
 use Rattle.std.proofs.Common.{◌≡◌, ◌++◌, map, drop}
 use Rattle.ps_world.specs.CondViews.{cond_tree}
 use Rattle.ps_world.specs.DomainTexts.{cond_text, timed_text}
-use Rattle.ps_pddl.proofs.printing.actions.push_timed_conditions.Given as goal
+use Rattle.ps_print.proofs.actions.push_timed_conditions.Given as goal
 
 abbrev pub invariant-loop-cond : goal.invariant-loop-cond
 invariant-loop-cond l =

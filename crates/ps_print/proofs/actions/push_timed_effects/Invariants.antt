@@ -1,6 +1,6 @@
 use Rattle.std.proofs.Common.{◌≡◌, ◌++◌, map, drop}
 use Rattle.ps_world.specs.DomainTexts.{effect_text, timed_text}
-use Rattle.ps_pddl.proofs.printing.actions.push_timed_effects.Given as goal
+use Rattle.ps_print.proofs.actions.push_timed_effects.Given as goal
 
 abbrev pub invariant-loop-effect : goal.invariant-loop-effect
 invariant-loop-effect l =

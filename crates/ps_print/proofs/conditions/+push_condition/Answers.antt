@@ -1,7 +1,7 @@
 use Rattle.std.proofs.Common.{ap, arith}
 use Rattle.ps_world.specs.Trees.{conds_rank}
-use Rattle.ps_pddl.proofs.CondRanks.{rank_in}
-use Rattle.ps_pddl.proofs.printing.conditions.+push_condition.Goals as goal
+use Rattle.ps_print.proofs.CondRanks.{rank_in}
+use Rattle.ps_print.proofs.conditions.+push_condition.Goals as goal
 
 pub push_conditions-push_condition-requires : goal.push_conditions-push_condition-requires
 push_conditions-push_condition-requires t c =

@@ -2,7 +2,7 @@ use Rattle.std.proofs.Common.{◌≡◌, ◌++◌, ◌+◌, ◌*◌, map, drop}
 use Rattle.ps_world.specs.Trees.{cond_trees, cond_rank, conds_rank}
 use Rattle.ps_world.specs.CondViews.{cond_tree}
 use Rattle.ps_world.specs.DomainTexts.{conds_text}
-use Rattle.ps_pddl.proofs.printing.conditions.+push_condition.Given as goal
+use Rattle.ps_print.proofs.conditions.+push_condition.Given as goal
 
 -- a condition stands below the list or the box that it is in
 abbrev pub decreases-push_condition : goal.decreases-push_condition

@@ -1,6 +1,6 @@
 use Rattle.std.proofs.Common.{◌≡◌, ◌++◌, map, take}
 use Rattle.ps_world.specs.DomainTexts.{after_spaces, typed_text}
-use Rattle.ps_pddl.proofs.printing.declared.push_all_typed.Given as goal
+use Rattle.ps_print.proofs.declared.push_all_typed.Given as goal
 
 abbrev pub invariant-loop-param : goal.invariant-loop-param
 invariant-loop-param l =

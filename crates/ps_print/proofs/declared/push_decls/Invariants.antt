@@ -1,6 +1,6 @@
 use Rattle.std.proofs.Common.{◌≡◌, ◌++◌, map, drop}
 use Rattle.ps_world.specs.DomainTexts.{after_spaces, decl_text}
-use Rattle.ps_pddl.proofs.printing.declared.push_decls.Given as goal
+use Rattle.ps_print.proofs.declared.push_decls.Given as goal
 
 abbrev pub invariant-loop-decl : goal.invariant-loop-decl
 invariant-loop-decl l =

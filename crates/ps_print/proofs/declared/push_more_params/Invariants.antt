@@ -1,6 +1,6 @@
 use Rattle.std.proofs.Common.{◌≡◌, ◌++◌, map, drop}
 use Rattle.ps_world.specs.DomainTexts.{after_spaces, param_text}
-use Rattle.ps_pddl.proofs.printing.declared.push_more_params.Given as goal
+use Rattle.ps_print.proofs.declared.push_more_params.Given as goal
 
 abbrev pub invariant-loop-param : goal.invariant-loop-param
 invariant-loop-param l =

@@ -1,8 +1,8 @@
 use Rattle.std.proofs.Common.{codes}
 use Rattle.ps_world.specs.Texts.{name_text}
 use Rattle.ps_world.specs.Journal.{line_end}
-use Rattle.ps_pddl.proofs.Pieces.{closed_line_of}
-use Rattle.ps_pddl.proofs.printing.domains.push_first_line.Goals as goal
+use Rattle.ps_print.proofs.Pieces.{closed_line_of}
+use Rattle.ps_print.proofs.domains.push_first_line.Goals as goal
 
 pub returns : goal.returns
 returns c =

@@ -1,6 +1,6 @@
 use Rattle.std.proofs.Common.{◌≡◌, ◌++◌, map, drop}
 use Rattle.ps_world.specs.DomainTexts.{after_spaces, term_text}
-use Rattle.ps_pddl.proofs.printing.terms.push_terms.Given as goal
+use Rattle.ps_print.proofs.terms.push_terms.Given as goal
 
 abbrev pub invariant-loop-term : goal.invariant-loop-term
 invariant-loop-term l =

@@ -1,8 +1,8 @@
 use Rattle.std.proofs.Common.{ap, ◌∙◌, map}
-use Rattle.ps_pddl.specs.Nested.{followed, nesteds}
-use Rattle.ps_pddl.specs.NestedViews.{nested}
-use Rattle.ps_pddl.proofs.Stacks.{nesteds_more}
-use Rattle.ps_pddl.proofs.trees.Trees.push.Goals as goal
+use Rattle.ps_forms.specs.Nested.{followed, nesteds}
+use Rattle.ps_forms.specs.NestedViews.{nested}
+use Rattle.ps_forms.proofs.Stacks.{nesteds_more}
+use Rattle.ps_forms.proofs.trees.Trees.push.Goals as goal
 
 pub returns : goal.returns
 returns c =

@@ -1,9 +1,9 @@
 use Rattle.std.proofs.Common.{rules, map, ◌∙◌}
 use Rattle.std.proofs.lemmas.Result.{err_from_is_err_and}
 use Rattle.ps_shape.specs.declared.marks.Mark.TheVariants.{Parameters}
-use Rattle.ps_pddl.specs.Nested.{nesteds}
-use Rattle.ps_pddl.specs.NestedViews.{nested}
-use Rattle.ps_pddl.specs.Places.{after, items_at}
+use Rattle.ps_forms.specs.Nested.{nesteds}
+use Rattle.ps_forms.specs.NestedViews.{nested}
+use Rattle.ps_forms.specs.Places.{after, items_at}
 use Rattle.ps_pddl.proofs.Acting.{params-fault, body-fault, added}
 use Rattle.ps_pddl.proofs.FewParams.{few}
 use Rattle.ps_pddl.proofs.meaning.actions.add_action.Goals as goal

@@ -1,9 +1,9 @@
 use Rattle.std.proofs.Common.{arith, map, sym}
 use Rattle.std.proofs.lemmas.Result.{err_from_is_err_and}
-use Rattle.ps_pddl.specs.Nested.{nesteds}
-use Rattle.ps_pddl.specs.NestedViews.{nested}
+use Rattle.ps_forms.specs.Nested.{nesteds}
+use Rattle.ps_forms.specs.NestedViews.{nested}
 use Rattle.ps_pddl.proofs.ConditionForms.{not_nothing, plain}
-use Rattle.ps_pddl.proofs.NestedLists.{from-item, item-rank, rest-rank}
+use Rattle.ps_forms.proofs.NestedLists.{from-item, item-rank, rest-rank}
 use Rattle.ps_pddl.proofs.Operations.{group-rank}
 use Rattle.ps_pddl.proofs.Steps.{refuses-first}
 use Rattle.ps_pddl.proofs.meaning.conditions.+condition.Goals as goal

@@ -1,7 +1,7 @@
 use Rattle.std.proofs.Common.{arith, sym}
 use Rattle.std.proofs.lemmas.Result.{err_from_is_err_and}
 use Rattle.ps_pddl.proofs.EffectForms.{plain}
-use Rattle.ps_pddl.proofs.NestedLists.{item-rank}
+use Rattle.ps_forms.proofs.NestedLists.{item-rank}
 use Rattle.ps_pddl.proofs.meaning.effects.+effect.Goals as goal
 
 pub effects-effect-requires : goal.effects-effect-requires

@@ -2,8 +2,8 @@ use Rattle.std.proofs.Common.{◌≡◌, true, false, rules}
 use Rattle.std.proofs.lemmas.Result.{err_from_is_err_and}
 use Rattle.ps_shape.specs.Marks.{is}
 use Rattle.ps_shape.specs.declared.marks.Mark.TheVariants.{Minus}
-use Rattle.ps_pddl.specs.NestedViews.{nested}
-use Rattle.ps_pddl.specs.Places.{word_of}
+use Rattle.ps_forms.specs.NestedViews.{nested}
+use Rattle.ps_forms.specs.Places.{word_of}
 use Rattle.ps_pddl.proofs.Listings.{listed-minus, run-name, listed-added, listed-fault}
 use Rattle.ps_pddl.proofs.meaning.lists.listed.Goals as goal
 

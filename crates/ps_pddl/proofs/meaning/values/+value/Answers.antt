@@ -1,6 +1,6 @@
 use Rattle.std.proofs.Common.{arith, sym}
 use Rattle.std.proofs.lemmas.Result.{err_from_is_err_and}
-use Rattle.ps_pddl.proofs.NestedLists.{second-rank, third-rank}
+use Rattle.ps_forms.proofs.NestedLists.{second-rank, third-rank}
 use Rattle.ps_pddl.proofs.Operations.{alone, with_one, with_two, group-rank, made}
 use Rattle.ps_pddl.proofs.Steps.{refuses-first}
 use Rattle.ps_pddl.proofs.meaning.values.+value.Goals as goal

@@ -1,0 +1,167 @@
+-- Each value, condition and effect is taken where one is wanted.
+use Rattle.std.proofs.Common.{◌≡◌, ℕ, suc, ◌+◌, List, ◌∷◌, refl, arith}
+use Rattle.ps_shape.specs.Shape.{deepest}
+use Rattle.ps_shape.specs.Symbols.{level}
+use Rattle.ps_shape.specs.declared.marks.Mark.TheVariants as mark
+use Rattle.ps_shape.specs.declared.symbols.Symbol.{Symbol}
+use Rattle.ps_shape.specs.declared.symbols.Symbol.TheVariants.{The, InCondition, InEffect, InValue}
+use Rattle.ps_shape.specs.declared.symbols.ConditionPart.TheVariants as condition
+use Rattle.ps_shape.specs.declared.symbols.EffectPart.TheVariants as effect
+use Rattle.ps_shape.specs.declared.symbols.ValuePart.TheVariants as value
+use Rattle.ps_forms.specs.Grammar.{AreTerms, IsAtom, IsValue, IsCondition, AreConditions, IsTimedCondition, IsPart, AreParts, IsConditionForm, IsEffect, AreEffects, IsTimedEffect, IsChange, AreChanges, IsEffectForm}
+use Rattle.ps_forms.specs.Grammar.AreTerms.{no_term, one_term}
+use Rattle.ps_forms.specs.Grammar.IsAtom.{atom}
+use Rattle.ps_forms.specs.Grammar.IsValue.{a_number, a_term, an_atom, negation, operation}
+use Rattle.ps_forms.specs.Grammar.IsCondition.{all_of, not_so, a_fact, comparison}
+use Rattle.ps_forms.specs.Grammar.AreConditions.{no_condition, one_condition}
+use Rattle.ps_forms.specs.Grammar.IsTimedCondition.{at_moment, over_all}
+use Rattle.ps_forms.specs.Grammar.IsPart.{empty_part, all_parts, timed_part}
+use Rattle.ps_forms.specs.Grammar.AreParts.{no_part, one_part}
+use Rattle.ps_forms.specs.Grammar.IsConditionForm.{empty_condition, listed_condition, lone_condition}
+use Rattle.ps_forms.specs.Grammar.IsEffect.{all_effects, addition, deletion, change}
+use Rattle.ps_forms.specs.Grammar.AreEffects.{no_effect, one_effect}
+use Rattle.ps_forms.specs.Grammar.IsTimedEffect.{effect_at}
+use Rattle.ps_forms.specs.Grammar.IsChange.{empty_change, all_changes, timed_change}
+use Rattle.ps_forms.specs.Grammar.AreChanges.{no_change, one_change}
+use Rattle.ps_forms.specs.Grammar.IsEffectForm.{empty_effect, listed_effect, lone_effect}
+use Rattle.ps_forms.specs.Nested.{Nested, Nesteds, word, group, none, more}
+use Rattle.ps_forms.proofs.OneWord as one
+use Rattle.ps_forms.proofs.OneWord.{no_word}
+use Rattle.ps_forms.proofs.Taking.{Takes, TakesAll}
+
+-- ---- terms and values
+
+terms_taken : (ts : Nesteds) → AreTerms ts → (st : List Symbol) (After : List Symbol → Type 0) → After st → TakesAll ts After (InValue value.Terms ∷ st)
+terms_taken _ no_term st After k = k
+terms_taken _ (one_term l ts is later) st After k = one.term_fits st (TakesAll ts After) l.mark is (terms_taken ts later st After k)
+
+atom_taken : (room : ℕ) (t : Nested) → IsAtom room t → (st : List Symbol) (After : List Symbol → Type 0) → room + level st ≡ deepest → After st → Takes t After (InValue value.Atom ∷ st)
+atom_taken _ _ (atom room l ts name all) st After e k =
+    (omega arith, one.name_fits (InValue value.Terms ∷ st) (TakesAll ts After) l.mark name (terms_taken ts all st After k))
+
+atom_taken_as_value : (room : ℕ) (t : Nested) → IsAtom room t → (st : List Symbol) (After : List Symbol → Type 0) → room + level st ≡ deepest → After st → Takes t After (InValue value.Value ∷ st)
+atom_taken_as_value _ _ (atom room l ts name all) st After e k =
+    (omega arith, one.function_fits st (TakesAll ts After) l.mark name (terms_taken ts all st After k))
+
+-- a value with a parenthesis after it is the last one
+taken_last : (t : Nested) (st : List Symbol) (After : List Symbol → Type 0) → Takes t After (InValue value.Value ∷ The mark.Close ∷ st) → Takes t After (InValue value.ValueOrEnd ∷ st)
+taken_last (word l) st After h = one.last_value_fits st After l.mark h
+taken_last (group us) st After h = (omega (arith, h.0), h.1)
+
+pub value_taken : (room : ℕ) (t : Nested) → IsValue room t → (st : List Symbol) (After : List Symbol → Type 0) → room + level st ≡ deepest → After st → Takes t After (InValue value.Value ∷ st)
+value_taken _ _ (a_number room l is) st After e k = one.at_mark st After (InValue value.Value) l.mark mark.Number is k
+value_taken _ _ (a_term room l is) st After e k = one.value_fits st After l.mark is k
+value_taken _ _ (an_atom room t a) st After e k = atom_taken_as_value room t a st After e k
+value_taken _ _ (negation room l x is v) st After e k =
+    (omega arith, one.at_mark st (TakesAll (more x none) After) (InValue value.Head) l.mark mark.Minus is (value_taken room x v (InValue value.ValueOrEnd ∷ st) (TakesAll none After) (omega arith) k))
+value_taken _ _ (operation room l x y is v w) st After e k =
+    let last : Takes y (TakesAll none After) (InValue value.Value ∷ The mark.Close ∷ st) = value_taken room y w (The mark.Close ∷ st) (TakesAll none After) (omega arith) k in (
+      omega arith,
+      one.operator_fits st (TakesAll (more x (more y none)) After) l.mark is (value_taken room x v (InValue value.ValueOrEnd ∷ st) (TakesAll (more y none) After) (omega arith) (taken_last y st (TakesAll none After) last)) (value_taken room x v (InValue value.Value ∷ The mark.Close ∷ st) (TakesAll (more y none) After) (omega arith) last),
+    )
+
+-- ---- conditions
+
+-- a condition is one of several
+taken_among : (t : Nested) (st : List Symbol) (After : List Symbol → Type 0) → Takes t After (InCondition condition.Condition ∷ InCondition condition.Conditions ∷ st) → Takes t After (InCondition condition.Conditions ∷ st)
+taken_among (word l) st After h = absurd (no_word (InCondition condition.Condition) refl (InCondition condition.Conditions ∷ st) After l.mark h)
+taken_among (group ts) st After h = (omega (arith, h.0), h.1)
+
+mutual
+  condition_taken : (room : ℕ) (t : Nested) → IsCondition room t → (st : List Symbol) (After : List Symbol → Type 0) → room + level st ≡ deepest → After st → Takes t After (InCondition condition.Condition ∷ st)
+  condition_taken _ _ (all_of room l ts is all) st After e k =
+      (omega arith, one.at_mark st (TakesAll ts After) (InCondition condition.Head) l.mark mark.And is (conditions_taken room ts all st After e k))
+  condition_taken _ _ (not_so room l c is other) st After e k =
+      (omega arith, one.at_mark st (TakesAll (more c none) After) (InCondition condition.Head) l.mark mark.Not is (condition_taken room c other (The mark.Close ∷ st) (TakesAll none After) (omega arith) k))
+  condition_taken _ _ (a_fact room l ts is all) st After e k =
+      (omega arith, one.fact_fits st (TakesAll ts After) l.mark is (terms_taken ts all st After k))
+  condition_taken _ _ (comparison room l x y is v w) st After e k =
+      (omega arith, one.relation_fits st (TakesAll (more x (more y none)) After) l.mark is (value_taken room x v (InValue value.Value ∷ The mark.Close ∷ st) (TakesAll (more y none) After) (omega arith) (value_taken room y w (The mark.Close ∷ st) (TakesAll none After) (omega arith) k)))
+
+  conditions_taken : (room : ℕ) (ts : Nesteds) → AreConditions room ts → (st : List Symbol) (After : List Symbol → Type 0) → suc room + level st ≡ deepest → After st → TakesAll ts After (InCondition condition.Conditions ∷ st)
+  conditions_taken _ _ (no_condition room) st After e k = k
+  conditions_taken _ _ (one_condition room c cs first later) st After e k =
+      taken_among c st (TakesAll cs After) (condition_taken room c first (InCondition condition.Conditions ∷ st) (TakesAll cs After) (omega arith) (conditions_taken room cs later st After e k))
+
+-- ---- timed conditions
+
+timed_part_taken : (room : ℕ) (t : Nested) → IsTimedCondition room t → (st : List Symbol) (After : List Symbol → Type 0) → suc room + suc (level st) ≡ deepest → After (InCondition condition.TimedList ∷ st) → Takes t After (InCondition condition.TimedList ∷ st)
+timed_part_taken _ _ (at_moment room l m c is moment own) st After e k =
+    (omega arith, one.at_mark (InCondition condition.TimedList ∷ st) (TakesAll (more (word m) (more c none)) After) (InCondition condition.TimedHead) l.mark mark.At is (one.moment_fits (InCondition condition.Condition ∷ The mark.Close ∷ InCondition condition.TimedList ∷ st) (TakesAll (more c none) After) m.mark moment (condition_taken room c own (The mark.Close ∷ InCondition condition.TimedList ∷ st) (TakesAll none After) (omega arith) k)))
+timed_part_taken _ _ (over_all room l m c is all own) st After e k =
+    (omega arith, one.at_mark (InCondition condition.TimedList ∷ st) (TakesAll (more (word m) (more c none)) After) (InCondition condition.TimedHead) l.mark mark.Over is (one.at_mark (InCondition condition.Condition ∷ The mark.Close ∷ InCondition condition.TimedList ∷ st) (TakesAll (more c none) After) (The mark.All) m.mark mark.All all (condition_taken room c own (The mark.Close ∷ InCondition condition.TimedList ∷ st) (TakesAll none After) (omega arith) k)))
+
+lone_condition_taken : (room : ℕ) (t : Nested) → IsTimedCondition room t → (st : List Symbol) (After : List Symbol → Type 0) → suc (suc room) + level st ≡ deepest → After st → Takes t After (InCondition condition.Form ∷ st)
+lone_condition_taken _ _ (at_moment room l m c is moment own) st After e k =
+    (omega arith, one.at_mark st (TakesAll (more (word m) (more c none)) After) (InCondition condition.FormHead) l.mark mark.At is (one.moment_fits (InCondition condition.Condition ∷ InEffect effect.FormEnd ∷ st) (TakesAll (more c none) After) m.mark moment (condition_taken room c own (InEffect effect.FormEnd ∷ st) (TakesAll none After) (omega arith) k)))
+lone_condition_taken _ _ (over_all room l m c is all own) st After e k =
+    (omega arith, one.at_mark st (TakesAll (more (word m) (more c none)) After) (InCondition condition.FormHead) l.mark mark.Over is (one.at_mark (InCondition condition.Condition ∷ InEffect effect.FormEnd ∷ st) (TakesAll (more c none) After) (The mark.All) m.mark mark.All all (condition_taken room c own (InEffect effect.FormEnd ∷ st) (TakesAll none After) (omega arith) k)))
+
+mutual
+  part_taken : (room : ℕ) (t : Nested) → IsPart room t → (st : List Symbol) (After : List Symbol → Type 0) → room + suc (level st) ≡ deepest → After (InCondition condition.TimedList ∷ st) → Takes t After (InCondition condition.TimedList ∷ st)
+  part_taken _ _ (empty_part room) st After e k = (omega arith, k)
+  part_taken _ _ (all_parts room l ts is all) st After e k =
+      (omega arith, one.at_mark (InCondition condition.TimedList ∷ st) (TakesAll ts After) (InCondition condition.TimedHead) l.mark mark.And is (parts_taken room ts all (InCondition condition.TimedList ∷ st) After (omega arith) k))
+  part_taken _ _ (timed_part room t own) st After e k = timed_part_taken room t own st After e k
+
+  parts_taken : (room : ℕ) (ts : Nesteds) → AreParts room ts → (st : List Symbol) (After : List Symbol → Type 0) → room + suc (level st) ≡ deepest → After st → TakesAll ts After (InCondition condition.TimedList ∷ st)
+  parts_taken _ _ (no_part room) st After e k = k
+  parts_taken _ _ (one_part room t ts first later) st After e k =
+      part_taken room t first st (TakesAll ts After) e (parts_taken room ts later st After e k)
+
+pub condition_form_taken : (room : ℕ) (t : Nested) → IsConditionForm room t → (st : List Symbol) (After : List Symbol → Type 0) → room + level st ≡ deepest → After st → Takes t After (InCondition condition.Form ∷ st)
+condition_form_taken _ _ (empty_condition room) st After e k = (omega arith, k)
+condition_form_taken _ _ (listed_condition room l ts is all) st After e k =
+    (omega arith, one.at_mark st (TakesAll ts After) (InCondition condition.FormHead) l.mark mark.And is (parts_taken room ts all st After (omega arith) k))
+condition_form_taken _ _ (lone_condition room t own) st After e k = lone_condition_taken room t own st After e k
+
+-- ---- effects
+
+-- an effect is one of several
+taken_among_effects : (t : Nested) (st : List Symbol) (After : List Symbol → Type 0) → Takes t After (InEffect effect.Effect ∷ InEffect effect.Effects ∷ st) → Takes t After (InEffect effect.Effects ∷ st)
+taken_among_effects (word l) st After h = absurd (no_word (InEffect effect.Effect) refl (InEffect effect.Effects ∷ st) After l.mark h)
+taken_among_effects (group ts) st After h = (omega (arith, h.0), h.1)
+
+mutual
+  effect_taken : (room : ℕ) (t : Nested) → IsEffect room t → (st : List Symbol) (After : List Symbol → Type 0) → room + level st ≡ deepest → After st → Takes t After (InEffect effect.Effect ∷ st)
+  effect_taken _ _ (all_effects room l ts is all) st After e k =
+      (omega arith, one.at_mark st (TakesAll ts After) (InEffect effect.Head) l.mark mark.And is (effects_taken room ts all st After e k))
+  effect_taken _ _ (addition room l ts is all) st After e k =
+      (omega arith, one.predicate_fits st (TakesAll ts After) l.mark is (terms_taken ts all st After k))
+  effect_taken _ _ (deletion room l a is own) st After e k =
+      (omega arith, one.at_mark st (TakesAll (more a none) After) (InEffect effect.Head) l.mark mark.Not is (atom_taken room a own (The mark.Close ∷ st) (TakesAll none After) (omega arith) k))
+  effect_taken _ _ (change room l a x is own v) st After e k =
+      (omega arith, one.change_fits st (TakesAll (more a (more x none)) After) l.mark is (atom_taken room a own (InValue value.Value ∷ The mark.Close ∷ st) (TakesAll (more x none) After) (omega arith) (value_taken room x v (The mark.Close ∷ st) (TakesAll none After) (omega arith) k)))
+
+  effects_taken : (room : ℕ) (ts : Nesteds) → AreEffects room ts → (st : List Symbol) (After : List Symbol → Type 0) → suc room + level st ≡ deepest → After st → TakesAll ts After (InEffect effect.Effects ∷ st)
+  effects_taken _ _ (no_effect room) st After e k = k
+  effects_taken _ _ (one_effect room t ts first later) st After e k =
+      taken_among_effects t st (TakesAll ts After) (effect_taken room t first (InEffect effect.Effects ∷ st) (TakesAll ts After) (omega arith) (effects_taken room ts later st After e k))
+
+-- ---- timed effects
+
+timed_change_taken : (room : ℕ) (t : Nested) → IsTimedEffect room t → (st : List Symbol) (After : List Symbol → Type 0) → suc room + suc (level st) ≡ deepest → After (InEffect effect.TimedList ∷ st) → Takes t After (InEffect effect.TimedList ∷ st)
+timed_change_taken _ _ (effect_at room l m t is moment own) st After e k =
+    (omega arith, one.at_mark (InEffect effect.TimedList ∷ st) (TakesAll (more (word m) (more t none)) After) (InEffect effect.TimedHead) l.mark mark.At is (one.moment_fits (InEffect effect.Effect ∷ The mark.Close ∷ InEffect effect.TimedList ∷ st) (TakesAll (more t none) After) m.mark moment (effect_taken room t own (The mark.Close ∷ InEffect effect.TimedList ∷ st) (TakesAll none After) (omega arith) k)))
+
+lone_effect_taken : (room : ℕ) (t : Nested) → IsTimedEffect room t → (st : List Symbol) (After : List Symbol → Type 0) → suc (suc room) + level st ≡ deepest → After st → Takes t After (InEffect effect.Form ∷ st)
+lone_effect_taken _ _ (effect_at room l m t is moment own) st After e k =
+    (omega arith, one.at_mark st (TakesAll (more (word m) (more t none)) After) (InEffect effect.FormHead) l.mark mark.At is (one.moment_fits (InEffect effect.Effect ∷ InEffect effect.FormEnd ∷ st) (TakesAll (more t none) After) m.mark moment (effect_taken room t own (InEffect effect.FormEnd ∷ st) (TakesAll none After) (omega arith) k)))
+
+mutual
+  change_taken : (room : ℕ) (t : Nested) → IsChange room t → (st : List Symbol) (After : List Symbol → Type 0) → room + suc (level st) ≡ deepest → After (InEffect effect.TimedList ∷ st) → Takes t After (InEffect effect.TimedList ∷ st)
+  change_taken _ _ (empty_change room) st After e k = (omega arith, k)
+  change_taken _ _ (all_changes room l ts is all) st After e k =
+      (omega arith, one.at_mark (InEffect effect.TimedList ∷ st) (TakesAll ts After) (InEffect effect.TimedHead) l.mark mark.And is (changes_taken room ts all (InEffect effect.TimedList ∷ st) After (omega arith) k))
+  change_taken _ _ (timed_change room t own) st After e k = timed_change_taken room t own st After e k
+
+  changes_taken : (room : ℕ) (ts : Nesteds) → AreChanges room ts → (st : List Symbol) (After : List Symbol → Type 0) → room + suc (level st) ≡ deepest → After st → TakesAll ts After (InEffect effect.TimedList ∷ st)
+  changes_taken _ _ (no_change room) st After e k = k
+  changes_taken _ _ (one_change room t ts first later) st After e k =
+      change_taken room t first st (TakesAll ts After) e (changes_taken room ts later st After e k)
+
+pub effect_form_taken : (room : ℕ) (t : Nested) → IsEffectForm room t → (st : List Symbol) (After : List Symbol → Type 0) → room + level st ≡ deepest → After st → Takes t After (InEffect effect.Form ∷ st)
+effect_form_taken _ _ (empty_effect room) st After e k = (omega arith, k)
+effect_form_taken _ _ (listed_effect room l ts is all) st After e k =
+    (omega arith, one.at_mark st (TakesAll ts After) (InEffect effect.FormHead) l.mark mark.And is (changes_taken room ts all st After (omega arith) k))
+effect_form_taken _ _ (lone_effect room t own) st After e k = lone_effect_taken room t own st After e k

@@ -1,0 +1,14 @@
+pub mod Balance
+pub mod Grammatical
+pub mod GrammaticalForms
+pub mod Judged
+pub mod JudgedForms
+pub mod Kept
+pub mod LexemeSteps
+pub mod NestedLists
+pub mod OneSpelling
+pub mod OneWord
+pub mod Stacks
+pub mod Taking
+pub mod TokenNames
+pub mod Unfinished

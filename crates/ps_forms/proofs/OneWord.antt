@@ -1,0 +1,325 @@
+-- What one word tells where a symbol is wanted (`told`), and which words fit there (`fits`).
+use Rattle.std.proofs.Common.{◌≡◌, Bool, true, false, List, [], ◌∷◌, ◌++◌, Option, None, Some, refl, sym, subst, ◌⊎◌, inl, inr}
+use Rattle.std.specs.List.{list_all}
+use Rattle.std.specs.Option.{option_and_then}
+use denote.Enum.Bare.{same_true}
+use Rattle.ps_shape.specs.contracts.marks.Mark.{the_type}
+use Rattle.ps_shape.specs.Marks.{is, is_name, is_keyword, is_change, is_predicate_name, is_fact_name}
+use Rattle.ps_shape.specs.Rules.{where_it_is, once}
+use Rattle.ps_shape.specs.declared.marks.Mark.{Mark}
+use Rattle.ps_shape.specs.declared.marks.Mark.TheVariants as mark
+use Rattle.ps_shape.specs.declared.symbols.Symbol.{Symbol}
+use Rattle.ps_shape.specs.declared.symbols.Symbol.TheVariants.{The, AnyName, InText, InList, InAction, InCondition, InEffect, InValue}
+use Rattle.ps_shape.specs.declared.symbols.Seen.{Seen}
+use Rattle.ps_shape.specs.declared.symbols.ListPart.{ListPart}
+use Rattle.ps_shape.specs.declared.symbols.TextPart.TheVariants as text
+use Rattle.ps_shape.specs.declared.symbols.ListPart.TheVariants as list
+use Rattle.ps_shape.specs.declared.symbols.ActionPart.TheVariants as action
+use Rattle.ps_shape.specs.declared.symbols.ConditionPart.TheVariants as condition
+use Rattle.ps_shape.specs.declared.symbols.EffectPart.TheVariants as effect
+use Rattle.ps_shape.specs.declared.symbols.ValuePart.TheVariants as value
+use Rattle.ps_forms.specs.Grammar.{is_term, is_operator, is_relation, is_moment, is_variable}
+use Rattle.ps_forms.proofs.Balance.{each_mark, every_mark}
+use Rattle.ps_forms.proofs.Taking.{Follows, after_word, word_step}
+
+-- a word with this mark fits where the symbol is wanted before others, and what is wanted after it is so
+abbrev pub Fits : List Symbol → (List Symbol → Type 0) → Symbol → Mark → Type 0
+Fits st After s m = Follows After (after_word (s ∷ st) m)
+
+abbrev refuses : Option (List Symbol) → Bool
+refuses None = true
+refuses (Some new) = false
+
+nothing_new : (o : Option (List Symbol)) (st : List Symbol) (After : List Symbol → Type 0) → refuses o ≡ true → Follows After (option_and_then (λ new. Some (new ++ st)) o) → ⊥
+nothing_new None st After e h = h
+nothing_new (Some new) st After e h = absurd (cc)
+
+-- no word fits where none may stand
+pub no_word : (s : Symbol) → list_all (λ m. refuses (word_step s m)) every_mark ≡ true → (st : List Symbol) (After : List Symbol → Type 0) (m : Mark) → Fits st After s m → ⊥
+no_word s all st After m h = nothing_new (word_step s m) st After (each_mark (λ n. refuses (word_step s n)) all m) h
+
+module _ (st : List Symbol) (After : List Symbol → Type 0) where
+  -- a word with this mark fits where the mark does
+  pub at_mark : (s : Symbol) (m n : Mark) → m ≡ n → Fits st After s n → Fits st After s m
+  at_mark s m n e h = subst (λ (x : Mark). Fits st After s x) (sym e) h
+
+  passed : (b : Bool) (new : List Symbol) → Follows After (option_and_then (λ n. Some (n ++ st)) (where_it_is b new)) → (b ≡ true) × After (new ++ st)
+  passed true new h = (refl, h)
+  passed false new h = absurd h
+
+  passes : (b : Bool) (new : List Symbol) → b ≡ true → After (new ++ st) → Follows After (option_and_then (λ n. Some (n ++ st)) (where_it_is b new))
+  passes true new e h = h
+  passes false new e h = absurd (cc)
+
+  -- ---- single words
+
+  pub the_told : (n m : Mark) → Fits st After (The n) m → (m ≡ n) × After st
+  the_told n mark.Open h = absurd h
+  the_told n mark.Close h = absurd h
+  the_told n m h =
+      let same = passed (is n m) [] h in
+      (same_true the_type tt m n same.0, same.1)
+
+  pub name_told : (m : Mark) → Fits st After AnyName m → (is_name m ≡ true) × After st
+  name_told mark.Open h = absurd h
+  name_told m h = passed (is_name m) [] h
+
+  pub name_fits : (m : Mark) → is_name m ≡ true → After st → Fits st After AnyName m
+  name_fits mark.Open e h = absurd (cc)
+  name_fits m e h = passes (is_name m) [] e h
+
+  -- ---- terms and values
+
+  pub term_told : (m : Mark) → Fits st After (InValue value.Terms) m → (is_term m ≡ true) × After (InValue value.Terms ∷ st)
+  term_told mark.Variable h = (refl, h)
+  term_told m h = passed (is_name m) (InValue value.Terms ∷ []) h
+
+  pub term_fits : (m : Mark) → is_term m ≡ true → After (InValue value.Terms ∷ st) → Fits st After (InValue value.Terms) m
+  term_fits mark.Variable e h = h
+  term_fits m e h = passes (is_name m) (InValue value.Terms ∷ []) e h
+
+  pub value_told : (m : Mark) → Fits st After (InValue value.Value) m → ((m ≡ mark.Number) ⊎ (is_term m ≡ true)) × After st
+  value_told mark.Number h = (inl refl, h)
+  value_told mark.Variable h = (inr refl, h)
+  value_told m h = let name = passed (is_name m) [] h in (inr name.0, name.1)
+
+  pub value_fits : (m : Mark) → is_term m ≡ true → After st → Fits st After (InValue value.Value) m
+  value_fits mark.Number e h = h
+  value_fits mark.Variable e h = h
+  value_fits m e h = passes (is_name m) [] e h
+
+  pub last_value_told : (m : Mark) → Fits st After (InValue value.ValueOrEnd) m → Fits (The mark.Close ∷ st) After (InValue value.Value) m
+  last_value_told mark.Variable h = h
+  last_value_told m h = h
+
+  pub last_value_fits : (m : Mark) → Fits (The mark.Close ∷ st) After (InValue value.Value) m → Fits st After (InValue value.ValueOrEnd) m
+  last_value_fits mark.Variable h = h
+  last_value_fits m h = h
+
+  pub value_head_told : (m : Mark) → Fits st After (InValue value.Head) m → (m ≡ mark.Minus) × After (InValue value.Value ∷ InValue value.ValueOrEnd ∷ st) ⊎ ((is_operator m ≡ true) × After (InValue value.Value ∷ InValue value.Value ∷ The mark.Close ∷ st) ⊎ (is_name m ≡ true) × After (InValue value.Terms ∷ st))
+  value_head_told mark.Minus h = inl (refl, h)
+  value_head_told mark.Plus h = inr (inl (refl, h))
+  value_head_told mark.Times h = inr (inl (refl, h))
+  value_head_told mark.Divide h = inr (inl (refl, h))
+  value_head_told m h = inr (inr (passed (is_name m) (InValue value.Terms ∷ []) h))
+
+  pub operator_fits : (m : Mark) → is_operator m ≡ true → After (InValue value.Value ∷ InValue value.ValueOrEnd ∷ st) → After (InValue value.Value ∷ InValue value.Value ∷ The mark.Close ∷ st) → Fits st After (InValue value.Head) m
+  operator_fits mark.Minus e h k = h
+  operator_fits mark.Plus e h k = k
+  operator_fits mark.Times e h k = k
+  operator_fits mark.Divide e h k = k
+  operator_fits m e h k = absurd (cc)
+
+  pub function_fits : (m : Mark) → is_name m ≡ true → After (InValue value.Terms ∷ st) → Fits st After (InValue value.Head) m
+  function_fits mark.Minus e h = absurd (cc)
+  function_fits mark.Plus e h = absurd (cc)
+  function_fits mark.Times e h = absurd (cc)
+  function_fits mark.Divide e h = absurd (cc)
+  function_fits m e h = passes (is_name m) (InValue value.Terms ∷ []) e h
+
+  -- ---- conditions
+
+  pub condition_head_told : (m : Mark) → Fits st After (InCondition condition.Head) m → ((m ≡ mark.And) × After (InCondition condition.Conditions ∷ st) ⊎ (m ≡ mark.Not) × After (InCondition condition.Condition ∷ The mark.Close ∷ st)) ⊎ ((is_relation m ≡ true) × After (InValue value.Value ∷ InValue value.Value ∷ The mark.Close ∷ st) ⊎ (is_fact_name m ≡ true) × After (InValue value.Terms ∷ st))
+  condition_head_told mark.And h = inl (inl (refl, h))
+  condition_head_told mark.Not h = inl (inr (refl, h))
+  condition_head_told mark.Equal h = inr (inl (refl, h))
+  condition_head_told mark.Less h = inr (inl (refl, h))
+  condition_head_told mark.LessEqual h = inr (inl (refl, h))
+  condition_head_told mark.GreaterEqual h = inr (inl (refl, h))
+  condition_head_told mark.Greater h = inr (inl (refl, h))
+  condition_head_told m h = inr (inr (passed (is_fact_name m) (InValue value.Terms ∷ []) h))
+
+  pub relation_fits : (m : Mark) → is_relation m ≡ true → After (InValue value.Value ∷ InValue value.Value ∷ The mark.Close ∷ st) → Fits st After (InCondition condition.Head) m
+  relation_fits mark.Equal e h = h
+  relation_fits mark.Less e h = h
+  relation_fits mark.LessEqual e h = h
+  relation_fits mark.GreaterEqual e h = h
+  relation_fits mark.Greater e h = h
+  relation_fits m e h = absurd (cc)
+
+  pub fact_fits : (m : Mark) → is_fact_name m ≡ true → After (InValue value.Terms ∷ st) → Fits st After (InCondition condition.Head) m
+  fact_fits mark.And e h = absurd (cc)
+  fact_fits mark.Not e h = absurd (cc)
+  fact_fits mark.Equal e h = absurd (cc)
+  fact_fits mark.Less e h = absurd (cc)
+  fact_fits mark.LessEqual e h = absurd (cc)
+  fact_fits mark.GreaterEqual e h = absurd (cc)
+  fact_fits mark.Greater e h = absurd (cc)
+  fact_fits m e h = passes (is_fact_name m) (InValue value.Terms ∷ []) e h
+
+  pub moment_told : (m : Mark) → Fits st After (InEffect effect.StartOrEnd) m → (is_moment m ≡ true) × After st
+  moment_told mark.Start h = (refl, h)
+  moment_told mark.End h = (refl, h)
+  moment_told _ h = absurd h
+
+  pub moment_fits : (m : Mark) → is_moment m ≡ true → After st → Fits st After (InEffect effect.StartOrEnd) m
+  moment_fits mark.Start e h = h
+  moment_fits mark.End e h = h
+  moment_fits _ e h = absurd (cc)
+
+  pub timed_head_told : (m : Mark) → Fits st After (InCondition condition.TimedHead) m → (m ≡ mark.And) × After (InCondition condition.TimedList ∷ st) ⊎ ((m ≡ mark.At) × After (InEffect effect.StartOrEnd ∷ InCondition condition.Condition ∷ The mark.Close ∷ st) ⊎ (m ≡ mark.Over) × After (The mark.All ∷ InCondition condition.Condition ∷ The mark.Close ∷ st))
+  timed_head_told mark.And h = inl (refl, h)
+  timed_head_told mark.At h = inr (inl (refl, h))
+  timed_head_told mark.Over h = inr (inr (refl, h))
+  timed_head_told _ h = absurd h
+
+  pub form_head_told : (m : Mark) → Fits st After (InCondition condition.FormHead) m → (m ≡ mark.And) × After (InCondition condition.TimedList ∷ st) ⊎ ((m ≡ mark.At) × After (InEffect effect.StartOrEnd ∷ InCondition condition.Condition ∷ InEffect effect.FormEnd ∷ st) ⊎ (m ≡ mark.Over) × After (The mark.All ∷ InCondition condition.Condition ∷ InEffect effect.FormEnd ∷ st))
+  form_head_told mark.And h = inl (refl, h)
+  form_head_told mark.At h = inr (inl (refl, h))
+  form_head_told mark.Over h = inr (inr (refl, h))
+  form_head_told _ h = absurd h
+
+  -- ---- effects
+
+  pub effect_head_told : (m : Mark) → Fits st After (InEffect effect.Head) m → ((m ≡ mark.And) × After (InEffect effect.Effects ∷ st) ⊎ (m ≡ mark.Not) × After (InValue value.Atom ∷ The mark.Close ∷ st)) ⊎ ((is_change m ≡ true) × After (InValue value.Atom ∷ InValue value.Value ∷ The mark.Close ∷ st) ⊎ (is_predicate_name m ≡ true) × After (InValue value.Terms ∷ st))
+  effect_head_told mark.And h = inl (inl (refl, h))
+  effect_head_told mark.Not h = inl (inr (refl, h))
+  effect_head_told mark.Assign h = inr (inl (refl, h))
+  effect_head_told mark.Increase h = inr (inl (refl, h))
+  effect_head_told mark.Decrease h = inr (inl (refl, h))
+  effect_head_told mark.ScaleUp h = inr (inl (refl, h))
+  effect_head_told mark.ScaleDown h = inr (inl (refl, h))
+  effect_head_told m h = inr (inr (passed (is_predicate_name m) (InValue value.Terms ∷ []) h))
+
+  pub change_fits : (m : Mark) → is_change m ≡ true → After (InValue value.Atom ∷ InValue value.Value ∷ The mark.Close ∷ st) → Fits st After (InEffect effect.Head) m
+  change_fits mark.Assign e h = h
+  change_fits mark.Increase e h = h
+  change_fits mark.Decrease e h = h
+  change_fits mark.ScaleUp e h = h
+  change_fits mark.ScaleDown e h = h
+  change_fits m e h = absurd (cc)
+
+  pub predicate_fits : (m : Mark) → is_predicate_name m ≡ true → After (InValue value.Terms ∷ st) → Fits st After (InEffect effect.Head) m
+  predicate_fits mark.And e h = absurd (cc)
+  predicate_fits mark.Not e h = absurd (cc)
+  predicate_fits mark.Assign e h = absurd (cc)
+  predicate_fits mark.Increase e h = absurd (cc)
+  predicate_fits mark.Decrease e h = absurd (cc)
+  predicate_fits mark.ScaleUp e h = absurd (cc)
+  predicate_fits mark.ScaleDown e h = absurd (cc)
+  predicate_fits m e h = passes (is_predicate_name m) (InValue value.Terms ∷ []) e h
+
+  pub timed_effect_head_told : (m : Mark) → Fits st After (InEffect effect.TimedHead) m → (m ≡ mark.And) × After (InEffect effect.TimedList ∷ st) ⊎ (m ≡ mark.At) × After (InEffect effect.StartOrEnd ∷ InEffect effect.Effect ∷ The mark.Close ∷ st)
+  timed_effect_head_told mark.And h = inl (refl, h)
+  timed_effect_head_told mark.At h = inr (refl, h)
+  timed_effect_head_told _ h = absurd h
+
+  pub effect_form_head_told : (m : Mark) → Fits st After (InEffect effect.FormHead) m → (m ≡ mark.And) × After (InEffect effect.TimedList ∷ st) ⊎ (m ≡ mark.At) × After (InEffect effect.StartOrEnd ∷ InEffect effect.Effect ∷ InEffect effect.FormEnd ∷ st)
+  effect_form_head_told mark.And h = inl (refl, h)
+  effect_form_head_told mark.At h = inr (refl, h)
+  effect_form_head_told _ h = absurd h
+
+  -- ---- lists of names
+
+  pub keyword_told : (m : Mark) → Fits st After (InList list.Keywords) m → (is_keyword m ≡ true) × After (InList list.Keywords ∷ st)
+  keyword_told mark.Open h = absurd h
+  keyword_told m h = passed (is_keyword m) (InList list.Keywords ∷ []) h
+
+  pub keyword_fits : (m : Mark) → is_keyword m ≡ true → After (InList list.Keywords ∷ st) → Fits st After (InList list.Keywords) m
+  keyword_fits mark.Open e h = absurd (cc)
+  keyword_fits m e h = passes (is_keyword m) (InList list.Keywords ∷ []) e h
+
+  pub first_name_told : (m : Mark) → Fits st After (InList list.Names) m → (is_name m ≡ true) × After (InList list.NameRun ∷ st)
+  first_name_told mark.Open h = absurd h
+  first_name_told m h = passed (is_name m) (InList list.NameRun ∷ []) h
+
+  pub first_name_fits : (m : Mark) → is_name m ≡ true → After (InList list.NameRun ∷ st) → Fits st After (InList list.Names) m
+  first_name_fits mark.Open e h = absurd (cc)
+  first_name_fits m e h = passes (is_name m) (InList list.NameRun ∷ []) e h
+
+  pub next_name_told : (m : Mark) → Fits st After (InList list.NameRun) m → (m ≡ mark.Minus) × After (InList list.TypeName ∷ InList list.Names ∷ st) ⊎ (is_name m ≡ true) × After (InList list.NameRun ∷ st)
+  next_name_told mark.Minus h = inl (refl, h)
+  next_name_told m h = inr (passed (is_name m) (InList list.NameRun ∷ []) h)
+
+  pub next_name_fits : (m : Mark) → is_name m ≡ true → After (InList list.NameRun ∷ st) → Fits st After (InList list.NameRun) m
+  next_name_fits mark.Minus e h = absurd (cc)
+  next_name_fits m e h = passes (is_name m) (InList list.NameRun ∷ []) e h
+
+  pub type_told : (m : Mark) → Fits st After (InList list.TypeName) m → (is_name m ≡ true) × After st
+  type_told mark.Open h = absurd h
+  type_told m h = passed (is_name m) [] h
+
+  pub type_fits : (m : Mark) → is_name m ≡ true → After st → Fits st After (InList list.TypeName) m
+  type_fits mark.Open e h = absurd (cc)
+  type_fits m e h = passes (is_name m) [] e h
+
+  pub first_variable_told : (m : Mark) → Fits st After (InList list.Variables) m → (is_variable m ≡ true) × After (InList list.VariableRun ∷ st)
+  first_variable_told mark.Variable h = (refl, h)
+  first_variable_told _ h = absurd h
+
+  pub first_variable_fits : (m : Mark) → is_variable m ≡ true → After (InList list.VariableRun ∷ st) → Fits st After (InList list.Variables) m
+  first_variable_fits mark.Variable e h = h
+  first_variable_fits _ e h = absurd (cc)
+
+  pub next_variable_told : (m : Mark) → Fits st After (InList list.VariableRun) m → (m ≡ mark.Minus) × After (InList list.TypeName ∷ InList list.Variables ∷ st) ⊎ (is_variable m ≡ true) × After (InList list.VariableRun ∷ st)
+  next_variable_told mark.Minus h = inl (refl, h)
+  next_variable_told mark.Variable h = inr (refl, h)
+  next_variable_told _ h = absurd h
+
+  pub next_variable_fits : (m : Mark) → is_variable m ≡ true → After (InList list.VariableRun ∷ st) → Fits st After (InList list.VariableRun) m
+  next_variable_fits mark.Variable e h = h
+  next_variable_fits _ e h = absurd (cc)
+
+  pub predicate_told : (m : Mark) → Fits st After (InList list.PredicateHead) m → (is_predicate_name m ≡ true) × After st
+  predicate_told mark.Open h = absurd h
+  predicate_told m h = passed (is_predicate_name m) [] h
+
+  pub declared_predicate_fits : (m : Mark) → is_predicate_name m ≡ true → After st → Fits st After (InList list.PredicateHead) m
+  declared_predicate_fits mark.Open e h = absurd (cc)
+  declared_predicate_fits m e h = passes (is_predicate_name m) [] e h
+
+  pub function_run_told : (m : Mark) → Fits st After (InList list.FunctionRun) m → (m ≡ mark.Minus) × After (InList list.FunctionType ∷ InList list.Functions ∷ st)
+  function_run_told mark.Minus h = (refl, h)
+  function_run_told _ h = absurd h
+
+  pub number_told : (m : Mark) → Fits st After (InList list.FunctionType) m → (m ≡ mark.NumberWord) × After st
+  number_told mark.NumberWord h = (refl, h)
+  number_told _ h = absurd h
+
+  -- ---- actions and sections
+
+  pub parameters_told : (m : Mark) → Fits st After (InAction action.AfterName) m → (m ≡ mark.Parameters) × After (InAction action.Parameters ∷ InAction action.AfterParameters ∷ st)
+  parameters_told mark.Parameters h = (refl, h)
+  parameters_told _ h = absurd h
+
+  pub duration_key_told : (m : Mark) → Fits st After (InAction action.AfterParameters) m → (m ≡ mark.DurationKey) × After (InAction action.Duration ∷ InAction action.AfterDuration ∷ st)
+  duration_key_told mark.DurationKey h = (refl, h)
+  duration_key_told _ h = absurd h
+
+  pub equal_told : (m : Mark) → Fits st After (InAction action.DurationHead) m → (m ≡ mark.Equal) × After (The mark.Duration ∷ InValue value.Value ∷ The mark.Close ∷ st)
+  equal_told mark.Equal h = (refl, h)
+  equal_told _ h = absurd h
+
+  pub after_duration_told : (m : Mark) → Fits st After (InAction action.AfterDuration) m → (m ≡ mark.ConditionKey) × After (InCondition condition.Form ∷ InAction action.AfterCondition ∷ st) ⊎ (m ≡ mark.EffectKey) × After (InEffect effect.Form ∷ The mark.Close ∷ st)
+  after_duration_told mark.ConditionKey h = inl (refl, h)
+  after_duration_told mark.EffectKey h = inr (refl, h)
+  after_duration_told _ h = absurd h
+
+  pub after_condition_told : (m : Mark) → Fits st After (InAction action.AfterCondition) m → (m ≡ mark.EffectKey) × After (InEffect effect.Form ∷ The mark.Close ∷ st)
+  after_condition_told mark.EffectKey h = (refl, h)
+  after_condition_told _ h = absurd h
+
+  pub domain_told : (m : Mark) → Fits st After (InText text.TitleWord) m → (m ≡ mark.Domain) × After st
+  domain_told mark.Domain h = (refl, h)
+  domain_told _ h = absurd h
+
+  first_time : (n : Mark) (before : Bool) (part : ListPart) (seen : Seen) → Follows After (option_and_then (λ new. Some (new ++ st)) (once before part seen)) → (n ≡ n) × (before ≡ false) × After (InList part ∷ InText (text.Sections seen) ∷ st)
+  first_time n true part seen h = absurd h
+  first_time n false part seen h = (refl, refl, h)
+
+  pub once_fits : (before : Bool) (part : ListPart) (seen : Seen) → before ≡ false → After (InList part ∷ InText (text.Sections seen) ∷ st) → Follows After (option_and_then (λ new. Some (new ++ st)) (once before part seen))
+  once_fits true part seen e h = absurd (cc)
+  once_fits false part seen e h = h
+
+  -- the mark begins a section that did not stand before, and its list is wanted
+  abbrev pub Begins : Mark → Mark → Bool → ListPart → Seen → Type 0
+  Begins m n before part seen = (m ≡ n) × (before ≡ false) × After (InList part ∷ InText (text.Sections seen) ∷ st)
+
+  pub section_told : (seen : Seen) (m : Mark) → Fits st After (InText (text.SectionHead seen)) m → ((Begins m mark.Requirements seen.requirements list.Keywords (record seen { requirements = true }) ⊎ Begins m mark.Types seen.types list.Names (record seen { types = true })) ⊎ (Begins m mark.Constants seen.constants list.Names (record seen { constants = true }) ⊎ Begins m mark.Predicates seen.predicates list.Predicates (record seen { predicates = true }))) ⊎ (Begins m mark.Functions seen.functions list.Functions (record seen { functions = true }) ⊎ (m ≡ mark.DurativeAction) × After (AnyName ∷ InAction action.AfterName ∷ InText (text.Sections seen) ∷ st))
+  section_told seen mark.Requirements h = inl (inl (inl (first_time mark.Requirements seen.requirements list.Keywords (record seen { requirements = true }) h)))
+  section_told seen mark.Types h = inl (inl (inr (first_time mark.Types seen.types list.Names (record seen { types = true }) h)))
+  section_told seen mark.Constants h = inl (inr (inl (first_time mark.Constants seen.constants list.Names (record seen { constants = true }) h)))
+  section_told seen mark.Predicates h = inl (inr (inr (first_time mark.Predicates seen.predicates list.Predicates (record seen { predicates = true }) h)))
+  section_told seen mark.Functions h = inr (inl (first_time mark.Functions seen.functions list.Functions (record seen { functions = true }) h))
+  section_told seen mark.DurativeAction h = inr (inr (refl, h))
+  section_told seen _ h = absurd h

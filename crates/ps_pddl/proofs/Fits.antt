@@ -1,0 +1,82 @@
+-- What a domain must be like for the grammar to take its canonical text: heads that may stand where they do, and few enough levels.
+use Rattle.std.proofs.Common.{◌≡◌, ℕ, ℤ, suc, true, List, ◌++◌, codes}
+use Rattle.std.specs.List.{All}
+use Rattle.ps_world.specs.Names.{Table}
+use Rattle.ps_world.specs.Texts.{name_text}
+use Rattle.ps_world.specs.Trees.{ExprTree, number, value_of, negated, operated, CondTree, CondTrees, all_of, no, holds, same, compares}
+use Rattle.ps_world.specs.Trees as tree
+use Rattle.ps_world.specs.ExprViews.{expr_tree}
+use Rattle.ps_world.specs.declared.names.Name.{Name}
+use Rattle.ps_world.specs.declared.schemas.Term.{Term}
+use Rattle.ps_world.specs.declared.schemas.Lifted.{Lifted}
+use Rattle.ps_world.specs.declared.expressions.Op.{Op}
+use Rattle.ps_world.specs.declared.expressions.Expr.{Expr}
+use Rattle.ps_world.specs.declared.conditions.Rel.{Rel}
+use Rattle.ps_world.specs.declared.actions.NumOp.{NumOp}
+use Rattle.ps_world.specs.declared.actions.Effect.{Effect}
+use Rattle.ps_world.specs.declared.actions.Effect.TheVariants.{Add, Delete, Number}
+use Rattle.ps_world.specs.declared.actions.ActionDef.{ActionDef}
+use Rattle.ps_world.specs.declared.domains.Param.{Param}
+use Rattle.ps_world.specs.declared.domains.Decl.{Decl}
+use Rattle.ps_world.specs.declared.domains.Domain.{Domain}
+use Rattle.ps_text.specs.declared.lexing.Class.TheVariants as class
+use Rattle.ps_shape.specs.Marks.{is_predicate_name, is_fact_name}
+use Rattle.ps_shape.specs.declared.marks.Mark.TheVariants as mark
+use Rattle.ps_forms.specs.Lexemes.{mark_of}
+use Rattle.ps_pddl.proofs.CanonicalForms.{name_mark}
+
+-- a variable may have this name: it isn't ?duration
+abbrev pub IsVariableName : Table → Name → Type 0
+IsVariableName names n = mark_of class.Variable (codes "?" ++ name_text names n) ≡ mark.Variable
+
+-- an expression with at most so many levels
+pub data FitsExpr : ℕ → ExprTree → Type 0 where
+  fits_number : (room : ℕ) (n : ℤ) → FitsExpr room (number n)
+  fits_value : (room : ℕ) (f : Lifted) → FitsExpr (suc room) (value_of f)
+  fits_negation : (room : ℕ) (x : ExprTree) → FitsExpr room x → FitsExpr (suc room) (negated x)
+  fits_operation : (room : ℕ) (o : Op) (x y : ExprTree) → FitsExpr room x → FitsExpr room y → FitsExpr (suc room) (operated o x y)
+
+mutual
+  -- a condition with at most so many levels
+  pub data FitsCond (names : Table) : ℕ → CondTree → Type 0 where
+    fits_all : (room : ℕ) (cs : CondTrees) → FitConds names room cs → FitsCond names (suc room) (all_of cs)
+    fits_not : (room : ℕ) (c : CondTree) → FitsCond names room c → FitsCond names (suc room) (no c)
+    fits_fact : (room : ℕ) (f : Lifted) → is_fact_name (name_mark names f.head) ≡ true → FitsCond names (suc room) (holds f)
+    fits_same : (room : ℕ) (a b : Term) → FitsCond names (suc room) (same a b)
+    fits_comparison : (room : ℕ) (r : Rel) (x y : ExprTree) → FitsExpr room x → FitsExpr room y → FitsCond names (suc room) (compares r x y)
+
+  -- the same of several
+  pub data FitConds (names : Table) : ℕ → CondTrees → Type 0 where
+    fit_none : (room : ℕ) → FitConds names room tree.none
+    fit_more : (room : ℕ) (c : CondTree) (cs : CondTrees) → FitsCond names room c → FitConds names room cs → FitConds names room (tree.more c cs)
+
+-- an effect with at most so many levels
+pub data FitsEffect (names : Table) : ℕ → Effect → Type 0 where
+  fits_addition : (room : ℕ) (f : Lifted) → is_predicate_name (name_mark names f.head) ≡ true → FitsEffect names (suc room) (Add f)
+  fits_deletion : (room : ℕ) (f : Lifted) → FitsEffect names (suc (suc room)) (Delete f)
+  fits_change : (room : ℕ) (how : NumOp) (f : Lifted) (x : Expr) → FitsExpr (suc room) (expr_tree x) → FitsEffect names (suc (suc room)) (Number how f x)
+
+-- parameters that may be variables
+abbrev pub FitParams : Table → List Param → Type 0
+FitParams names ps = All (λ p. IsVariableName names p.name) ps
+
+-- an action: its duration stands under 3 levels, each condition and effect under 4
+pub record FitsAction (names : Table) (a : ActionDef) : Type 0 where
+  pub params : FitParams names a.params
+  pub duration : FitsExpr 61 (expr_tree a.duration)
+  pub start : All (FitsCond names 60) a.start
+  pub over : All (FitsCond names 60) a.over
+  pub end : All (FitsCond names 60) a.end
+  pub at_start : All (FitsEffect names 60) a.at_start
+  pub at_end : All (FitsEffect names 60) a.at_end
+
+-- a predicate, which has no name of a form
+pub record FitsPredicate (names : Table) (decl : Decl) : Type 0 where
+  pub head : is_predicate_name (name_mark names decl.name) ≡ true
+  pub params : FitParams names decl.params
+
+-- a domain
+pub record FitsDomain (names : Table) (d : Domain) : Type 0 where
+  pub predicates : All (FitsPredicate names) d.predicates
+  pub functions : All (λ decl. FitParams names decl.params) d.functions
+  pub actions : All (FitsAction names) d.actions

@@ -1,0 +1,164 @@
+-- The words of conditions mean them.
+use Rattle.std.proofs.Common.{◌≡◌, All, true, false, List, [], ◌∷◌, ◌++◌, Option, Some, None, Ok, refl, ap, append_assoc, append-nil}
+use Rattle.std.proofs.lemmas.Bool.{eqb-true}
+use Rattle.std.proofs.lemmas.List.Elements.{All-head, All-tail}
+use Rattle.ps_world.specs.CondViews.{cond_tree}
+use Rattle.ps_world.specs.Knowledge.{predicate_of}
+use Rattle.ps_world.specs.Names.{Table, same_name}
+use Rattle.ps_world.specs.Trees.{ExprTree, CondTree, CondTrees, all_of, no, holds, same, compares, is_a, cond_trees, list_of}
+use Rattle.ps_world.specs.Trees as tree
+use Rattle.ps_world.specs.declared.domains.Param.{Param}
+use Rattle.ps_world.specs.declared.domains.Decl.{Decl}
+use Rattle.ps_world.specs.declared.domains.Domain.{Domain}
+use Rattle.ps_world.specs.declared.schemas.Term.{Term}
+use Rattle.ps_world.specs.declared.schemas.Term.TheVariants.{Var, Const}
+use Rattle.ps_world.specs.declared.schemas.Lifted.{Lifted}
+use Rattle.ps_world.specs.declared.actions.ActionDef.{ActionDef}
+use Rattle.ps_world.specs.declared.conditions.Cond.{Cond}
+use Rattle.ps_world.specs.declared.conditions.Cond.TheVariants as cond
+use Rattle.ps_world.specs.declared.conditions.Rel.{Rel}
+use Rattle.ps_world.specs.declared.conditions.Rel.TheVariants.{Lt, Le, Eq, Ge, Gt}
+use Rattle.ps_shape.specs.Marks.{is, is_name, is_predicate_name}
+use Rattle.ps_shape.specs.declared.marks.Mark.TheVariants as mark
+use Rattle.ps_forms.specs.Nested.{Nested, Nesteds, none, more}
+use Rattle.ps_forms.specs.declared.lexemes.Lexeme.{Lexeme}
+use Rattle.ps_pddl.specs.Conditions as condition
+use Rattle.ps_pddl.specs.Steps.{Read}
+use Rattle.ps_pddl.specs.WellFormed.{AreApart, AreConds, IsApplied, IsCond, IsExpr, IsFactOf}
+use Rattle.ps_pddl.specs.declared.meaning.parts.Parts.{Parts}
+use Rattle.ps_pddl.proofs.CanonicalForms.{name_mark, rel_mark, joined, IsTermWord, IsExprForm, a_number, a_value, a_negation, an_operation, IsCondForm, all_form, not_form, fact_form, same_form, comparison_form, AreCondForms, no_forms, more_forms, timed, AreForms, no_items, more_items, IsStartCond, IsOverCond, IsEndCond}
+use Rattle.ps_pddl.proofs.CanonicalForms as form
+use Rattle.ps_pddl.proofs.MeanMarks.{name-isnt, predicate-isnt, rel_of-name}
+use Rattle.ps_pddl.proofs.MeanTerms.{TakeFew, found_all, named-is_name, resolved-means, fact-means, untree, expr_tree-untree, value-means}
+use Rattle.ps_pddl.proofs.SoundTerms.{acting}
+
+-- ---- the condition of a tree
+
+abbrev pub uncond : CondTree → Cond
+uncond (all_of cs) = cond.And (list_of cs)
+uncond (no c) = cond.Not c
+uncond (holds f) = cond.Holds f
+uncond (same a b) = cond.Same a b
+uncond (compares r x y) = cond.Cmp r (untree x) (untree y)
+uncond (is_a t kind) = cond.IsA t kind
+
+cond_trees-list_of : (cs : CondTrees) → cond_trees (list_of cs) ≡ cs
+cond_trees-list_of tree.none = refl
+cond_trees-list_of (tree.more c cs) = ap (λ more. tree.more c more) (cond_trees-list_of cs)
+
+pub cond_tree-uncond : (c : CondTree) → cond_tree (uncond c) ≡ c
+cond_tree-uncond (all_of cs) = ap all_of (cond_trees-list_of cs)
+cond_tree-uncond (no c) = refl
+cond_tree-uncond (holds f) = refl
+cond_tree-uncond (same a b) = refl
+cond_tree-uncond (compares r x y) = rw (expr_tree-untree x, expr_tree-untree y) refl
+cond_tree-uncond (is_a t kind) = refl
+
+-- ---- heads
+
+rel_of-rel : (r : Rel) → condition.rel_of (rel_mark r) ≡ Some r
+rel_of-rel Lt = refl
+rel_of-rel Le = refl
+rel_of-rel Eq = refl
+rel_of-rel Ge = refl
+rel_of-rel Gt = refl
+
+rel-isnt_and : (r : Rel) → is mark.And (rel_mark r) ≡ false
+rel-isnt_and Lt = refl
+rel-isnt_and Le = refl
+rel-isnt_and Eq = refl
+rel-isnt_and Ge = refl
+rel-isnt_and Gt = refl
+
+rel-isnt_not : (r : Rel) → is mark.Not (rel_mark r) ≡ false
+rel-isnt_not Lt = refl
+rel-isnt_not Le = refl
+rel-isnt_not Eq = refl
+rel-isnt_not Ge = refl
+rel-isnt_not Gt = refl
+
+-- a term is no number
+term-isnt_number : (names : Table) (ps : List Param) (t : Term) (l : Lexeme) → IsTermWord names ps t l → is mark.Number l.mark ≡ false
+term-isnt_number names ps (Var i) l w = rw w.mark refl
+term-isnt_number names ps (Const n) l w = name-isnt mark.Number l.mark (named-is_name names n l w) refl
+
+-- the declared predicates have no name of a form
+abbrev pub HaveHeads : Table → List Decl → Type 0
+HaveHeads names decls = All (λ decl. is_predicate_name (name_mark names decl.name) ≡ true) decls
+
+applied-head : (names : Table) (d : Domain) (ps : List Param) (f : Lifted) (o : Option Decl) → HaveHeads names d.predicates → predicate_of d f.head ≡ o → IsApplied d ps o f.terms → is_predicate_name (name_mark names f.head) ≡ true
+applied-head names d ps f None heads e h = absurd h
+applied-head names d ps f (Some decl) heads e h =
+    let found = found_all (λ decl. is_predicate_name (name_mark names decl.name) ≡ true) (λ decl. same_name f.head decl.name) d.predicates decl heads e in
+    let one : f.head ≡ decl.name = ap (λ k. record { 0 = k }) (eqb-true f.head.0 decl.name.0 found.1) in
+    rw one found.0
+
+-- so a fact has none
+pub fact-head : (names : Table) (d : Domain) (ps : List Param) (f : Lifted) → HaveHeads names d.predicates → IsFactOf d ps f → is_predicate_name (name_mark names f.head) ≡ true
+fact-head names d ps f heads h = applied-head names d ps f (predicate_of d f.head) heads refl h
+
+-- nothing after a list
+pub joined-none : (ts : Nesteds) → joined ts none ≡ ts
+joined-none none = refl
+joined-none (more t ts) = ap (λ rest. more t rest) (joined-none ts)
+
+module _ (names : Table) (d : Domain) (acts : List ActionDef) (ps : List Param) (apart : AreApart (λ p. p.name) ps) (predicates : TakeFew d.predicates) (functions : TakeFew d.functions) (heads : HaveHeads names d.predicates) where
+  comparison-means : (r : Rel) (x y : ExprTree) (t u : Nested) → IsExpr d ps x → IsExpr d ps y → IsExprForm names ps x t → IsExprForm names ps y u → condition.comparison (acting d acts) ps r t u ≡ Ok (cond.Cmp r (untree x) (untree y))
+  comparison-means r x y t u h k a b = rw (value-means names d acts ps apart functions x t h a, value-means names d acts ps apart functions y u k b) refl
+
+  -- numbers are compared where the first operand is one
+  equality-numbers : (x : ExprTree) (t u : Nested) → IsExprForm names ps x t → condition.equality (acting d acts) ps t u ≡ condition.comparison (acting d acts) ps Eq t u
+  equality-numbers _ _ u (a_number n l m e) = rw m refl
+  equality-numbers _ _ u (a_value f _ (form.lifted _ l ts w k)) = refl
+  equality-numbers _ _ u (a_negation x l t m k) = refl
+  equality-numbers _ _ u (an_operation o x y l t v m j k) = refl
+
+  related-means : (r : Rel) (x : ExprTree) (t u : Nested) (other : Read Cond) → IsExprForm names ps x t → condition.related (acting d acts) ps (Some r) t u other ≡ condition.comparison (acting d acts) ps r t u
+  related-means Lt x t u other k = refl
+  related-means Le x t u other k = refl
+  related-means Eq x t u other k = equality-numbers x t u k
+  related-means Ge x t u other k = refl
+  related-means Gt x t u other k = refl
+
+  -- a name at the head is that of a predicate
+  stated-name : (l : Lexeme) (ts : Nesteds) → is_name l.mark ≡ true → condition.plain_condition (acting d acts) ps l ts ≡ condition.stated (acting d acts) ps l ts
+  stated-name l none h = refl
+  stated-name l (more a none) h = refl
+  stated-name l (more a (more b ts)) h = rw (rel_of-name l.mark h) refl
+
+  mutual
+    condition-means : (c : CondTree) (t : Nested) → IsCond d ps c → IsCondForm names ps c t → condition.condition (acting d acts) ps t ≡ Ok (uncond c)
+    condition-means _ _ h (all_form cs l ts m k) = rw (m, conditions-mean cs ts [] h k) refl
+    condition-means _ _ h (not_form c l t m k) = rw (m, condition-means c t h k, cond_tree-uncond c) refl
+    condition-means _ _ h (fact_form f _ (form.lifted _ l ts w u)) =
+        let head : is_predicate_name l.mark ≡ true = rw w.mark (fact-head names d ps f heads h) in
+        rw (predicate-isnt mark.And l.mark head refl, predicate-isnt mark.Not l.mark head refl, stated-name l ts (named-is_name names f.head l w), fact-means names d acts ps apart f l ts predicates h w u) refl
+    condition-means _ _ h (same_form a b l m n e v w) =
+        rw (e, term-isnt_number names ps a m v, resolved-means names d acts ps apart a m h.0.0 h.0.1 v, term-isnt_number names ps b n w, resolved-means names d acts ps apart b n h.1.0 h.1.1 w) refl
+    condition-means _ _ h (comparison_form r x y l t u m j k) =
+        let no_and : is mark.And l.mark ≡ false = rw m (rel-isnt_and r) in
+        let no_not : is mark.Not l.mark ≡ false = rw m (rel-isnt_not r) in
+        let rel : condition.rel_of l.mark ≡ Some r = rw m (rel_of-rel r) in
+        rw (no_and, no_not, rel, related-means r x t u (condition.stated (acting d acts) ps l (more t (more u none))) j, comparison-means r x y t u h.0 h.1 j k) refl
+
+    conditions-mean : (cs : CondTrees) (ts : Nesteds) (before : List CondTree) → AreConds d ps cs → AreCondForms names ps cs ts → condition.conditions (acting d acts) ps ts before ≡ Ok (before ++ list_of cs)
+    conditions-mean _ _ before h no_forms = rw append-nil refl
+    conditions-mean _ _ before h (more_forms c cs t ts k rest) =
+        rw (condition-means c t h.0 k, cond_tree-uncond c, conditions-mean cs ts (before ++ c ∷ []) h.1 rest, append_assoc before (c ∷ []) (list_of cs)) refl
+
+  -- ---- the parts of an action's condition
+
+  pub starts-mean : (cs : List CondTree) (ts us : Nesteds) (parts : Parts) → All (IsCond d ps) cs → AreForms (IsStartCond names ps) cs ts → condition.all_timed (acting d acts) ps (joined ts us) parts ≡ condition.all_timed (acting d acts) ps us (record parts { start = parts.start ++ cs })
+  starts-mean _ _ us parts h no_items = rw append-nil refl
+  starts-mean _ _ us parts h (more_items c cs _ ts (timed l m u a b k) rest) =
+      rw (a, b, condition-means c u (All-head (IsCond d ps) c cs h) k, cond_tree-uncond c, starts-mean cs ts us (record parts { start = parts.start ++ c ∷ [] }) (All-tail (IsCond d ps) c cs h) rest, append_assoc parts.start (c ∷ []) cs) refl
+
+  pub overs-mean : (cs : List CondTree) (ts us : Nesteds) (parts : Parts) → All (IsCond d ps) cs → AreForms (IsOverCond names ps) cs ts → condition.all_timed (acting d acts) ps (joined ts us) parts ≡ condition.all_timed (acting d acts) ps us (record parts { over = parts.over ++ cs })
+  overs-mean _ _ us parts h no_items = rw append-nil refl
+  overs-mean _ _ us parts h (more_items c cs _ ts (timed l m u a b k) rest) =
+      rw (a, condition-means c u (All-head (IsCond d ps) c cs h) k, cond_tree-uncond c, overs-mean cs ts us (record parts { over = parts.over ++ c ∷ [] }) (All-tail (IsCond d ps) c cs h) rest, append_assoc parts.over (c ∷ []) cs) refl
+
+  pub ends-mean : (cs : List CondTree) (ts us : Nesteds) (parts : Parts) → All (IsCond d ps) cs → AreForms (IsEndCond names ps) cs ts → condition.all_timed (acting d acts) ps (joined ts us) parts ≡ condition.all_timed (acting d acts) ps us (record parts { end = parts.end ++ cs })
+  ends-mean _ _ us parts h no_items = rw append-nil refl
+  ends-mean _ _ us parts h (more_items c cs _ ts (timed l m u a b k) rest) =
+      rw (a, b, condition-means c u (All-head (IsCond d ps) c cs h) k, cond_tree-uncond c, ends-mean cs ts us (record parts { end = parts.end ++ c ∷ [] }) (All-tail (IsCond d ps) c cs h) rest, append_assoc parts.end (c ∷ []) cs) refl

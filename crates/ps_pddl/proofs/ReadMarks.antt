@@ -1,0 +1,89 @@
+-- Tests of marks, and which way a test goes.
+use Rattle.std.proofs.Common.{◌≡◌, Bool, true, false, None, refl, ap, inl, inr}
+use Rattle.std.specs.Bool.{if◌then◌else◌}
+use Rattle.std.proofs.lemmas.Bool.{cases_Bool}
+use denote.Enum.Bare.{same_true}
+use Rattle.ps_shape.specs.contracts.marks.Mark.{the_type}
+use Rattle.ps_shape.specs.Marks.{is, is_change, is_fact_name, is_name, is_predicate_name}
+use Rattle.ps_shape.specs.declared.marks.Mark.{Mark}
+use Rattle.ps_shape.specs.declared.marks.Mark.TheVariants as mark
+use Rattle.ps_forms.specs.Grammar.{is_relation}
+use Rattle.ps_pddl.specs.Conditions.{rel_of}
+use Rattle.ps_pddl.specs.Effects.{change_of}
+use Rattle.ps_pddl.specs.Steps.{Read}
+use Rattle.ps_pddl.proofs.Sound.{Sound}
+
+-- ---- the way of a test
+
+-- what the test leads to has what the side has that it takes
+pub yes_has : {A : Type 0} (P : A → Type 0) (b : Bool) (x y : A) → b ≡ true → P x → P (if b then x else y)
+yes_has P true x y e h = h
+yes_has P false x y e h = absurd (cc)
+
+pub no_has : {A : Type 0} (P : A → Type 0) (b : Bool) (x y : A) → b ≡ false → P y → P (if b then x else y)
+no_has P true x y e h = absurd (cc)
+no_has P false x y e h = h
+
+pub yes_sound : {A : Type 0} (P : A → Type 0) (b : Bool) (x y : Read A) → b ≡ true → Sound P x → Sound P (if b then x else y)
+yes_sound P b x y e h = yes_has (Sound P) b x y e h
+
+pub no_sound : {A : Type 0} (P : A → Type 0) (b : Bool) (x y : Read A) → b ≡ false → Sound P y → Sound P (if b then x else y)
+no_sound P b x y e h = no_has (Sound P) b x y e h
+
+-- ---- marks apart
+
+-- a mark that has what another hasn't is not that
+pub marks_apart : (P : Mark → Bool) (wanted m : Mark) → P m ≡ true → P wanted ≡ false → is wanted m ≡ false
+marks_apart P wanted m h k =
+    elim (cases_Bool (is wanted m)) [
+      | inl e ↦
+          let same : P m ≡ P wanted = ap P (same_true the_type tt m wanted e) in
+          absurd (cc)
+      | inr e ↦ e
+    ]
+
+-- ---- heads
+
+pub fact-is_name : (m : Mark) → is_fact_name m ≡ true → is_name m ≡ true
+fact-is_name mark.And e = absurd (cc)
+fact-is_name m e = cc
+
+pub predicate-is_name : (m : Mark) → is_predicate_name m ≡ true → is_name m ≡ true
+predicate-is_name mark.And e = absurd (cc)
+predicate-is_name m e = cc
+
+-- the head of a fact is no comparison
+pub fact_no_rel : (m : Mark) → is_fact_name m ≡ true → rel_of m ≡ None
+fact_no_rel mark.Less e = absurd (cc)
+fact_no_rel mark.LessEqual e = absurd (cc)
+fact_no_rel mark.Equal e = absurd (cc)
+fact_no_rel mark.GreaterEqual e = absurd (cc)
+fact_no_rel mark.Greater e = absurd (cc)
+fact_no_rel m e = refl
+
+-- a comparison has its relation
+pub relation_there : (m : Mark) → is_relation m ≡ true → rel_of m ≡ None → ⊥
+relation_there mark.Less r e = cc
+relation_there mark.LessEqual r e = cc
+relation_there mark.Equal r e = cc
+relation_there mark.GreaterEqual r e = cc
+relation_there mark.Greater r e = cc
+relation_there m r e = cc
+
+-- the head of an addition is no change
+pub predicate_no_change : (m : Mark) → is_predicate_name m ≡ true → change_of m ≡ None
+predicate_no_change mark.Assign e = absurd (cc)
+predicate_no_change mark.Increase e = absurd (cc)
+predicate_no_change mark.Decrease e = absurd (cc)
+predicate_no_change mark.ScaleUp e = absurd (cc)
+predicate_no_change mark.ScaleDown e = absurd (cc)
+predicate_no_change m e = refl
+
+-- a change has its operation
+pub change_there : (m : Mark) → is_change m ≡ true → change_of m ≡ None → ⊥
+change_there mark.Assign c e = cc
+change_there mark.Increase c e = cc
+change_there mark.Decrease c e = cc
+change_there mark.ScaleUp c e = cc
+change_there mark.ScaleDown c e = cc
+change_there m c e = cc

@@ -1,0 +1,4 @@
+pub mod CanonicalWords
+pub mod CondRanks
+pub mod Pieces
+pub mod Writing

@@ -1,0 +1,2 @@
+pub mod CanonicalWords
+pub mod Laws
