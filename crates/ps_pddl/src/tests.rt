@@ -3,6 +3,7 @@ use super::*;
 use ps_text::Names;
 use ps_world::{Domain, Name};
 use std::alloc::{AllocError, Global};
+use std::process::Abort;
 use std::test::Fail;
 
 /// What a text is refused for; its place is marked in the text.
@@ -214,21 +215,144 @@ fn shapes_are_refused(rt: HostRuntime) -> Result<(), Fail> {
     Ok(())
 }
 
+/// Entries of a list: what stands before the first, what begins each before its name, what ends each, and how many there are.
+#[derive(Clone, Copy)]
+struct Many {
+    start: &'static str,
+    begin: &'static str,
+    end: &'static str,
+    count: usize,
+}
+
+/// Sections with such a list, and a mark before the last name.
+fn sections_with(alloc: Global, list: Many) -> Result<String, AllocError> {
+    let mut sections = String::new(alloc);
+    sections.push_str(list.start)?;
+    for i in 1..=list.count {
+        sections.push_str(list.begin)?;
+        if i == list.count {
+            sections.push_str("@")?;
+        }
+        write!(sections, "n{i}")?;
+        sections.push_str(list.end)?;
+    }
+    sections.push_str(")")?;
+    Ok(sections)
+}
+
+/// An action's condition with so many `not` in a part, and a mark before what the last one stands before.
+fn deep(alloc: Global, start: &str, nots: usize, end: &str) -> Result<String, AllocError> {
+    let mut sections = String::new(alloc);
+    sections.push_str(
+        "(:predicates (p)) (:durative-action a :parameters () :duration (= ?duration 1) ",
+    )?;
+    sections.push_str(start)?;
+    for _not in 0..nots {
+        sections.push_str("(not ")?;
+    }
+    sections.push_str("@(p)")?;
+    for _not in 0..nots {
+        sections.push_str(")")?;
+    }
+    sections.push_str(end)?;
+    Ok(sections)
+}
+
+/// Whether a domain with these sections is read, and whether it is refused at the mark with this limit.
+fn limited(alloc: Global, sections: &str, which: Cap) -> Result<(bool, bool), Fail> {
+    let (found, wanted) = refused(alloc, sections, Want::Limit(which))?;
+    Ok((found.is_none(), found == wanted))
+}
+
+#[test]
+fn lists_are_limited(rt: HostRuntime) -> Result<(), Fail> {
+    for (start, begin, end, most, which) in [
+        ("(:types", " ", "", 256, Cap::Types),
+        ("(:constants", " ", "", 1000, Cap::Instances),
+        ("(:predicates", " (", ")", 256, Cap::Predicates),
+        ("(:functions", " (", ")", 256, Cap::Functions),
+        (
+            "(:types",
+            ") (:durative-action ",
+            " :parameters () :duration (= ?duration 1)",
+            256,
+            Cap::Actions,
+        ),
+    ] {
+        for count in [most, most + 1] {
+            let sections = sections_with(
+                rt.alloc(),
+                Many {
+                    start,
+                    begin,
+                    end,
+                    count,
+                },
+            )?;
+            let answer = limited(rt.alloc(), sections.as_str(), which)?;
+            assert_eq!(rt; answer, (count == most, count != most), "{start} {count}");
+        }
+    }
+    Ok(())
+}
+
+#[test]
+fn levels_are_limited(rt: HostRuntime) -> Result<(), Fail> {
+    // A part alone counts as if it stood in an `and`.
+    for (start, end) in [
+        (":condition (and (at start ", ")))"),
+        (":condition (at start ", "))"),
+        (":condition (and (over all ", ")))"),
+    ] {
+        for nots in [59usize, 60] {
+            let sections = deep(rt.alloc(), start, nots, end)?;
+            let answer = limited(rt.alloc(), sections.as_str(), Cap::Depth)?;
+            assert_eq!(rt; answer, (nots == 59, nots != 59), "{start} {nots}");
+        }
+    }
+    Ok(())
+}
+
+/// Whether a text is read as this domain.
+fn is_read_as(
+    alloc: Global,
+    names: &mut Names,
+    text: &[u8],
+    domain: &Domain,
+) -> Result<bool, Fail> {
+    let again = read_domain(alloc, names, text)?;
+    Ok(again == *domain)
+}
+
 /// The text printed for the domain that a text declares.
-fn canonical(alloc: Global, names: &mut Names, text: &[u8]) -> Result<(Domain, Vec<u8>), Fail> {
+fn canonical(alloc: Global, names: &mut Names, text: &[u8]) -> Result<Vec<u8>, Fail> {
     let domain = read_domain(alloc, names, text)?;
-    let printed = print_domain(alloc, names, &domain)?;
-    Ok((domain, printed))
+    print_domain(alloc, names, &domain).map_err(Fail::from)
+}
+
+fn is_read_back(rt: &impl Abort, alloc: Global, text: &str) -> Result<(), Fail> {
+    let mut names = Names::new(alloc)?;
+    let domain = read_domain(alloc, &mut names, text.as_bytes())?;
+    has_one_text(rt, alloc, &mut names, &domain, text)
+}
+
+fn has_one_text(
+    rt: &impl Abort,
+    alloc: Global,
+    names: &mut Names,
+    domain: &Domain,
+    text: &str,
+) -> Result<(), Fail> {
+    let printed = print_domain(alloc, names, domain)?;
+    assert!(rt; is_read_as(alloc, names, &printed, domain)?, "{text}");
+    assert!(rt; canonical(alloc, names, &printed)? == printed, "{text}");
+    Ok(())
 }
 
 #[test]
 fn domains_are_read_back(rt: HostRuntime) -> Result<(), Fail> {
     for text in DOMAINS {
-        let mut names = Names::new(rt.alloc())?;
-        let (domain, printed) = canonical(rt.alloc(), &mut names, text.as_bytes())?;
-        let (again, same) = canonical(rt.alloc(), &mut names, &printed)?;
-        assert!(rt; domain == again, "{text}");
-        assert!(rt; printed == same, "{text}");
+        is_read_back(&rt, rt.alloc(), text)?;
     }
     Ok(())
 }
@@ -239,6 +363,10 @@ fn names_are_numbered_in_order(rt: HostRuntime) -> Result<(), Fail> {
     let text =
         b"(define (domain D) ; comment\n (:types robot - Object) (:predicates (at ?r - ROBOT)))";
     let domain = read_domain(rt.alloc(), &mut names, text)?;
+    are_numbered(&rt, &names, &domain)
+}
+
+fn are_numbered(rt: &impl Abort, names: &Names, domain: &Domain) -> Result<(), Fail> {
     // object, define, domain, d, robot, at, r
     assert_eq!(rt; names.len(), 7);
     assert_eq!(rt; domain.name, Name(3));
