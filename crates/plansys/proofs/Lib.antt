@@ -1,9 +1,12 @@
+pub mod DueLines
 pub mod Edits
 pub mod Given
 pub mod Joins
+pub mod Later
 pub mod NameLines
 pub mod Numbers
 pub mod Ranges
+pub mod Replies
 pub mod ScriptLines
 pub mod ScriptNames
 pub mod Sessions

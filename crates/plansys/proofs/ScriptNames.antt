@@ -2,21 +2,17 @@
 use Rattle.std.proofs.Common.{◌≡◌, ℕ, ◌-◌, ◌<◌, ◌≤◌, suc, true, false, not, List, [], ◌∷◌, length, take, drop, refl, ap, ◌∙◌, arith, All, inl, inr}
 use Rattle.std.proofs.lemmas.List.{length-take, length-drop}
 use Rattle.std.proofs.lemmas.List.Filters.{length-filter_both}
-use Rattle.std.proofs.lemmas.List.Elements.{All-nil, All-cons, All-drop, All-weaker}
+use Rattle.std.proofs.lemmas.List.Elements.{All-nil, All-cons, All-drop}
 use Rattle.std.proofs.lemmas.Bool.{and_parts, eqb-true, leb-true, cases_Bool}
 use Rattle.ps_world.specs.Names.{Table}
 use Rattle.ps_world.specs.Lines.{lines_of}
-use Rattle.ps_world.specs.Tables.{IsOf, IsFactOf, IsEditOf, IsLineOf}
+use Rattle.ps_world.specs.Tables.{IsOf, IsFactOf, IsLineOf}
 use Rattle.ps_world.specs.declared.names.Name.{Name}
-use Rattle.ps_world.specs.declared.edits.Edit.{Edit}
-use Rattle.ps_world.specs.declared.edits.Edit.TheVariants.{AddInstance, AddFact}
-use Rattle.ps_world.specs.declared.inputs.Command.TheVariants as command
-use Rattle.ps_world.specs.declared.inputs.Line.{Line}
-use Rattle.ps_world.specs.declared.inputs.Line.TheVariants.{Good, Bad}
 use Rattle.ps_text.specs.Names.{folded, interned}
 use Rattle.ps_text.specs.Words.{words}
 use Rattle.ps_text.proofs.Tables.{length-interned, place_of-within}
 use Rattle.plansys.specs.Scripts.{commands, fact_of, inside, is_ask, is_command, is_fact, is_instance, line_from, lines_from, name_at, numbered, numbers_inside, script_from}
+use Rattle.plansys.proofs.Later.{line-later}
 use Rattle.plansys.proofs.ScriptLines.{line-instance, table-instance, line-fact, table-fact, line-ask, table-ask, line-bad, table-bad}
 
 -- ---- numbers
@@ -92,16 +88,6 @@ line-grows t ws =
       ]
     ]
 
--- a line of a table is one of each greater table
-edit-later : (m n : ℕ) → m ≤ n → (edit : Edit) → IsEditOf m edit → IsEditOf n edit
-edit-later m n h (AddInstance a t) e = (omega (arith, e.0), omega (arith, e.1))
-edit-later m n h (AddFact f) e = (omega (arith, e.0), All-weaker (IsOf m) (IsOf n) (λ x p. omega arith) f.args e.1)
-
-pub line-later : (m n : ℕ) → m ≤ n → (line : Line) → IsLineOf m line → IsLineOf n line
-line-later m n h (Good (command.Edit edit)) l = edit-later m n h edit l
-line-later m n h (Good (command.Ask query)) l = tt
-line-later m n h (Bad cause) l = tt
-
 -- ---- a script
 
 pub lines-grow : (t : Table) (texts : List (List ℕ)) → length t ≤ length (lines_from t texts).1
@@ -113,7 +99,7 @@ lines-within t [] = All-nil (IsLineOf (length t))
 lines-within t (text ∷ texts) =
     let next = (line_from t (words text)).1 in
     let last = length (lines_from next texts).1 in
-    All-cons (IsLineOf last) _ _ (line-later (length next) last (lines-grow next texts) _ (line-within t (words text))) (lines-within next texts)
+    All-cons (IsLineOf last) _ _ (line-later (length next) last (lines-grow next texts) (line_from t (words text)).0 (line-within t (words text))) (lines-within next texts)
 
 lines-count : (t : Table) (texts : List (List ℕ)) → length (lines_from t texts).0 ≡ length texts
 lines-count t [] = refl

@@ -1,5 +1,5 @@
 -- A session, line by line.
-use Rattle.std.proofs.Common.{◌≡◌, ℕ, ◌+◌, ◌≤◌, Bool, true, false, ◌||◌, if◌then◌else◌, Option, Some, Result, Ok, Err, List, [], ◌∷◌, ◌++◌, All, OnErr, length, slice_get, refl, ap, sym, ◌∙◌, subst}
+use Rattle.std.proofs.Common.{◌≡◌, ℕ, ◌+◌, ◌≤◌, Bool, true, false, ◌||◌, if◌then◌else◌, Option, Some, None, Result, Ok, Err, List, [], ◌∷◌, ◌++◌, OnErr, length, slice_get, refl, ap, sym, ◌∙◌, subst}
 use Rattle.std.specs.List.{list_any}
 use mir.Val.{bool_byte}
 use Rattle.std.specs.Io.KnownBytes.{Appends}
@@ -9,26 +9,30 @@ use Rattle.ps_world.specs.Names.{Table}
 use Rattle.ps_world.specs.Knowledge.{edited, opening}
 use Rattle.ps_world.specs.Texts.{edit_text, query_text, refusal_text}
 use Rattle.ps_world.specs.Lines.{same_text}
-use Rattle.ps_world.specs.History.{known_after, know, answers_line, answered, next_line, is_legal, has_hand, IsHistory, is_refusal}
+use Rattle.ps_world.specs.History.{known_after, know, answers_line, answered, due_lines, next_line, refusal_of_query, is_legal, has_hand, IsHistory, is_refusal}
 use Rattle.ps_world.specs.History.IsHistory.{nothing, block}
 use Rattle.ps_world.specs.Journal.{entry_text, journal_text, header}
-use Rattle.ps_world.specs.Tables.{IsFactOf}
+use Rattle.ps_world.specs.Tables.{IsKnownOf}
 use Rattle.ps_world.specs.Laws.{AreLines}
 use Rattle.ps_world.specs.declared.domains.Domain.{Domain}
 use Rattle.ps_world.specs.declared.known.Knowledge.{Knowledge}
 use Rattle.ps_world.specs.declared.edits.Edit.{Edit}
 use Rattle.ps_world.specs.declared.edits.EditRefusal.{EditRefusal}
+use Rattle.ps_world.specs.declared.inputs.Query.{Query}
 use Rattle.ps_world.specs.declared.inputs.Command.TheVariants as command
 use Rattle.ps_world.specs.declared.inputs.Line.{Line}
 use Rattle.ps_world.specs.declared.inputs.Line.TheVariants.{Good, Bad}
 use Rattle.ps_world.specs.declared.inputs.Input.{Input}
 use Rattle.ps_world.specs.declared.journal.By.TheVariants.{Terminal}
+use Rattle.ps_world.specs.declared.journal.Refusal.{Refusal}
 use Rattle.ps_world.specs.declared.journal.Refusal.TheVariants as refusal
+use Rattle.ps_world.specs.declared.journal.Event.{Event}
+use Rattle.ps_world.specs.declared.journal.Event.TheVariants as event
 use Rattle.ps_world.specs.declared.journal.Entry.{Entry}
 use Rattle.ps_world.proofs.Journals.{know-push, answered-push, journal_text-push, hands-history}
 use Rattle.ps_world.proofs.ReadBack.{AreEntriesIn-journal_text}
 use Rattle.ps_text.specs.Causes.{AppendsFront}
-use Rattle.plansys.specs.Steps.{by_terminal, edit_event, event_of}
+use Rattle.plansys.specs.Steps.{by_terminal, edit_event, event_of, query_event}
 use Rattle.plansys.specs.Session.{IsDone, IsCut}
 use Rattle.plansys.proofs.Taken.{Appends-same, Appends-append, AppendsFront-append, AppendsFront-nil}
 
@@ -52,7 +56,7 @@ list_any-push p xs x = list_any-append p xs (x ∷ []) ∙ ap (λ b. list_any p 
 -- What a session's loop keeps.
 pub record IsRunning (i : Input) (names : Table) (k : Knowledge) (refused : Bool) (count : ℕ) (start now : Option (List ℕ)) (before faults : ℕ) : Type 0 where
   pub so_far : IsSoFar i names k refused count start now
-  pub facts : All (IsFactOf (length names)) k.facts
+  pub known : IsKnownOf (length names) k
   pub later : before ≤ faults
 
 -- the header is written
@@ -76,24 +80,34 @@ legal-edit : (i : Input) (names : Table) (es : List Entry) (edit : Edit) (o : Re
 legal-edit i names es edit (Ok new) e h = rw (eq-eqb (answered es + 1) (answered es + 1) refl, h, e, same_text-self (edit_text names edit)) refl
 legal-edit i names es edit (Err r) e h = rw (eq-eqb (answered es + 1) (answered es + 1) refl, h, e, same_text-self (refusal_text names (refusal.Edit r))) refl
 
+-- the event of a query, refused or not, is legal
+legal-query : (i : Input) (names : Table) (es : List Entry) (query : Query) (why : Option Refusal) → refusal_of_query i.domain query ≡ why → next_line i es ≡ Some (Good (command.Ask query)) → is_legal names i es (query_event (Terminal (answered es + 1)) query why) ≡ true
+legal-query i names es query None e h = rw (h, e, same_text-self (query_text names query)) refl
+legal-query i names es query (Some r) e h = rw (eq-eqb (answered es + 1) (answered es + 1) refl, h, e, same_text-self (refusal_text names r)) refl
+
 -- the event that answers the next line is legal
 legal-event_of : (i : Input) (names : Table) (es : List Entry) (line : Line) → next_line i es ≡ Some line → is_legal names i es (event_of i.domain (know i es) (answered es + 1) line) ≡ true
 legal-event_of i names es (Good (command.Edit edit)) h = legal-edit i names es edit (edited i.domain (know i es) edit) refl h
-legal-event_of i names es (Good (command.Ask query)) h = rw h (same_text-self (query_text query))
+legal-event_of i names es (Good (command.Ask query)) h = legal-query i names es query (refusal_of_query i.domain query) refl h
+legal-event_of i names es (Good command.Quit) h = rw h refl
 legal-event_of i names es (Bad cause) h = rw (eq-eqb (answered es + 1) (answered es + 1) refl, h) (same_text-self (refusal_text names (refusal.Line cause)))
 
 -- it answers a line
 answers_line-event_of : (d : Domain) (k : Knowledge) (n : ℕ) (line : Line) → answers_line (event_of d k n line) ≡ true
 answers_line-event_of d k n (Good (command.Edit edit)) =
     elim (edited d k edit) as (λ o. answers_line (edit_event (Terminal n) edit o) ≡ true) [ Ok new ↦ refl | Err r ↦ refl ]
-answers_line-event_of d k n (Good (command.Ask query)) = refl
+answers_line-event_of d k n (Good (command.Ask query)) =
+    elim (refusal_of_query d query) as (λ o. answers_line (query_event (Terminal n) query o) ≡ true) [ None ↦ refl | Some r ↦ refl ]
+answers_line-event_of d k n (Good command.Quit) = refl
 answers_line-event_of d k n (Bad cause) = refl
 
 -- and it is the terminal's
 has_hand-event_of : (d : Domain) (k : Knowledge) (n : ℕ) (line : Line) → has_hand (event_of d k n line) 0 ≡ true
 has_hand-event_of d k n (Good (command.Edit edit)) =
     elim (edited d k edit) as (λ o. has_hand (edit_event (Terminal n) edit o) 0 ≡ true) [ Ok new ↦ refl | Err r ↦ refl ]
-has_hand-event_of d k n (Good (command.Ask query)) = refl
+has_hand-event_of d k n (Good (command.Ask query)) =
+    elim (refusal_of_query d query) as (λ o. has_hand (query_event (Terminal n) query o) 0 ≡ true) [ None ↦ refl | Some r ↦ refl ]
+has_hand-event_of d k n (Good command.Quit) = refl
 has_hand-event_of d k n (Bad cause) = refl
 
 -- the entry that answers the line after these
@@ -101,16 +115,16 @@ abbrev entry_for : Input → Knowledge → ℕ → Line → Entry
 entry_for i k count line = by_terminal (event_of i.domain k (count + 1) line)
 
 -- one more line has its entry
-history-more : (i : Input) (names : Table) (k : Knowledge) (es : List Entry) (count : ℕ) (line : Line) → IsHistory names i es → k ≡ know i es → answered es ≡ count → slice_get i.lines count ≡ Some line → IsHistory names i (es ++ entry_for i k count line ∷ [])
+history-more : (i : Input) (names : Table) (k : Knowledge) (es : List Entry) (count : ℕ) (line : Line) → IsHistory names i es → k ≡ know i es → answered es ≡ count → slice_get (due_lines i.lines) count ≡ Some line → IsHistory names i (es ++ entry_for i k count line ∷ [])
 history-more i names k es count line h known counted next =
     rw (← counted, known) (block es (by_terminal (event_of i.domain (know i es) (answered es + 1) line)) h (legal-event_of i names es line (rw counted next)) (has_hand-event_of i.domain (know i es) (answered es + 1) line))
 
 -- a line is taken: its entry is written
 pub takes_line : (i : Input) (names : Table) (k new : Knowledge) (refused : Bool) (count : ℕ) (line : Line) (start now last : Option (List ℕ))
     → IsSoFar i names k refused count start now
-    → slice_get i.lines count ≡ Some line
+    → slice_get (due_lines i.lines) count ≡ Some line
     → new ≡ known_after i.domain k (event_of i.domain k (count + 1) line)
-    → Appends now last (entry_text names k (entry_for i k count line))
+    → Appends now last (entry_text names i.domain k (entry_for i k count line))
     → IsSoFar i names new (refused || is_refusal (event_of i.domain k (count + 1) line)) (count + 1) start last
 takes_line i names k new refused count line start now last s next known more =
     let e = entry_for i k count line in
@@ -120,16 +134,16 @@ takes_line i names k new refused count line start now last s next known more =
       known = known ∙ ap (λ x. known_after i.domain x e.what) s.known ∙ sym (know-push i s.journal e);
       counted = answered-push s.journal e (answers_line-event_of i.domain k (count + 1) line) ∙ ap (λ n. n + 1) s.counted;
       refusals = ap (λ b. b || is_refusal e.what) s.refusals ∙ sym (list_any-push (λ x. is_refusal x.what) s.journal e);
-      text = Appends-same start last (journal_text names i s.journal ++ entry_text names k e) (journal_text names i (s.journal ++ e ∷ []))
-          (ap (λ x. journal_text names i s.journal ++ entry_text names x e) s.known ∙ sym (journal_text-push names i s.journal e))
-          (Appends-append start now last (journal_text names i s.journal) (entry_text names k e) s.text more);
+      text = Appends-same start last (journal_text names i s.journal ++ entry_text names i.domain k e) (journal_text names i (s.journal ++ e ∷ []))
+          (ap (λ x. journal_text names i s.journal ++ entry_text names i.domain x e) s.known ∙ sym (journal_text-push names i s.journal e))
+          (Appends-append start now last (journal_text names i s.journal) (entry_text names i.domain k e) s.text more);
     }
 
 -- the writing of a line's entry is broken off
 pub cuts_line : (i : Input) (names : Table) (k : Knowledge) (refused : Bool) (count : ℕ) (line : Line) (start now last : Option (List ℕ))
     → IsSoFar i names k refused count start now
-    → slice_get i.lines count ≡ Some line
-    → AppendsFront now last (entry_text names k (entry_for i k count line))
+    → slice_get (due_lines i.lines) count ≡ Some line
+    → AppendsFront now last (entry_text names i.domain k (entry_for i k count line))
     → IsCut i names start last
 cuts_line i names k refused count line start now last s next more =
     let e = entry_for i k count line in
@@ -137,9 +151,20 @@ cuts_line i names k refused count line start now last s next more =
       journal = s.journal ++ e ∷ [];
       history = history-more i names k s.journal count line s.history s.known s.counted next;
       text = subst (AppendsFront start last)
-          (ap (λ x. journal_text names i s.journal ++ entry_text names x e) s.known ∙ sym (journal_text-push names i s.journal e))
-          (AppendsFront-append start now last (journal_text names i s.journal) (entry_text names k e) s.text more);
+          (ap (λ x. journal_text names i s.journal ++ entry_text names i.domain x e) s.known ∙ sym (journal_text-push names i s.journal e))
+          (AppendsFront-append start now last (journal_text names i s.journal) (entry_text names i.domain k e) s.text more);
     }
+
+entry_text-after : (names : Table) (d : Domain) (k : Knowledge) (what : Event) → entry_text names d (known_after d k what) (by_terminal what) ≡ entry_text names d k (by_terminal what)
+entry_text-after names d k (event.Edit by edit) = refl
+entry_text-after names d k (event.Refused by why) = refl
+entry_text-after names d k (event.Ask query) = refl
+entry_text-after names d k event.Quit = refl
+
+-- an entry's text tells what is known only of a query, which changes nothing, so that it is the same after its event
+pub entry_text-line : (names : Table) (d : Domain) (k new : Knowledge) (what event : Event) → what ≡ event → new ≡ known_after d k what → entry_text names d new (by_terminal what) ≡ entry_text names d k (by_terminal event)
+entry_text-line names d k new what event e known =
+    ap (λ x. entry_text names d x (by_terminal what)) known ∙ entry_text-after names d k what ∙ ap (λ w. entry_text names d k (by_terminal w)) e
 
 -- nothing, or a front of the header, was written
 pub cut_before : (i : Input) (names : Table) (start now : Option (List ℕ)) → AppendsFront start now header → IsCut i names start now
@@ -149,8 +174,8 @@ cut_before i names start now h = record { journal = []; history = nothing; text 
 pub nothing_written : (i : Input) (names : Table) (start : Option (List ℕ)) → IsCut i names start start
 nothing_written i names start = cut_before i names start start (AppendsFront-nil start header)
 
--- every line has its entry
-pub is_done : (i : Input) (names : Table) (k : Knowledge) (refused : Bool) (start now : Option (List ℕ)) → AreLines names → IsSoFar i names k refused (length i.lines) start now → IsDone i names start now (if refused then 1 else 0)
+-- every line up to the first `quit` has its entry
+pub is_done : (i : Input) (names : Table) (k : Knowledge) (refused : Bool) (start now : Option (List ℕ)) → AreLines names → IsSoFar i names k refused (length (due_lines i.lines)) start now → IsDone i names start now (if refused then 1 else 0)
 is_done i names k refused start now lines s = (
   journal_text names i s.journal,
   s.text,

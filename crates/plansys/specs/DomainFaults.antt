@@ -1,8 +1,7 @@
 -- What is said of a text that is no domain. A text is a list of bytes.
 use Rattle.std.specs.Prelude.{ℕ, List, [], ◌++◌, codes}
 use Rattle.std.specs.Fmt.{decimal}
-use Rattle.ps_world.specs.Names.{Table}
-use Rattle.ps_world.specs.Texts.{name_text}
+use Rattle.ps_world.specs.Names.{Table, name_text}
 use Rattle.ps_shape.specs.declared.faults.Form.{Form}
 use Rattle.ps_shape.specs.declared.faults.Form.TheVariants as form
 use Rattle.ps_pddl.specs.declared.refusals.Cap.{Cap}

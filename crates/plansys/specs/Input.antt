@@ -1,8 +1,7 @@
 -- The input of a call: what its words and the texts of its files say.
 use Rattle.std.specs.Prelude.{◌≡◌, ℕ, Bool, not, ◌&&◌, ◌||◌, ◌==◌, nat_lt, if◌then◌else◌, Option, Some, None, Ok, Err, List, [], ◌∷◌, ◌++◌, codes, length, slice_index_or}
 use Rattle.ps_world.specs.Names.{Table}
-use Rattle.ps_world.specs.Journal.{line_end}
-use Rattle.ps_world.specs.Lines.{same_text}
+use Rattle.ps_world.specs.Lines.{same_text, line_end}
 use Rattle.ps_world.specs.declared.domains.Domain.{Domain}
 use Rattle.ps_world.specs.declared.inputs.Input.{Input}
 use Rattle.ps_pddl.specs.Reading.{IsRead}

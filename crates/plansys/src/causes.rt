@@ -1,13 +1,11 @@
 //! Why a text is no domain, in words.
 ghost use Rattle.std.specs.Prelude.{◌≡◌, ◌≢◌, ◌++◌, [], codes, IfOk, OnOk};
-ghost use Rattle.ps_world.specs.Texts.{name_text};
 ghost use Rattle.plansys.specs.DomainFaults.{at_place, at_place_with, cap_text, cause_text, form_text};
 ghost use Rattle.ps_pddl.specs.declared.refusals.DomainRefusal.TheVariants.{Unsupported, OutOfMemory};
 
-use super::texts::push_number;
+use super::texts::{name_text, push_number};
 use ps_pddl::{Cap, DomainRefusal, Form};
 use ps_text::Names;
-use ps_world::Name;
 use std::alloc::{AllocError, Global};
 
 /// The word for a form that isn't supported.
@@ -40,17 +38,6 @@ fn cap_text(cap: Cap) -> &'static [u8]
         Cap::Actions => b"Actions",
         Cap::Params => b"Params",
         Cap::Instances => b"Instances",
-    }
-}
-
-/// The text of a name, or nothing where the table hasn't the name.
-fn name_text(names: &Names, name: Name) -> &[u8]
-    ensures { result.now ≡ name_text names.now name }
-{
-    if name.0 < names.len() as u64 {
-        names.text(name)
-    } else {
-        b""
     }
 }
 

@@ -2,6 +2,7 @@
 ghost use Rattle.std.specs.Prelude.{◌≡◌, ◌<◌, ◌≤◌, ◌^◌, ℕ, List, length, Ok, true, false, IfOk, IfErr, IfSome, OnOk, All};
 ghost use Rattle.ps_world.specs.Tables.{IsLineOf};
 ghost use Rattle.ps_text.specs.Names.{AreNames};
+ghost use Rattle.ps_print.specs.CanonicalWords.{IsParamOf};
 ghost use Rattle.plansys.specs.Input.{IsDomain, argument, first_names, input_of, is_check, is_quiet, is_session, is_value, longest_file};
 ghost use Rattle.plansys.specs.Faults.{word_texts, file_of, IsNotHad, IsJudged, HasNoInput, Gives, GivesDomain};
 
@@ -138,6 +139,7 @@ pub fn read_input<F: Files>(
     ensures ok { IfOk result (λ i. Gives (input_of (word_texts words.now) (F.text_of files.old)) i names.new) }
     ensures few { IfOk result (λ i. length i.lines < 2 ^ 32) }
     ensures named { IfOk result (λ i. All (IsLineOf (length names.new)) i.lines) }
+    ensures constants { IfOk result (λ i. All (IsParamOf (length names.new)) i.domain.constants) }
     ensures names { OnOk result (AreNames names.new) }
     ensures cause { IfErr result (HasNoInput (input_of (word_texts words.now) (F.text_of files.old)) (word_texts words.now) (F.text_of files.old) (F.faults files.old) (F.faults files.new)) }
     ensures later { F.faults files.old ≤ F.faults files.new }

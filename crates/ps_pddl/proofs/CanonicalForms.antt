@@ -1,7 +1,6 @@
 -- The nested lists of a domain's canonical text, wherever its words stand.
 use Rattle.std.proofs.Common.{◌≡◌, ℕ, ℤ, List, [], ◌∷◌, slice_index_or}
-use Rattle.ps_world.specs.Names.{Table, object}
-use Rattle.ps_world.specs.Texts.{name_text}
+use Rattle.ps_world.specs.Names.{Table, object, name_text}
 use Rattle.ps_world.specs.Trees.{ExprTree, number, value_of, negated, operated, CondTree, CondTrees, all_of, no, holds, same, compares, is_a}
 use Rattle.ps_world.specs.Trees as tree
 use Rattle.ps_world.specs.ExprViews.{expr_tree}

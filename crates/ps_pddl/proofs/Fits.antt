@@ -1,8 +1,7 @@
 -- What a domain must be like for the grammar to take its canonical text: heads that may stand where they do, and few enough levels.
 use Rattle.std.proofs.Common.{◌≡◌, ℕ, ℤ, suc, true, List, ◌++◌, codes}
 use Rattle.std.specs.List.{All}
-use Rattle.ps_world.specs.Names.{Table}
-use Rattle.ps_world.specs.Texts.{name_text}
+use Rattle.ps_world.specs.Names.{Table, name_text}
 use Rattle.ps_world.specs.Trees.{ExprTree, number, value_of, negated, operated, CondTree, CondTrees, all_of, no, holds, same, compares}
 use Rattle.ps_world.specs.Trees as tree
 use Rattle.ps_world.specs.ExprViews.{expr_tree}

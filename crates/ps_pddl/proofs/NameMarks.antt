@@ -3,8 +3,7 @@ use Rattle.std.proofs.Common.{◌≡◌, Bool, true, false, if◌then◌else◌,
 use Rattle.std.specs.List.{list_all}
 use Rattle.std.proofs.lemmas.Bool.{and_parts}
 use Rattle.ps_world.specs.Lines.{same_text}
-use Rattle.ps_world.specs.Names.{Table}
-use Rattle.ps_world.specs.Texts.{name_text}
+use Rattle.ps_world.specs.Names.{Table, name_text}
 use Rattle.ps_world.specs.declared.names.Name.{Name}
 use Rattle.ps_text.specs.Names.{folded}
 use Rattle.ps_shape.specs.Marks.{is_name}

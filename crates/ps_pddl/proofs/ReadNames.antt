@@ -6,9 +6,8 @@ use Rattle.std.proofs.lemmas.Bool.{and_parts, eqb-true}
 use Rattle.std.proofs.lemmas.List.Elements.{All-head, All-tail}
 use Rattle.std.proofs.lemmas.Option.{get_or_from_slice_get, slice_get_within}
 use Rattle.ps_world.specs.Lines.{same_text}
-use Rattle.ps_world.specs.Names.{Table, object}
+use Rattle.ps_world.specs.Names.{Table, object, name_text}
 use Rattle.ps_world.specs.Numbers.{IsCount}
-use Rattle.ps_world.specs.Texts.{name_text}
 use Rattle.ps_text.specs.Names.{folded, interned, name_fault, place_of, AreNames}
 use Rattle.ps_text.specs.Tokens.{class_of, is_marked}
 use Rattle.ps_text.specs.declared.lexing.Class.{Class}

@@ -3,9 +3,8 @@ use Rattle.std.proofs.Common.{◌≡◌, ℕ, ℤ, true, Some, pos, List, [], �
 use Rattle.std.proofs.lemmas.List.Elements.{All-head, All-tail}
 use Rattle.std.specs.List.{All, flat_map}
 use Rattle.std.specs.Result.{result_unwrap_or}
-use Rattle.ps_world.specs.Names.{Table, object}
+use Rattle.ps_world.specs.Names.{Table, object, name_text}
 use Rattle.ps_world.specs.Numbers.{IsCount, number_text}
-use Rattle.ps_world.specs.Texts.{name_text}
 use Rattle.ps_world.specs.DomainTexts.{term_text, op_text, rel_text, num_op_text}
 use Rattle.ps_world.specs.Trees.{ExprTree, number, value_of, negated, operated, CondTree, CondTrees, all_of, no, holds, same, compares, is_a}
 use Rattle.ps_world.specs.Trees as tree

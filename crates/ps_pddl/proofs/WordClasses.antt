@@ -8,9 +8,8 @@ use Rattle.std.proofs.lemmas.List.Folds.{flat_map-map}
 use Rattle.std.specs.Char.{is_ascii_digit}
 use Rattle.std.specs.List.{flat_map}
 use Rattle.ps_world.specs.Lines.{same_text}
-use Rattle.ps_world.specs.Names.{Table, object}
+use Rattle.ps_world.specs.Names.{Table, object, name_text}
 use Rattle.ps_world.specs.Numbers.{IsCount, decimals_text, magnitude_text, number_text}
-use Rattle.ps_world.specs.Texts.{name_text}
 use Rattle.ps_world.specs.DomainTexts.{op_text, rel_text, num_op_text}
 use Rattle.ps_world.specs.Trees.{ExprTree, number, value_of, negated, operated, CondTree, CondTrees, all_of, no, holds, same, compares, is_a}
 use Rattle.ps_world.specs.Trees as tree

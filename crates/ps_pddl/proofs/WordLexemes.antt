@@ -4,8 +4,7 @@ use Rattle.std.proofs.lemmas.List.Folds.{list_any_at}
 use Rattle.std.proofs.lemmas.Option.{slice_get_within, slice_get-get_or, get_or_from_slice_get}
 use Rattle.std.specs.List.{list_any}
 use Rattle.ps_world.specs.Lines.{same_text}
-use Rattle.ps_world.specs.Names.{Table}
-use Rattle.ps_world.specs.Texts.{name_text}
+use Rattle.ps_world.specs.Names.{Table, name_text}
 use Rattle.ps_world.specs.declared.names.Name.{Name}
 use Rattle.ps_text.specs.Names.{folded, interned, is_name, name_fault, place_of, AreNames}
 use Rattle.ps_text.specs.Tokens.{class_of, span_of, AreTokens}

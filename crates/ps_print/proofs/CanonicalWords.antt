@@ -7,9 +7,8 @@ use Rattle.std.proofs.lemmas.List.Elements.{All-head, All-tail}
 use Rattle.std.proofs.lemmas.List.Folds.{list_all-append, flat_map-map}
 use Rattle.std.specs.Fmt.{decimal}
 use Rattle.std.specs.List.{All, flat_map, list_all, position_or_len}
-use Rattle.ps_world.specs.Names.{Table, object}
+use Rattle.ps_world.specs.Names.{Table, object, name_text}
 use Rattle.ps_world.specs.Numbers.{IsCount, decimals_text, magnitude_text, number_text}
-use Rattle.ps_world.specs.Texts.{name_text}
 use Rattle.ps_world.specs.DomainTexts as text
 use Rattle.ps_world.specs.DomainTexts.{domain_text}
 use Rattle.ps_world.specs.Trees.{ExprTree, number, value_of, negated, operated, CondTree, CondTrees, all_of, no, holds, same, compares, is_a, none, more}

@@ -2,7 +2,7 @@
 use Rattle.std.proofs.Common.{◌≡◌, ℕ, ◌+◌, ◌<◌, List, [], ◌∷◌, ◌++◌, length, drop, get_or, refl, append_assoc, add-one, drop-cons, arith}
 use Rattle.std.specs.List.{flat_map}
 use Rattle.std.proofs.lemmas.Grind.{flat_map-append}
-use Rattle.ps_world.specs.Journal.{line_end}
+use Rattle.ps_world.specs.Lines.{line_end}
 
 -- what begins a line, what it says, and its end
 pub line_of : (old head said ending x y z : List ℕ) → x ≡ old ++ head → y ≡ x ++ said → z ≡ y ++ ending → z ≡ old ++ ((head ++ said) ++ ending)

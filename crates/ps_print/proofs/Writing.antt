@@ -6,8 +6,7 @@ use Rattle.std.proofs.lemmas.List.Elements.{All-head, All-tail}
 use Rattle.std.proofs.lemmas.List.Folds.{list_all-append}
 use Rattle.std.specs.List.{All, flat_map, list_all}
 use Rattle.ps_world.specs.DomainTexts.{after_spaces, spaced, timed_text}
-use Rattle.ps_world.specs.Journal.{line_end}
-use Rattle.ps_world.specs.Lines.{lengthened}
+use Rattle.ps_world.specs.Lines.{lengthened, line_end}
 use Rattle.ps_text.specs.Words.{words, goes_on, is_run_byte}
 use Rattle.ps_text.proofs.WordSteps.{words-alone, words-longer, run_parts}
 use Rattle.ps_print.specs.CanonicalWords.{grouped, timed_words}

@@ -1,9 +1,8 @@
 -- The words of a domain's canonical text, and the domains that have one: their names stand in the table.
 use Rattle.std.specs.Prelude.{ℕ, ◌<◌, List, [], ◌∷◌, ◌++◌, codes, map, length, All}
 use Rattle.std.specs.List.{flat_map}
-use Rattle.ps_world.specs.Names.{Table}
+use Rattle.ps_world.specs.Names.{Table, name_text}
 use Rattle.ps_world.specs.Numbers.{IsCount, number_text}
-use Rattle.ps_world.specs.Texts.{name_text}
 use Rattle.ps_world.specs.DomainTexts.{term_text, op_text, rel_text, num_op_text}
 use Rattle.ps_world.specs.Trees.{ExprTree, number, value_of, negated, operated, CondTree, CondTrees, all_of, no, holds, same, compares, is_a, none, more}
 use Rattle.ps_world.specs.ExprViews.{expr_tree}

@@ -1,7 +1,7 @@
 //! Printing actions.
 ghost use Rattle.std.specs.Prelude.{◌≡◌, [], ◌++◌, map, slice_index_or, OnOk};
 ghost use Rattle.std.specs.List.{flat_map};
-ghost use Rattle.ps_world.specs.Journal.{line_end};
+ghost use Rattle.ps_world.specs.Lines.{line_end};
 ghost use Rattle.ps_world.specs.DomainTexts.{cond_text, effect_text, timed_text, conditions_text, effects_text, action_lines};
 
 use super::conditions::push_condition;

@@ -1,6 +1,6 @@
 //! Printing names, and what a domain declares with them.
 ghost use Rattle.std.specs.Prelude.{◌≡◌, ◌++◌, map, OnOk};
-ghost use Rattle.ps_world.specs.Texts.{name_text};
+ghost use Rattle.ps_world.specs.Names.{name_text};
 ghost use Rattle.ps_world.specs.DomainTexts.{after_spaces, spaced, typed_text, param_text, decl_text};
 
 use ps_text::Names;

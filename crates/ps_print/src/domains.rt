@@ -1,8 +1,8 @@
 //! Printing a domain.
 ghost use Rattle.std.specs.Prelude.{◌≡◌, ◌++◌, codes, map, IfOk, OnOk};
 ghost use Rattle.std.specs.List.{flat_map};
-ghost use Rattle.ps_world.specs.Texts.{name_text};
-ghost use Rattle.ps_world.specs.Journal.{line_end};
+ghost use Rattle.ps_world.specs.Lines.{line_end};
+ghost use Rattle.ps_world.specs.Names.{name_text};
 ghost use Rattle.ps_world.specs.DomainTexts.{typed_text, decl_text, section_lines, domain_text};
 
 use super::actions::push_actions;

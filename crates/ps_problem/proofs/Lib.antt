@@ -1,4 +1,13 @@
-pub mod Additions
+pub mod Accepted
+pub mod Changes
+pub mod Contained
 pub mod Facts
+pub mod Filters
+pub mod Goals
 pub mod Keys
-pub mod Typed
+pub mod Namings
+pub mod Opening
+pub mod Removals
+pub mod Suits
+pub mod Values
+pub mod WellKnown

@@ -1,2 +1,3 @@
-pub mod Additions
-pub mod Typed
+pub mod Changes
+pub mod Namings
+pub mod WellKnown

@@ -1,13 +1,15 @@
 //! Laws of edits. A call does nothing: its contract is the law.
-ghost use Rattle.ps_problem.specs.Additions.{EditsAdd};
-ghost use Rattle.ps_problem.specs.Typed.{EditsKeepTypes};
+ghost use Rattle.ps_problem.specs.Changes.{EditsChange};
+ghost use Rattle.ps_problem.specs.WellKnown.{EditsKeepWellKnown};
 
-/// An accepted edit adds what it says and nothing else, and both lists still rise.
-pub fn edits_add()
-    ensures { EditsAdd }
+/// An accepted edit changes what it says and nothing else, and the lists still rise.
+pub fn edits_change_what_they_say()
+    ensures { EditsChange }
 {}
 
-/// Every fact that is known has a declared predicate, and instances of the right types.
-pub fn edits_keep_types()
-    ensures { EditsKeepTypes }
+/// What is known suits the domain, when a session opens and after each edit: nothing stands twice, at most 1,000
+/// instances are there, the constants among them, each head and type is declared, each argument is an instance that
+/// fits, and the goal is one that could be set now.
+pub fn edits_keep_well_known()
+    ensures { EditsKeepWellKnown }
 {}

@@ -4,5 +4,5 @@
 mod laws;
 mod problem;
 
-pub use laws::{edits_add, edits_keep_types};
+pub use laws::{edits_change_what_they_say, edits_keep_well_known};
 pub use problem::Problem;

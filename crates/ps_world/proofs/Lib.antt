@@ -1,7 +1,9 @@
 pub mod Climbs
+pub mod CondRanks
 pub mod Digits
 pub mod Faults
 pub mod Journals
+pub mod OneLine
 pub mod ReadBack
 pub mod SameConds
 pub mod ShortLists

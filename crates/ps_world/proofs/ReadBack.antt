@@ -1,5 +1,5 @@
 -- The entries that stand in the text of a journal.
-use Rattle.std.proofs.Common.{◌≡◌, ℕ, suc, zero, ◌==◌, ◌&&◌, Bool, true, false, not, List, [], ◌∷◌, ◌++◌, codes, map, filter, fold, drop, refl, arith, ap, ◌∙◌, nat_eq, append_assoc, slice_index_or}
+use Rattle.std.proofs.Common.{◌≡◌, ℕ, ◌==◌, ◌&&◌, Bool, true, false, not, List, [], ◌∷◌, ◌++◌, codes, map, filter, fold, drop, Option, Some, None, refl, arith, ap, ◌∙◌, nat_eq, append_assoc}
 use Rattle.std.specs.Cmp.Lexicographic.{slice_cmp}
 use Rattle.std.specs.List.{list_all, starts_with}
 use Rattle.std.specs.Ordering.{match_ordering, nat_cmp}
@@ -7,32 +7,29 @@ use Rattle.std.specs.declared.cmp.Ordering.{Ordering}
 use Rattle.std.specs.declared.cmp.Ordering.TheVariants.{Less, Equal, Greater}
 use Rattle.std.specs.BTreeSet.{insert_key}
 use Rattle.std.specs.Fmt.{decimal}
-use Rattle.std.proofs.lemmas.List.Folds.{list_all-append}
+use Rattle.std.specs.Option.{option_map_or}
 use Rattle.std.proofs.lemmas.Bool.Decides.{nat_tests}
-use Rattle.ps_world.specs.Names.{Table}
+use Rattle.ps_world.specs.Names.{Table, name_text}
 use Rattle.ps_world.specs.Lines.{lines_of, is_line}
-use Rattle.ps_world.specs.Texts.{name_text, args_text, fact_text, edit_text, edit_refusal_text, refusal_text, by_text, event_text, entry_line}
+use Rattle.ps_world.specs.DomainTexts.{decl_text, action_lines}
+use Rattle.ps_world.specs.Knowledge.{predicate_of, action_of}
+use Rattle.ps_world.specs.Texts.{fact_text, value_text, event_text, entry_line}
 use Rattle.ps_world.specs.History.{know}
-use Rattle.ps_world.specs.Journal.{reply_lines, reply_mark, reply_text, entry_text, text_after, journal_text, AreEntriesIn}
+use Rattle.ps_world.specs.Journal.{in_order, instance_text, goal_line, answer_lines, reply_lines, reply_mark, reply_text, entry_text, text_after, journal_text, AreEntriesIn}
 use Rattle.ps_world.specs.Laws.{AreLines}
-use Rattle.ps_world.specs.declared.names.Name.{Name}
-use Rattle.ps_world.specs.declared.facts.Fact.{Fact}
+use Rattle.ps_world.specs.declared.conditions.Cond.{Cond}
+use Rattle.ps_world.specs.declared.domains.Decl.{Decl}
+use Rattle.ps_world.specs.declared.domains.Domain.{Domain}
+use Rattle.ps_world.specs.declared.actions.ActionDef.{ActionDef}
 use Rattle.ps_world.specs.declared.known.Knowledge.{Knowledge}
-use Rattle.ps_world.specs.declared.edits.Edit.{Edit}
-use Rattle.ps_world.specs.declared.edits.Edit.TheVariants.{AddInstance, AddFact}
-use Rattle.ps_world.specs.declared.edits.EditRefusal.{EditRefusal}
-use Rattle.ps_world.specs.declared.edits.EditRefusal.TheVariants.{NoType, InstanceThere, Full, NoInstance, NoPredicate, Arity, WrongType, OutOfMemory}
 use Rattle.ps_world.specs.declared.inputs.Input.{Input}
-use Rattle.ps_world.specs.declared.inputs.Query.TheVariants.{ProblemPredicates}
-use Rattle.ps_world.specs.declared.inputs.LineCause.TheVariants.{NotBuilt}
-use Rattle.ps_world.specs.declared.journal.By.{By}
-use Rattle.ps_world.specs.declared.journal.By.TheVariants.{Terminal}
-use Rattle.ps_world.specs.declared.journal.Refusal.{Refusal}
-use Rattle.ps_world.specs.declared.journal.Refusal.TheVariants as refusal
+use Rattle.ps_world.specs.declared.inputs.Query.{Query}
+use Rattle.ps_world.specs.declared.inputs.Query.TheVariants as query
 use Rattle.ps_world.specs.declared.journal.Event.{Event}
 use Rattle.ps_world.specs.declared.journal.Event.TheVariants as event
 use Rattle.ps_world.specs.declared.journal.Entry.{Entry}
 use Rattle.ps_world.proofs.Digits.{is_ink, is_inked, is_inked-decimal}
+use Rattle.ps_world.proofs.OneLine.{are_lines, are_lines-map, is_line-append, is_line-name, is_line-fact, is_line-value, is_line-goal, is_line-decl, are_lines-action, are_lines-domain, is_line-entry}
 
 both : (x y : Bool) → (x && y) ≡ true → (x ≡ true) × (y ≡ true)
 both true y h = (refl, h)
@@ -42,74 +39,7 @@ is_false : (x : Bool) → not x ≡ true → x ≡ false
 is_false true h = absurd (cc)
 is_false false h = refl
 
--- One line.
-
-is_line-append : (a b : List ℕ) → is_line a ≡ true → is_line b ≡ true → is_line (a ++ b) ≡ true
-is_line-append a b p q = rw (list_all-append, p, q) refl
-
-is_line-ink : (bs : List ℕ) → list_all is_ink bs ≡ true → is_line bs ≡ true
-is_line-ink [] h = refl
-is_line-ink (b ∷ bs) h = let more = is_line-ink bs in grind (arith, nat_tests)
-
-is_line-inked : (bs : List ℕ) → is_inked bs ≡ true → is_line bs ≡ true
-is_line-inked [] h = refl
-is_line-inked (b ∷ bs) h = is_line-ink (b ∷ bs) h
-
-is_line-decimal : (n : ℕ) → is_line (decimal n) ≡ true
-is_line-decimal n = is_line-inked (decimal n) (is_inked-decimal n)
-
-is_line-at : (names : Table) (k : ℕ) → AreLines names → is_line (slice_index_or names k []) ≡ true
-is_line-at [] k h = refl
-is_line-at (t ∷ ts) zero h = h 0 [] (omega arith)
-is_line-at (t ∷ ts) (suc k) h = is_line-at ts k (λ j d lt. h (suc j) d (omega arith))
-
-is_line-name : (names : Table) (n : Name) → AreLines names → is_line (name_text names n) ≡ true
-is_line-name names n h = is_line-at names n.0 h
-
-is_line-args : (names : Table) (ns : List Name) → AreLines names → is_line (args_text names ns) ≡ true
-is_line-args names [] h = refl
-is_line-args names (n ∷ ns) h = is_line-append (codes " " ++ name_text names n) (args_text names ns) (is_line-name names n h) (is_line-args names ns h)
-
-is_line-fact : (names : Table) (f : Fact) → AreLines names → is_line (fact_text names f) ≡ true
-is_line-fact names f h =
-    is_line-append (name_text names f.head) (args_text names f.args ++ codes ")") (is_line-name names f.head h)
-    (is_line-append (args_text names f.args) (codes ")") (is_line-args names f.args h) refl)
-
-is_line-edit : (names : Table) (e : Edit) → AreLines names → is_line (edit_text names e) ≡ true
-is_line-edit names (AddInstance n t) h =
-    is_line-append (name_text names n) (codes " " ++ name_text names t) (is_line-name names n h) (is_line-name names t h)
-is_line-edit names (AddFact f) h = is_line-fact names f h
-
-is_line-edit_refusal : (names : Table) (r : EditRefusal) → AreLines names → is_line (edit_refusal_text names r) ≡ true
-is_line-edit_refusal names NoType h = refl
-is_line-edit_refusal names InstanceThere h = refl
-is_line-edit_refusal names Full h = refl
-is_line-edit_refusal names (NoInstance n) h = is_line-name names n h
-is_line-edit_refusal names NoPredicate h = refl
-is_line-edit_refusal names (Arity want got) h =
-    is_line-append (decimal want) (codes " " ++ decimal got) (is_line-decimal want) (is_line-decimal got)
-is_line-edit_refusal names (WrongType at) h = is_line-decimal at
-is_line-edit_refusal names OutOfMemory h = refl
-
-is_line-refusal : (names : Table) (r : Refusal) → AreLines names → is_line (refusal_text names r) ≡ true
-is_line-refusal names (refusal.Line NotBuilt) h = refl
-is_line-refusal names (refusal.Edit r) h = is_line-edit_refusal names r h
-
-is_line-by : (by : By) (rest : List ℕ) → is_line rest ≡ true → is_line (by_text by ++ rest) ≡ true
-is_line-by (Terminal n) rest h = is_line-append (decimal n) rest (is_line-decimal n) h
-
-is_line-event : (names : Table) (e : Event) → AreLines names → is_line (event_text names e) ≡ true
-is_line-event names (event.Edit by edit) h = is_line-by by (codes " " ++ edit_text names edit) (is_line-edit names edit h)
-is_line-event names (event.Refused by why) h = is_line-by by (codes " " ++ refusal_text names why) (is_line-refusal names why h)
-is_line-event names (event.Ask ProblemPredicates) h = refl
-
-is_line-entry : (names : Table) (e : Entry) → AreLines names → is_line (entry_line names e) ≡ true
-is_line-entry names e h = is_line-append (decimal e.hand) (codes " " ++ event_text names e.what) (is_line-decimal e.hand) (is_line-event names e.what h)
-
 -- Reply lines.
-
-abbrev are_lines : List (List ℕ) → Bool
-are_lines = list_all is_line
 
 are_lines-insert_key : (cmp : List ℕ → List ℕ → Ordering) (xs : List (List ℕ)) (x : List ℕ) → are_lines xs ≡ true → is_line x ≡ true → are_lines (insert_key cmp xs x) ≡ true
 are_lines-insert_key cmp [] x p q = rw q refl
@@ -126,14 +56,46 @@ are_lines-fold cmp acc [] p q = p
 are_lines-fold cmp acc (x ∷ xs) p q =
     are_lines-fold cmp (insert_key cmp acc x) xs (are_lines-insert_key cmp acc x p (grind (arith, nat_tests))) (grind (arith, nat_tests))
 
-are_lines-facts : (names : Table) (fs : List Fact) → AreLines names → are_lines (map (fact_text names) fs) ≡ true
-are_lines-facts names [] h = refl
-are_lines-facts names (f ∷ fs) h = rw (is_line-fact names f h, are_lines-facts names fs h) refl
+are_lines-in_order : (lines : List (List ℕ)) → are_lines lines ≡ true → are_lines (in_order lines) ≡ true
+are_lines-in_order lines h = are_lines-fold (slice_cmp nat_cmp) [] lines refl h
 
-are_lines-replies : (names : Table) (k : Knowledge) (e : Event) → AreLines names → are_lines (reply_lines names k e) ≡ true
-are_lines-replies names k (event.Edit by edit) h = refl
-are_lines-replies names k (event.Refused by why) h = refl
-are_lines-replies names k (event.Ask ProblemPredicates) h = are_lines-fold (slice_cmp nat_cmp) [] (map (fact_text names) k.facts) refl (are_lines-facts names k.facts h)
+are_lines-one : (line : List ℕ) → is_line line ≡ true → are_lines (line ∷ []) ≡ true
+are_lines-one line h = rw h refl
+
+is_line-goal_line : (names : Table) (goal : Option Cond) → AreLines names → is_line (goal_line names goal) ≡ true
+is_line-goal_line names None h = refl
+is_line-goal_line names (Some goal) h = is_line-goal names goal h
+
+are_lines-predicate : (names : Table) (found : Option Decl) → AreLines names → are_lines (option_map_or (λ decl. decl_text names decl ∷ []) found []) ≡ true
+are_lines-predicate names None h = refl
+are_lines-predicate names (Some decl) h = are_lines-one (decl_text names decl) (is_line-decl names decl h)
+
+are_lines-found_action : (names : Table) (found : Option ActionDef) → AreLines names → are_lines (option_map_or (action_lines names) found []) ≡ true
+are_lines-found_action names None h = refl
+are_lines-found_action names (Some action) h = are_lines-action names action h
+
+are_lines-answer : (names : Table) (d : Domain) (k : Knowledge) (q : Query) → AreLines names → are_lines (answer_lines names d k q) ≡ true
+are_lines-answer names d k query.ModelTypes h = are_lines-map (λ p. name_text names p.name) d.types (λ p. is_line-name names p.name h)
+are_lines-answer names d k query.ModelPredicates h = are_lines-map (decl_text names) d.predicates (λ decl. is_line-decl names decl h)
+are_lines-answer names d k query.ModelFunctions h = are_lines-map (decl_text names) d.functions (λ decl. is_line-decl names decl h)
+are_lines-answer names d k query.ModelActions h = are_lines-map (λ a. name_text names a.name) d.actions (λ a. is_line-name names a.name h)
+are_lines-answer names d k (query.ModelPredicate n) h = are_lines-predicate names (predicate_of d n) h
+are_lines-answer names d k (query.ModelAction n) h = are_lines-found_action names (action_of d n) h
+are_lines-answer names d k query.Domain h = are_lines-domain names d h
+are_lines-answer names d k query.ProblemInstances h =
+    are_lines-in_order (map (instance_text names) k.instances)
+    (are_lines-map (instance_text names) k.instances (λ i. is_line-append (name_text names i.0) (codes " - " ++ name_text names i.1) (is_line-name names i.0 h) (is_line-name names i.1 h)))
+are_lines-answer names d k query.ProblemPredicates h =
+    are_lines-in_order (map (fact_text names) k.facts) (are_lines-map (fact_text names) k.facts (λ f. is_line-fact names f h))
+are_lines-answer names d k query.ProblemFunctions h =
+    are_lines-in_order (map (λ v. value_text names v.0 v.1) k.values) (are_lines-map (λ v. value_text names v.0 v.1) k.values (λ v. is_line-value names v.0 v.1 h))
+are_lines-answer names d k query.ProblemGoal h = are_lines-one (goal_line names k.goal) (is_line-goal_line names k.goal h)
+
+are_lines-replies : (names : Table) (d : Domain) (k : Knowledge) (e : Event) → AreLines names → are_lines (reply_lines names d k e) ≡ true
+are_lines-replies names d k (event.Edit by edit) h = refl
+are_lines-replies names d k (event.Refused by why) h = refl
+are_lines-replies names d k (event.Ask q) h = are_lines-answer names d k q h
+are_lines-replies names d k event.Quit h = refl
 
 -- Lines in a text.
 
@@ -164,17 +126,17 @@ kept-replies (l ∷ ls) rest h =
     let one : reply_text (l ∷ ls) ++ rest ≡ (32 ∷ 32 ∷ l) ++ 10 ∷ (reply_text ls ++ rest) = simp append_assoc in
     ap (λ text. kept (lines_of text)) one ∙ ap kept (lines_of-line (32 ∷ 32 ∷ l) (reply_text ls ++ rest) parts.0) ∙ kept-replies ls rest parts.1
 
-kept-entry : (names : Table) (k : Knowledge) (e : Entry) (rest : List ℕ) → AreLines names → kept (lines_of (entry_text names k e ++ rest)) ≡ entry_line names e ∷ kept (lines_of rest)
-kept-entry names k e rest h =
-    let replies = reply_lines names k e.what in
-    let one : entry_text names k e ++ rest ≡ entry_line names e ++ 10 ∷ (reply_text replies ++ rest) = simp append_assoc in
+kept-entry : (names : Table) (d : Domain) (k : Knowledge) (e : Entry) (rest : List ℕ) → AreLines names → kept (lines_of (entry_text names d k e ++ rest)) ≡ entry_line names e ∷ kept (lines_of rest)
+kept-entry names d k e rest h =
+    let replies = reply_lines names d k e.what in
+    let one : entry_text names d k e ++ rest ≡ entry_line names e ++ 10 ∷ (reply_text replies ++ rest) = simp append_assoc in
     rw (one, lines_of-line (entry_line names e) (reply_text replies ++ rest) (is_line-entry names e h), starts_with-inked (decimal e.hand) (codes " " ++ event_text names e.what) (is_inked-decimal e.hand))
-    (ap (λ more. entry_line names e ∷ more) (kept-replies replies rest (are_lines-replies names k e.what h)))
+    (ap (λ more. entry_line names e ∷ more) (kept-replies replies rest (are_lines-replies names d k e.what h)))
 
 kept-text_after : (names : Table) (i : Input) (before es : List Entry) → AreLines names → kept (lines_of (text_after names i before es)) ≡ map (entry_line names) es
 kept-text_after names i before [] h = refl
 kept-text_after names i before (e ∷ es) h =
-    kept-entry names (know i before) e (text_after names i (before ++ e ∷ []) es) h
+    kept-entry names i.domain (know i before) e (text_after names i (before ++ e ∷ []) es) h
     ∙ ap (λ more. entry_line names e ∷ more) (kept-text_after names i (before ++ e ∷ []) es h)
 
 pub AreEntriesIn-journal_text : (names : Table) (i : Input) (es : List Entry) → AreLines names → AreEntriesIn names (journal_text names i es) es

@@ -1,10 +1,9 @@
 -- The canonical text of a domain. A text is a list of bytes.
 use Rattle.std.specs.Prelude.{ℕ, List, [], ◌∷◌, ◌++◌, codes, map, slice_index_or}
 use Rattle.std.specs.List.{flat_map}
-use Rattle.ps_world.specs.Names.{Table, object}
+use Rattle.ps_world.specs.Lines.{line_end}
+use Rattle.ps_world.specs.Names.{Table, object, name_text}
 use Rattle.ps_world.specs.Numbers.{number_text}
-use Rattle.ps_world.specs.Texts.{name_text}
-use Rattle.ps_world.specs.Journal.{line_end}
 use Rattle.ps_world.specs.Trees.{ExprTree, number, value_of, negated, operated, CondTree, CondTrees, all_of, no, holds, same, compares, is_a, none, more}
 use Rattle.ps_world.specs.ExprViews.{expr_tree}
 use Rattle.ps_world.specs.declared.schemas.Term.{Term}

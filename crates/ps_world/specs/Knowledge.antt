@@ -1,13 +1,21 @@
 -- What is known, and how an edit changes it.
-use Rattle.std.specs.Prelude.{ℕ, Bool, false, ◌||◌, ◌==◌, ◌+◌, suc, zero, nat_le, if◌then◌else◌, Option, Some, None, Result, Ok, Err, List, [], ◌∷◌, length, find, fold}
+use Rattle.std.specs.Prelude.{ℕ, Bool, false, not, ◌||◌, ◌==◌, ◌+◌, suc, zero, nat_le, if◌then◌else◌, Option, Some, None, is_none, is_some, Result, Ok, Err, List, [], ◌∷◌, filter, length, find, fold, map}
 use Rattle.std.specs.List.{list_any}
 use Rattle.std.specs.Option.{option_map, option_map_or}
 use Rattle.std.specs.BTreeMap.{insert_entry}
 use Rattle.std.specs.BTreeSet.{insert_key}
 use Rattle.std.specs.Map.{lookup}
+use Rattle.std.specs.Ordering.{is_eq}
 use Rattle.ps_world.specs.Names.{same_name, name_cmp, object}
 use Rattle.ps_world.specs.Facts.{fact_cmp}
+use Rattle.ps_world.specs.Trees.{ExprTree, number, value_of, negated, operated, CondTree, CondTrees, all_of, no, holds, same, compares, is_a, none, more}
+use Rattle.ps_world.specs.CondViews.{cond_tree}
 use Rattle.ps_world.specs.declared.names.Name.{Name}
+use Rattle.ps_world.specs.declared.numbers.Num.{Num}
+use Rattle.ps_world.specs.declared.schemas.Term.{Term}
+use Rattle.ps_world.specs.declared.schemas.Term.TheVariants.{Var, Const}
+use Rattle.ps_world.specs.declared.schemas.Lifted.{Lifted}
+use Rattle.ps_world.specs.declared.conditions.Cond.{Cond}
 use Rattle.ps_world.specs.declared.facts.Fact.{Fact}
 use Rattle.ps_world.specs.declared.domains.Param.{Param}
 use Rattle.ps_world.specs.declared.domains.Decl.{Decl}
@@ -15,9 +23,9 @@ use Rattle.ps_world.specs.declared.domains.Domain.{Domain}
 use Rattle.ps_world.specs.declared.actions.ActionDef.{ActionDef}
 use Rattle.ps_world.specs.declared.known.Knowledge.{Knowledge}
 use Rattle.ps_world.specs.declared.edits.Edit.{Edit}
-use Rattle.ps_world.specs.declared.edits.Edit.TheVariants.{AddInstance, AddFact}
+use Rattle.ps_world.specs.declared.edits.Edit.TheVariants.{AddInstance, RemoveInstance, AddFact, RemoveFact, SetValue, RemoveValue, SetGoal, RemoveGoal}
 use Rattle.ps_world.specs.declared.edits.EditRefusal.{EditRefusal}
-use Rattle.ps_world.specs.declared.edits.EditRefusal.TheVariants.{NoType, InstanceThere, Full, NoInstance, NoPredicate, Arity, WrongType}
+use Rattle.ps_world.specs.declared.edits.EditRefusal.TheVariants.{NoType, InstanceThere, Full, NoInstance, Constant, NoPredicate, Arity, WrongType, NoFact, NoFunction, NoValue, NoGoal}
 
 -- whether the domain has this type
 abbrev pub is_type : Domain → Name → Bool
@@ -74,16 +82,101 @@ first_misfit d k (p ∷ ps) [] at = None
 first_misfit d k (p ∷ ps) (n ∷ ns) at =
     or_else (misfit d (kind_of k n) p.kind n at) (first_misfit d k ps ns (at + 1))
 
--- why arguments don't suit a declaration, if they don't
-abbrev pub unsuited : Domain → Knowledge → Option Decl → List Name → Option EditRefusal
-unsuited d k None ns = Some NoPredicate
-unsuited d k (Some decl) ns =
+-- why arguments don't suit a declaration, if they don't; this is the refusal where there is none
+abbrev pub unsuited : EditRefusal → Domain → Knowledge → Option Decl → List Name → Option EditRefusal
+unsuited missing d k None ns = Some missing
+unsuited missing d k (Some decl) ns =
     if length decl.params == length ns then first_misfit d k decl.params ns 0
     else Some (Arity (length decl.params) (length ns))
 
 -- why a fact can't be spoken of, if it can't
 abbrev pub fault_of_fact : Domain → Knowledge → Fact → Option EditRefusal
-fault_of_fact d k f = unsuited d k (predicate_of d f.head) f.args
+fault_of_fact d k f = unsuited NoPredicate d k (predicate_of d f.head) f.args
+
+-- why a function's value can't be spoken of, if it can't
+abbrev pub fault_of_value : Domain → Knowledge → Fact → Option EditRefusal
+fault_of_value d k f = unsuited NoFunction d k (function_of d f.head) f.args
+
+-- ---- goals, in which every term is a name
+
+-- the name that a term is
+abbrev pub name_of : Term → Name
+name_of (Var i) = object
+name_of (Const n) = n
+
+-- a head with its arguments
+abbrev pub ground : Lifted → Fact
+ground l = record { head = l.head; args = map name_of l.terms }
+
+-- why a number can't be asked for, if it can't: the first fault in the order of the text
+abbrev pub fault_of_expr : Domain → Knowledge → ExprTree → Option EditRefusal
+fault_of_expr d k (number n) = None
+fault_of_expr d k (value_of l) = fault_of_value d k (ground l)
+fault_of_expr d k (negated x) = fault_of_expr d k x
+fault_of_expr d k (operated op x y) = or_else (fault_of_expr d k x) (fault_of_expr d k y)
+
+-- why a name is no instance, if it is none
+abbrev pub fault_of_name : Knowledge → Name → Option EditRefusal
+fault_of_name k n = if is_none (kind_of k n) then Some (NoInstance n) else None
+
+abbrev mutual
+  -- why a condition can't be a goal, if it can't: the first fault in the order of the text
+  pub fault_of_cond : Domain → Knowledge → CondTree → Option EditRefusal
+  fault_of_cond d k (all_of cs) = fault_of_conds d k cs
+  fault_of_cond d k (no c) = fault_of_cond d k c
+  fault_of_cond d k (holds l) = fault_of_fact d k (ground l)
+  fault_of_cond d k (same s t) = or_else (fault_of_name k (name_of s)) (fault_of_name k (name_of t))
+  fault_of_cond d k (compares rel x y) = or_else (fault_of_expr d k x) (fault_of_expr d k y)
+  fault_of_cond d k (is_a t kind) = None
+
+  -- the same of several, one after another
+  pub fault_of_conds : Domain → Knowledge → CondTrees → Option EditRefusal
+  fault_of_conds d k none = None
+  fault_of_conds d k (more c cs) = or_else (fault_of_cond d k c) (fault_of_conds d k cs)
+
+-- ---- what names an instance: a head and a type name none
+
+-- whether the name is among these arguments
+abbrev pub is_among : Name → List Name → Bool
+is_among n ns = list_any (same_name n) ns
+
+-- whether an expression names it
+abbrev pub expr_names : Name → ExprTree → Bool
+expr_names n (number m) = false
+expr_names n (value_of l) = is_among n (ground l).args
+expr_names n (negated x) = expr_names n x
+expr_names n (operated op x y) = expr_names n x || expr_names n y
+
+abbrev mutual
+  -- whether a condition names it, as an argument or in a (= a b)
+  pub cond_names : Name → CondTree → Bool
+  cond_names n (all_of cs) = conds_name n cs
+  cond_names n (no c) = cond_names n c
+  cond_names n (holds l) = is_among n (ground l).args
+  cond_names n (same s t) = same_name n (name_of s) || same_name n (name_of t)
+  cond_names n (compares rel x y) = expr_names n x || expr_names n y
+  cond_names n (is_a t kind) = same_name n (name_of t)
+
+  -- whether one of several does
+  pub conds_name : Name → CondTrees → Bool
+  conds_name n none = false
+  conds_name n (more c cs) = cond_names n c || conds_name n cs
+
+-- the goal, unless it names the instance
+abbrev pub goal_without : Name → Option Cond → Option Cond
+goal_without n None = None
+goal_without n (Some goal) = if cond_names n (cond_tree goal) then None else Some goal
+
+-- the knowledge without an instance, and without every fact and value and the goal that name it
+abbrev pub without : Name → Knowledge → Knowledge
+without n k = record {
+  instances = filter (λ i. not (same_name n i.0)) k.instances;
+  facts = filter (λ f. not (is_among n f.args)) k.facts;
+  values = filter (λ v. not (is_among n v.0.args)) k.values;
+  goal = goal_without n k.goal;
+}
+
+-- ---- edits
 
 -- the most instances
 abbrev pub most_instances : ℕ
@@ -96,20 +189,58 @@ with_instance k n t None =
     if nat_le most_instances (length k.instances) then Err Full
     else Ok (record k { instances = insert_entry name_cmp k.instances n t })
 
--- the knowledge with a fact, unless something is at fault with it
-abbrev pub with_fact : Knowledge → Fact → Option EditRefusal → Result Knowledge EditRefusal
-with_fact k f (Some fault) = Err fault
-with_fact k f None = Ok (record k { facts = insert_key fact_cmp k.facts f })
+-- the knowledge without an instance that has that type now, if it is one; a constant of the domain stays
+abbrev pub without_instance : Domain → Knowledge → Name → Option Name → Result Knowledge EditRefusal
+without_instance d k n None = Err (NoInstance n)
+without_instance d k n (Some kind) = if is_none (constant_of d n) then Ok (without n k) else Err Constant
+
+-- this, unless something is at fault
+abbrev pub unless : Option EditRefusal → Result Knowledge EditRefusal → Result Knowledge EditRefusal
+unless (Some fault) new = Err fault
+unless None new = new
+
+-- whether two facts are the same
+abbrev pub same_fact : Fact → Fact → Bool
+same_fact f g = is_eq (fact_cmp f g)
+
+-- whether a fact is known
+abbrev pub is_known : Knowledge → Fact → Bool
+is_known k f = list_any (same_fact f) k.facts
+
+-- the value of a function term, if it has one
+abbrev pub value_in : Knowledge → Fact → Option Num
+value_in k f = lookup (same_fact f) k.values
+
+-- the knowledge without a fact
+abbrev pub without_fact : Knowledge → Fact → Result Knowledge EditRefusal
+without_fact k f =
+    if is_known k f then Ok (record k { facts = filter (λ g. not (same_fact f g)) k.facts }) else Err NoFact
+
+-- the knowledge without a value
+abbrev pub without_value : Knowledge → Fact → Result Knowledge EditRefusal
+without_value k f =
+    if is_some (value_in k f) then Ok (record k { values = filter (λ v. not (same_fact f v.0)) k.values }) else Err NoValue
+
+-- the knowledge without its goal
+abbrev pub without_goal : Knowledge → Option Cond → Result Knowledge EditRefusal
+without_goal k None = Err NoGoal
+without_goal k (Some goal) = Ok (record k { goal = None })
 
 -- the knowledge after the edit, or the first refusal
 abbrev pub edited : Domain → Knowledge → Edit → Result Knowledge EditRefusal
 edited d k (AddInstance n t) = if is_type d t then with_instance k n t (kind_of k n) else Err NoType
-edited d k (AddFact f) = with_fact k f (fault_of_fact d k f)
+edited d k (RemoveInstance n) = without_instance d k n (kind_of k n)
+edited d k (AddFact f) = unless (fault_of_fact d k f) (Ok (record k { facts = insert_key fact_cmp k.facts f }))
+edited d k (RemoveFact f) = unless (fault_of_fact d k f) (without_fact k f)
+edited d k (SetValue f x) = unless (fault_of_value d k f) (Ok (record k { values = insert_entry fact_cmp k.values f x }))
+edited d k (RemoveValue f) = unless (fault_of_value d k f) (without_value k f)
+edited d k (SetGoal c) = unless (fault_of_cond d k (cond_tree c)) (Ok (record k { goal = Some c }))
+edited d k RemoveGoal = without_goal k k.goal
 
 -- instances with a constant put in, with its type
 abbrev pub with_constant : List (Name × Name) → Param → List (Name × Name)
 with_constant instances c = insert_entry name_cmp instances c.name c.kind
 
--- what a session opens with: the constants as its instances, and no fact
+-- what a session opens with: the constants as its instances, and nothing else
 abbrev pub opening : Domain → Knowledge
-opening d = record { instances = fold with_constant [] d.constants; facts = [] }
+opening d = record { instances = fold with_constant [] d.constants; facts = []; values = []; goal = None }

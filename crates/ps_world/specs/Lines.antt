@@ -20,3 +20,7 @@ lines_of (b ∷ bs) = if b == 10 then [] ∷ lines_of bs else lengthened b (line
 -- whether a text is one line: no LF stands in it
 abbrev pub is_line : List ℕ → Bool
 is_line text = list_all (λ b. not (b == 10)) text
+
+-- what ends a line
+abbrev pub line_end : List ℕ
+line_end = 10 ∷ []

@@ -16,10 +16,14 @@ pub enum By {
 pub enum Refusal {
     Line(LineCause),
     Edit(EditRefusal),
+    /// The predicate asked for isn't declared.
+    NoPredicate,
+    /// The action asked for isn't declared.
+    NoAction,
 }
 
 /// What happened.
-#[derive(Clone, Copy, PartialEq, Eq)]
+#[derive(PartialEq, Eq, Drop)]
 pub enum Event {
     /// An edit was accepted.
     Edit { by: By, edit: Edit },
@@ -27,17 +31,36 @@ pub enum Event {
     Refused { by: By, why: Refusal },
     /// A query was answered.
     Ask(Query),
+    /// The terminal ended the session.
+    Quit,
 }
 
 /// An entry of the journal: an event and the hand that made it. The terminal's hand is 0.
-#[derive(Clone, Copy, PartialEq, Eq)]
+#[derive(PartialEq, Eq, Drop)]
 pub struct Entry {
     pub hand: u8,
     pub what: Event,
 }
 
+impl Duplicate for Event {
+    fn copy(&self, alloc: Global) -> Result<Self, AllocError> {
+        Ok(match self {
+            Event::Edit { by, edit } => Event::Edit {
+                by: *by,
+                edit: edit.copy(alloc)?,
+            },
+            Event::Refused { by, why } => Event::Refused { by: *by, why: *why },
+            Event::Ask(query) => Event::Ask(*query),
+            Event::Quit => Event::Quit,
+        })
+    }
+}
+
 impl Duplicate for Entry {
-    fn copy(&self, _alloc: Global) -> Result<Self, AllocError> {
-        Ok(*self)
+    fn copy(&self, alloc: Global) -> Result<Self, AllocError> {
+        Ok(Entry {
+            hand: self.hand,
+            what: self.what.copy(alloc)?,
+        })
     }
 }

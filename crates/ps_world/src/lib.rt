@@ -13,6 +13,7 @@ mod known;
 mod laws;
 mod lists;
 mod names;
+mod naming;
 mod numbers;
 mod plain;
 mod schemas;

@@ -1,9 +1,11 @@
 //! Facts with parameters in them, as conditions and effects speak of them.
-ghost use Rattle.std.specs.Prelude.{◌≡◌, ◌==◌, ◌<◌, ◌≤◌, length, slice_index_or};
+ghost use Rattle.std.specs.Prelude.{◌≡◌, ◌==◌, ◌<◌, ◌≤◌, length, map, slice_index_or};
 ghost use Rattle.std.specs.Option.{SomeIff};
+ghost use Rattle.ps_world.specs.Knowledge.{ground, name_of};
 
+use super::facts::Fact;
 use super::lists::Duplicate;
-use super::names::{MOST_ARGUMENTS, Name};
+use super::names::{Args, MOST_ARGUMENTS, Name};
 use std::alloc::{AllocError, Global};
 use std::marker::Model;
 
@@ -14,6 +16,18 @@ pub enum Term {
     Var(u8),
     /// A constant.
     Const(Name),
+}
+
+impl Term {
+    /// The name that the term is; `object` where it is a variable.
+    pub fn name(&self) -> Name
+        ensures { result ≡ name_of self.now }
+    {
+        match self {
+            Term::Var(_) => Name::OBJECT,
+            Term::Const(name) => *name,
+        }
+    }
 }
 
 impl PartialEq for Term {
@@ -115,6 +129,21 @@ impl Terms {
     {
         &self.terms[..self.count]
     }
+
+    /// The names that the terms are, in order. It takes no memory.
+    pub fn names(&self) -> Args
+        ensures { result ≡ map name_of self.now }
+    {
+        let terms = &self.terms[..self.count];
+        let mut names = [Name::OBJECT; MOST_ARGUMENTS];
+        for i in 0..terms.len() {
+            names[i] = terms[i].name();
+        }
+        match Args::of(&names[..terms.len()]) {
+            Some(args) => args,
+            None => unreachable!(),
+        }
+    }
 }
 
 impl PartialEq for Terms {
@@ -149,6 +178,18 @@ impl Duplicate for Terms {
 pub struct Lifted {
     pub head: Name,
     pub terms: Terms,
+}
+
+impl Lifted {
+    /// The fact that this is, where each term is a name. It takes no memory.
+    pub fn ground(&self) -> Fact
+        ensures { result ≡ ground self.now }
+    {
+        Fact {
+            head: self.head,
+            args: self.terms.names(),
+        }
+    }
 }
 
 impl Duplicate for Lifted {

@@ -1,6 +1,7 @@
-use Rattle.std.proofs.Common.{◌≡◌, rules, Ok, IfSome, subst}
+use Rattle.std.proofs.Common.{◌≡◌, rules, Ok, IfSome, length, subst}
 use Rattle.std.proofs.lemmas.Result.{err_from_is_err_and}
-use Rattle.plansys.proofs.TableNames.{AreNames-first, after_read, after_script}
+use Rattle.plansys.proofs.TableNames.{AreNames-first, after_read, after_script, domain_within}
+use Rattle.plansys.proofs.Later.{params-later}
 use Rattle.ps_text.specs.Names.{AreNames}
 use Rattle.plansys.proofs.Given.{no_session, no_domain_file, no_script, refused_given, gives}
 use Rattle.plansys.specs.Input.{IsDomain, first_names, script_file}
@@ -53,3 +54,8 @@ pub returns-clause-names : goal.returns-clause-names
 returns-clause-names g c =
     let domain = after_read first_names c.judge_domain.new.names c.as_slice.result.now (Ok c.in_ok-domain.domain) c.in_ok-domain.ensures.ok AreNames-first in
     subst AreNames c.in_ok-lines.ensures.table (after_script c.judge_domain.new.names c.as_slice-2.result.now domain)
+
+pub returns-clause-constants : goal.returns-clause-constants
+returns-clause-constants g c =
+    let within = domain_within first_names c.as_slice.result.now c.in_ok-domain.domain c.judge_domain.new.names AreNames-first c.in_ok-domain.ensures.ok in
+    params-later (length c.judge_domain.new.names) (length c.read_script.new.names) c.in_ok-lines.ensures.grows c.in_ok-domain.domain.constants within.constants

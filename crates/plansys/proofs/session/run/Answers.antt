@@ -1,7 +1,10 @@
-use Rattle.std.proofs.Common.{arith, ◌≡◌, length, subst, refl}
-use Rattle.plansys.proofs.NameLines.{AreLines-names}
+use Rattle.std.proofs.Common.{arith, ◌≡◌, All, length, slice_get, Some, ap, sym, ◌∙◌, subst, refl}
 use Rattle.std.proofs.lemmas.Option.{slice_get_read}
+use Rattle.ps_world.specs.Tables.{IsLineOf}
+use Rattle.ps_world.proofs.Tables.{opening-of}
 use Rattle.plansys.specs.Session.{input_with}
+use Rattle.plansys.proofs.DueLines.{All-due_lines, length-due_lines}
+use Rattle.plansys.proofs.NameLines.{AreLines-names}
 use Rattle.plansys.proofs.Sessions.{IsSoFar, begins, takes_line, cuts_line, cut_before, nothing_written, is_done, on_err, as_number}
 use Rattle.plansys.proofs.session.run.Goals as goal
 
@@ -16,23 +19,39 @@ loop-i-init g c =
     let i = input_with c.args.expert.now c.args.lines.now in
     rw c.in_ok-problem.ensures (record {
       so_far = begins i c.args.names.now (g.O.Sink.taken c.args.out.now) (g.O.Sink.taken c.put.new.sink) c.in_ok-put.ensures.ok;
-      facts = λ k d lt. absurd (omega arith);
+      known = opening-of (length c.args.names.now) c.args.expert.now c.requires.constants;
       later = c.put.ensures.cause.later;
     })
+
+pub overflow_cast-number : goal.overflow_cast-number
+overflow_cast-number g c = omega (arith, ap length c.due_lines-line-items.ensures, length-due_lines c.args.lines.now)
+
+pub overflow_add-number : goal.overflow_add-number
+overflow_add-number g c = omega (arith, ap length c.due_lines-line-items.ensures, length-due_lines c.args.lines.now)
+
+pub take_line-requires-clause-line : goal.take_line-requires-clause-line
+take_line-requires-clause-line g c =
+    let IsLine = IsLineOf (length c.args.names.now) in
+    let all = subst (All IsLine) (sym c.due_lines-line-items.ensures) (All-due_lines IsLine c.args.lines.now c.requires.named) in
+    subst IsLine (sym c.line-item.is) (all c.loop-i.i c.line-item.result (omega arith))
 
 pub returns-in_err-refuses-clause-cut : goal.returns-in_err-refuses-clause-cut
 returns-in_err-refuses-clause-cut g c =
     let i = input_with c.args.expert.now c.args.lines.now in
-    let next = slice_get_read c.args.lines.now (length c.args.lines.now) c.loop-i.i c.index-lines-i.result refl (omega arith) c.index-lines-i.is in
-    on_err c.from_residual-in_err-refuses.result (cuts_line i c.args.names.now c.loop-i.problem c.loop-i.refused c.loop-i.i c.index-lines-i.result (g.O.Sink.taken c.args.out.now) (g.O.Sink.taken c.loop-i.out) (g.O.Sink.taken c.take_line.new.out) c.loop-i.invariant.so_far next c.in_err-refuses.ensures.cut)
+    let due = c.due_lines-line-items.result.now in
+    let here = slice_get_read due (length due) c.loop-i.i c.line-item.result refl (omega arith) c.line-item.is in
+    let next = subst (λ lines. slice_get lines c.loop-i.i ≡ Some c.line-item.result) c.due_lines-line-items.ensures here in
+    on_err c.from_residual-in_err-refuses.result (cuts_line i c.args.names.now c.loop-i.problem c.loop-i.refused c.loop-i.i c.line-item.result (g.O.Sink.taken c.args.out.now) (g.O.Sink.taken c.loop-i.out) (g.O.Sink.taken c.take_line.new.out) c.loop-i.invariant.so_far next c.in_err-refuses.ensures.cut)
 
 pub loop-i-preserved : goal.loop-i-preserved
 loop-i-preserved g c =
     let i = input_with c.args.expert.now c.args.lines.now in
-    let next = slice_get_read c.args.lines.now (length c.args.lines.now) c.loop-i.i c.index-lines-i.result refl (omega arith) c.index-lines-i.is in
+    let due = c.due_lines-line-items.result.now in
+    let here = slice_get_read due (length due) c.loop-i.i c.line-item.result refl (omega arith) c.line-item.is in
+    let next = subst (λ lines. slice_get lines c.loop-i.i ≡ Some c.line-item.result) c.due_lines-line-items.ensures here in
     record {
-      so_far = rw c.in_ok-refuses.ensures.refuses (takes_line i c.args.names.now c.loop-i.problem c.take_line.new.problem c.loop-i.refused c.loop-i.i c.index-lines-i.result (g.O.Sink.taken c.args.out.now) (g.O.Sink.taken c.loop-i.out) (g.O.Sink.taken c.take_line.new.out) c.loop-i.invariant.so_far next c.in_ok-refuses.ensures.known c.in_ok-refuses.ensures.text);
-      facts = c.in_ok-refuses.ensures.facts;
+      so_far = rw c.in_ok-refuses.ensures.refuses (takes_line i c.args.names.now c.loop-i.problem c.take_line.new.problem c.loop-i.refused c.loop-i.i c.line-item.result (g.O.Sink.taken c.args.out.now) (g.O.Sink.taken c.loop-i.out) (g.O.Sink.taken c.take_line.new.out) c.loop-i.invariant.so_far next c.in_ok-refuses.ensures.known c.in_ok-refuses.ensures.text);
+      known = c.in_ok-refuses.ensures.named;
       later = omega (arith, c.loop-i.invariant.later, c.take_line.ensures.cause.later);
     }
 
@@ -40,8 +59,9 @@ pub returns-clause-done : goal.returns-clause-done
 returns-clause-done g c =
     let i = input_with c.args.expert.now c.args.lines.now in
     let names = c.args.names.now in
-    let all : c.loop-i.i ≡ length c.args.lines.now = omega arith in
+    let due = c.due_lines-line-items in
+    let count : c.loop-i.i ≡ length due.result.now = omega arith in
     let start = g.O.Sink.taken c.args.out.now in
     let now = g.O.Sink.taken c.loop-i.out in
-    let so_far = subst (λ n. IsSoFar i names c.loop-i.problem c.loop-i.refused n start now) all c.loop-i.invariant.so_far in
+    let so_far = subst (λ n. IsSoFar i names c.loop-i.problem c.loop-i.refused n start now) (count ∙ ap length due.ensures) c.loop-i.invariant.so_far in
     rw (c.from.ensures, as_number c.loop-i.refused) (is_done i names c.loop-i.problem c.loop-i.refused start now (AreLines-names names c.requires.names) so_far)

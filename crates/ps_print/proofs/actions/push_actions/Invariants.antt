@@ -1,6 +1,6 @@
 use Rattle.std.proofs.Common.{◌≡◌, ◌++◌, drop}
 use Rattle.std.specs.List.{flat_map}
-use Rattle.ps_world.specs.Journal.{line_end}
+use Rattle.ps_world.specs.Lines.{line_end}
 use Rattle.ps_world.specs.DomainTexts.{action_lines}
 use Rattle.ps_print.proofs.actions.push_actions.Given as goal
 

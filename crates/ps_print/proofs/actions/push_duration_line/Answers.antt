@@ -1,7 +1,7 @@
 use Rattle.std.proofs.Common.{codes}
+use Rattle.ps_world.specs.Lines.{line_end}
 use Rattle.ps_world.specs.ExprViews.{expr_tree}
 use Rattle.ps_world.specs.DomainTexts.{expr_text}
-use Rattle.ps_world.specs.Journal.{line_end}
 use Rattle.ps_print.proofs.Pieces.{closed_line_of}
 use Rattle.ps_print.proofs.actions.push_duration_line.Goals as goal
 

@@ -1,6 +1,6 @@
 use Rattle.std.proofs.Common.{codes}
+use Rattle.ps_world.specs.Lines.{line_end}
 use Rattle.ps_world.specs.DomainTexts.{effects_text}
-use Rattle.ps_world.specs.Journal.{line_end}
 use Rattle.ps_print.proofs.Pieces.{closed_line_of}
 use Rattle.ps_print.proofs.actions.push_effect_line.Goals as goal
 

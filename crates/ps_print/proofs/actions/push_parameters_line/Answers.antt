@@ -1,6 +1,6 @@
 use Rattle.std.proofs.Common.{codes, map}
+use Rattle.ps_world.specs.Lines.{line_end}
 use Rattle.ps_world.specs.DomainTexts.{spaced, param_text}
-use Rattle.ps_world.specs.Journal.{line_end}
 use Rattle.ps_print.proofs.Pieces.{closed_line_of}
 use Rattle.ps_print.proofs.actions.push_parameters_line.Goals as goal
 

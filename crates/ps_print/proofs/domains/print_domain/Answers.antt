@@ -1,6 +1,6 @@
 use Rattle.std.proofs.Common.{map, codes, ◌++◌}
 use Rattle.std.specs.List.{flat_map}
-use Rattle.ps_world.specs.Texts.{name_text}
+use Rattle.ps_world.specs.Names.{name_text}
 use Rattle.ps_world.specs.DomainTexts.{domain_text, section_lines, typed_text, decl_text, action_lines}
 use Rattle.ps_print.proofs.Pieces.{all_lines}
 use Rattle.ps_print.proofs.domains.print_domain.Goals as goal

@@ -1,6 +1,6 @@
 use Rattle.std.proofs.Common.{codes}
-use Rattle.ps_world.specs.Texts.{name_text}
-use Rattle.ps_world.specs.Journal.{line_end}
+use Rattle.ps_world.specs.Lines.{line_end}
+use Rattle.ps_world.specs.Names.{name_text}
 use Rattle.ps_print.proofs.Pieces.{closed_line_of}
 use Rattle.ps_print.proofs.domains.push_first_line.Goals as goal
 

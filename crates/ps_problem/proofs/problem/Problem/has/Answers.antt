@@ -1,6 +1,5 @@
-use Rattle.std.proofs.lemmas.Map.Views.{btree_set_contains_iff}
-use Rattle.ps_problem.proofs.Facts.{facts_total, exact_facts}
+use Rattle.ps_problem.proofs.Contained.{is_known-Contains}
 use Rattle.ps_problem.proofs.problem.Problem.has.Goals as goal
 
-pub returns : goal.returns
-returns c = rw (c.contains.ensures, ← c.self.view_is) (btree_set_contains_iff facts_total exact_facts c.self.inside.facts c.args.fact.now)
+pub returns-clause-listed : goal.returns-clause-listed
+returns-clause-listed c = rw (c.contains.ensures, ← c.self.view_is) (is_known-Contains c.args.fact.now c.self.inside.facts)

@@ -1,0 +1,33 @@
+-- The lines up to the first `quit`.
+use Rattle.std.proofs.Common.{◌≡◌, ℕ, ◌≤◌, List, [], ◌∷◌, ◌++◌, All, length, take, drop, arith}
+use Rattle.std.proofs.lemmas.List.Elements.{All-nil, All-cons, All-head, All-tail}
+use Rattle.ps_world.specs.History.{due_lines}
+use Rattle.ps_world.specs.declared.inputs.Command.TheVariants as command
+use Rattle.ps_world.specs.declared.inputs.Line.{Line}
+use Rattle.ps_world.specs.declared.inputs.Line.TheVariants.{Good, Bad}
+
+-- the lines before a place are due, and those from there on up to a `quit`
+abbrev pub IsDueUpTo : List Line → ℕ → Type 0
+IsDueUpTo lines i = due_lines lines ≡ take i lines ++ due_lines (drop i lines)
+
+-- no more lines are due than there are
+pub length-due_lines : (lines : List Line) → length (due_lines lines) ≤ length lines
+length-due_lines [] = omega arith
+length-due_lines (Good (command.Edit edit) ∷ lines) = omega (arith, length-due_lines lines)
+length-due_lines (Good (command.Ask query) ∷ lines) = omega (arith, length-due_lines lines)
+length-due_lines (Good command.Quit ∷ lines) = omega arith
+length-due_lines (Bad cause ∷ lines) = omega (arith, length-due_lines lines)
+
+module _ (P : Line → Type 0) where
+  due-more : (line : Line) (lines : List Line) → All P (line ∷ lines) → All P (due_lines lines) → All P (line ∷ due_lines lines)
+  due-more line lines h more = All-cons P line (due_lines lines) (All-head P line lines h) more
+
+  -- what is true of all lines is true of those that are due
+  pub All-due_lines : (lines : List Line) → All P lines → All P (due_lines lines)
+  All-due_lines [] h = h
+  All-due_lines (Good (command.Edit edit) ∷ lines) h =
+      due-more (Good (command.Edit edit)) lines h (All-due_lines lines (All-tail P (Good (command.Edit edit)) lines h))
+  All-due_lines (Good (command.Ask query) ∷ lines) h =
+      due-more (Good (command.Ask query)) lines h (All-due_lines lines (All-tail P (Good (command.Ask query)) lines h))
+  All-due_lines (Good command.Quit ∷ lines) h = All-cons P (Good command.Quit) [] (All-head P (Good command.Quit) lines h) (All-nil P)
+  All-due_lines (Bad cause ∷ lines) h = due-more (Bad cause) lines h (All-due_lines lines (All-tail P (Bad cause) lines h))

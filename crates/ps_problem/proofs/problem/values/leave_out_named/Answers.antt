@@ -1,0 +1,30 @@
+use Rattle.std.proofs.Common.{◌≡◌, true, not, filter, ap, sym, ◌∙◌, subst}
+use Rattle.std.specs.Map.{keys_of}
+use Rattle.std.proofs.lemmas.List.Elements.{All-contains}
+use Rattle.ps_world.specs.Knowledge.{is_among, same_fact}
+use Rattle.ps_world.specs.declared.facts.Fact.{Fact}
+use Rattle.ps_world.specs.declared.numbers.Num.{Num}
+use Rattle.ps_problem.specs.Namings.{IsNaming, AreNamed}
+use Rattle.ps_problem.proofs.Facts.{facts_total}
+use Rattle.ps_problem.proofs.Filters.{remove_entry-filter, keys-filter}
+use Rattle.ps_problem.proofs.Namings.{one_value_gone, still_named, no_value_left}
+use Rattle.ps_problem.proofs.problem.values.leave_out_named.Goals as goal
+
+pub loop-fact-preserved : goal.loop-fact-preserved
+loop-fact-preserved c =
+    let fact = c.in-Some.fact in
+    let old = c.loop-fact.all.entries in
+    let gone : c.remove.new.self.entries ≡ filter (λ v. not (same_fact fact v.0)) old =
+    c.remove.ensures.entries ∙ remove_entry-filter facts_total fact old c.len-count.ensures.ordered in
+    let keys_gone : keys_of c.remove.new.self.entries ≡ filter (λ g. not (same_fact fact g)) (keys_of old) =
+    ap keys_of gone ∙ keys-filter (λ g. not (same_fact fact g)) old in
+    let named : is_among c.args.name fact.args ≡ true =
+    All-contains IsNaming c.loop-fact.namings.keys (record { name = c.args.name; fact = fact }) c.loop-fact.invariant.named.sound c.in-Some.ensures.there in
+    record {
+      left = ap (filter (λ (v : Fact × Num). not (is_among c.args.name v.0.args))) gone ∙ one_value_gone c.args.name old fact named ∙ c.loop-fact.invariant.left;
+      named = subst (λ l. AreNamed l c.take_naming.new.namings.keys) (sym keys_gone) (still_named (keys_of old) c.loop-fact.namings.keys c.take_naming.new.namings.keys fact c.loop-fact.invariant.named c.in-Some.ensures.kept c.in-Some.ensures.sound);
+    }
+
+pub returns-clause-left : goal.returns-clause-left
+returns-clause-left c =
+    sym (no_value_left c.args.name c.loop-fact.all.entries c.loop-fact.namings.keys c.loop-fact.invariant.named c.in_default.ensures.none) ∙ c.loop-fact.invariant.left

@@ -1,0 +1,117 @@
+//! The facts that are known.
+ghost use Rattle.std.specs.Prelude.{◌≡◌, ◌≢◌, [], false, true, not, filter, IfOk, OnOk, OnErr};
+ghost use Rattle.std.specs.List.{list_any};
+ghost use Rattle.std.specs.BTreeSet.{insert_key};
+ghost use Rattle.ps_world.specs.Names.{same_name};
+ghost use Rattle.ps_world.specs.Facts.{fact_cmp};
+ghost use Rattle.ps_world.specs.Knowledge.{is_among, same_fact};
+ghost use Rattle.ps_problem.specs.Namings.{AreNamed};
+
+use super::namings::{Naming, note, take_naming};
+use ps_world::{Fact, Name};
+use std::alloc::{AllocError, Global};
+use std::collections::BTreeSet;
+use std::marker::Model;
+
+/// Facts in their order, which are found by the names that stand in them as well. Contracts see their list.
+#[derive(Drop)]
+pub struct Facts {
+    all: BTreeSet<Fact>,
+    namings: BTreeSet<Naming>,
+}
+
+impl Model for Facts {
+    ghost use Rattle.std.specs.Prelude.{List};
+    ghost use Rattle.ps_world.specs.declared.facts.Fact.{Fact};
+    ghost use Rattle.ps_problem.specs.Namings.{AreNamed};
+
+    ghost Value = { List Fact };
+
+    ghost view = { λ a. a.all.keys };
+
+    ghost invariant = { λ a. AreNamed a.all.keys a.namings.keys };
+}
+
+impl Facts {
+    /// No facts.
+    pub fn new(alloc: Global) -> Facts
+        ensures { result ≡ [] }
+    {
+        Facts {
+            all: BTreeSet::new(alloc),
+            namings: BTreeSet::new(alloc),
+        }
+    }
+
+    /// Whether the fact is there.
+    pub fn contains(&self, fact: &Fact) -> bool
+        ensures { result ≡ list_any (same_fact fact.now) self.now }
+    {
+        self.all.contains(fact)
+    }
+
+    /// Puts a fact in, and answers whether it is new. The only error is want of memory, and then nothing changes.
+    pub fn insert(&mut self, fact: Fact) -> Result<bool, AllocError>
+        ensures ok { OnOk result (self.new ≡ insert_key fact_cmp self.old fact) }
+        ensures added { IfOk result (λ added. added ≡ not (list_any (same_fact fact) self.old)) }
+        ensures same { IfOk result (λ added. added ≡ false → self.new ≡ self.old) }
+        ensures grew { IfOk result (λ added. added ≡ true → self.new ≢ self.old) }
+        ensures err { OnErr result (self.new ≡ self.old) }
+    {
+        note(&mut self.namings, &fact)?;
+        let added = self.all.insert(fact)?;
+        Ok(added)
+    }
+
+    /// Takes a fact out, and answers whether it was there.
+    pub fn remove(&mut self, fact: &Fact) -> bool
+        ensures was { result ≡ list_any (same_fact fact.now) self.old }
+        ensures left { self.new ≡ filter (λ g. not (same_fact fact.now g)) self.old }
+        ensures same { result ≡ false → self.new ≡ self.old }
+        ensures fell { result ≡ true → self.new ≢ self.old }
+    {
+        // A set says of its length that its items rise, so that the fact stands in it once.
+        let _count = self.all.len();
+        self.all.remove(fact)
+    }
+
+    /// Takes out every fact that names this.
+    pub fn leave_out(&mut self, name: Name)
+        ensures { self.new ≡ filter (λ f. not (is_among name f.args)) self.old }
+    {
+        leave_out_named(&mut self.all, &mut self.namings, name);
+    }
+
+    /// The facts in their order. The only error is want of memory.
+    pub fn list(&self, alloc: Global) -> Result<Vec<Fact>, AllocError>
+        ensures { IfOk result (λ v. v.items ≡ self.now) }
+    {
+        self.all.iter().copied().collect(alloc)
+    }
+
+    /// The facts with this head, in their order. The only error is want of memory.
+    pub fn list_of(&self, alloc: Global, head: Name) -> Result<Vec<Fact>, AllocError>
+        ensures { IfOk result (λ v. v.items ≡ filter (λ f. same_name head f.head) self.now) }
+    {
+        let mut found = Vec::new(alloc);
+        for fact in &self.all {
+            if head == fact.head {
+                found.push(*fact)?;
+            }
+        }
+        Ok(found)
+    }
+}
+
+/// Takes out every fact that names this, and each note of the name.
+fn leave_out_named(all: &mut BTreeSet<Fact>, namings: &mut BTreeSet<Naming>, name: Name)
+    requires { AreNamed all.old.keys namings.old.keys }
+    ensures left { all.new.keys ≡ filter (λ f. not (is_among name f.args)) all.old.keys }
+    ensures named { AreNamed all.new.keys namings.new.keys }
+{
+    while let Some(fact) = take_naming(namings, name) {
+        // A set says of its length that its items rise, so that the fact stands in it once.
+        let _count = all.len();
+        all.remove(&fact);
+    }
+}

@@ -1,0 +1,77 @@
+//! Which facts name which names.
+ghost use Rattle.std.specs.Prelude.{◌≡◌, ◌≢◌, ◌<◌, length, All, IfSome, IfNone, OnOk};
+ghost use Rattle.std.specs.List.{Contains};
+ghost use Rattle.ps_world.specs.declared.facts.Fact.{Fact};
+ghost use Rattle.ps_problem.specs.Namings.{IsNaming, Covers, lowest_fact as least};
+ghost use Rattle.ps_problem.specs.declared.problem.namings.Naming.{Naming};
+
+use ps_world::{Args, Fact, Name};
+use std::alloc::AllocError;
+use std::collections::BTreeSet;
+
+/// An argument of a fact, and the fact.
+#[derive(Clone, Copy, PartialEq, Eq, PartialOrd, Ord)]
+pub struct Naming {
+    pub name: Name,
+    pub fact: Fact,
+}
+
+/// Notes each argument of a fact with it. The only error is want of memory, and then some may be noted.
+pub fn note(namings: &mut BTreeSet<Naming>, fact: &Fact) -> Result<(), AllocError>
+    ensures noted { OnOk result (Covers namings.new.keys fact.now) }
+    ensures kept { (x : Naming) → Contains namings.old.keys x → Contains namings.new.keys x }
+    ensures sound { All IsNaming namings.old.keys → All IsNaming namings.new.keys }
+{
+    for name in fact.args.as_slice() {
+        namings.insert(Naming {
+            name: *name,
+            fact: *fact,
+        })?;
+    }
+    Ok(())
+}
+
+/// Takes out a note of this name, and answers its fact. None exactly where the name is noted with no fact.
+pub fn take_naming(namings: &mut BTreeSet<Naming>, name: Name) -> Option<Fact>
+    ensures none { IfNone result ((f : Fact) → Contains namings.old.keys (record { name = name; fact = f }) → ⊥) }
+    ensures same { IfNone result (namings.new.keys ≡ namings.old.keys) }
+    ensures there { IfSome result (λ f. Contains namings.old.keys (record { name = name; fact = f })) }
+    ensures kept { IfSome result (λ f. (x : Naming) → (x.fact ≢ f) → Contains namings.old.keys x → Contains namings.new.keys x) }
+    ensures falls { IfSome result (λ f. length namings.new.keys < length namings.old.keys) }
+    ensures sound { All IsNaming namings.old.keys → All IsNaming namings.new.keys }
+{
+    let found = first_naming(namings, name)?;
+    namings.remove(&found);
+    Some(found.fact)
+}
+
+/// The first note of this name. None exactly where there is none.
+fn first_naming(namings: &BTreeSet<Naming>, name: Name) -> Option<Naming>
+    ensures none { IfNone result ((f : Fact) → Contains namings.now.keys (record { name = name; fact = f }) → ⊥) }
+    ensures name { IfSome result (λ x. x.name ≡ name) }
+    ensures there { IfSome result (λ x. Contains namings.now.keys x) }
+{
+    let lowest = Naming {
+        name,
+        fact: lowest_fact(),
+    };
+    let found = *namings.range(lowest..).next()?;
+    if found.name == name {
+        Some(found)
+    } else {
+        None
+    }
+}
+
+/// The fact that stands before all others.
+fn lowest_fact() -> Fact
+    ensures { result ≡ least }
+{
+    match Args::of(&[]) {
+        Some(args) => Fact {
+            head: Name(0),
+            args,
+        },
+        None => unreachable!(),
+    }
+}

@@ -1,0 +1,9 @@
+use Rattle.std.proofs.Common.{ap, arith}
+use Rattle.ps_world.specs.Trees.{conds_rank}
+use Rattle.ps_world.proofs.CondRanks.{rank_in}
+use Rattle.ps_world.proofs.naming.+is_in_cond.Goals as goal
+
+pub is_in_conds-is_in_cond-requires : goal.is_in_conds-is_in_cond-requires
+is_in_conds-is_in_cond-requires t c =
+    let slice = c.as_slice-cond-items in
+    (omega (arith, rank_in slice.result.now c.loop-cond.cond-index c.cond-item.result (omega arith) c.cond-item.is, ap conds_rank slice.ensures), tt)

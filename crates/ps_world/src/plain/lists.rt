@@ -1,0 +1,202 @@
+//! What stands in the lists of what is known, and those lists with one item more or fewer.
+ghost use Rattle.std.specs.Prelude.{◌≡◌, filter, is_some, not, IfOk};
+ghost use Rattle.std.specs.List.{list_any};
+ghost use Rattle.std.specs.Map.{lookup};
+ghost use Rattle.std.specs.BTreeMap.{insert_entry};
+ghost use Rattle.std.specs.BTreeSet.{insert_key};
+ghost use Rattle.ps_world.specs.Names.{name_cmp, same_name};
+ghost use Rattle.ps_world.specs.Facts.{fact_cmp};
+ghost use Rattle.ps_world.specs.Knowledge.{is_among, same_fact};
+
+use crate::{Fact, Name, Num};
+use std::alloc::{AllocError, Global};
+use std::cmp::Ordering;
+
+/// The type of an instance among these.
+pub fn kind_among(instances: &[(Name, Name)], name: Name) -> Option<Name>
+    ensures { result ≡ lookup (same_name name) instances.now }
+{
+    for (there, kind) in instances {
+        if name == *there {
+            return Some(*kind);
+        }
+    }
+    None
+}
+
+/// Whether the fact is one of these.
+pub fn is_known(facts: &[Fact], fact: Fact) -> bool
+    ensures { result ≡ list_any (same_fact fact) facts.now }
+{
+    facts.iter().any(|there| fact.cmp(there).is_eq())
+}
+
+/// Whether the function has a value there.
+pub fn has_value(values: &[(Fact, Num)], fact: Fact) -> bool
+    ensures { result ≡ is_some (lookup (same_fact fact) values.now) }
+{
+    for (there, _) in values {
+        if fact.cmp(there).is_eq() {
+            return true;
+        }
+    }
+    false
+}
+
+/// The facts with one more at its place, unless it is there.
+pub fn with_item(alloc: Global, facts: &[Fact], fact: Fact) -> Result<Vec<Fact>, AllocError>
+    ensures { IfOk result (λ v. v.items ≡ insert_key fact_cmp facts.now fact) }
+{
+    let mut all = Vec::new(alloc);
+    for (i, there) in facts.iter().enumerate() {
+        match fact.cmp(there) {
+            Ordering::Less => {
+                all.push(fact)?;
+                all.extend_from_slice(&facts[i..])?;
+                return Ok(all);
+            }
+            Ordering::Equal => {
+                all.extend_from_slice(&facts[i..])?;
+                return Ok(all);
+            }
+            Ordering::Greater => all.push(*there)?,
+        }
+    }
+    all.push(fact)?;
+    Ok(all)
+}
+
+/// The instances with one more at its place, or with its type where it is there.
+pub fn with_entry(
+    alloc: Global,
+    instances: &[(Name, Name)],
+    name: Name,
+    kind: Name,
+) -> Result<Vec<(Name, Name)>, AllocError>
+    ensures { IfOk result (λ v. v.items ≡ insert_entry name_cmp instances.now name kind) }
+{
+    let mut all = Vec::new(alloc);
+    for (i, there) in instances.iter().enumerate() {
+        match name.cmp(&there.0) {
+            Ordering::Less => {
+                all.push((name, kind))?;
+                all.extend_from_slice(&instances[i..])?;
+                return Ok(all);
+            }
+            Ordering::Equal => {
+                all.push((there.0, kind))?;
+                all.extend_from_slice(&instances[i + 1..])?;
+                return Ok(all);
+            }
+            Ordering::Greater => all.push(*there)?,
+        }
+    }
+    all.push((name, kind))?;
+    Ok(all)
+}
+
+/// The values with one more at its place, or with this number where the function has a value there.
+pub fn with_number(
+    alloc: Global,
+    values: &[(Fact, Num)],
+    fact: Fact,
+    number: Num,
+) -> Result<Vec<(Fact, Num)>, AllocError>
+    ensures { IfOk result (λ v. v.items ≡ insert_entry fact_cmp values.now fact number) }
+{
+    let mut all = Vec::new(alloc);
+    for (i, there) in values.iter().enumerate() {
+        match fact.cmp(&there.0) {
+            Ordering::Less => {
+                all.push((fact, number))?;
+                all.extend_from_slice(&values[i..])?;
+                return Ok(all);
+            }
+            Ordering::Equal => {
+                all.push((there.0, number))?;
+                all.extend_from_slice(&values[i + 1..])?;
+                return Ok(all);
+            }
+            Ordering::Greater => all.push(*there)?,
+        }
+    }
+    all.push((fact, number))?;
+    Ok(all)
+}
+
+/// The instances but this one.
+pub fn instances_but(
+    alloc: Global,
+    instances: &[(Name, Name)],
+    name: Name,
+) -> Result<Vec<(Name, Name)>, AllocError>
+    ensures { IfOk result (λ v. v.items ≡ filter (λ i. not (same_name name i.0)) instances.now) }
+{
+    let mut kept = Vec::new(alloc);
+    for there in instances {
+        if name != there.0 {
+            kept.push(*there)?;
+        }
+    }
+    Ok(kept)
+}
+
+/// The facts that don't name the instance.
+pub fn facts_not_naming(alloc: Global, facts: &[Fact], name: Name) -> Result<Vec<Fact>, AllocError>
+    ensures { IfOk result (λ v. v.items ≡ filter (λ f. not (is_among name f.args)) facts.now) }
+{
+    let mut kept = Vec::new(alloc);
+    for there in facts {
+        if !there.args.contains(name) {
+            kept.push(*there)?;
+        }
+    }
+    Ok(kept)
+}
+
+/// The values of functions that don't name the instance.
+pub fn values_not_naming(
+    alloc: Global,
+    values: &[(Fact, Num)],
+    name: Name,
+) -> Result<Vec<(Fact, Num)>, AllocError>
+    ensures { IfOk result (λ v. v.items ≡ filter (λ v. not (is_among name v.0.args)) values.now) }
+{
+    let mut kept = Vec::new(alloc);
+    for there in values {
+        if !there.0.args.contains(name) {
+            kept.push(*there)?;
+        }
+    }
+    Ok(kept)
+}
+
+/// The facts but this one.
+pub fn facts_but(alloc: Global, facts: &[Fact], fact: Fact) -> Result<Vec<Fact>, AllocError>
+    ensures { IfOk result (λ v. v.items ≡ filter (λ g. not (same_fact fact g)) facts.now) }
+{
+    let mut kept = Vec::new(alloc);
+    for there in facts {
+        if !fact.cmp(there).is_eq() {
+            kept.push(*there)?;
+        }
+    }
+    Ok(kept)
+}
+
+/// The values but that of this function term.
+pub fn values_but(
+    alloc: Global,
+    values: &[(Fact, Num)],
+    fact: Fact,
+) -> Result<Vec<(Fact, Num)>, AllocError>
+    ensures { IfOk result (λ v. v.items ≡ filter (λ v. not (same_fact fact v.0)) values.now) }
+{
+    let mut kept = Vec::new(alloc);
+    for there in values {
+        if !fact.cmp(&there.0).is_eq() {
+            kept.push(*there)?;
+        }
+    }
+    Ok(kept)
+}
