@@ -7,7 +7,7 @@ use denote.Enum.Bare.{same_true}
 use denote.Enum.Declared.{tag_of}
 use Rattle.ps_shape.specs.contracts.marks.Mark.{the_type}
 use Rattle.ps_shape.specs.Marks.{is}
-use Rattle.ps_shape.specs.Rules.{once, where_it_is, section_rule, text_rule, list_rule, action_rule, condition_rule, effect_rule, value_rule, step}
+use Rattle.ps_shape.specs.Rules.{once, where_it_is, section_rule, text_rule, list_rule, action_rule, condition_rule, effect_rule, value_rule, goal_rule, step}
 use Rattle.ps_shape.specs.Shape.{Derives, IsDomainShape}
 use Rattle.ps_shape.specs.Shape.Derives.{nothing, by_rule}
 use Rattle.ps_shape.specs.Symbols.{weight}
@@ -15,7 +15,7 @@ use Rattle.ps_shape.specs.declared.marks.Mark.{Mark}
 use Rattle.ps_shape.specs.declared.marks.Mark.TheVariants.{Open, Close, Plus, Times, Divide, Equal, Less, Greater, LessEqual, GreaterEqual, Minus, Duration, Variable, Requirements, Types, Constants, Predicates, Functions, DurativeAction, Parameters, DurationKey, ConditionKey, EffectKey, Action, Derived, Constraints, Keyword, Number, Continuous, Define, Domain, Problem, At, Over, Start, End, All, And, Not, Or, Imply, Exists, Forall, When, Preference, Assign, Increase, Decrease, ScaleUp, ScaleDown, Either, NumberWord, Name}
 use Rattle.ps_shape.specs.declared.symbols.Seen.{Seen}
 use Rattle.ps_shape.specs.declared.symbols.Symbol.{Symbol}
-use Rattle.ps_shape.specs.declared.symbols.Symbol.TheVariants.{The, AnyName, InText, InList, InAction, InCondition, InEffect, InValue}
+use Rattle.ps_shape.specs.declared.symbols.Symbol.TheVariants.{The, AnyName, InText, InList, InAction, InCondition, InEffect, InValue, InGoal}
 use Rattle.ps_shape.specs.declared.symbols.TextPart.{TextPart}
 use Rattle.ps_shape.specs.declared.symbols.TextPart.TheVariants as text
 use Rattle.ps_shape.specs.declared.symbols.ListPart.{ListPart}
@@ -28,6 +28,8 @@ use Rattle.ps_shape.specs.declared.symbols.EffectPart.{EffectPart}
 use Rattle.ps_shape.specs.declared.symbols.EffectPart.TheVariants as effect
 use Rattle.ps_shape.specs.declared.symbols.ValuePart.{ValuePart}
 use Rattle.ps_shape.specs.declared.symbols.ValuePart.TheVariants as value
+use Rattle.ps_shape.specs.declared.symbols.GoalPart.{GoalPart}
+use Rattle.ps_shape.specs.declared.symbols.GoalPart.TheVariants as goal
 use Rattle.ps_forms.specs.Spelling.{is_balanced}
 
 -- ---- each mark
@@ -129,6 +131,15 @@ all_value : (part : ValuePart) → list_all (λ m. fits (value_rule part m) m (c
 all_value value.Atom = refl
 all_value _ = refl
 
+all_names : (most : ℕ) → list_all (λ m. fits (goal_rule (goal.Names most) m) m 1) every_mark ≡ true
+all_names zero = refl
+all_names (suc more) = refl
+
+all_goal : (part : GoalPart) → list_all (λ m. fits (goal_rule part m) m (closes (InGoal part))) every_mark ≡ true
+all_goal (goal.Names most) = all_names most
+all_goal goal.Condition = refl
+all_goal _ = refl
+
 fits_itself : (m : Mark) → is_shut (The m) ≡ true → fits (Some []) m (closes (The m)) ≡ true
 fits_itself Open e = absurd (cc)
 fits_itself _ e = refl
@@ -148,6 +159,7 @@ fits_step (InAction part) m shut = each_mark (λ m. fits (action_rule part m) m 
 fits_step (InCondition part) m shut = each_mark (λ m. fits (condition_rule part m) m (closes (InCondition part))) (all_condition part) m
 fits_step (InEffect part) m shut = each_mark (λ m. fits (effect_rule part m) m (closes (InEffect part))) (all_effect part) m
 fits_step (InValue part) m shut = each_mark (λ m. fits (value_rule part m) m (closes (InValue part))) (all_value part) m
+fits_step (InGoal part) m shut = each_mark (λ m. fits (goal_rule part m) m (closes (InGoal part))) (all_goal part) m
 
 -- ---- whole texts
 

@@ -11,7 +11,7 @@ use Rattle.ps_shape.specs.declared.symbols.TextPart.TheVariants.{Whole, Title, S
 use Rattle.ps_shape.specs.declared.symbols.ListPart.TheVariants as list
 use Rattle.ps_shape.specs.declared.symbols.ActionPart.TheVariants.{AfterName, Parameters, AfterParameters, Duration, AfterDuration, AfterCondition}
 use Rattle.ps_shape.specs.declared.symbols.ValuePart.TheVariants as value
-use Rattle.ps_shape.proofs.Runs.{start}
+use Rattle.ps_shape.specs.Shape.{text_start}
 use Rattle.ps_forms.specs.Grammar.{IsConditionForm, IsTypedList, IsRun, AreKeywords, IsDecl, ArePredicates, AreFunctions, IsActionEnd, IsDuration, IsActionBody, AreSections, IsText, is_variable}
 use Rattle.ps_forms.specs.Grammar.IsTypedList.{no_name, first_name}
 use Rattle.ps_forms.specs.Grammar.IsRun.{run_end, next_name, type_name}
@@ -302,7 +302,7 @@ after_taken_define (more (group (more (word m) (more (word n) us))) ts) After h 
     (λ k define. rw end.0 (text k m n ts define domain.0 name.0 later.0), later.1)
 
 -- what is taken where a text is wanted is one
-text_of_taken : (t : Nested) (After : List Symbol → Type 0) → Takes t After start → IsText (more t none) × After []
+text_of_taken : (t : Nested) (After : List Symbol → Type 0) → Takes t After text_start → IsText (more t none) × After []
 text_of_taken (word l) After h = absurd (no_word (InText Whole) refl [] After l.mark h)
 text_of_taken (group none) After h = absurd h.1
 text_of_taken (group (more (group us) ts)) After h = absurd h.1.1

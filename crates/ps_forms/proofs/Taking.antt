@@ -4,12 +4,12 @@ use Rattle.std.specs.Option.{option_and_then}
 use Rattle.std.proofs.lemmas.Bool.{cases_lt}
 use Rattle.std.proofs.lemmas.List.{map-append}
 use Rattle.ps_shape.specs.Rules.{step}
-use Rattle.ps_shape.specs.Shape.{IsDomainShape, IsShallow, deepest, next_wanted, run}
+use Rattle.ps_shape.specs.Shape.{IsDomainShape, IsShallow, deepest, text_start, next_wanted, run}
 use Rattle.ps_shape.specs.Symbols.{level}
 use Rattle.ps_shape.specs.declared.marks.Mark.{Mark}
 use Rattle.ps_shape.specs.declared.marks.Mark.TheVariants.{Open, Close}
 use Rattle.ps_shape.specs.declared.symbols.Symbol.{Symbol}
-use Rattle.ps_shape.proofs.Runs.{derived_of_run, run_of_derived, start}
+use Rattle.ps_shape.proofs.Runs.{derived_of_run, run_of_derived}
 use Rattle.ps_forms.specs.Lexemes.{marks}
 use Rattle.ps_forms.specs.Nested.{Nested, Nesteds, word, group, none, more}
 use Rattle.ps_forms.specs.Spelling.{Spells, SpellAll}
@@ -174,32 +174,32 @@ one_list : (ls : List Lexeme) → marks (ls ++ []) ≡ marks ls ++ []
 one_list ls = map-append (λ l. l.mark) ls []
 
 -- a text whose one list fits where a text is wanted passes
-passes_of_text : (ts : Nesteds) (ls : List Lexeme) (t : Nested) → ts ≡ more t none → SpellAll ts ls → Takes t IsDone start → Passes (marks ls) IsDone start
+passes_of_text : (ts : Nesteds) (ls : List Lexeme) (t : Nested) → ts ≡ more t none → SpellAll ts ls → Takes t IsDone text_start → Passes (marks ls) IsDone text_start
 passes_of_text _ _ t e nothing h = absurd (cc)
 passes_of_text _ _ t e (one_more u _ ls _ s nothing) h =
     let same : u ≡ t = cc in
-    rw one_list (passes_of_takes u ls s [] IsDone start (rw same h))
+    rw one_list (passes_of_takes u ls s [] IsDone text_start (rw same h))
 passes_of_text _ _ t e (one_more u _ ls _ s (one_more v us ks js p q)) h = absurd (cc)
 
 -- a text of one list that is taken where a text is wanted is judged to be a domain's
-pub judged_of_taken : (t : Nested) (ls : List Lexeme) → SpellAll (more t none) ls → Takes t IsDone start → IsDomainShape (marks ls) × IsShallow (marks ls)
+pub judged_of_taken : (t : Nested) (ls : List Lexeme) → SpellAll (more t none) ls → Takes t IsDone text_start → IsDomainShape (marks ls) × IsShallow (marks ls)
 judged_of_taken t ls s h =
-    let passes : Passes (marks ls) IsDone start = passes_of_text (more t none) ls t refl s h in
-    (derived_of_run start (marks ls) (run_of_passes (marks ls) start passes), λ at deep. flat_of_passes (marks ls) start at passes deep.0 deep.1)
+    let passes : Passes (marks ls) IsDone text_start = passes_of_text (more t none) ls t refl s h in
+    (derived_of_run text_start (marks ls) (run_of_passes (marks ls) text_start passes), λ at deep. flat_of_passes (marks ls) text_start at passes deep.0 deep.1)
 
 -- the marks of a judged text pass
-passes_of_judged : (ms : List Mark) → IsDomainShape ms → IsShallow ms → Passes ms IsDone start
-passes_of_judged ms d flat = passes_of_run ms start (run_of_derived start ms d) (λ at opens deep. flat at (opens, deep))
+passes_of_judged : (ms : List Mark) → IsDomainShape ms → IsShallow ms → Passes ms IsDone text_start
+passes_of_judged ms d flat = passes_of_run ms text_start (run_of_derived text_start ms d) (λ at opens deep. flat at (opens, deep))
 
 -- what is true of every list that is taken where a text is wanted, with nothing wanted after it, is true of a judged text
-pub taken_of_judged : (P : Nesteds → Type 0) → ((t : Nested) (After : List Symbol → Type 0) → Takes t After start → P (more t none) × After []) → (ts : Nesteds) (ls : List Lexeme) → SpellAll ts ls → IsDomainShape (marks ls) → IsShallow (marks ls) → P ts
+pub taken_of_judged : (P : Nesteds → Type 0) → ((t : Nested) (After : List Symbol → Type 0) → Takes t After text_start → P (more t none) × After []) → (ts : Nesteds) (ls : List Lexeme) → SpellAll ts ls → IsDomainShape (marks ls) → IsShallow (marks ls) → P ts
 taken_of_judged P f _ _ nothing d flat =
-    let none_wanted : start ≡ [] = passes_of_judged [] d flat in
+    let none_wanted : text_start ≡ [] = passes_of_judged [] d flat in
     absurd (cc)
 taken_of_judged P f _ _ (one_more t _ ls _ s nothing) d flat =
-    (f t (λ now. Passes [] IsDone now) (takes_of_passes t ls s [] IsDone start (rw one_list at (passes_of_judged (marks (ls ++ [])) d flat)))).0
+    (f t (λ now. Passes [] IsDone now) (takes_of_passes t ls s [] IsDone text_start (rw one_list at (passes_of_judged (marks (ls ++ [])) d flat)))).0
 taken_of_judged P f _ _ (one_more t _ ls _ s (one_more u us ks js v w)) d flat =
-    let all : Passes (marks (ls ++ (ks ++ js))) IsDone start = passes_of_judged (marks (ls ++ (ks ++ js))) d flat in
+    let all : Passes (marks (ls ++ (ks ++ js))) IsDone text_start = passes_of_judged (marks (ls ++ (ks ++ js))) d flat in
     let later : Passes (marks (ks ++ js)) IsDone [] =
-    (f t (λ now. Passes (marks (ks ++ js)) IsDone now) (takes_of_passes t ls s (marks (ks ++ js)) IsDone start (rw map-append at all))).1 in
+    (f t (λ now. Passes (marks (ks ++ js)) IsDone now) (takes_of_passes t ls s (marks (ks ++ js)) IsDone text_start (rw map-append at all))).1 in
     absurd (takes_nothing u (λ now. Passes (marks js) IsDone now) (takes_of_passes u ks v (marks js) IsDone [] (rw map-append at later)))

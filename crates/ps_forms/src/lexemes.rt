@@ -168,7 +168,7 @@ fn mark_of_later_name(word: &[u8]) -> Mark
 }
 
 /// What a word of a class is to the grammar, in either case of its letters.
-fn mark_of(class: Class, word: &[u8]) -> Mark
+pub fn mark_of(class: Class, word: &[u8]) -> Mark
     ensures { result ≡ mark_of class word.now }
 {
     match class {

@@ -6,13 +6,14 @@ use Rattle.ps_shape.specs.Shape.{run}
 use Rattle.ps_shape.specs.declared.marks.Mark.{Mark}
 use Rattle.ps_shape.specs.declared.marks.Mark.TheVariants.{Open, Close, Equal, Duration, Parameters, DurationKey, DurativeAction, Number, Define, Domain, Start, NumberWord, Name}
 use Rattle.ps_shape.specs.declared.symbols.Symbol.{Symbol}
-use Rattle.ps_shape.specs.declared.symbols.Symbol.TheVariants.{The, AnyName, InText, InList, InAction, InCondition, InEffect, InValue}
+use Rattle.ps_shape.specs.declared.symbols.Symbol.TheVariants.{The, AnyName, InText, InList, InAction, InCondition, InEffect, InValue, InGoal}
 use Rattle.ps_shape.specs.declared.symbols.TextPart.TheVariants as text
 use Rattle.ps_shape.specs.declared.symbols.ListPart.TheVariants as list
 use Rattle.ps_shape.specs.declared.symbols.ActionPart.TheVariants as action
 use Rattle.ps_shape.specs.declared.symbols.ConditionPart.TheVariants as condition
 use Rattle.ps_shape.specs.declared.symbols.EffectPart.TheVariants as effect
 use Rattle.ps_shape.specs.declared.symbols.ValuePart.TheVariants as value
+use Rattle.ps_shape.specs.declared.symbols.GoalPart.TheVariants as goal
 
 abbrev short : Symbol → List Mark
 short (The m) = m ∷ []
@@ -40,6 +41,12 @@ short (InEffect effect.StartOrEnd) = Start ∷ []
 short (InValue value.Atom) = Open ∷ Name ∷ Close ∷ []
 short (InValue value.Value) = Number ∷ []
 short (InValue value.Head) = Name ∷ Close ∷ []
+short (InGoal goal.Condition) = Open ∷ Name ∷ Close ∷ []
+short (InGoal goal.Head) = Name ∷ Close ∷ []
+short (InGoal goal.FirstOperand) = Name ∷ Name ∷ Close ∷ []
+short (InGoal goal.Atom) = Open ∷ Name ∷ Close ∷ []
+short (InGoal goal.Value) = Number ∷ []
+short (InGoal goal.ValueHead) = Name ∷ Close ∷ []
 short _ = Close ∷ []
 
 is_itself : (m : Mark) → run (The m ∷ []) (m ∷ []) ≡ Some []
@@ -63,6 +70,8 @@ runs_short (InEffect effect.Form) = refl
 runs_short (InEffect _) = refl
 runs_short (InValue value.Atom) = refl
 runs_short (InValue _) = refl
+runs_short (InGoal goal.Condition) = refl
+runs_short (InGoal _) = refl
 
 -- a symbol stands for some marks
 pub completed : (s : Symbol) → (ms : List Mark) × (run (s ∷ []) ms ≡ Some [])

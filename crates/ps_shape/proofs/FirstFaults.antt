@@ -1,4 +1,4 @@
--- What one mark after a clear beginning says of the whole list.
+-- What one mark after a clear beginning says of the whole list, whatever was wanted before it.
 use Rattle.std.proofs.Common.{◌≡◌, ℕ, ◌+◌, ◌<◌, ◌≤◌, List, [], ◌∷◌, length, take, Option, None, Some, slice_get, unwrap_or, refl, sym, ◌∙◌, ap, subst, inl, inr, arith}
 use Rattle.std.specs.Option.{option_and_then}
 use Rattle.std.proofs.lemmas.Bool.{cases_lt}
@@ -7,26 +7,26 @@ use Rattle.std.proofs.lemmas.Option.{slice_get_within, slice_get_past}
 use Rattle.ps_shape.specs.Fronts.{IsFirstMisfit}
 use Rattle.ps_shape.specs.Symbols.{level}
 use Rattle.ps_shape.specs.Forms.{unsupported}
-use Rattle.ps_shape.specs.Shape.{IsDomainShape, IsTooDeep, IsShallow, IsDepth, IsUnexpected, Refuses, deepest, form_here, next_wanted, run, wanted}
-use Rattle.ps_shape.specs.Steps.{IsOver, Passes, Fails, form_of}
+use Rattle.ps_shape.specs.Shape.{Derives, IsTooDeepFrom, IsShallowFrom, IsDepth, IsUnexpected, IsFirstFaultFrom, Refuses, deepest, form_here, next_wanted, run, text_start, wanted, wanted_from}
+use Rattle.ps_shape.specs.Steps.{IsOver, Passes, Stops, Fails, form_of}
 use Rattle.ps_shape.specs.declared.marks.Mark.{Mark}
 use Rattle.ps_shape.specs.declared.marks.Mark.TheVariants.{Open}
 use Rattle.ps_shape.specs.declared.symbols.Symbol.{Symbol}
 use Rattle.ps_shape.specs.declared.faults.ShapeFault.{ShapeFault}
 use Rattle.ps_shape.specs.declared.faults.ShapeFault.TheVariants.{Unsupported, Depth, Unexpected, OutOfMemory}
 use Rattle.ps_shape.proofs.Places.{slice_get-take, slice_get-take_past, take_one_more}
-use Rattle.ps_shape.proofs.Runs.{start, run_more, run_of_front, front_of_run, derived_of_run, run_of_derived}
+use Rattle.ps_shape.proofs.Runs.{run_more, run_of_front, front_of_run, derived_of_run, run_of_derived}
 
 -- The marks before a place fit, these symbols are wanted there, and no parenthesis before it opens too many levels.
-pub record Reached (ms : List Mark) (at : ℕ) (st : List Symbol) : Type 0 where
+pub record Reached (start : List Symbol) (ms : List Mark) (at : ℕ) (st : List Symbol) : Type 0 where
   pub fits : run start (take at ms) ≡ Some st
-  pub flat : (k : ℕ) → k < at → IsTooDeep ms k → ⊥
+  pub flat : (k : ℕ) → k < at → IsTooDeepFrom start ms k → ⊥
 
 -- a beginning is as deep as the list is there
-shallow : (ms : List Mark) (n : ℕ) → ((k : ℕ) → k < n → IsTooDeep ms k → ⊥) → IsShallow (take n ms)
-shallow ms n flat k deep =
+shallow : (start : List Symbol) (ms : List Mark) (n : ℕ) → ((k : ℕ) → k < n → IsTooDeepFrom start ms k → ⊥) → IsShallowFrom start (take n ms)
+shallow start ms n flat k deep =
     elim (cases_lt k n) [
-      | inl h ↦ flat k h (sym (slice_get-take n ms k h) ∙ deep.0, subst (λ (x : List Mark). deepest ≤ level (wanted x)) (take-take k n ms (omega arith)) deep.1)
+      | inl h ↦ flat k h (sym (slice_get-take n ms k h) ∙ deep.0, subst (λ (x : List Mark). deepest ≤ level (wanted_from start x)) (take-take k n ms (omega arith)) deep.1)
       | inr h ↦ let none = slice_get-take_past n ms k h in absurd (cc)
     ]
 
@@ -35,103 +35,132 @@ one_step None = refl
 one_step (Some x) = refl
 
 -- one mark more
-run_one_more : (ms : List Mark) (at : ℕ) (st : List Symbol) (m : Mark) → run start (take at ms) ≡ Some st → slice_get ms at ≡ Some m → run start (take (at + 1) ms) ≡ next_wanted st m
-run_one_more ms at st m fits here =
+run_one_more : (start : List Symbol) (ms : List Mark) (at : ℕ) (st : List Symbol) (m : Mark) → run start (take at ms) ≡ Some st → slice_get ms at ≡ Some m → run start (take (at + 1) ms) ≡ next_wanted st m
+run_one_more start ms at st m fits here =
     ap (λ x. run start x) (take_one_more ms at m here) ∙ run_more start (take at ms) (m ∷ []) ∙ ap (λ o. option_and_then (λ now. run now (m ∷ [])) o) fits ∙ one_step (next_wanted st m)
 
 -- the level where symbols are wanted
-wanted_is : (ms : List Mark) (st : List Symbol) → run start ms ≡ Some st → wanted ms ≡ st
-wanted_is ms st fits = ap (λ o. unwrap_or o []) fits
+wanted_is : (start : List Symbol) (ms : List Mark) (st : List Symbol) → run start ms ≡ Some st → wanted_from start ms ≡ st
+wanted_is start ms st fits = ap (λ o. unwrap_or o []) fits
 
-over_of_deep : (ms : List Mark) (at : ℕ) (st : List Symbol) (m : Mark) → run start (take at ms) ≡ Some st → slice_get ms at ≡ Some m → IsTooDeep ms at → IsOver st m
-over_of_deep ms at st m fits here deep = (cc, subst (λ (x : List Symbol). deepest ≤ level x) (wanted_is (take at ms) st fits) deep.1)
+over_of_deep : (start : List Symbol) (ms : List Mark) (at : ℕ) (st : List Symbol) (m : Mark) → run start (take at ms) ≡ Some st → slice_get ms at ≡ Some m → IsTooDeepFrom start ms at → IsOver st m
+over_of_deep start ms at st m fits here deep = (cc, subst (λ (x : List Symbol). deepest ≤ level x) (wanted_is start (take at ms) st fits) deep.1)
 
-deep_of_over : (ms : List Mark) (at : ℕ) (st : List Symbol) (m : Mark) → run start (take at ms) ≡ Some st → slice_get ms at ≡ Some m → IsOver st m → IsTooDeep ms at
-deep_of_over ms at st m fits here over = (cc, subst (λ (x : List Symbol). deepest ≤ level x) (sym (wanted_is (take at ms) st fits)) over.1)
+deep_of_over : (start : List Symbol) (ms : List Mark) (at : ℕ) (st : List Symbol) (m : Mark) → run start (take at ms) ≡ Some st → slice_get ms at ≡ Some m → IsOver st m → IsTooDeepFrom start ms at
+deep_of_over start ms at st m fits here over = (cc, subst (λ (x : List Symbol). deepest ≤ level x) (sym (wanted_is start (take at ms) st fits)) over.1)
 
 -- nothing is read yet
-pub reached_start : (ms : List Mark) → Reached ms 0 start
-reached_start ms = record { fits = refl; flat = λ k h _. absurd (omega (arith, h)) }
+pub reached_start : (start : List Symbol) (ms : List Mark) → Reached start ms 0 start
+reached_start start ms = record { fits = refl; flat = λ k h _. absurd (omega (arith, h)) }
 
-flat_more : (ms : List Mark) (at : ℕ) (st : List Symbol) (m : Mark) → Reached ms at st → slice_get ms at ≡ Some m → (IsOver st m → ⊥) → (k : ℕ) → k < at + 1 → IsTooDeep ms k → ⊥
-flat_more ms at st m r here flat k h deep =
+flat_more : (start : List Symbol) (ms : List Mark) (at : ℕ) (st : List Symbol) (m : Mark) → Reached start ms at st → slice_get ms at ≡ Some m → (IsOver st m → ⊥) → (k : ℕ) → k < at + 1 → IsTooDeepFrom start ms k → ⊥
+flat_more start ms at st m r here flat k h deep =
     elim (cases_lt k at) [
       | inl b ↦ r.flat k b deep
       | inr b ↦
           let same : k ≡ at = omega arith in
-          flat (over_of_deep ms at st m r.fits here (subst (λ (x : ℕ). IsTooDeep ms x) same deep))
+          flat (over_of_deep start ms at st m r.fits here (subst (λ (x : ℕ). IsTooDeepFrom start ms x) same deep))
     ]
 
 -- a mark that passes leads on
-pub reached_more : (ms : List Mark) (at : ℕ) (st : List Symbol) (m : Mark) (new : List Symbol) → Reached ms at st → slice_get ms at ≡ Some m → Passes st m new → Reached ms (at + 1) new
-reached_more ms at st m new r here passes = record {
-  fits = run_one_more ms at st m r.fits here ∙ passes.0;
-  flat = flat_more ms at st m r here passes.1;
+pub reached_more : (start : List Symbol) (ms : List Mark) (at : ℕ) (st : List Symbol) (m : Mark) (new : List Symbol) → Reached start ms at st → slice_get ms at ≡ Some m → Passes st m new → Reached start ms (at + 1) new
+reached_more start ms at st m new r here passes = record {
+  fits = run_one_more start ms at st m r.fits here ∙ passes.0;
+  flat = flat_more start ms at st m r here passes.1;
 }
 
-misfit : (ms : List Mark) (at : ℕ) (st : List Symbol) (m : Mark) → Reached ms at st → slice_get ms at ≡ Some m → next_wanted st m ≡ None → IsFirstMisfit IsDomainShape ms at
-misfit ms at st m r here unfit =
+misfit : (start : List Symbol) (ms : List Mark) (at : ℕ) (st : List Symbol) (m : Mark) → Reached start ms at st → slice_get ms at ≡ Some m → next_wanted st m ≡ None → IsFirstMisfit (Derives start) ms at
+misfit start ms at st m r here unfit =
     let inside : at < length ms = slice_get_within ms at m here in
     record {
       within = omega arith;
-      before = front_of_run (take at ms) st r.fits;
-      here = λ _ f. run_of_front (take (at + 1) ms) f (run_one_more ms at st m r.fits here ∙ unfit);
+      before = front_of_run start (take at ms) st r.fits;
+      here = λ _ f. run_of_front start (take (at + 1) ms) f (run_one_more start ms at st m r.fits here ∙ unfit);
       end = λ same _. omega arith;
     }
 
-form_is : (ms : List Mark) (at : ℕ) (st : List Symbol) (m : Mark) → run start (take at ms) ≡ Some st → slice_get ms at ≡ Some m → form_here ms at ≡ form_of st m (slice_get ms (at + 1))
+form_is : (ms : List Mark) (at : ℕ) (st : List Symbol) (m : Mark) → run text_start (take at ms) ≡ Some st → slice_get ms at ≡ Some m → form_here ms at ≡ form_of st m (slice_get ms (at + 1))
 form_is ms at st m fits here =
-    ap (λ o. option_and_then (λ x. unsupported (slice_get (wanted (take at ms)) 0) x (slice_get ms (at + 1))) o) here ∙ ap (λ x. unsupported (slice_get x 0) m (slice_get ms (at + 1))) (wanted_is (take at ms) st fits)
+    ap (λ o. option_and_then (λ x. unsupported (slice_get (wanted (take at ms)) 0) x (slice_get ms (at + 1))) o) here ∙ ap (λ x. unsupported (slice_get x 0) m (slice_get ms (at + 1))) (wanted_is text_start (take at ms) st fits)
 
 -- a mark that opens no level too many keeps the beginning shallow
-shallow_more : (ms : List Mark) (at : ℕ) (st : List Symbol) (m : Mark) → Reached ms at st → slice_get ms at ≡ Some m → (IsOver st m → ⊥) → IsShallow (take (at + 1) ms)
-shallow_more ms at st m r here flat = shallow ms (at + 1) (flat_more ms at st m r here flat)
+shallow_more : (start : List Symbol) (ms : List Mark) (at : ℕ) (st : List Symbol) (m : Mark) → Reached start ms at st → slice_get ms at ≡ Some m → (IsOver st m → ⊥) → IsShallowFrom start (take (at + 1) ms)
+shallow_more start ms at st m r here flat = shallow start ms (at + 1) (flat_more start ms at st m r here flat)
 
--- the fault at a mark is the first fault of the list
-pub refuses : (r : ShapeFault) (ms : List Mark) (at : ℕ) (st : List Symbol) (m : Mark) → Reached ms at st → slice_get ms at ≡ Some m → Fails st m (slice_get ms (at + 1)) at r → Refuses r ms
+-- the fault at a mark is the first fault of the text
+pub refuses : (r : ShapeFault) (ms : List Mark) (at : ℕ) (st : List Symbol) (m : Mark) → Reached text_start ms at st → slice_get ms at ≡ Some m → Fails st m (slice_get ms (at + 1)) at r → Refuses r ms
 refuses (Unsupported place what) ms at st m r here fails = (
   at,
   fails.0,
   record {
-    misfit = misfit ms at st m r here fails.1;
-    shallow = shallow_more ms at st m r here fails.2;
+    misfit = misfit text_start ms at st m r here fails.1;
+    shallow = shallow_more text_start ms at st m r here fails.2;
     form = form_is ms at st m r.fits here ∙ fails.3;
   },
 )
 refuses (Depth place) ms at st m r here fails =
     subst (λ (x : ℕ). IsDepth ms x) (sym fails.0) (record {
-      before = front_of_run (take at ms) st r.fits;
-      shallow = shallow ms at r.flat;
-      deep = deep_of_over ms at st m r.fits here fails.1;
+      before = front_of_run text_start (take at ms) st r.fits;
+      shallow = shallow text_start ms at r.flat;
+      deep = deep_of_over text_start ms at st m r.fits here fails.1;
     })
 refuses (Unexpected place) ms at st m r here fails =
     subst (λ (x : ℕ). IsUnexpected ms x) (sym fails.0) (record {
-      misfit = misfit ms at st m r here fails.1;
-      shallow = shallow_more ms at st m r here fails.2;
+      misfit = misfit text_start ms at st m r here fails.1;
+      shallow = shallow_more text_start ms at st m r here fails.2;
       supported = form_is ms at st m r.fits here ∙ fails.3;
     })
 refuses OutOfMemory ms at st m r here fails = tt
 
-whole_run : (ms : List Mark) (at : ℕ) (st : List Symbol) → length ms ≤ at → Reached ms at st → run start ms ≡ Some st
-whole_run ms at st past r = ap (λ x. run start x) (sym (take_all at ms past)) ∙ r.fits
+whole_run : (start : List Symbol) (ms : List Mark) (at : ℕ) (st : List Symbol) → length ms ≤ at → Reached start ms at st → run start ms ≡ Some st
+whole_run start ms at st past r = ap (λ x. run start x) (sym (take_all at ms past)) ∙ r.fits
 
--- where nothing more is wanted the text is whole
-pub whole : (ms : List Mark) (at : ℕ) (st : List Symbol) → length ms ≤ at → st ≡ [] → Reached ms at st → IsDomainShape ms × IsShallow ms
-whole ms at st past none r =
-    (derived_of_run start ms (whole_run ms at st past r ∙ ap Some none), λ k deep. r.flat k (let inside : k < length ms = slice_get_within ms k Open deep.0 in omega arith) deep)
+-- no parenthesis opens too many levels where all marks are reached
+flat_whole : (start : List Symbol) (ms : List Mark) (at : ℕ) (st : List Symbol) → length ms ≤ at → Reached start ms at st → IsShallowFrom start ms
+flat_whole start ms at st past r k deep = r.flat k (let inside : k < length ms = slice_get_within ms k Open deep.0 in omega arith) deep
+
+-- where nothing more is wanted the marks are derived
+pub whole : (start : List Symbol) (ms : List Mark) (at : ℕ) (st : List Symbol) → length ms ≤ at → st ≡ [] → Reached start ms at st → Derives start ms × IsShallowFrom start ms
+whole start ms at st past none r = (derived_of_run start ms (whole_run start ms at st past r ∙ ap Some none), flat_whole start ms at st past r)
+
+-- where more is wanted the end of the marks is their first misfit
+misfit_end : (start : List Symbol) (ms : List Mark) (at : ℕ) (st : List Symbol) → length ms ≤ at → (st ≡ [] → ⊥) → Reached start ms at st → IsFirstMisfit (Derives start) ms (length ms)
+misfit_end start ms at st past more r =
+    let all : run start ms ≡ Some st = whole_run start ms at st past r in
+    record {
+      within = omega arith;
+      before = front_of_run start (take (length ms) ms) st (ap (λ x. run start x) (take_all (length ms) ms (omega arith)) ∙ all);
+      here = λ h _. omega arith;
+      end = λ _ d. more (let done = run_of_derived start ms d in cc);
+    }
+
+-- a beginning is shallow where all marks are reached
+flat_before : (start : List Symbol) (ms : List Mark) (at n : ℕ) (st : List Symbol) → length ms ≤ at → Reached start ms at st → IsShallowFrom start (take n ms)
+flat_before start ms at n st past r = shallow start ms n (λ k h deep. flat_whole start ms at st past r k deep)
 
 -- where more is wanted the text's end is its first fault
-pub unfinished : (ms : List Mark) (at : ℕ) (st : List Symbol) → length ms ≤ at → (st ≡ [] → ⊥) → Reached ms at st → IsUnexpected ms (length ms)
+pub unfinished : (ms : List Mark) (at : ℕ) (st : List Symbol) → length ms ≤ at → (st ≡ [] → ⊥) → Reached text_start ms at st → IsUnexpected ms (length ms)
 unfinished ms at st past more r =
     let none : slice_get ms (length ms) ≡ None = slice_get_past ms (length ms) (omega arith) in
-    let all : run start ms ≡ Some st = whole_run ms at st past r in
     record {
-      misfit = record {
-        within = omega arith;
-        before = front_of_run (take (length ms) ms) st (ap (λ x. run start x) (take_all (length ms) ms (omega arith)) ∙ all);
-        here = λ h _. omega arith;
-        end = λ _ d. more (let done = run_of_derived start ms d in cc);
-      };
-      shallow = shallow ms (length ms + 1) (λ k h deep. r.flat k (let inside : k < length ms = slice_get_within ms k Open deep.0 in omega arith) deep);
+      misfit = misfit_end text_start ms at st past more r;
+      shallow = flat_before text_start ms at (length ms + 1) st past r;
       supported = ap (λ o. option_and_then (λ x. unsupported (slice_get (wanted (take (length ms) ms)) 0) x (slice_get ms (length ms + 1))) o) none;
     }
+
+-- a mark that doesn't pass is the first fault
+pub first_fault_here : (start : List Symbol) (ms : List Mark) (at : ℕ) (st : List Symbol) (m : Mark) → Reached start ms at st → slice_get ms at ≡ Some m → Stops st m → IsFirstFaultFrom start ms at
+first_fault_here start ms at st m r here stops = record {
+  before = front_of_run start (take at ms) st r.fits;
+  shallow = shallow start ms at r.flat;
+  here = elim stops [
+    | inl over ↦ inl (deep_of_over start ms at st m r.fits here over)
+    | inr unfit ↦ inr (misfit start ms at st m r here unfit)
+  ];
+}
+
+-- where more is wanted the end of the marks is their first fault
+pub first_fault_end : (start : List Symbol) (ms : List Mark) (at : ℕ) (st : List Symbol) → length ms ≤ at → (st ≡ [] → ⊥) → Reached start ms at st → IsFirstFaultFrom start ms (length ms)
+first_fault_end start ms at st past more r =
+    let bad : IsFirstMisfit (Derives start) ms (length ms) = misfit_end start ms at st past more r in
+    record { before = bad.before; shallow = flat_before start ms at (length ms) st past r; here = inr bad }

@@ -6,10 +6,11 @@ use Rattle.std.proofs.lemmas.Option.{slice_get_within}
 use Rattle.ps_shape.specs.Fronts.{IsFront, IsFirstMisfit}
 use Rattle.ps_shape.specs.Symbols.{level}
 use Rattle.ps_shape.specs.Forms.{told_at}
-use Rattle.ps_shape.specs.Laws.{FaultsAreFirst, FaultsAreReal}
-use Rattle.ps_shape.specs.Shape.{IsDomainShape, IsTooDeep, IsShallow, IsDepth, deepest, form_here, wanted}
+use Rattle.ps_shape.specs.Laws.{FaultsAreFirst, FaultsAreReal, FirstFaultsAreOne, FirstFaultsAreReal}
+use Rattle.ps_shape.specs.Shape.{Derives, IsDomainShape, IsTooDeepFrom, IsShallow, IsDepth, IsFirstFaultFrom, deepest, form_here, text_start, wanted_from}
 use Rattle.ps_shape.specs.declared.marks.Mark.{Mark}
 use Rattle.ps_shape.specs.declared.marks.Mark.TheVariants.{Open}
+use Rattle.ps_shape.specs.declared.symbols.Symbol.{Symbol}
 use Rattle.ps_shape.specs.declared.faults.ShapeFault.TheVariants.{Unsupported, Depth, Unexpected, OutOfMemory}
 use Rattle.ps_shape.proofs.Places.{slice_get-take}
 
@@ -29,14 +30,14 @@ first_at_or_after L ts a b f within bad =
     ]
 
 -- the level at a place is that of the beginning
-deep_in : (ms : List Mark) (n at : ℕ) → at < n → IsTooDeep ms at → IsTooDeep (take n ms) at
-deep_in ms n at h deep = (slice_get-take n ms at h ∙ deep.0, subst (λ (x : List Mark). deepest ≤ level (wanted x)) (sym (take-take at n ms (omega arith))) deep.1)
+deep_in : (start : List Symbol) (ms : List Mark) (n at : ℕ) → at < n → IsTooDeepFrom start ms at → IsTooDeepFrom start (take n ms) at
+deep_in start ms n at h deep = (slice_get-take n ms at h ∙ deep.0, subst (λ (x : List Mark). deepest ≤ level (wanted_from start x)) (sym (take-take at n ms (omega arith))) deep.1)
 
 misfit_after_depth : (ms : List Mark) (deep at : ℕ) → IsDepth ms deep → IsFirstMisfit IsDomainShape ms at → IsShallow (take (at + 1) ms) → ⊥
 misfit_after_depth ms deep at d bad shallow =
     let inside : deep < length ms = slice_get_within ms deep Open d.deep.0 in
     let after : deep ≤ at = first_at_or_after IsDomainShape ms at deep d.before (omega arith) bad in
-    shallow deep (deep_in ms (at + 1) deep (omega arith) d.deep)
+    shallow deep (deep_in text_start ms (at + 1) deep (omega arith) d.deep)
 
 same_misfit : (ms : List Mark) (a b : ℕ) → IsFirstMisfit IsDomainShape ms a → IsFirstMisfit IsDomainShape ms b → a ≡ b
 same_misfit ms a b x y =
@@ -47,7 +48,7 @@ same_misfit ms a b x y =
 depth_order : (ms : List Mark) (a b : ℕ) → IsDepth ms a → IsDepth ms b → b ≤ a
 depth_order ms a b x y =
     elim (cases_lt a b) [
-      | inl h ↦ absurd (y.shallow a (deep_in ms b a h x.deep))
+      | inl h ↦ absurd (y.shallow a (deep_in text_start ms b a h x.deep))
       | inr h ↦ h
     ]
 
@@ -84,16 +85,50 @@ faults_are_first (Unexpected at) (Unsupported there other) ms _ _ x y =
 faults_are_first (Unexpected at) (Depth there) ms _ _ x y = absurd (misfit_after_depth ms there at y x.misfit x.shallow)
 faults_are_first (Unexpected at) (Unexpected there) ms _ _ x y = ap Unexpected (same_misfit ms at there x.misfit y.misfit)
 
--- a text of the language has no misfit
-no_misfit : (ms : List Mark) (at : ℕ) → IsFirstMisfit IsDomainShape ms at → IsDomainShape ms → ⊥
-no_misfit ms at bad good =
+-- a list of the language has no misfit
+no_misfit : (L : List Mark → Type 0) (ms : List Mark) (at : ℕ) → IsFirstMisfit L ms at → L ms → ⊥
+no_misfit L ms at bad good =
     let all : take (length ms) ms ≡ ms = take_all (length ms) ms (omega arith) in
-    let front : IsFront IsDomainShape (take (length ms) ms) = ([], subst IsDomainShape (sym (append-nil (take (length ms) ms) ∙ all)) good) in
-    let here : at ≡ length ms = (let h : length ms ≤ at = first_at_or_after IsDomainShape ms at (length ms) front (omega arith) bad in let k : at ≤ length ms = bad.within in omega arith) in
+    let front : IsFront L (take (length ms) ms) = ([], subst L (sym (append-nil (take (length ms) ms) ∙ all)) good) in
+    let here : at ≡ length ms = (let h : length ms ≤ at = first_at_or_after L ms at (length ms) front (omega arith) bad in let k : at ≤ length ms = bad.within in omega arith) in
     bad.end here good
 
 pub faults_are_real : FaultsAreReal
-faults_are_real (Unsupported at what) ms _ x good flat = no_misfit ms x.0 x.2.misfit good
+faults_are_real (Unsupported at what) ms _ x good flat = no_misfit IsDomainShape ms x.0 x.2.misfit good
 faults_are_real (Depth at) ms _ x good flat = flat at x.deep
-faults_are_real (Unexpected at) ms _ x good flat = no_misfit ms at x.misfit good
+faults_are_real (Unexpected at) ms _ x good flat = no_misfit IsDomainShape ms at x.misfit good
 faults_are_real OutOfMemory ms due x good flat = absurd (due refl)
+
+-- ---- whatever is wanted
+
+within_of_fault : (start : List Symbol) (ms : List Mark) (at : ℕ) → IsFirstFaultFrom start ms at → at ≤ length ms
+within_of_fault start ms at x =
+    elim x.here [
+      | inl deep ↦ let inside : at < length ms = slice_get_within ms at Open deep.0 in omega arith
+      | inr bad ↦ bad.within
+    ]
+
+-- no first fault stands before another
+fault_order : (start : List Symbol) (ms : List Mark) (a b : ℕ) → IsFirstFaultFrom start ms a → IsFirstFaultFrom start ms b → b ≤ a
+fault_order start ms a b x y =
+    elim x.here [
+      | inl deep ↦
+          elim (cases_lt a b) [
+            | inl h ↦ absurd (y.shallow a (deep_in start ms b a h deep))
+            | inr h ↦ h
+          ]
+      | inr bad ↦ first_at_or_after (Derives start) ms a b y.before (within_of_fault start ms b y) bad
+    ]
+
+pub first_faults_are_one : FirstFaultsAreOne
+first_faults_are_one start ms a b x y =
+    let h : b ≤ a = fault_order start ms a b x y in
+    let k : a ≤ b = fault_order start ms b a y x in
+    omega arith
+
+pub first_faults_are_real : FirstFaultsAreReal
+first_faults_are_real start ms at x good flat =
+    elim x.here [
+      | inl deep ↦ flat at deep
+      | inr bad ↦ no_misfit (Derives start) ms at bad good
+    ]

@@ -1,14 +1,12 @@
--- What is wanted after marks, and what that says of a text that begins with them.
+-- What is wanted after marks, and what that says of a list that begins with them.
 use Rattle.std.proofs.Common.{◌≡◌, List, [], ◌∷◌, ◌++◌, None, Some, refl, ◌∙◌, ap, subst, append_assoc}
 use Rattle.std.specs.Option.{option_and_then}
 use Rattle.ps_shape.specs.Fronts.{IsFront}
 use Rattle.ps_shape.specs.Rules.{step}
-use Rattle.ps_shape.specs.Shape.{Derives, IsDomainShape, run}
+use Rattle.ps_shape.specs.Shape.{Derives, run}
 use Rattle.ps_shape.specs.Shape.Derives.{nothing, by_rule}
 use Rattle.ps_shape.specs.declared.marks.Mark.{Mark}
 use Rattle.ps_shape.specs.declared.symbols.Symbol.{Symbol}
-use Rattle.ps_shape.specs.declared.symbols.Symbol.TheVariants.{InText}
-use Rattle.ps_shape.specs.declared.symbols.TextPart.TheVariants.{Whole}
 use Rattle.ps_shape.proofs.Completed.{completed}
 
 -- what follows is read where the marks before it end
@@ -47,18 +45,15 @@ derived_of_run [] (m ∷ ms) e = absurd (cc)
 derived_of_run (s ∷ st) (m ∷ ms) e =
     (elim (step s m) as (λ o. step s m ≡ o → option_and_then (λ next. run next ms) (option_and_then (λ new. Some (new ++ st)) o) ≡ Some [] → Derives (s ∷ st) (m ∷ ms)) [ None ↦ λ _ d. absurd (cc) | Some new ↦ λ fits d. by_rule s st m ms new fits (derived_of_run (new ++ st) ms d) ]) refl e
 
-abbrev pub start : List Symbol
-start = InText Whole ∷ []
-
--- marks after which something is wanted begin a text
-pub front_of_run : (ms : List Mark) (st : List Symbol) → run start ms ≡ Some st → IsFront IsDomainShape ms
-front_of_run ms st e =
+-- marks that fit begin a list of the language
+pub front_of_run : (start : List Symbol) (ms : List Mark) (st : List Symbol) → run start ms ≡ Some st → IsFront (Derives start) ms
+front_of_run start ms st e =
     let rest : (more : List Mark) × (run st more ≡ Some []) = finished st in
     (rest.0, derived_of_run start (ms ++ rest.0) (run_more start ms rest.0 ∙ ap (λ o. option_and_then (λ now. run now rest.0) o) e ∙ rest.1))
 
--- marks that begin a text fit
-pub run_of_front : (ms : List Mark) → IsFront IsDomainShape ms → run start ms ≡ None → ⊥
-run_of_front ms f e =
+-- marks that begin a list of the language fit
+pub run_of_front : (start : List Symbol) (ms : List Mark) → IsFront (Derives start) ms → run start ms ≡ None → ⊥
+run_of_front start ms f e =
     let whole : run start (ms ++ f.0) ≡ Some [] = run_of_derived start (ms ++ f.0) f.1 in
     let none : run start (ms ++ f.0) ≡ None = run_more start ms f.0 ∙ ap (λ o. option_and_then (λ now. run now f.0) o) e in
     cc

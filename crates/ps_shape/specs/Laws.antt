@@ -1,7 +1,8 @@
 -- What the faults of texts are to each other and to what follows them.
 use Rattle.std.specs.Prelude.{◌≡◌, ℕ, ◌+◌, List, take}
-use Rattle.ps_shape.specs.Shape.{IsDomainShape, IsShallow, Refuses}
+use Rattle.ps_shape.specs.Shape.{Derives, IsDomainShape, IsShallow, IsShallowFrom, IsFirstFaultFrom, Refuses}
 use Rattle.ps_shape.specs.declared.marks.Mark.{Mark}
+use Rattle.ps_shape.specs.declared.symbols.Symbol.{Symbol}
 use Rattle.ps_shape.specs.declared.faults.ShapeFault.{ShapeFault}
 use Rattle.ps_shape.specs.declared.faults.ShapeFault.TheVariants.{Unsupported, Depth, Unexpected, OutOfMemory}
 
@@ -23,3 +24,11 @@ FaultsAreFirst = (r s : ShapeFault) (ms : List Mark) → (r ≡ OutOfMemory → 
 -- A text with a fault is no domain's, or too deep.
 abbrev pub FaultsAreReal : Type 0
 FaultsAreReal = (r : ShapeFault) (ms : List Mark) → (r ≡ OutOfMemory → ⊥) → Refuses r ms → IsDomainShape ms → IsShallow ms → ⊥
+
+-- Marks have one first fault at most, whatever is wanted.
+abbrev pub FirstFaultsAreOne : Type 0
+FirstFaultsAreOne = (start : List Symbol) (ms : List Mark) (a b : ℕ) → IsFirstFaultFrom start ms a → IsFirstFaultFrom start ms b → a ≡ b
+
+-- Marks with a first fault aren't derived from what is wanted, or are too deep.
+abbrev pub FirstFaultsAreReal : Type 0
+FirstFaultsAreReal = (start : List Symbol) (ms : List Mark) (at : ℕ) → IsFirstFaultFrom start ms at → Derives start ms → IsShallowFrom start ms → ⊥

@@ -85,3 +85,9 @@ is_fact_name And = false
 is_fact_name Not = false
 is_fact_name Preference = false
 is_fact_name m = is_name m && not (is_quantified m)
+
+-- the mark may name a predicate at the head of a goal's condition
+abbrev pub is_goal_name : Mark → Bool
+is_goal_name And = false
+is_goal_name Not = false
+is_goal_name m = is_name m && not (is_quantified m)

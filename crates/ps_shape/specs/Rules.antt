@@ -1,11 +1,11 @@
--- The grammar of a domain's text, a rule a line: the symbol wanted, the mark that it may begin with, and what is wanted after that mark.
-use Rattle.std.specs.Prelude.{Bool, true, List, [], ◌∷◌, Option, None, Some, if◌then◌else◌}
+-- The grammar of a domain's text and of goals, a rule a line: the symbol wanted, the mark that it may begin with, and what is wanted after that mark.
+use Rattle.std.specs.Prelude.{ℕ, zero, suc, Bool, true, List, [], ◌∷◌, Option, None, Some, if◌then◌else◌}
 use Rattle.ps_shape.specs.Symbols.{none_seen}
-use Rattle.ps_shape.specs.Marks.{is, is_name, is_keyword, is_change, is_predicate_name, is_fact_name}
+use Rattle.ps_shape.specs.Marks.{is, is_name, is_keyword, is_change, is_predicate_name, is_fact_name, is_goal_name}
 use Rattle.ps_shape.specs.declared.marks.Mark.{Mark}
 use Rattle.ps_shape.specs.declared.marks.Mark.TheVariants.{Open, Close, Plus, Times, Divide, Equal, Less, Greater, LessEqual, GreaterEqual, Minus, Duration, Variable, Requirements, Types, Constants, Predicates, Functions, DurativeAction, Parameters, DurationKey, ConditionKey, EffectKey, Number, Define, Domain, At, Over, Start, End, All, And, Not, NumberWord}
 use Rattle.ps_shape.specs.declared.symbols.Symbol.{Symbol}
-use Rattle.ps_shape.specs.declared.symbols.Symbol.TheVariants.{The, AnyName, InText, InList, InAction, InCondition, InEffect, InValue}
+use Rattle.ps_shape.specs.declared.symbols.Symbol.TheVariants.{The, AnyName, InText, InList, InAction, InCondition, InEffect, InValue, InGoal}
 use Rattle.ps_shape.specs.declared.symbols.Seen.{Seen}
 use Rattle.ps_shape.specs.declared.symbols.TextPart.{TextPart}
 use Rattle.ps_shape.specs.declared.symbols.ListPart.{ListPart}
@@ -13,12 +13,14 @@ use Rattle.ps_shape.specs.declared.symbols.ActionPart.{ActionPart}
 use Rattle.ps_shape.specs.declared.symbols.ConditionPart.{ConditionPart}
 use Rattle.ps_shape.specs.declared.symbols.EffectPart.{EffectPart}
 use Rattle.ps_shape.specs.declared.symbols.ValuePart.{ValuePart}
+use Rattle.ps_shape.specs.declared.symbols.GoalPart.{GoalPart}
 use Rattle.ps_shape.specs.declared.symbols.TextPart.TheVariants as text
 use Rattle.ps_shape.specs.declared.symbols.ListPart.TheVariants as list
 use Rattle.ps_shape.specs.declared.symbols.ActionPart.TheVariants as action
 use Rattle.ps_shape.specs.declared.symbols.ConditionPart.TheVariants as condition
 use Rattle.ps_shape.specs.declared.symbols.EffectPart.TheVariants as effect
 use Rattle.ps_shape.specs.declared.symbols.ValuePart.TheVariants as value
+use Rattle.ps_shape.specs.declared.symbols.GoalPart.TheVariants as goal
 
 -- these symbols where the mark passes
 abbrev pub where_it_is : Bool → List Symbol → Option (List Symbol)
@@ -172,6 +174,59 @@ value_rule value.ValueOrEnd Open = Some (InValue value.Head ∷ The Close ∷ []
 value_rule value.ValueOrEnd m = where_it_is (is_name m) (The Close ∷ [])
 value_rule _ _ = None
 
+-- how many names a fact of a goal and a function's value have at most
+abbrev pub most_names : ℕ
+most_names = 6
+
+-- a name, where so many may stand, and the names that may follow it
+abbrev pub name_rule : ℕ → Mark → Option (List Symbol)
+name_rule zero m = None
+name_rule (suc more) m = where_it_is (is_name m) (InGoal (goal.Names more) ∷ [])
+
+-- C: (and C*) | (not C) | (NAME NAME*) | (= NAME NAME) | (= X X) | (REL X X), where REL is < <= >= >, and the first NAME of a fact is
+-- none of and not or imply exists forall when
+abbrev pub goal_head_rule : Mark → Option (List Symbol)
+goal_head_rule And = Some (InGoal goal.Conditions ∷ [])
+goal_head_rule Not = Some (InGoal goal.Condition ∷ The Close ∷ [])
+goal_head_rule Equal = Some (InGoal goal.FirstOperand ∷ [])
+goal_head_rule Less = Some (InGoal goal.Value ∷ InGoal goal.Value ∷ The Close ∷ [])
+goal_head_rule LessEqual = Some (InGoal goal.Value ∷ InGoal goal.Value ∷ The Close ∷ [])
+goal_head_rule GreaterEqual = Some (InGoal goal.Value ∷ InGoal goal.Value ∷ The Close ∷ [])
+goal_head_rule Greater = Some (InGoal goal.Value ∷ InGoal goal.Value ∷ The Close ∷ [])
+goal_head_rule m = where_it_is (is_goal_name m) (InGoal (goal.Names most_names) ∷ [])
+
+-- X: NUMBER | (NAME NAME*) | (- X) | (OP X X), where OP is + - * /
+abbrev pub goal_value_rule : Mark → Option (List Symbol)
+goal_value_rule Minus = Some (InGoal goal.Value ∷ InGoal goal.ValueOrEnd ∷ [])
+goal_value_rule Plus = Some (InGoal goal.Value ∷ InGoal goal.Value ∷ The Close ∷ [])
+goal_value_rule Times = Some (InGoal goal.Value ∷ InGoal goal.Value ∷ The Close ∷ [])
+goal_value_rule Divide = Some (InGoal goal.Value ∷ InGoal goal.Value ∷ The Close ∷ [])
+goal_value_rule m = where_it_is (is_name m) (InGoal (goal.Names most_names) ∷ [])
+
+-- what follows `=`: numbers are compared where a number or a parenthesis stands first, and names otherwise
+abbrev pub operand_rule : Mark → Option (List Symbol)
+operand_rule Number = Some (InGoal goal.Value ∷ The Close ∷ [])
+operand_rule Open = Some (InGoal goal.ValueHead ∷ InGoal goal.Value ∷ The Close ∷ [])
+operand_rule m = where_it_is (is_name m) (AnyName ∷ The Close ∷ [])
+
+-- what each part of a goal begins with
+abbrev pub goal_rule : GoalPart → Mark → Option (List Symbol)
+goal_rule goal.Condition Open = Some (InGoal goal.Head ∷ [])
+goal_rule goal.Head m = goal_head_rule m
+goal_rule goal.Conditions Close = Some []
+goal_rule goal.Conditions Open = Some (InGoal goal.Head ∷ InGoal goal.Conditions ∷ [])
+goal_rule goal.FirstOperand m = operand_rule m
+goal_rule goal.Atom Open = Some (AnyName ∷ InGoal (goal.Names most_names) ∷ [])
+goal_rule (goal.Names most) Close = Some []
+goal_rule (goal.Names most) m = name_rule most m
+goal_rule goal.Value Number = Some []
+goal_rule goal.Value Open = Some (InGoal goal.ValueHead ∷ [])
+goal_rule goal.ValueHead m = goal_value_rule m
+goal_rule goal.ValueOrEnd Close = Some []
+goal_rule goal.ValueOrEnd Number = Some (The Close ∷ [])
+goal_rule goal.ValueOrEnd Open = Some (InGoal goal.ValueHead ∷ The Close ∷ [])
+goal_rule _ _ = None
+
 -- what a symbol leads to at a mark: each symbol stands for what begins with such a mark and goes on with these
 abbrev pub step : Symbol → Mark → Option (List Symbol)
 step (The wanted) m = where_it_is (is wanted m) []
@@ -182,3 +237,4 @@ step (InAction part) m = action_rule part m
 step (InCondition part) m = condition_rule part m
 step (InEffect part) m = effect_rule part m
 step (InValue part) m = value_rule part m
+step (InGoal part) m = goal_rule part m

@@ -1,5 +1,5 @@
--- The shape of a domain's text, and the first fault of a text.
-use Rattle.std.specs.Prelude.{◌≡◌, ℕ, ◌+◌, ◌≤◌, List, [], ◌∷◌, ◌++◌, Option, None, Some, take, slice_get, unwrap_or}
+-- The shape of a domain's text and of other lists of marks, and the first fault of each.
+use Rattle.std.specs.Prelude.{◌≡◌, ℕ, ◌+◌, ◌≤◌, List, [], ◌∷◌, ◌++◌, ◌⊎◌, Option, None, Some, take, slice_get, unwrap_or}
 use Rattle.std.specs.Option.{option_and_then}
 use Rattle.ps_shape.specs.Fronts.{IsFront, IsFirstMisfit}
 use Rattle.ps_shape.specs.Symbols.{level}
@@ -19,9 +19,13 @@ pub data Derives : List Symbol → List Mark → Type 0 where
   nothing : Derives [] []
   by_rule : (s : Symbol) (st : List Symbol) (m : Mark) (ms : List Mark) (new : List Symbol) → step s m ≡ Some new → Derives (new ++ st) ms → Derives (s ∷ st) (m ∷ ms)
 
+-- what a domain's text begins with
+abbrev pub text_start : List Symbol
+text_start = InText Whole ∷ []
+
 -- the marks are those of a domain's text
 abbrev pub IsDomainShape : List Mark → Type 0
-IsDomainShape ms = Derives (InText Whole ∷ []) ms
+IsDomainShape ms = Derives text_start ms
 
 -- what is wanted after one mark more
 abbrev pub next_wanted : List Symbol → Mark → Option (List Symbol)
@@ -33,21 +37,39 @@ abbrev pub run : List Symbol → List Mark → Option (List Symbol)
 run st [] = Some st
 run st (m ∷ ms) = option_and_then (λ next. run next ms) (next_wanted st m)
 
+-- what is wanted after these marks, where these symbols were wanted before them
+abbrev pub wanted_from : List Symbol → List Mark → List Symbol
+wanted_from start ms = unwrap_or (run start ms) []
+
 -- what is wanted after the marks that begin a domain's text
 abbrev pub wanted : List Mark → List Symbol
-wanted ms = unwrap_or (run (InText Whole ∷ []) ms) []
+wanted ms = wanted_from text_start ms
 
 -- how many levels of parentheses may stand open
 abbrev pub deepest : ℕ
 deepest = 64
 
+-- the mark here is a parenthesis that opens one level too many, where these symbols were wanted before the marks
+abbrev pub IsTooDeepFrom : List Symbol → List Mark → ℕ → Type 0
+IsTooDeepFrom start ms at = (slice_get ms at ≡ Some Open) × (deepest ≤ level (wanted_from start (take at ms)))
+
+-- no parenthesis opens too many levels, where these symbols were wanted before the marks
+abbrev pub IsShallowFrom : List Symbol → List Mark → Type 0
+IsShallowFrom start ms = (at : ℕ) → IsTooDeepFrom start ms at → ⊥
+
+-- The marks before begin what the symbols derive and open no level too many, and the mark here opens one, or is the first that fits nothing, or more is wanted.
+pub record IsFirstFaultFrom (start : List Symbol) (ms : List Mark) (at : ℕ) : Type 0 where
+  pub before : IsFront (Derives start) (take at ms)
+  pub shallow : IsShallowFrom start (take at ms)
+  pub here : IsTooDeepFrom start ms at ⊎ IsFirstMisfit (Derives start) ms at
+
 -- the mark here is a parenthesis that opens one level too many
 abbrev pub IsTooDeep : List Mark → ℕ → Type 0
-IsTooDeep ms at = (slice_get ms at ≡ Some Open) × (deepest ≤ level (wanted (take at ms)))
+IsTooDeep ms at = IsTooDeepFrom text_start ms at
 
 -- no parenthesis opens too many levels
 abbrev pub IsShallow : List Mark → Type 0
-IsShallow ms = (at : ℕ) → IsTooDeep ms at → ⊥
+IsShallow ms = IsShallowFrom text_start ms
 
 -- the unsupported form that the mark here begins, if it doesn't fit
 abbrev pub form_here : List Mark → ℕ → Option Form

@@ -1,5 +1,5 @@
 -- One mark, where some symbols are wanted.
-use Rattle.std.specs.Prelude.{◌≡◌, ℕ, ◌≤◌, List, Option, None, Some, slice_get}
+use Rattle.std.specs.Prelude.{◌≡◌, ℕ, ◌≤◌, ◌⊎◌, List, Option, None, Some, slice_get}
 use Rattle.ps_shape.specs.Symbols.{level}
 use Rattle.ps_shape.specs.Forms.{unsupported, told_at}
 use Rattle.ps_shape.specs.Shape.{next_wanted, deepest}
@@ -17,6 +17,10 @@ IsOver st m = (m ≡ Open) × (deepest ≤ level st)
 -- the mark fits, and these symbols are wanted after it
 abbrev pub Passes : List Symbol → Mark → List Symbol → Type 0
 Passes st m new = (next_wanted st m ≡ Some new) × (IsOver st m → ⊥)
+
+-- the mark opens a level too many, or doesn't fit
+abbrev pub Stops : List Symbol → Mark → Type 0
+Stops st m = IsOver st m ⊎ (next_wanted st m ≡ None)
 
 -- the unsupported form that the mark begins if it doesn't fit; the last argument is the mark after it
 abbrev pub form_of : List Symbol → Mark → Option Mark → Option Form

@@ -2,13 +2,14 @@
 use Rattle.std.specs.Prelude.{ℕ, ◌+◌, false, List, [], ◌∷◌}
 use Rattle.ps_shape.specs.declared.marks.Mark.TheVariants.{Close}
 use Rattle.ps_shape.specs.declared.symbols.Symbol.{Symbol}
-use Rattle.ps_shape.specs.declared.symbols.Symbol.TheVariants.{The, AnyName, InText, InList, InAction, InCondition, InEffect, InValue}
+use Rattle.ps_shape.specs.declared.symbols.Symbol.TheVariants.{The, AnyName, InText, InList, InAction, InCondition, InEffect, InValue, InGoal}
 use Rattle.ps_shape.specs.declared.symbols.TextPart.TheVariants as text
 use Rattle.ps_shape.specs.declared.symbols.ListPart.TheVariants as list
 use Rattle.ps_shape.specs.declared.symbols.ActionPart.TheVariants as action
 use Rattle.ps_shape.specs.declared.symbols.ConditionPart.TheVariants as condition
 use Rattle.ps_shape.specs.declared.symbols.EffectPart.TheVariants as effect
 use Rattle.ps_shape.specs.declared.symbols.ValuePart.TheVariants as value
+use Rattle.ps_shape.specs.declared.symbols.GoalPart.TheVariants as goal
 use Rattle.ps_shape.specs.declared.symbols.Seen.{Seen}
 use Rattle.ps_shape.specs.declared.symbols.Then.{Then}
 use Rattle.ps_shape.specs.declared.symbols.Then.TheVariants.{Nothing, One, Two, Three}
@@ -46,6 +47,9 @@ weight (InEffect effect.StartOrEnd) = 0
 weight (InEffect effect.FormEnd) = 2
 weight (InValue value.Atom) = 0
 weight (InValue value.Value) = 0
+weight (InGoal goal.Condition) = 0
+weight (InGoal goal.Atom) = 0
+weight (InGoal goal.Value) = 0
 weight _ = 1
 
 -- how many levels of parentheses stand open where these symbols are wanted

@@ -1,5 +1,5 @@
 //! Laws of the definitions: each is the contract of a function that does nothing.
-ghost use Rattle.ps_shape.specs.Laws.{FaultsAreTold, FaultsAreFirst, FaultsAreReal};
+ghost use Rattle.ps_shape.specs.Laws.{FaultsAreTold, FaultsAreFirst, FaultsAreReal, FirstFaultsAreOne, FirstFaultsAreReal};
 
 /// A text's fault is one whatever follows the marks that tell it.
 pub fn faults_are_told()
@@ -14,4 +14,14 @@ pub fn faults_are_first()
 /// A text with a fault is no domain's, or too deep.
 pub fn faults_are_real()
     ensures { FaultsAreReal }
+{}
+
+/// Marks have one first fault at most, whatever is wanted.
+pub fn first_faults_are_one()
+    ensures { FirstFaultsAreOne }
+{}
+
+/// Marks with a first fault aren't derived from what is wanted, or are too deep.
+pub fn first_faults_are_real()
+    ensures { FirstFaultsAreReal }
 {}

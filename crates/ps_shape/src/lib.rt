@@ -10,6 +10,11 @@ mod symbols;
 mod wanted;
 
 pub use faults::{Form, ShapeFault};
-pub use laws::{faults_are_first, faults_are_real, faults_are_told};
+pub use laws::{
+    faults_are_first, faults_are_real, faults_are_told, first_faults_are_one, first_faults_are_real,
+};
 pub use marks::Mark;
-pub use shape::judge;
+pub use shape::{first_fault, judge};
+pub use symbols::{
+    ActionPart, ConditionPart, EffectPart, GoalPart, ListPart, Seen, Symbol, TextPart, ValuePart,
+};

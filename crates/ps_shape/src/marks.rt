@@ -1,6 +1,6 @@
 //! What a word of a domain's text is to the grammar.
 ghost use Rattle.std.specs.Prelude.{◌≡◌};
-ghost use Rattle.ps_shape.specs.Marks.{is_name, is_keyword, is_quantified, is_change, is_predicate_name, is_fact_name};
+ghost use Rattle.ps_shape.specs.Marks.{is_name, is_keyword, is_quantified, is_change, is_predicate_name, is_fact_name, is_goal_name};
 
 /// What a word is to the grammar.
 #[derive(Clone, Copy, PartialEq, Eq, Debug)]
@@ -208,6 +208,16 @@ impl Mark {
         match self {
             Mark::And | Mark::Not | Mark::Preference => false,
             _ => self.is_name() && !self.is_quantified(),
+        }
+    }
+
+    /// Whether it may be the name of a predicate at the head of a goal's condition.
+    pub fn is_goal_name(self) -> bool
+        ensures { result ≡ is_goal_name self }
+    {
+        match self {
+            Mark::Preference => true,
+            _ => self.is_fact_name(),
         }
     }
 }

@@ -1,17 +1,21 @@
-//! The grammar of a domain's text as a table: what a symbol leads to at a mark.
+//! The grammar of a domain's text and of goals as a table: what a symbol leads to at a mark.
 ghost use Rattle.std.specs.Prelude.{◌≡◌, ◌≤◌, ◌+◌, Some, None, IfSome, option_map, if◌then◌else◌};
 ghost use Rattle.ps_shape.specs.Symbols.{weight, level, symbols};
-ghost use Rattle.ps_shape.specs.Rules.{step, text_rule, section_rule, list_rule, action_rule, condition_rule, condition_head_rule, effect_rule, effect_head_rule, value_rule, once};
-ghost use Rattle.ps_shape.specs.declared.symbols.Symbol.TheVariants.{InText, InList, InAction, InCondition, InEffect, InValue};
+ghost use Rattle.ps_shape.specs.Rules.{step, text_rule, section_rule, list_rule, action_rule, condition_rule, condition_head_rule, effect_rule, effect_head_rule, value_rule, goal_rule, goal_head_rule, goal_value_rule, operand_rule, name_rule, once};
+ghost use Rattle.ps_shape.specs.declared.symbols.Symbol.TheVariants.{InText, InList, InAction, InCondition, InEffect, InValue, InGoal};
 
 use super::marks::Mark;
 use super::symbols::Symbol::{
-    AnyName, InAction, InCondition, InEffect, InList, InText, InValue, The,
+    AnyName, InAction, InCondition, InEffect, InGoal, InList, InText, InValue, The,
 };
 use super::symbols::Then::{Nothing, One, Three, Two};
 use super::symbols::{
-    ActionPart, ConditionPart, EffectPart, ListPart, Seen, Symbol, TextPart, Then, ValuePart,
+    ActionPart, ConditionPart, EffectPart, GoalPart, ListPart, Seen, Symbol, TextPart, Then,
+    ValuePart,
 };
+
+/// How many names a fact of a goal and a function's value have at most.
+const MOST_NAMES: u8 = 6;
 
 /// What the symbol leads to at the mark, if the mark fits.
 pub fn step(symbol: Symbol, mark: Mark) -> Option<Then>
@@ -27,6 +31,7 @@ pub fn step(symbol: Symbol, mark: Mark) -> Option<Then>
         InCondition(part) => condition_rule(part, mark),
         InEffect(part) => effect_rule(part, mark),
         InValue(part) => value_rule(part, mark),
+        InGoal(part) => goal_rule(part, mark),
     }
 }
 
@@ -287,4 +292,85 @@ fn value_rule(part: ValuePart, mark: Mark) -> Option<Then>
         (ValuePart::ValueOrEnd, _) => at(mark.is_name(), One(end)),
         _ => None,
     }
+}
+
+fn goal_rule(part: GoalPart, mark: Mark) -> Option<Then>
+    ensures rule { option_map symbols result ≡ goal_rule part mark }
+    ensures few { IfSome result (λ next. level (symbols next) ≤ weight (InGoal part) + 1) }
+{
+    let value_head = InGoal(GoalPart::ValueHead);
+    let names = InGoal(GoalPart::Names(MOST_NAMES));
+    let end = The(Mark::Close);
+    match (part, mark) {
+        (GoalPart::Condition, Mark::Open) => Some(One(InGoal(GoalPart::Head))),
+        (GoalPart::Head, _) => goal_head_rule(mark),
+        (GoalPart::Conditions, Mark::Close) => Some(Nothing),
+        (GoalPart::Conditions, Mark::Open) => Some(Two(InGoal(GoalPart::Head), InGoal(part))),
+        (GoalPart::FirstOperand, _) => operand_rule(mark),
+        (GoalPart::Atom, Mark::Open) => Some(Two(AnyName, names)),
+        (GoalPart::Names(_), Mark::Close) => Some(Nothing),
+        (GoalPart::Names(most), _) => name_rule(most, mark),
+        (GoalPart::Value, Mark::Number) => Some(Nothing),
+        (GoalPart::Value, Mark::Open) => Some(One(value_head)),
+        (GoalPart::ValueHead, _) => goal_value_rule(mark),
+        (GoalPart::ValueOrEnd, Mark::Close) => Some(Nothing),
+        (GoalPart::ValueOrEnd, Mark::Number) => Some(One(end)),
+        (GoalPart::ValueOrEnd, Mark::Open) => Some(Two(value_head, end)),
+        _ => None,
+    }
+}
+
+fn goal_head_rule(mark: Mark) -> Option<Then>
+    ensures rule { option_map symbols result ≡ goal_head_rule mark }
+    ensures few { IfSome result (λ next. level (symbols next) ≤ 2) }
+{
+    let value = InGoal(GoalPart::Value);
+    let names = InGoal(GoalPart::Names(MOST_NAMES));
+    let end = The(Mark::Close);
+    match mark {
+        Mark::And => Some(One(InGoal(GoalPart::Conditions))),
+        Mark::Not => Some(Two(InGoal(GoalPart::Condition), end)),
+        Mark::Equal => Some(One(InGoal(GoalPart::FirstOperand))),
+        Mark::Less | Mark::Greater | Mark::LessEqual | Mark::GreaterEqual => {
+            Some(Three(value, value, end))
+        }
+        _ => at(mark.is_goal_name(), One(names)),
+    }
+}
+
+/// What follows `=`: numbers are compared where a number or a parenthesis stands first, and names otherwise.
+fn operand_rule(mark: Mark) -> Option<Then>
+    ensures rule { option_map symbols result ≡ operand_rule mark }
+    ensures few { IfSome result (λ next. level (symbols next) ≤ 2) }
+{
+    let value = InGoal(GoalPart::Value);
+    let end = The(Mark::Close);
+    match mark {
+        Mark::Number => Some(Two(value, end)),
+        Mark::Open => Some(Three(InGoal(GoalPart::ValueHead), value, end)),
+        _ => at(mark.is_name(), Two(AnyName, end)),
+    }
+}
+
+fn goal_value_rule(mark: Mark) -> Option<Then>
+    ensures rule { option_map symbols result ≡ goal_value_rule mark }
+    ensures few { IfSome result (λ next. level (symbols next) ≤ 2) }
+{
+    let value = InGoal(GoalPart::Value);
+    match mark {
+        Mark::Minus => Some(Two(value, InGoal(GoalPart::ValueOrEnd))),
+        Mark::Plus | Mark::Times | Mark::Divide => Some(Three(value, value, The(Mark::Close))),
+        _ => at(mark.is_name(), One(InGoal(GoalPart::Names(MOST_NAMES)))),
+    }
+}
+
+/// A name, where so many may stand, and the names that may follow it.
+fn name_rule(most: u8, mark: Mark) -> Option<Then>
+    ensures rule { option_map symbols result ≡ name_rule most mark }
+    ensures few { IfSome result (λ next. level (symbols next) ≤ 2) }
+{
+    if most == 0 {
+        return None;
+    }
+    at(mark.is_name(), One(InGoal(GoalPart::Names(most - 1))))
 }

@@ -1,11 +1,12 @@
-//! Judging the shape of a domain's text.
-ghost use Rattle.std.specs.Prelude.{◌≡◌, OnOk, IfErr, slice_get};
-ghost use Rattle.ps_shape.specs.Shape.{IsDomainShape, IsShallow, Refuses};
+//! Judging the shape of a domain's text, and of marks from any part of the grammar on.
+ghost use Rattle.std.specs.Prelude.{◌≡◌, ◌≤◌, length, Ok, None, OnOk, IfErr, IfOk, IfSome, slice_get};
+ghost use Rattle.ps_shape.specs.Shape.{Derives, IsDomainShape, IsShallow, IsShallowFrom, IsFirstFaultFrom, Refuses};
 
 use super::faults::ShapeFault;
 use super::marks::Mark;
+use super::symbols::Symbol;
 use super::wanted::Wanted;
-use std::alloc::Global;
+use std::alloc::{AllocError, Global};
 
 /// Judges the marks of a text: whether they are those of a domain, at most 64 levels of parentheses deep.
 /// The error is the first fault in the text: an unsupported form, a level too many, or another mark that fits nothing. The text's
@@ -25,6 +26,30 @@ pub fn judge(alloc: Global, marks: &[Mark]) -> Result<(), ShapeFault>
     }
 }
 
+/// The place of the first fault of marks where these symbols are wanted: of the mark that fits nothing or opens a level too many, or of
+/// the marks' end where more is wanted. The only error is want of memory.
+pub fn first_fault(
+    alloc: Global,
+    start: &[Symbol],
+    marks: &[Mark],
+) -> Result<Option<usize>, AllocError>
+    requires { length start.now ≤ 8 }
+    ensures none { result ≡ Ok None → Derives start.now marks.now × IsShallowFrom start.now marks.now }
+    ensures fault { IfOk result (λ place. IfSome place (λ at. IsFirstFaultFrom start.now marks.now at)) }
+{
+    let mut wanted = Wanted::these(alloc, start)?;
+    for (at, mark) in marks.iter().enumerate() {
+        if !wanted.takes(*mark)? {
+            return Ok(Some(at));
+        }
+    }
+    if wanted.is_empty() {
+        Ok(None)
+    } else {
+        Ok(Some(marks.len()))
+    }
+}
+
 /// The mark at this place, if there is one.
 fn mark_at(marks: &[Mark], at: usize) -> Option<Mark>
     ensures { result ≡ slice_get marks.now at }
@@ -34,9 +59,10 @@ fn mark_at(marks: &[Mark], at: usize) -> Option<Mark>
 
 #[cfg(test)]
 mod tests {
-    use super::judge;
+    use super::{first_fault, judge};
     use crate::faults::{Form, ShapeFault};
     use crate::marks::Mark;
+    use crate::symbols::{GoalPart, Symbol};
     use std::alloc::{AllocError, Global};
 
     fn mark_of(word: &str) -> Mark {
@@ -47,6 +73,7 @@ mod tests {
             "*" => Mark::Times,
             "/" => Mark::Divide,
             "=" => Mark::Equal,
+            "<" => Mark::Less,
             ">" => Mark::Greater,
             "<=" => Mark::LessEqual,
             "-" => Mark::Minus,
@@ -76,6 +103,7 @@ mod tests {
             "and" => Mark::And,
             "not" => Mark::Not,
             "or" => Mark::Or,
+            "when" => Mark::When,
             "preference" => Mark::Preference,
             "increase" => Mark::Increase,
             "either" => Mark::Either,
@@ -132,6 +160,41 @@ mod tests {
         add_marks(&mut marks, end)?;
         add_marks(&mut marks, ") )")?;
         judge(alloc, &marks)
+    }
+
+    fn fault_in(alloc: Global, part: GoalPart, text: &str) -> Result<Option<usize>, AllocError> {
+        let mut marks = Vec::new(alloc);
+        add_marks(&mut marks, text)?;
+        first_fault(alloc, &[Symbol::InGoal(part)], &marks)
+    }
+
+    fn fault_in_value(alloc: Global, text: &str) -> Result<Option<usize>, AllocError> {
+        let mut marks = Vec::new(alloc);
+        add_marks(&mut marks, text)?;
+        let start = [
+            Symbol::The(Mark::Open),
+            Symbol::The(Mark::Equal),
+            Symbol::InGoal(GoalPart::Atom),
+            Symbol::InGoal(GoalPart::Value),
+            Symbol::The(Mark::Close),
+        ];
+        first_fault(alloc, &start, &marks)
+    }
+
+    fn fault_in_nested(
+        alloc: Global,
+        ands: usize,
+        inside: &str,
+    ) -> Result<Option<usize>, AllocError> {
+        let mut marks = Vec::new(alloc);
+        for _ in 0..ands {
+            add_marks(&mut marks, "( and")?;
+        }
+        add_marks(&mut marks, inside)?;
+        for _ in 0..ands {
+            add_marks(&mut marks, ")")?;
+        }
+        first_fault(alloc, &[Symbol::InGoal(GoalPart::Condition)], &marks)
     }
 
     fn unsupported(at: usize, what: Form) -> Result<(), ShapeFault> {
@@ -268,5 +331,107 @@ mod tests {
             judge_nested(rt.alloc(), listed, 61, ") )"),
             Err(ShapeFault::Depth { at: 144 })
         );
+    }
+
+    #[test]
+    fn goals(rt: HostRuntime) {
+        let cases = [
+            ("( and )", None),
+            (
+                "( and ( p a ) ( not ( q ) ) ( = a b ) ( = ( f a ) 1 ) ( = 1 ( f ) ) )",
+                None,
+            ),
+            (
+                "( <= ( - 1 ) ( + ( f a ) ( * 1 ( / 1 ( - 1 ( f ) ) ) ) ) )",
+                None,
+            ),
+            ("( p a b c d e f )", None),
+            ("( p a b c d e f g )", Some(8)),
+            ("( < ( f a b c d e g h ) 1 )", Some(10)),
+            ("( = a 1 )", Some(3)),
+            ("( = a ( f ) )", Some(3)),
+            ("( = 1 a )", Some(3)),
+            ("( = ( f ) a )", Some(5)),
+            ("( < a 1 )", Some(2)),
+            ("( < 1 1 1 )", Some(4)),
+            ("( < ( - 1 1 1 ) 1 )", Some(6)),
+            ("( < ( or ) 1 )", None),
+            ("( or ( p ) )", Some(1)),
+            ("( when )", Some(1)),
+            ("( preference a )", None),
+            ("( increase at and )", None),
+            ("( p ?x )", Some(2)),
+            ("( p ?duration )", Some(2)),
+            ("( p #t )", Some(2)),
+            ("( p :typing )", Some(2)),
+            ("( p 1 )", Some(2)),
+            ("( p ( q ) )", Some(2)),
+            ("( + 1 1 )", Some(1)),
+            ("( not ( p ) ( q ) )", Some(5)),
+            ("( )", Some(1)),
+            ("p", Some(0)),
+            ("", Some(0)),
+            ("( and ( p )", Some(5)),
+            ("( p ) a", Some(3)),
+        ];
+        for (text, wanted) in cases {
+            assert_eq!(rt;
+                fault_in(rt.alloc(), GoalPart::Condition, text).ok(),
+                Some(wanted),
+                "{text}"
+            );
+        }
+    }
+
+    #[test]
+    fn facts(rt: HostRuntime) {
+        let cases = [
+            ("( at a b )", None),
+            ("( at ( a ) )", Some(2)),
+            ("at", Some(0)),
+        ];
+        for (text, wanted) in cases {
+            assert_eq!(rt;
+                fault_in(rt.alloc(), GoalPart::Atom, text).ok(),
+                Some(wanted),
+                "{text}"
+            );
+        }
+    }
+
+    #[test]
+    fn values(rt: HostRuntime) {
+        let cases = [
+            ("( = ( f a ) 1 )", None),
+            ("( = 1 1 )", Some(2)),
+            ("( = ( f a ) b )", Some(6)),
+            ("( = ( f a ) 1", Some(7)),
+        ];
+        for (text, wanted) in cases {
+            assert_eq!(rt;
+                fault_in_value(rt.alloc(), text).ok(),
+                Some(wanted),
+                "{text}"
+            );
+        }
+    }
+
+    #[test]
+    fn goal_levels(rt: HostRuntime) {
+        let cases = [
+            (63, "( p )", None),
+            (64, "", None),
+            (64, "( p )", Some(128)),
+            (65, "", Some(128)),
+            (61, "( < 1 ( - ( f ) ) )", None),
+            (62, "( < 1 ( - ( f ) ) )", Some(129)),
+        ];
+        for (ands, inside, wanted) in cases {
+            assert_eq!(rt;
+                fault_in_nested(rt.alloc(), ands, inside).ok(),
+                Some(wanted),
+                "{inside}"
+            );
+        }
     }
 }

@@ -23,6 +23,8 @@ pub enum Symbol {
     InEffect(EffectPart),
     /// A part of a value.
     InValue(ValuePart),
+    /// A part of a goal: a condition whose terms are names.
+    InGoal(GoalPart),
 }
 
 /// The text's frame.
@@ -218,6 +220,29 @@ pub enum ValuePart {
     ValueOrEnd,
 }
 
+/// Goals, and what they share with single facts and numbers: terms are names, and numbers stand alone or are in parentheses.
+#[derive(Clone, Copy)]
+pub enum GoalPart {
+    /// A condition.
+    Condition,
+    /// A condition without its first parenthesis.
+    Head,
+    /// Conditions, and the parenthesis that ends them.
+    Conditions,
+    /// What follows `=`: two names or two values, and the parenthesis that ends them.
+    FirstOperand,
+    /// A name with names, in parentheses.
+    Atom,
+    /// At most so many names, and the parenthesis that ends them.
+    Names(u8),
+    /// A value.
+    Value,
+    /// A value in parentheses, without the first.
+    ValueHead,
+    /// A value and a parenthesis, or that parenthesis.
+    ValueOrEnd,
+}
+
 /// What a mark leads to.
 #[derive(Clone, Copy)]
 pub enum Then {
@@ -246,7 +271,8 @@ impl Symbol {
             | Symbol::InAction(ActionPart::Parameters | ActionPart::Duration)
             | Symbol::InCondition(ConditionPart::Form | ConditionPart::Condition)
             | Symbol::InEffect(EffectPart::Form | EffectPart::Effect | EffectPart::StartOrEnd)
-            | Symbol::InValue(ValuePart::Atom | ValuePart::Value) => 0,
+            | Symbol::InValue(ValuePart::Atom | ValuePart::Value)
+            | Symbol::InGoal(GoalPart::Condition | GoalPart::Atom | GoalPart::Value) => 0,
             Symbol::InText(TextPart::SectionHead(_)) | Symbol::InEffect(EffectPart::FormEnd) => 2,
             _ => 1,
         }

@@ -1,10 +1,10 @@
-//! The symbols that a domain's text still wants, and what one mark more makes of them.
-ghost use Rattle.std.specs.Prelude.{◌≡◌, ◌≤◌, ◌<◌, ◌+◌, ◌^◌, ◌↔◌, [], ◌∷◌, ◌++◌, drop, Ok, None, Some, IfOk, OnOk, IfErr, IfSome, IsTrue, MatchOption, slice_get};
+//! The symbols that are still wanted, and what one mark more makes of them.
+ghost use Rattle.std.specs.Prelude.{◌≡◌, ◌≤◌, ◌<◌, ◌+◌, ◌^◌, ◌↔◌, [], ◌∷◌, ◌++◌, drop, length, true, false, Ok, None, Some, IfOk, OnOk, IfErr, IfSome, IsTrue, MatchOption, slice_get};
 ghost use Rattle.ps_shape.specs.declared.symbols.Symbol.TheVariants.{InText};
 ghost use Rattle.ps_shape.specs.declared.symbols.TextPart.TheVariants.{Whole};
 ghost use Rattle.ps_shape.specs.Symbols.{level, symbols};
 ghost use Rattle.ps_shape.specs.Shape.{next_wanted, deepest};
-ghost use Rattle.ps_shape.specs.Steps.{IsOver, Passes, Fails, form_of};
+ghost use Rattle.ps_shape.specs.Steps.{IsOver, Passes, Stops, Fails, form_of};
 ghost use Rattle.ps_shape.specs.Forms.{told_at};
 
 use super::faults::{Form, ShapeFault, unsupported};
@@ -48,6 +48,22 @@ impl Wanted {
             depth: 0,
         };
         wanted.push(Symbol::InText(TextPart::Whole))?;
+        Ok(wanted)
+    }
+
+    /// These symbols. The only error is want of memory.
+    pub fn these(alloc: Global, symbols: &[Symbol]) -> Result<Self, AllocError>
+        requires { length symbols.now ≤ 8 }
+        ensures value { IfOk result (λ w. w ≡ symbols.now) }
+        ensures low { IfOk result (λ w. level w ≤ 16) }
+    {
+        let mut wanted = Wanted {
+            items: Vec::new(alloc),
+            depth: 0,
+        };
+        for at in (0..symbols.len()).rev() {
+            wanted.push(symbols[at])?;
+        }
         Ok(wanted)
     }
 
@@ -158,5 +174,23 @@ impl Wanted {
         let _ = self.pop();
         self.put(next)?;
         Ok(())
+    }
+
+    /// Takes the mark if it fits and opens no level too many, and says whether it did. The only error is want of memory.
+    pub fn takes(&mut self, mark: Mark) -> Result<bool, AllocError>
+        requires { level self.old + 6 < 2 ^ 64 }
+        ensures passes { result ≡ Ok true → Passes self.old mark self.new }
+        ensures rises { result ≡ Ok true → level self.new ≤ level self.old + 1 }
+        ensures stops { result ≡ Ok false → Stops self.old mark }
+    {
+        if self.is_over(mark) {
+            return Ok(false);
+        }
+        let Some(next) = self.fitting(mark) else {
+            return Ok(false);
+        };
+        let _ = self.pop();
+        self.put(next)?;
+        Ok(true)
     }
 }

@@ -2,6 +2,7 @@ use Rattle.std.proofs.Common.{arith}
 use Rattle.std.proofs.lemmas.Option.{slice_get-get_or}
 use Rattle.std.proofs.lemmas.Result.{err_from_is_err_and}
 use Rattle.ps_shape.proofs.FirstFaults.{refuses, reached_more, whole, unfinished}
+use Rattle.ps_shape.specs.Shape.{text_start}
 use Rattle.ps_shape.proofs.shape.judge.Goals as goal
 
 pub returns-in_err-take-clause-fault : goal.returns-in_err-take-clause-fault
@@ -11,13 +12,13 @@ returns-in_err-take-clause-fault c =
 
 pub loop-at-preserved : goal.loop-at-preserved
 loop-at-preserved c = record {
-  reached = reached_more c.args.marks.now c.loop-at.at _ _ _ c.loop-at.invariant.reached (slice_get-get_or c.args.marks.now c.loop-at.at _ (omega arith)) c.in_ok-take.ensures.passes;
+  reached = reached_more text_start c.args.marks.now c.loop-at.at _ _ _ c.loop-at.invariant.reached (slice_get-get_or c.args.marks.now c.loop-at.at _ (omega arith)) c.in_ok-take.ensures.passes;
   low = omega (arith, c.in_ok-take.ensures.rises);
 }
 
 pub returns-then-is_empty-clause-ok : goal.returns-then-is_empty-clause-ok
 returns-then-is_empty-clause-ok c =
-    whole c.args.marks.now c.loop-at.at _ (omega arith) (c.is_empty.ensures.0 c.if-is_empty.true) c.loop-at.invariant.reached
+    whole text_start c.args.marks.now c.loop-at.at _ (omega arith) (c.is_empty.ensures.0 c.if-is_empty.true) c.loop-at.invariant.reached
 
 pub returns-clause-fault : goal.returns-clause-fault
 returns-clause-fault c =
