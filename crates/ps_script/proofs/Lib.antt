@@ -1,0 +1,5 @@
+pub mod Balance
+pub mod FileNames
+pub mod LineReads
+pub mod Lists
+pub mod OneAnswer

@@ -1,0 +1,158 @@
+-- A line is read as one thing at most.
+use Rattle.std.proofs.Common.{◌≡◌, ℕ, ◌⊎◌, inl, inr, false, if◌then◌else◌, List, length, Option, None, Some, refl, sym, ◌∙◌, ap, subst}
+use Rattle.ps_world.specs.Names.{Table}
+use Rattle.ps_world.specs.declared.inputs.Command.{Command}
+use Rattle.ps_world.specs.declared.inputs.LineCause.TheVariants as cause
+use Rattle.ps_world.specs.declared.inputs.Line.TheVariants.{Good}
+use Rattle.ps_text.specs.Tokens.{AreTokens, IsFirstFault}
+use Rattle.ps_text.specs.Words.{words}
+use Rattle.ps_text.specs.declared.lexing.LexRefusal.{LexRefusal}
+use Rattle.ps_text.specs.declared.lexing.LexRefusal.TheVariants as lexing
+use Rattle.ps_text.specs.declared.lexing.Token.{Token}
+use Rattle.ps_text.proofs.OneLexing.{tokens_are_one, faults_are_one, tokens_are_faultless}
+use Rattle.ps_shape.specs.Shape.{Derives, IsFirstFaultFrom, IsShallowFrom}
+use Rattle.ps_shape.proofs.OneFault.{first_faults_are_one, first_faults_are_real}
+use Rattle.ps_forms.specs.Lexemes.{lexemes_of}
+use Rattle.ps_forms.specs.Nested.{Nesteds}
+use Rattle.ps_forms.specs.Spelling.{SpellAll}
+use Rattle.ps_forms.specs.declared.lexemes.Lexeme.{Lexeme}
+use Rattle.ps_forms.proofs.OneSpelling.{one_spelling}
+use Rattle.ps_script.specs.Commands.{command_of}
+use Rattle.ps_script.specs.Files.{after_run, file_in, is_run_plan, is_source}
+use Rattle.ps_script.specs.Forms.{form_of, is_built, start_of}
+use Rattle.ps_script.specs.Laws.{LinesAreReadAsOne}
+use Rattle.ps_script.specs.Lines.{IsPlain, IsRead, bad, is_nothing, marks_of, place, with_run_plan}
+use Rattle.ps_script.specs.Lines.IsRead.{nothing, source, source_nothing, run_plan, run_nothing, without_class, without_number, without_form, without_shape, unbuilt, good}
+use Rattle.ps_script.specs.declared.forms.Form.{Form}
+use Rattle.ps_script.specs.declared.forms.Form.TheVariants as form
+use Rattle.ps_script.specs.declared.reading.Read.{Read}
+use Rattle.ps_script.specs.declared.reading.Read.TheVariants.{Nothing, Line, Source, RunPlan}
+
+-- ---- lines that say nothing or name a file
+
+-- the answer where a file is named, or isn't
+abbrev filed : Option (List ℕ) → (List ℕ → Read) → Table → Table → ℕ → Read × Table
+filed (Some file) of after table n = (of file, after)
+filed None of after table n = (bad (cause.Shape n), table)
+
+-- the answer without a look at the words
+abbrev early : Table → List ℕ → Option (Read × Table)
+early table bytes =
+    if is_nothing bytes then Some (Nothing, table)
+    else (if is_source bytes then Some (filed (file_in (after_run bytes)) Source table table (length bytes))
+    else (if is_run_plan bytes then Some (filed (file_in (after_run (after_run bytes))) RunPlan (with_run_plan table) table (length bytes))
+    else None))
+
+-- ---- other lines
+
+-- the answer to a word without a class
+abbrev unlexed : LexRefusal → Read
+unlexed (lexing.Bad at) = bad (cause.Lex at)
+unlexed (lexing.Number at) = bad (cause.Number at)
+unlexed lexing.OutOfMemory = Nothing
+
+-- the answer to a line of a form
+data Formed (table : Table) (bytes : List ℕ) (tokens : List Token) (f : Form) : Read → Table → Type 0 where
+  misfit : (i : ℕ) → IsFirstFaultFrom (start_of f) (marks_of bytes tokens) i → Formed table bytes tokens f (bad (cause.Shape (place bytes tokens i))) table
+  later : Derives (start_of f) (marks_of bytes tokens) → IsShallowFrom (start_of f) (marks_of bytes tokens) → is_built f ≡ false → Formed table bytes tokens f (bad cause.NotBuilt) table
+  meant : (ls : List Lexeme) (after : Table) (ts : Nesteds) (command : Command) → Derives (start_of f) (marks_of bytes tokens) → IsShallowFrom (start_of f) (marks_of bytes tokens) → lexemes_of bytes table tokens ≡ (ls, after) → SpellAll ts ls → command_of f ts ≡ Some command → Formed table bytes tokens f (Line (Good command)) after
+
+-- the answer to a line with words
+data Worded (table : Table) (bytes : List ℕ) : Read → Table → Type 0 where
+  faulty : (at : ℕ) (fault : LexRefusal) → IsFirstFault bytes at fault → Worded table bytes (unlexed fault) table
+  formless : (tokens : List Token) → AreTokens bytes tokens → form_of (words bytes) ≡ None → Worded table bytes (bad cause.Command) table
+  formed : (tokens : List Token) (f : Form) (r : Read) (after : Table) → AreTokens bytes tokens → form_of (words bytes) ≡ Some f → Formed table bytes tokens f r after → Worded table bytes r after
+
+-- a form that isn't built has no command
+no_command : (f : Form) (ts : Nesteds) → is_built f ≡ false → command_of f ts ≡ None
+no_command form.Plan ts e = refl
+no_command form.Tree ts e = refl
+no_command form.Run ts e = refl
+no_command form.RunAction ts e = refl
+no_command _ ts e = absurd (cc)
+
+mute : (f : Form) (ts : Nesteds) (command : Command) → is_built f ≡ false → command_of f ts ≡ Some command → ⊥
+mute f ts command e c =
+    let none : None ≡ Some command = sym (no_command f ts e) ∙ c in
+    cc
+
+one_command : (a b : Command) → ◌≡◌ {A = Option Command} (Some a) (Some b) → a ≡ b
+one_command a b e = cc
+
+formed_one : (table : Table) (bytes : List ℕ) (tokens : List Token) (f : Form) (r s : Read) (after other : Table) → Formed table bytes tokens f r after → Formed table bytes tokens f s other → (r ≡ s) × (after ≡ other)
+formed_one table bytes tokens f _ _ _ _ (misfit i x) (misfit k y) =
+    (ap (λ n. bad (cause.Shape (place bytes tokens n))) (first_faults_are_one (start_of f) (marks_of bytes tokens) i k x y), refl)
+formed_one table bytes tokens f _ _ _ _ (misfit i x) (later d h b) = absurd (first_faults_are_real (start_of f) (marks_of bytes tokens) i x d h)
+formed_one table bytes tokens f _ _ _ _ (misfit i x) (meant ls a ts c d h w p m) = absurd (first_faults_are_real (start_of f) (marks_of bytes tokens) i x d h)
+formed_one table bytes tokens f _ _ _ _ (later d h b) (misfit i x) = absurd (first_faults_are_real (start_of f) (marks_of bytes tokens) i x d h)
+formed_one table bytes tokens f _ _ _ _ (later d h b) (later e k g) = (refl, refl)
+formed_one table bytes tokens f _ _ _ _ (later d h b) (meant ls a ts c e k w p m) = absurd (mute f ts c b m)
+formed_one table bytes tokens f _ _ _ _ (meant ls a ts c d h w p m) (misfit i x) = absurd (first_faults_are_real (start_of f) (marks_of bytes tokens) i x d h)
+formed_one table bytes tokens f _ _ _ _ (meant ls a ts c d h w p m) (later e k b) = absurd (mute f ts c b m)
+formed_one table bytes tokens f _ _ _ _ (meant ls a ts c d h w p m) (meant ms o us g e k v q n) =
+    let both = sym w ∙ v in
+    let lists : ts ≡ us = one_spelling ts us ms (subst (SpellAll ts) (ap (λ x. x.0) both) p) q in
+    let same : c ≡ g = one_command c g (sym m ∙ ap (command_of f) lists ∙ n) in
+    (ap (λ x. Line (Good x)) same, ap (λ x. x.1) both)
+
+one_form : (a b : Form) → ◌≡◌ {A = Option Form} (Some a) (Some b) → a ≡ b
+one_form a b e = cc
+
+worded_one : (table : Table) (bytes : List ℕ) (r s : Read) (after other : Table) → Worded table bytes r after → Worded table bytes s other → (r ≡ s) × (after ≡ other)
+worded_one table bytes _ _ _ _ (faulty i f x) (faulty k g y) = (ap unlexed (faults_are_one bytes i k f g x y).1, refl)
+worded_one table bytes _ _ _ _ (faulty i f x) (formless ts y e) = absurd (tokens_are_faultless bytes i f ts x y)
+worded_one table bytes _ _ _ _ (faulty i f x) (formed ts g s o y e z) = absurd (tokens_are_faultless bytes i f ts x y)
+worded_one table bytes _ _ _ _ (formless ts y e) (faulty i f x) = absurd (tokens_are_faultless bytes i f ts x y)
+worded_one table bytes _ _ _ _ (formless ts y e) (formless us z g) = (refl, refl)
+worded_one table bytes _ _ _ _ (formless ts y e) (formed us g s o z h w) = absurd (cc)
+worded_one table bytes _ _ _ _ (formed ts g s o y e z) (faulty i f x) = absurd (tokens_are_faultless bytes i f ts x y)
+worded_one table bytes _ _ _ _ (formed ts g s o y e z) (formless us w h) = absurd (cc)
+worded_one table bytes _ _ _ _ (formed ts f r a y e z) (formed us g s o w h v) =
+    let tokens : ts ≡ us = tokens_are_one bytes ts us y w in
+    let same : f ≡ g = one_form f g (sym e ∙ h) in
+    let here : Formed table bytes us g r a = subst (λ (x : Form). Formed table bytes us x r a) same (subst (λ (x : List Token). Formed table bytes x f r a) tokens z) in
+    formed_one table bytes us g r s a o here v
+
+-- ---- all lines
+
+plain_late : (table : Table) (bytes : List ℕ) → IsPlain bytes → early table bytes ≡ None
+plain_late table bytes plain = rw (plain.something, plain.no_source, plain.no_plan) refl
+
+abbrev Answered : Table → List ℕ → Read → Table → Type 0
+Answered table bytes r after = (early table bytes ≡ Some (r, after)) ⊎ ((early table bytes ≡ None) × Worded table bytes r after)
+
+answered : (table : Table) (bytes : List ℕ) (r : Read) (after : Table) → IsRead table bytes r after → Answered table bytes r after
+answered table bytes _ _ (nothing e) = inl (rw e refl)
+answered table bytes _ _ (source file e s f) = inl (rw (e, s, f) refl)
+answered table bytes _ _ (source_nothing e s f) = inl (rw (e, s, f) refl)
+answered table bytes _ _ (run_plan file e s p f) = inl (rw (e, s, p, f) refl)
+answered table bytes _ _ (run_nothing e s p f) = inl (rw (e, s, p, f) refl)
+answered table bytes _ _ (without_class at plain x) = inr (plain_late table bytes plain, faulty at (lexing.Bad at) x)
+answered table bytes _ _ (without_number at plain x) = inr (plain_late table bytes plain, faulty at (lexing.Number at) x)
+answered table bytes _ _ (without_form tokens plain x e) = inr (plain_late table bytes plain, formless tokens x e)
+answered table bytes _ _ (without_shape f tokens i plain x e y) = inr (plain_late table bytes plain, formed tokens f _ _ x e (misfit i y))
+answered table bytes _ _ (unbuilt f tokens is b) =
+    inr (plain_late table bytes is.plain, formed tokens f _ _ is.are_tokens is.form_is (later is.derived is.shallow b))
+answered table bytes _ _ (good f tokens ls after ts command is w p m) =
+    inr (plain_late table bytes is.plain, formed tokens f _ _ is.are_tokens is.form_is (meant ls after ts command is.derived is.shallow w p m))
+
+abbrev here_or : Read × Table → Option (Read × Table) → Read × Table
+here_or other None = other
+here_or other (Some answer) = answer
+
+one_pair : (r s : Read) (after other : Table) → ◌≡◌ {A = Option (Read × Table)} (Some (r, after)) (Some (s, other)) → (r ≡ s) × (after ≡ other)
+one_pair r s after other e = (ap (λ o. (here_or (r, after) o).0) e, ap (λ o. (here_or (r, after) o).1) e)
+
+answered_one : (table : Table) (bytes : List ℕ) (r s : Read) (after other : Table) → Answered table bytes r after → Answered table bytes s other → (r ≡ s) × (after ≡ other)
+answered_one table bytes r s after other (inl x) (inl y) = one_pair r s after other (sym x ∙ y)
+answered_one table bytes r s after other (inl x) (inr y) =
+    let none : ◌≡◌ {A = Option (Read × Table)} None (Some (r, after)) = sym y.0 ∙ x in
+    absurd (cc)
+answered_one table bytes r s after other (inr x) (inl y) =
+    let none : ◌≡◌ {A = Option (Read × Table)} None (Some (s, other)) = sym x.0 ∙ y in
+    absurd (cc)
+answered_one table bytes r s after other (inr x) (inr y) = worded_one table bytes r s after other x.1 y.1
+
+pub lines_are_read_as_one : LinesAreReadAsOne
+lines_are_read_as_one table bytes r s after other x y =
+    answered_one table bytes r s after other (answered table bytes r after x) (answered table bytes s other y)

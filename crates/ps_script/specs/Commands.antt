@@ -1,0 +1,56 @@
+-- The command that a line of a form is, by its nested lists.
+use Rattle.std.specs.Prelude.{Option, None, Some}
+use Rattle.ps_world.specs.declared.names.Name.{Name}
+use Rattle.ps_world.specs.declared.facts.Fact.{Fact}
+use Rattle.ps_world.specs.declared.edits.Edit.TheVariants as edit
+use Rattle.ps_world.specs.declared.inputs.Query.TheVariants as query
+use Rattle.ps_world.specs.declared.inputs.Command.{Command}
+use Rattle.ps_world.specs.declared.inputs.Command.TheVariants.{Edit, Ask, Quit}
+use Rattle.ps_forms.specs.Nested.{Nesteds}
+use Rattle.ps_forms.specs.Places.{head, rest, items_at}
+use Rattle.ps_script.specs.Goals.{fact_of, first_condition}
+use Rattle.ps_script.specs.declared.forms.Form.{Form}
+use Rattle.ps_script.specs.declared.forms.Form.TheVariants as form
+
+-- what stands after the two fixed words of an edit
+abbrev pub after_two : Nesteds → Nesteds
+after_two ts = rest (rest ts)
+
+-- the name after three words
+abbrev pub fourth_name : Nesteds → Name
+fourth_name ts = (head (rest (rest (rest ts)))).name
+
+-- the fact after the two fixed words
+abbrev pub stated : Nesteds → Fact
+stated ts = fact_of (items_at (after_two ts))
+
+-- (= (NAME NAME*) NUMBER)
+abbrev pub valued : Nesteds → Command
+valued ts = Edit (edit.SetValue (fact_of (items_at (rest ts))) (head (rest (rest ts))).number)
+
+-- the command of a form that this program has
+abbrev pub command_of : Form → Nesteds → Option Command
+command_of form.SetInstance ts = Some (Edit (edit.AddInstance (head (after_two ts)).name (fourth_name ts)))
+command_of form.SetPredicate ts = Some (Edit (edit.AddFact (stated ts)))
+command_of form.SetFunction ts = Some (valued (items_at (after_two ts)))
+command_of form.SetGoal ts = Some (Edit (edit.SetGoal (first_condition (after_two ts))))
+command_of form.RemoveInstance ts = Some (Edit (edit.RemoveInstance (head (after_two ts)).name))
+command_of form.RemovePredicate ts = Some (Edit (edit.RemoveFact (stated ts)))
+command_of form.RemoveFunction ts = Some (Edit (edit.RemoveValue (stated ts)))
+command_of form.RemoveGoal ts = Some (Edit edit.RemoveGoal)
+command_of form.ModelTypes ts = Some (Ask query.ModelTypes)
+command_of form.ModelPredicates ts = Some (Ask query.ModelPredicates)
+command_of form.ModelFunctions ts = Some (Ask query.ModelFunctions)
+command_of form.ModelActions ts = Some (Ask query.ModelActions)
+command_of form.ModelPredicate ts = Some (Ask (query.ModelPredicate (fourth_name ts)))
+command_of form.ModelAction ts = Some (Ask (query.ModelAction (fourth_name ts)))
+command_of form.Domain ts = Some (Ask query.Domain)
+command_of form.ProblemInstances ts = Some (Ask query.ProblemInstances)
+command_of form.ProblemPredicates ts = Some (Ask query.ProblemPredicates)
+command_of form.ProblemFunctions ts = Some (Ask query.ProblemFunctions)
+command_of form.ProblemGoal ts = Some (Ask query.ProblemGoal)
+command_of form.Quit ts = Some Quit
+command_of form.Plan ts = None
+command_of form.Tree ts = None
+command_of form.Run ts = None
+command_of form.RunAction ts = None

@@ -1,0 +1,74 @@
+//! The command that a line of a form is.
+ghost use Rattle.std.specs.Prelude.{◌≡◌, IfOk, map};
+ghost use Rattle.ps_forms.specs.Nested.{nesteds};
+ghost use Rattle.ps_forms.specs.NestedViews.{nested};
+ghost use Rattle.ps_script.specs.Commands.{after_two, command_of, fourth_name, stated, valued};
+
+use super::forms::Form;
+use super::goals::{fact_of, first_condition};
+use ps_forms::{Tree, head, items_at, rest};
+use ps_world::{Command, Edit, Fact, Name, Query};
+use std::alloc::{AllocError, Global};
+
+/// What stands after the two fixed words of an edit.
+fn after_two(trees: &[Tree]) -> &[Tree]
+    ensures { nesteds (map nested result.now) ≡ after_two (nesteds (map nested trees.now)) }
+{
+    rest(rest(trees))
+}
+
+/// The name after three words.
+fn fourth_name(trees: &[Tree]) -> Name
+    ensures { result ≡ fourth_name (nesteds (map nested trees.now)) }
+{
+    head(rest(rest(rest(trees)))).name
+}
+
+/// The fact after the two fixed words.
+fn stated(alloc: Global, trees: &[Tree]) -> Result<Fact, AllocError>
+    ensures { IfOk result (λ f. f ≡ stated (nesteds (map nested trees.now))) }
+{
+    fact_of(alloc, items_at(after_two(trees)))
+}
+
+/// `(= (NAME NAME*) NUMBER)`, by what stands between its parentheses.
+fn valued(alloc: Global, trees: &[Tree]) -> Result<Command, AllocError>
+    ensures { IfOk result (λ c. c ≡ valued (nesteds (map nested trees.now))) }
+{
+    let fact = fact_of(alloc, items_at(rest(trees)))?;
+    let number = head(rest(rest(trees))).number;
+    Ok(Command::Edit(Edit::SetValue(fact, number)))
+}
+
+/// The command that a line is, by its form and its nested lists. None where the form is one that this program hasn't yet. The only
+/// error is want of memory.
+pub fn command_of(alloc: Global, form: Form, trees: &[Tree]) -> Result<Option<Command>, AllocError>
+    ensures { IfOk result (λ c. c ≡ command_of form (nesteds (map nested trees.now))) }
+{
+    Ok(Some(match form {
+        Form::SetInstance => {
+            let name = head(after_two(trees)).name;
+            Command::Edit(Edit::AddInstance(name, fourth_name(trees)))
+        }
+        Form::SetPredicate => Command::Edit(Edit::AddFact(stated(alloc, trees)?)),
+        Form::SetFunction => valued(alloc, items_at(after_two(trees)))?,
+        Form::SetGoal => { Command::Edit(Edit::SetGoal(first_condition(alloc, after_two(trees))?)) }
+        Form::RemoveInstance => Command::Edit(Edit::RemoveInstance(head(after_two(trees)).name)),
+        Form::RemovePredicate => Command::Edit(Edit::RemoveFact(stated(alloc, trees)?)),
+        Form::RemoveFunction => Command::Edit(Edit::RemoveValue(stated(alloc, trees)?)),
+        Form::RemoveGoal => Command::Edit(Edit::RemoveGoal),
+        Form::ModelTypes => Command::Ask(Query::ModelTypes),
+        Form::ModelPredicates => Command::Ask(Query::ModelPredicates),
+        Form::ModelFunctions => Command::Ask(Query::ModelFunctions),
+        Form::ModelActions => Command::Ask(Query::ModelActions),
+        Form::ModelPredicate => Command::Ask(Query::ModelPredicate(fourth_name(trees))),
+        Form::ModelAction => Command::Ask(Query::ModelAction(fourth_name(trees))),
+        Form::Domain => Command::Ask(Query::Domain),
+        Form::ProblemInstances => Command::Ask(Query::ProblemInstances),
+        Form::ProblemPredicates => Command::Ask(Query::ProblemPredicates),
+        Form::ProblemFunctions => Command::Ask(Query::ProblemFunctions),
+        Form::ProblemGoal => Command::Ask(Query::ProblemGoal),
+        Form::Quit => Command::Quit,
+        Form::Plan | Form::Tree | Form::Run | Form::RunAction => return Ok(None),
+    }))
+}

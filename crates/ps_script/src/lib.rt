@@ -1,0 +1,16 @@
+//! Lines of the terminal and of scripts: what each is read as, with the first fault of a bad one.
+#![tactic(auto)]
+
+mod commands;
+mod files;
+mod forms;
+mod goals;
+mod laws;
+mod reading;
+#[cfg(test)]
+mod tests;
+
+pub use files::FileName;
+pub use forms::Form;
+pub use laws::lines_are_read_as_one;
+pub use reading::{Read, read_line};

@@ -1,0 +1,218 @@
+//! Reading a line of the terminal.
+ghost use Rattle.std.specs.Prelude.{◌≡◌, Some, false, slice_range, true, IfOk, OnErr, OnOk};
+ghost use Rattle.ps_world.specs.Names.{Table};
+ghost use Rattle.ps_text.specs.Names.{folded, interned, is_name};
+ghost use Rattle.ps_text.specs.Tokens.{AreTokens};
+ghost use Rattle.ps_text.specs.Words.{words};
+ghost use Rattle.ps_forms.specs.Lexemes.{IsTokenOf, Keeps, mark_of};
+ghost use Rattle.ps_script.specs.Files.{after_run, file_in, is_run_plan, is_source};
+ghost use Rattle.ps_script.specs.Forms.{form_of, is_built};
+ghost use Rattle.ps_script.specs.Lines.{IsOfForm, IsPlain, IsRead, bad, begins_nothing, is_nothing, marks_of, place, with_run_plan};
+
+use super::commands::command_of;
+use super::files::{FileName, after_run, file_in, is_run_plan, is_source, trimmed};
+use super::forms::{Form, form_of};
+use ps_forms::{lexemes_of, mark_of, trees_of};
+use ps_shape::Mark;
+use ps_text::{LexRefusal, NameRefusal, Names, Token, Words, tokens};
+use ps_world::{Line, LineCause};
+use std::alloc::{AllocError, Global};
+
+/// What a line is read as.
+#[derive(Drop)]
+pub enum Read {
+    /// The line says nothing.
+    Nothing,
+    /// A command, or why there is none.
+    Line(Line),
+    /// The lines of this file stand in place of the line.
+    Source(FileName),
+    /// The plan in this file is run.
+    RunPlan(FileName),
+}
+
+/// Whether a line is blank, or its first byte after blanks is `#` or `;`.
+fn is_nothing(bytes: &[u8]) -> bool
+    ensures { result ≡ is_nothing bytes.now }
+{
+    match trimmed(bytes) {
+        [] => true,
+        [first, ..] => *first == b'#' || *first == b';',
+    }
+}
+
+/// A bad line.
+fn bad(cause: LineCause) -> Read
+    ensures { result ≡ bad cause }
+{
+    Read::Line(Line::Bad(cause))
+}
+
+/// Puts a fixed word into the table.
+fn put_word(names: &mut Names, word: &[u8]) -> Result<(), AllocError>
+    requires { is_name word.now ≡ true }
+    ensures ok { OnOk result (names.new ≡ interned names.old (folded word.now)) }
+    ensures err { OnErr result (names.new ≡ names.old) }
+{
+    match names.intern(word) {
+        Ok(_) => Ok(()),
+        Err(NameRefusal::OutOfMemory) => Err(AllocError),
+        Err(_) => unreachable!(),
+    }
+}
+
+/// Puts the names `run` and `plan` into the table.
+fn put_run_plan(names: &mut Names) -> Result<(), AllocError>
+    ensures ok { OnOk result (names.new ≡ with_run_plan names.old) }
+    ensures kept { Keeps names.old names.new }
+{
+    put_word(names, b"run")?;
+    put_word(names, b"plan")
+}
+
+/// What a token is to the grammar.
+fn mark_of_token(bytes: &[u8], token: Token) -> Mark
+    requires { IsTokenOf bytes.now token }
+    ensures { result ≡ mark_of token.class (slice_range bytes.now token.from token.to) }
+{
+    mark_of(token.class, &bytes[token.from..token.to])
+}
+
+/// What each token is to the grammar.
+fn marks_of(alloc: Global, bytes: &[u8], tokens: &[Token]) -> Result<Vec<Mark>, AllocError>
+    requires { AreTokens bytes.now tokens.now }
+    ensures { IfOk result (λ v. v.items ≡ marks_of bytes.now tokens.now) }
+{
+    let mut marks = Vec::new(alloc);
+    for token in tokens {
+        marks.push(mark_of_token(bytes, *token))?;
+    }
+    Ok(marks)
+}
+
+/// The byte at which a token begins, or the line's length past the last.
+fn place(bytes: &[u8], tokens: &[Token], i: usize) -> usize
+    ensures { result ≡ place bytes.now tokens.now i }
+{
+    match tokens.get(i) {
+        Some(token) => token.from,
+        None => bytes.len(),
+    }
+}
+
+/// Reads a line of `source`.
+fn read_source(alloc: Global, bytes: &[u8]) -> Result<Read, AllocError>
+    requires something { is_nothing bytes.now ≡ false }
+    requires source { is_source bytes.now ≡ true }
+    ensures { IfOk result (λ r. (table : Table) → IsRead table bytes.now r table) }
+{
+    match file_in(alloc, after_run(bytes))? {
+        Some(file) => Ok(Read::Source(file)),
+        None => Ok(bad(LineCause::Shape { at: bytes.len() })),
+    }
+}
+
+/// Reads a line of `run plan`.
+fn read_run_plan(alloc: Global, names: &mut Names, bytes: &[u8]) -> Result<Read, AllocError>
+    requires something { is_nothing bytes.now ≡ false }
+    requires no_source { is_source bytes.now ≡ false }
+    requires plan { is_run_plan bytes.now ≡ true }
+    ensures read { IfOk result (λ r. IsRead names.old bytes.now r names.new) }
+    ensures err { OnErr result (Keeps names.old names.new) }
+{
+    match file_in(alloc, after_run(after_run(bytes)))? {
+        Some(file) => {
+            put_run_plan(names)?;
+            Ok(Read::RunPlan(file))
+        }
+        None => Ok(bad(LineCause::Shape { at: bytes.len() })),
+    }
+}
+
+/// Reads a line that fits its form. Its names are put into the table.
+fn read_good(
+    alloc: Global,
+    names: &mut Names,
+    bytes: &[u8],
+    form: Form,
+    tokens: &[Token],
+) -> Result<Read, AllocError>
+    requires fits { IsOfForm bytes.now form tokens.now }
+    requires built { is_built form ≡ true }
+    ensures read { IfOk result (λ r. IsRead names.old bytes.now r names.new) }
+    ensures err { OnErr result (Keeps names.old names.new) }
+{
+    let words = lexemes_of(alloc, names, bytes, tokens)?;
+    let trees = trees_of(alloc, &words)?;
+    match command_of(alloc, form, trees.as_slice())? {
+        Some(command) => Ok(Read::Line(Line::Good(command))),
+        None => unreachable!(),
+    }
+}
+
+/// Reads a line whose leading words are those of a form.
+fn read_form(
+    alloc: Global,
+    names: &mut Names,
+    bytes: &[u8],
+    form: Form,
+    tokens: &[Token],
+) -> Result<Read, AllocError>
+    requires plain { IsPlain bytes.now }
+    requires tokens { AreTokens bytes.now tokens.now }
+    requires form { form_of (words bytes.now) ≡ Some form }
+    ensures read { IfOk result (λ r. IsRead names.old bytes.now r names.new) }
+    ensures err { OnErr result (Keeps names.old names.new) }
+{
+    let marks = marks_of(alloc, bytes, tokens)?;
+    if let Some(i) = form.first_misfit(alloc, &marks)? {
+        return Ok(bad(LineCause::Shape {
+            at: place(bytes, tokens, i),
+        }));
+    }
+    if !form.is_built() {
+        return Ok(bad(LineCause::NotBuilt));
+    }
+    read_good(alloc, names, bytes, form, tokens)
+}
+
+/// Reads a line that names no file.
+fn read_plain(alloc: Global, names: &mut Names, bytes: &[u8]) -> Result<Read, AllocError>
+    requires { IsPlain bytes.now }
+    ensures read { IfOk result (λ r. IsRead names.old bytes.now r names.new) }
+    ensures err { OnErr result (Keeps names.old names.new) }
+{
+    match tokens(alloc, bytes) {
+        Ok(tokens) => {
+            let words = Words::of(alloc, bytes)?;
+            match form_of(&words) {
+                Some(form) => read_form(alloc, names, bytes, form, &tokens),
+                None => Ok(bad(LineCause::Command)),
+            }
+        }
+        Err(LexRefusal::Bad { at }) => Ok(bad(LineCause::Lex { at })),
+        Err(LexRefusal::Number { at }) => Ok(bad(LineCause::Number { at })),
+        Err(LexRefusal::OutOfMemory) => Err(AllocError),
+    }
+}
+
+/// What a line is read as; its bytes are those before its LF.
+///
+/// The names of a good line, and `run` and `plan` of a line that runs a plan, are put into the table. After any other line, a bad one
+/// too, the table is as it was. A bad line tells the first fault. The only error is want of memory; then old names keep their numbers
+/// and texts.
+pub fn read_line(alloc: Global, names: &mut Names, bytes: &[u8]) -> Result<Read, AllocError>
+    ensures read { IfOk result (λ r. IsRead names.old bytes.now r names.new) }
+    ensures err { OnErr result (Keeps names.old names.new) }
+{
+    if is_nothing(bytes) {
+        return Ok(Read::Nothing);
+    }
+    if is_source(bytes) {
+        return read_source(alloc, bytes);
+    }
+    if is_run_plan(bytes) {
+        return read_run_plan(alloc, names, bytes);
+    }
+    read_plain(alloc, names, bytes)
+}
