@@ -1,30 +1,29 @@
 -- Why there is nothing to work on, or what there is.
-use Rattle.std.proofs.Common.{◌≡◌, ℕ, ◌<◌, ◌≤◌, true, false, nat_lt, Option, Some, None, Err, List, IfSome, codes, length, refl, sym, ◌∙◌, subst, inl, inr, arith}
+use Rattle.std.proofs.Common.{◌≡◌, ℕ, ◌<◌, ◌≤◌, Bool, true, false, if◌then◌else◌, nat_lt, ap, Option, Some, None, Err, List, IfSome, codes, length, refl, sym, ◌∙◌, subst, inl, inr, arith}
 use Rattle.std.proofs.lemmas.Bool.{and_parts, cases_Bool, false≢true}
 use Rattle.std.proofs.lemmas.Bool.Decides.{nat_tests}
 use Rattle.ps_world.specs.Names.{Table}
 use Rattle.ps_world.specs.Lines.{same_text}
 use Rattle.ps_world.specs.declared.domains.Domain.{Domain}
 use Rattle.ps_world.specs.declared.inputs.Line.{Line}
-use Rattle.ps_text.specs.Causes.{Rose}
-use Rattle.ps_text.proofs.Tables.{same_text-same}
+use Rattle.ps_text.proofs.Tables.{same_text-refl, same_text-same}
 use Rattle.ps_pddl.specs.Reading.{IsRead}
 use Rattle.plansys.specs.DomainFaults.{cause_text}
-use Rattle.plansys.specs.Scripts.{script_from}
+use Rattle.plansys.specs.Scripts.{IsScript}
 use Rattle.plansys.specs.Session.{input_with}
-use Rattle.plansys.specs.Input.{Outcome, IsDomain, IsNoDomain, IsInput, argument, is_session, is_check, is_quiet, names_domain, domain_file, script_file, longest_file, first_names, with_text, with_script, input_of, usage_line, domain_line, too_long_line}
+use Rattle.plansys.specs.Input.{Outcome, IsDomain, IsNoDomain, IsInput, argument, is_session, is_check, is_quiet, names_domain, domain_file, script_file, first_names, script_in, with_text, with_script, input_of, usage_line, domain_line}
+use Rattle.plansys.specs.Flats.{Texts, Flat, MayBe, longest_file, lines_line, too_long_line, without}
+use Rattle.plansys.specs.Flats.Flat.{lines, fault as cut_off, missing}
+use Rattle.plansys.specs.declared.reading.flatten.Flattened.{Flattened}
+use Rattle.plansys.proofs.Flattening.{cut_earlier, same_texts}
 use Rattle.plansys.specs.Input.Outcome.{given, checked, fault, untold}
-use Rattle.plansys.specs.Headline.{IsFault, IsDue}
-use Rattle.plansys.specs.Headline.IsDue.{misused, no_domain, domain_too_long, script_too_long, domain_unread, script_unread}
-use Rattle.plansys.specs.Faults.{IsNotHad, IsJudged, HasNoInput, Gives, GivesDomain}
-use Rattle.plansys.specs.declared.faults.Source.TheVariants as source
-use Rattle.plansys.specs.declared.faults.Fault.TheVariants.{Usage, NoDomain, TooLong, Unread}
+use Rattle.plansys.specs.Headline.{IsFault, IsDue, IsUntold}
+use Rattle.plansys.specs.Headline.IsDue.{misused, no_domain, too_long, too_many, unread}
+use Rattle.plansys.specs.Faults.{IsCut, IsNotHad, IsJudged, HasNoInput, Gives, GivesDomain}
+use Rattle.plansys.specs.declared.faults.Fault.TheVariants.{Usage, NoDomain, TooLong, Lines, Unread}
 use Rattle.plansys.specs.declared.faults.Stop.{Stop}
 use Rattle.plansys.specs.declared.faults.Stop.TheVariants.{Due, Broken}
 use Rattle.plansys.specs.declared.session.Broken.TheVariants.{Write, OutOfMemory}
-
-abbrev Texts : Type 0
-Texts = List ℕ → Option (List ℕ)
 
 -- ---- words
 
@@ -57,7 +56,7 @@ names-check ws h = rw (not_session ws (quiet-check ws h), h) refl
 
 -- the outcome of the words of a session
 abbrev of_session : List (List ℕ) → Texts → Outcome
-of_session ws texts = with_text (domain_file ws) (with_script (script_file ws) (texts (script_file ws))) (texts (domain_file ws))
+of_session ws texts = with_text (domain_file ws) (with_script (script_in (script_file ws) texts)) (texts (domain_file ws))
 
 -- the outcome of the words of a check
 abbrev of_check : List (List ℕ) → Texts → Outcome
@@ -105,44 +104,66 @@ fact-told : (P : List ℕ → Type 0) (told : Option (List ℕ)) (text : List �
 fact-told P None text p e = tt
 fact-told P (Some t) text p e = subst P e p
 
-Rose-earlier : (a b c : ℕ) → a ≤ b → Rose b c → Rose a c
-Rose-earlier a b c h r = elim r [ inl lt ↦ inl (omega arith) | inr e ↦ inr e ]
-
 -- ---- files
 
+-- without the domain's text nothing is told
+untold_first : (ws : List (List ℕ)) (texts : Texts) (file : List ℕ) → names_domain ws ≡ true → file ≡ domain_file ws → IsUntold (input_of ws (without file texts))
+untold_first ws texts file h e =
+    let none : without file texts (domain_file ws) ≡ None = rw (e, same_text-refl (domain_file ws)) refl in
+    elim (cases_Bool (is_session ws)) [
+      | inl s ↦ subst IsUntold (sym (input_of-session ws (without file texts) s ∙ ap (with_text (domain_file ws) (with_script (script_in (script_file ws) (without file texts)))) none)) tt
+      | inr n ↦ let c : is_check ws ≡ true = rw n at h in subst IsUntold (sym (input_of-check ws (without file texts) c ∙ ap (with_text (domain_file ws) checked) none)) tt
+    ]
+
 -- the domain's file isn't had, which is read first
-first_not_had : (ws : List (List ℕ)) (texts : Texts) (use_of : List ℕ → Outcome) (before now : ℕ) (stop : Stop) → names_domain ws ≡ true → IsNotHad source.Domain (texts (domain_file ws)) before now stop → HasNoInput (with_text (domain_file ws) use_of (texts (domain_file ws))) ws texts before now stop
+first_not_had : (ws : List (List ℕ)) (texts : Texts) (use_of : List ℕ → Outcome) (before now : ℕ) (stop : Stop) → names_domain ws ≡ true → IsNotHad (domain_file ws) (texts (domain_file ws)) before now stop → HasNoInput (with_text (domain_file ws) use_of (texts (domain_file ws))) ws texts before now stop
 first_not_had ws texts use_of before now (Due Usage) h n = absurd n
 first_not_had ws texts use_of before now (Due (NoDomain cause)) h n = absurd n
-first_not_had ws texts use_of before now (Due (TooLong source.Domain)) h n = domain_too_long (too_long-told (domain_file ws) use_of (texts (domain_file ws)) n.1)
-first_not_had ws texts use_of before now (Due (TooLong source.Script)) h n = absurd (let e = n.0 in cc)
-first_not_had ws texts use_of before now (Due (Unread source.Domain)) h n = domain_unread h n.1
-first_not_had ws texts use_of before now (Due (Unread source.Script)) h n = absurd (let e = n.0 in cc)
+first_not_had ws texts use_of before now (Due (TooLong file)) h n =
+    too_long file.items (subst (λ f. IsFault (with_text (domain_file ws) use_of (texts (domain_file ws))) 3 (too_long_line f)) (sym n.0) (too_long-told (domain_file ws) use_of (texts (domain_file ws)) n.1))
+first_not_had ws texts use_of before now (Due Lines) h n = absurd n
+first_not_had ws texts use_of before now (Due (Unread file)) h n = unread file.items (untold_first ws texts file.items h n.0) n.1
 first_not_had ws texts use_of before now (Broken Write) h n = absurd n
 first_not_had ws texts use_of before now (Broken OutOfMemory) h n = tt
 
-pub no_domain_file : (ws : List (List ℕ)) (texts : Texts) (before now : ℕ) (stop : Stop) → is_session ws ≡ true → IsNotHad source.Domain (texts (domain_file ws)) before now stop → HasNoInput (input_of ws texts) ws texts before now stop
+pub no_domain_file : (ws : List (List ℕ)) (texts : Texts) (before now : ℕ) (stop : Stop) → is_session ws ≡ true → IsNotHad (domain_file ws) (texts (domain_file ws)) before now stop → HasNoInput (input_of ws texts) ws texts before now stop
 no_domain_file ws texts before now stop h n =
-    subst (λ o. HasNoInput o ws texts before now stop) (sym (input_of-session ws texts h)) (first_not_had ws texts (with_script (script_file ws) (texts (script_file ws))) before now stop (names-session ws h) n)
+    subst (λ o. HasNoInput o ws texts before now stop) (sym (input_of-session ws texts h)) (first_not_had ws texts (with_script (script_in (script_file ws) texts)) before now stop (names-session ws h) n)
 
-pub no_checked_file : (ws : List (List ℕ)) (texts : Texts) (before now : ℕ) (stop : Stop) → is_check ws ≡ true → IsNotHad source.Domain (texts (domain_file ws)) before now stop → HasNoInput (input_of ws texts) ws texts before now stop
+pub no_checked_file : (ws : List (List ℕ)) (texts : Texts) (before now : ℕ) (stop : Stop) → is_check ws ≡ true → IsNotHad (domain_file ws) (texts (domain_file ws)) before now stop → HasNoInput (input_of ws texts) ws texts before now stop
 no_checked_file ws texts before now stop h n =
     subst (λ o. HasNoInput o ws texts before now stop) (sym (input_of-check ws texts h)) (first_not_had ws texts checked before now stop (names-check ws h) n)
 
--- the script's file isn't had
-pub no_script : (ws : List (List ℕ)) (texts later : Texts) (domain : List ℕ) (before middle now : ℕ) (stop : Stop) → is_session ws ≡ true → length domain ≤ longest_file → IfSome (texts (domain_file ws)) (λ t. domain ≡ t) → later (script_file ws) ≡ texts (script_file ws) → before ≤ middle → IsNotHad source.Script (later (script_file ws)) middle now stop → HasNoInput (input_of ws texts) ws texts before now stop
-no_script ws texts later domain before middle now (Due Usage) h short e same le n = absurd n
-no_script ws texts later domain before middle now (Due (NoDomain cause)) h short e same le n = absurd n
-no_script ws texts later domain before middle now (Due (TooLong source.Domain)) h short e same le n = absurd (let e = n.0 in cc)
-no_script ws texts later domain before middle now (Due (TooLong source.Script)) h short e same le n =
-    script_too_long (rw (input_of-session ws texts h)
-    (text-told (λ o. IsFault o 3 (too_long_line (script_file ws))) (domain_file ws) (with_script (script_file ws) (texts (script_file ws))) (texts (domain_file ws)) domain tt short e
-    (too_long-told (script_file ws) (given domain) (texts (script_file ws)) (subst (λ t. IfSome t (λ text. longest_file < length text)) same n.1))))
-no_script ws texts later domain before middle now (Due (Unread source.Domain)) h short e same le n = absurd (let e = n.0 in cc)
-no_script ws texts later domain before middle now (Due (Unread source.Script)) h short e same le n =
-    script_unread h (fact-told (λ t. length t ≤ longest_file) (texts (domain_file ws)) domain short e) (Rose-earlier before middle now le n.1)
-no_script ws texts later domain before middle now (Broken Write) h short e same le n = absurd n
-no_script ws texts later domain before middle now (Broken OutOfMemory) h short e same le n = tt
+-- a script that is at fault, or not told, is so in the outcome
+script_fault : (flat : Flat) (domain line : List ℕ) → MayBe flat (cut_off 3 line) → IsFault (with_script flat domain) 3 line
+script_fault flat domain line (inl e) = subst (λ f. IsFault (with_script f domain) 3 line) (sym e) (refl, refl)
+script_fault flat domain line (inr e) = subst (λ f. IsFault (with_script f domain) 3 line) (sym e) tt
+
+module _ (ws : List (List ℕ)) (texts : Texts) (domain : List ℕ) (h : is_session ws ≡ true) (short : length domain ≤ longest_file) (e : IfSome (texts (domain_file ws)) (λ t. domain ≡ t)) where
+  faulty_script : (line : List ℕ) → MayBe (script_in (script_file ws) texts) (cut_off 3 line) → IsFault (input_of ws texts) 3 line
+  faulty_script line m =
+      subst (λ o. IsFault o 3 line) (sym (input_of-session ws texts h))
+      (text-told (λ o. IsFault o 3 line) (domain_file ws) (with_script (script_in (script_file ws) texts)) (texts (domain_file ws)) domain tt short e (script_fault (script_in (script_file ws) texts) domain line m))
+
+  untold_script : (file : List ℕ) → script_in (script_file ws) (without file texts) ≡ missing → IsUntold (input_of ws (without file texts))
+  untold_script file m =
+      subst IsUntold (sym (input_of-session ws (without file texts) h ∙ ap (λ f. with_text (domain_file ws) (with_script f) (without file texts (domain_file ws))) m)) (by_case (same_text (domain_file ws) file)) where
+        by_case : (b : Bool) → IsUntold (with_text (domain_file ws) (with_script missing) (if b then None else texts (domain_file ws)))
+        by_case true = tt
+        by_case false = text-told IsUntold (domain_file ws) (with_script missing) (texts (domain_file ws)) domain tt short e tt
+
+  -- the script isn't had
+  pub no_script : (later : Texts) → ((n : List ℕ) → later n ≡ texts n) → (before middle now : ℕ) (stop : Stop) → before ≤ middle → IsCut (script_in (script_file ws)) later middle now stop → HasNoInput (input_of ws texts) ws texts before now stop
+  no_script later told before middle now stop le c =
+      no_script_here before now stop (cut_earlier (script_in (script_file ws)) texts before middle now stop le (subst (λ (t : Texts). IsCut (script_in (script_file ws)) t middle now stop) (same_texts later texts told) c)) where
+        no_script_here : (before now : ℕ) (stop : Stop) → IsCut (script_in (script_file ws)) texts before now stop → HasNoInput (input_of ws texts) ws texts before now stop
+        no_script_here before now (Due Usage) c = absurd c
+        no_script_here before now (Due (NoDomain cause)) c = absurd c
+        no_script_here before now (Due (TooLong file)) c = too_long file.items (faulty_script (too_long_line file.items) c)
+        no_script_here before now (Due Lines) c = too_many (faulty_script lines_line c)
+        no_script_here before now (Due (Unread file)) c = unread file.items (untold_script file.items c.0) c.1
+        no_script_here before now (Broken Write) c = absurd c
+        no_script_here before now (Broken OutOfMemory) c = tt
 
 -- ---- the domain's text
 
@@ -154,8 +175,9 @@ refused ws texts outcome domain before now (Due (NoDomain cause)) e f j =
     let told = fact-told (λ t. IsRead first_names t (Err j.refusal) j.after) (texts (domain_file ws)) domain j.read e in
     let why : IsNoDomain domain line = record { refusal = j.refusal; after = j.after; read = j.read; told = refl } in
     subst (λ l. IsDue outcome ws texts before now 3 l) j.told (no_domain j.refusal j.after told (f line why))
-refused ws texts outcome domain before now (Due (TooLong s)) e f j = absurd j
-refused ws texts outcome domain before now (Due (Unread s)) e f j = absurd j
+refused ws texts outcome domain before now (Due (TooLong file)) e f j = absurd j
+refused ws texts outcome domain before now (Due Lines) e f j = absurd j
+refused ws texts outcome domain before now (Due (Unread file)) e f j = absurd j
 refused ws texts outcome domain before now (Broken Write) e f j = absurd j
 refused ws texts outcome domain before now (Broken OutOfMemory) e f j = tt
 
@@ -171,20 +193,23 @@ module _ (ws : List (List ℕ)) (texts : Texts) (domain : List ℕ) (short : len
   pub gives_domain : (d : Domain) (t : Table) → is_check ws ≡ true → IsDomain domain d t → GivesDomain (input_of ws texts) d t
   gives_domain d t h read = of_checked (λ o. GivesDomain o d t) h tt read
 
-  module _ (script : List ℕ) (short' : length script ≤ longest_file) (e' : IfSome (texts (script_file ws)) (λ t. script ≡ t)) where
+  module _ (script : List Flattened) (ended : Bool) (flat : MayBe (script_in (script_file ws) texts) (lines script ended)) where
     -- what holds of a session's texts holds of its outcome
     of_given : (P : Outcome → Type 0) → is_session ws ≡ true → P untold → P (given domain script) → P (input_of ws texts)
     of_given P h u p =
         subst P (sym (input_of-session ws texts h))
-        (text-told P (domain_file ws) (with_script (script_file ws) (texts (script_file ws))) (texts (domain_file ws)) domain u short e
-        (text-told P (script_file ws) (given domain) (texts (script_file ws)) script u short' e' p))
+        (text-told P (domain_file ws) (with_script (script_in (script_file ws) texts)) (texts (domain_file ws)) domain u short e
+        (elim flat [
+          | inl same ↦ subst (λ f. P (with_script f domain)) (sym same) p
+          | inr none ↦ subst (λ f. P (with_script f domain)) (sym none) u
+        ]))
 
     pub refused_given : (before now : ℕ) (stop : Stop) → is_session ws ≡ true → IsJudged domain stop → HasNoInput (input_of ws texts) ws texts before now stop
     refused_given before now stop h j =
         refused ws texts (input_of ws texts) domain before now stop e (λ line n. of_given (λ o. IsFault o 3 line) h tt (refl, n)) j
 
-    -- both texts are read
-    pub gives : (d : Domain) (t last : Table) (lines : List Line) → is_session ws ≡ true → IsDomain domain d t → (script_from t script).0 ≡ lines → (script_from t script).1 ≡ last → Gives (input_of ws texts) (input_with d lines) last
-    gives d t last lines h read l s =
-        let is : IsInput domain script (input_with d lines) last = record { between = t; read = read; lines = λ j. (l j, s j) } in
-        of_given (λ o. Gives o (input_with d lines) last) h tt is
+    -- both are read
+    pub gives : (d : Domain) (t last : Table) (all : List Line) → is_session ws ≡ true → IsDomain domain d t → IsScript t script all last → Gives (input_of ws texts) (input_with d all) last
+    gives d t last all h read are =
+        let is : IsInput domain script (input_with d all) last = record { between = t; read = read; lines = are } in
+        of_given (λ o. Gives o (input_with d all) last) h tt is

@@ -1,14 +1,14 @@
 pub mod DueLines
 pub mod Edits
+pub mod Flattening
 pub mod Given
 pub mod Joins
 pub mod Later
+pub mod LinesNamed
 pub mod NameLines
-pub mod Numbers
-pub mod Ranges
+pub mod OneScript
 pub mod Replies
 pub mod ScriptLines
-pub mod ScriptNames
 pub mod Sessions
 pub mod Stops
 pub mod TableNames

@@ -11,7 +11,7 @@ use Rattle.plansys.specs.Session.{input_with, IsDone, IsCut}
 use Rattle.plansys.specs.Input.{Outcome}
 use Rattle.plansys.specs.Input.Outcome.{given, checked, fault, untold}
 use Rattle.plansys.specs.Headline.{IsAnswered, IsFront, IsFault, IsDue, LeadsTo}
-use Rattle.plansys.specs.Headline.IsDue.{misused, no_domain, domain_too_long, script_too_long, domain_unread, script_unread}
+use Rattle.plansys.specs.Headline.IsDue.{misused, no_domain, too_long, too_many, unread}
 use Rattle.plansys.specs.Faults.{Gives, GivesDomain, HasNoInput, IsStopped}
 use Rattle.plansys.specs.declared.faults.Stop.{Stop}
 use Rattle.plansys.specs.declared.faults.Stop.TheVariants.{Due, Broken}
@@ -93,10 +93,9 @@ leads-due outcome ws texts before now status line h =
     elim h as (λ s l d. LeadsTo outcome s ⊎ Rose before now) [
       | misused f ↦ inl (leads-fault outcome _ _ f)
       | no_domain r t told f ↦ inl (leads-fault outcome _ _ f)
-      | domain_too_long f ↦ inl (leads-fault outcome _ _ f)
-      | script_too_long f ↦ inl (leads-fault outcome _ _ f)
-      | domain_unread words rose ↦ inr rose
-      | script_unread words short rose ↦ inr rose
+      | too_long file f ↦ inl (leads-fault outcome _ _ f)
+      | too_many f ↦ inl (leads-fault outcome _ _ f)
+      | unread file first rose ↦ inr rose
     ]
 
 -- a fault was told with its status, or telling it failed
@@ -105,7 +104,7 @@ completed outcome ws texts before now status result out_before out_now err_befor
     elim cases [
       | inl same ↦ elim (leads-due outcome ws texts before now status line due) [
         | inl leads ↦ inl (subst (λ s. LeadsTo outcome s) (sym same) leads)
-        | inr unread ↦ inr (inr (inl unread))
+        | inr failed ↦ inr (inr (inl failed))
       ]
       | inr other ↦ elim other [
         | inl five ↦ inr (inr (inr (inr (rose five))))

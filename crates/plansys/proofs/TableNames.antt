@@ -1,6 +1,5 @@
 -- Reading keeps a table of names one.
-use Rattle.std.proofs.Common.{◌≡◌, ℕ, ◌<◌, Bool, suc, zero, true, false, if◌then◌else◌, Option, Some, None, is_none, is_ok, Ok, List, length, [], ◌∷◌, codes, map, take, drop, slice_range, slice_index_or, refl, sym, ap, ◌∙◌, subst, arith, inl, inr}
-use Rattle.std.specs.List.{list_all}
+use Rattle.std.proofs.Common.{◌≡◌, ℕ, ◌<◌, Bool, suc, zero, true, false, if◌then◌else◌, Option, Some, None, is_none, is_ok, Ok, List, length, [], ◌∷◌, codes, map, drop, slice_range, slice_index_or, refl, sym, ap, ◌∙◌, subst, arith, inl, inr}
 use Rattle.std.proofs.lemmas.Bool.{and_parts, cases_Bool}
 use Rattle.ps_world.specs.Names.{Table}
 use Rattle.ps_world.specs.Lines.{same_text}
@@ -23,8 +22,6 @@ use Rattle.ps_forms.proofs.Judged.{judged_grammatical}
 use Rattle.ps_pddl.proofs.ReadFits.{read_fits}
 use Rattle.ps_print.specs.CanonicalWords.{IsDomainOf}
 use Rattle.plansys.specs.Input.{first_names}
-use Rattle.plansys.specs.Scripts.{commands, inside, is_ask, is_fact, is_instance, line_from, lines_from, numbered, script_from}
-use Rattle.plansys.proofs.ScriptLines.{table-instance, table-fact, table-ask, table-bad}
 
 is_none-same : {X : Type 0} (o : Option X) → is_none o ≡ true → o ≡ None
 is_none-same None h = refl
@@ -32,34 +29,6 @@ is_none-same (Some x) h = absurd (cc)
 
 with_name : (t : Table) (w : List ℕ) → is_name w ≡ true → AreNames t → AreNames (interned t (folded w))
 with_name t w h n = AreNames-interned t (folded w) n (IsNameText-folded w (is_none-same (name_fault w) h))
-
-with_names : (t : Table) (ws : List (List ℕ)) → list_all is_name ws ≡ true → AreNames t → AreNames (numbered t ws).1
-with_names t [] h n = n
-with_names t (w ∷ ws) h n =
-    let parts = and_parts (is_name w) (list_all is_name ws) h in
-    with_names (interned t (folded w)) ws parts.1 (with_name t w parts.0 n)
-
-after_line : (t : Table) (ws : List (List ℕ)) → AreNames t → AreNames (line_from t ws).1
-after_line t ws n =
-    elim (cases_Bool (is_instance ws)) [
-      | inl i ↦ rw (table-instance t ws i) (with_names t ws (and_parts _ _ i).1 n)
-      | inr i ↦ elim (cases_Bool (is_fact ws)) [
-        | inl f ↦ rw (table-fact t ws i f) (with_names (numbered t (take 2 ws)).1 (inside ws) (and_parts _ _ f).1 (with_names t (take 2 ws) (and_parts _ _ (and_parts _ _ f).0).1 n))
-        | inr f ↦ elim (cases_Bool (is_ask ws)) [
-          | inl a ↦ rw (table-ask t ws i f a) (with_names t ws (and_parts _ _ a).1 n)
-          | inr a ↦ rw (table-bad t ws i f a) n
-        ]
-      ]
-    ]
-
-after_lines : (t : Table) (texts : List (List ℕ)) → AreNames t → AreNames (lines_from t texts).1
-after_lines t [] n = n
-after_lines t (text ∷ texts) n = after_lines (line_from t (words text)).1 texts (after_line t (words text) n)
-
--- a script's names are put into a table of names
-pub after_script : (t : Table) (text : List ℕ) → AreNames t → AreNames (script_from t text).1
-unfolding script_from
-after_script t text n = after_lines t (commands text) n
 
 -- ---- a domain's text
 

@@ -1,5 +1,5 @@
 -- What a call of the program claims.
-use Rattle.std.specs.Prelude.{◌≡◌, ℕ, ◌<◌, ◌≤◌, ◌⊎◌, Option, Err, List, IsTrue, IfSome, length}
+use Rattle.std.specs.Prelude.{◌≡◌, ℕ, ◌<◌, ◌⊎◌, Option, Err, List, IfSome}
 use Rattle.std.specs.Io.KnownBytes.{Appends, Keeps}
 use Rattle.ps_text.specs.Causes.{Rose, AppendsFront}
 use Rattle.ps_world.specs.Names.{Table}
@@ -10,7 +10,8 @@ use Rattle.ps_pddl.specs.Reading.{IsRead}
 use Rattle.ps_pddl.specs.declared.refusals.DomainRefusal.{DomainRefusal}
 use Rattle.plansys.specs.DomainFaults.{cause_text}
 use Rattle.plansys.specs.Session.{IsDone, IsCut}
-use Rattle.plansys.specs.Input.{Outcome, IsDomain, IsNoDomain, IsInput, first_names, is_session, names_domain, domain_file, script_file, longest_file, usage_line, domain_line, too_long_line, cannot_read_line}
+use Rattle.plansys.specs.Input.{Outcome, IsDomain, IsNoDomain, IsInput, first_names, input_of, domain_file, usage_line, domain_line, cannot_read_line}
+use Rattle.plansys.specs.Flats.{lines_line, too_long_line, without}
 use Rattle.plansys.specs.Input.Outcome.{given, checked, fault, untold}
 
 -- the outcome is this fault, or a domain's text that is no domain; where the texts aren't told, nothing is claimed
@@ -44,17 +45,23 @@ IsFront (checked domain) old new = Keeps old new ⊎ IsHalfPrinted domain old ne
 IsFront (fault s l) old new = Keeps old new
 IsFront untold old new = Unit {0}
 
+-- no text is told that the outcome rests on first
+abbrev pub IsUntold : Outcome → Type 0
+IsUntold (given domain script) = ⊥
+IsUntold (checked domain) = ⊥
+IsUntold (fault s l) = ⊥
+IsUntold untold = Unit {0}
+
 -- Why a call ends before its work, with the status and the line that are then due:
 --   2 where the words aren't of a form;
---   3 where the domain's text is no domain, or a file is too long;
---   4 where reading a file failed, and nothing read before it is too long.
+--   3 where the domain's text is no domain, a file is too long, or a script with its files has too many lines;
+--   4 where reading a file failed that the work comes to: without its text, nothing is at fault before a text that isn't told.
 pub data IsDue (outcome : Outcome) (ws : List (List ℕ)) (texts : List ℕ → Option (List ℕ)) (before now : ℕ) : ℕ → List ℕ → Type 0 where
   misused : IsFault outcome 2 usage_line → IsDue outcome ws texts before now 2 usage_line
   no_domain : (refusal : DomainRefusal) (after : Table) → IfSome (texts (domain_file ws)) (λ text. IsRead first_names text (Err refusal) after) → IsFault outcome 3 (domain_line (cause_text after refusal)) → IsDue outcome ws texts before now 3 (domain_line (cause_text after refusal))
-  domain_too_long : IsFault outcome 3 (too_long_line (domain_file ws)) → IsDue outcome ws texts before now 3 (too_long_line (domain_file ws))
-  script_too_long : IsFault outcome 3 (too_long_line (script_file ws)) → IsDue outcome ws texts before now 3 (too_long_line (script_file ws))
-  domain_unread : IsTrue (names_domain ws) → Rose before now → IsDue outcome ws texts before now 4 (cannot_read_line (domain_file ws))
-  script_unread : IsTrue (is_session ws) → IfSome (texts (domain_file ws)) (λ text. length text ≤ longest_file) → Rose before now → IsDue outcome ws texts before now 4 (cannot_read_line (script_file ws))
+  too_long : (file : List ℕ) → IsFault outcome 3 (too_long_line file) → IsDue outcome ws texts before now 3 (too_long_line file)
+  too_many : IsFault outcome 3 lines_line → IsDue outcome ws texts before now 3 lines_line
+  unread : (file : List ℕ) → IsUntold (input_of ws (without file texts)) → Rose before now → IsDue outcome ws texts before now 4 (cannot_read_line file)
 
 -- a sink takes a line: the whole of it, or a front of it where a write to it was refused
 abbrev pub Says : Option (List ℕ) → Option (List ℕ) → List ℕ → ℕ → ℕ → Type 0

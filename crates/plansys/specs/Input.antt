@@ -7,7 +7,10 @@ use Rattle.ps_world.specs.declared.inputs.Input.{Input}
 use Rattle.ps_pddl.specs.Reading.{IsRead}
 use Rattle.ps_pddl.specs.declared.refusals.DomainRefusal.{DomainRefusal}
 use Rattle.plansys.specs.DomainFaults.{cause_text}
-use Rattle.plansys.specs.Scripts.{script_from}
+use Rattle.plansys.specs.Flats.{Texts, Flat, longest_file, on_source, too_long_line}
+use Rattle.plansys.specs.Flats.Flat.{lines, fault as cut_off, missing}
+use Rattle.plansys.specs.declared.reading.flatten.Flattened.{Flattened}
+use Rattle.plansys.specs.Scripts.{IsScript}
 
 -- The words.
 
@@ -54,10 +57,6 @@ usage_line = codes "plansys: usage" ++ line_end
 abbrev pub domain_line : List ℕ → List ℕ
 domain_line cause = codes "plansys: domain: " ++ (cause ++ line_end)
 
--- a file is too long
-abbrev pub too_long_line : List ℕ → List ℕ
-too_long_line file = codes "plansys: " ++ (file ++ (codes ": TooLong" ++ line_end))
-
 -- a file can't be read
 abbrev pub cannot_read_line : List ℕ → List ℕ
 cannot_read_line file = codes "plansys: cannot read " ++ (file ++ line_end)
@@ -72,14 +71,11 @@ out_of_memory_line = codes "plansys: out of memory" ++ line_end
 
 -- The input.
 
--- the most bytes of a file
-abbrev pub longest_file : ℕ
-longest_file = 1048576
-
--- What a call is given: for a session the texts of the domain and the script, for a check the domain's text, or what
--- is at fault, with the status and the line that say so. It isn't told where the files don't tell a text that matters.
+-- What a call is given: for a session the text of the domain and the command lines of the script with its files, for a check
+-- the domain's text, or what is at fault, with the status and the line that say so. It isn't told where the files don't tell a
+-- text that matters.
 pub data Outcome : Type 0 where
-  given : List ℕ → List ℕ → Outcome
+  given : List ℕ → List Flattened → Outcome
   checked : List ℕ → Outcome
   fault : ℕ → List ℕ → Outcome
   untold : Outcome
@@ -89,14 +85,21 @@ abbrev pub with_text : List ℕ → (List ℕ → Outcome) → Option (List ℕ)
 with_text file use_of None = untold
 with_text file use_of (Some text) = if nat_lt longest_file (length text) then fault 3 (too_long_line file) else use_of text
 
--- what a domain's text gives with a script's
-abbrev pub with_script : List ℕ → Option (List ℕ) → List ℕ → Outcome
-with_script file told domain = with_text file (λ script. given domain script) told
+-- the script in a file, with the files that it names
+abbrev pub script_in : List ℕ → Texts → Flat
+script_in file texts = on_source 5 texts file []
 
--- The texts that the words and the texts by file name give. The domain's file is read, then the script's.
-unfoldable pub input_of : List (List ℕ) → (List ℕ → Option (List ℕ)) → Outcome
+-- what a domain's text gives with a script
+abbrev pub with_script : Flat → List ℕ → Outcome
+with_script (lines all ended) domain = given domain all
+with_script (cut_off status line) domain = fault status line
+with_script missing domain = untold
+
+-- The texts that the words and the texts by file name give. The domain's file is read, then the script's, with the files that
+-- it names where they stand.
+unfoldable pub input_of : List (List ℕ) → Texts → Outcome
 input_of ws texts =
-    if is_session ws then with_text (domain_file ws) (with_script (script_file ws) (texts (script_file ws))) (texts (domain_file ws))
+    if is_session ws then with_text (domain_file ws) (with_script (script_in (script_file ws) texts)) (texts (domain_file ws))
     else (if is_check ws then with_text (domain_file ws) checked (texts (domain_file ws))
     else fault 2 usage_line)
 
@@ -118,8 +121,8 @@ pub record IsNoDomain (text line : List ℕ) : Type 0 where
   pub read : IsRead first_names text (Err refusal) after
   pub told : domain_line (cause_text after refusal) ≡ line
 
--- the texts of a domain and a script are read as this input, with this table after them
-pub record IsInput (domain script : List ℕ) (i : Input) (names : Table) : Type 0 where
+-- the text of a domain and the command lines of a script are read as this input, with this table after them
+pub record IsInput (domain : List ℕ) (script : List Flattened) (i : Input) (names : Table) : Type 0 where
   pub between : Table
   pub read : IsDomain domain i.domain between
-  pub lines : script_from between script ≡ (i.lines, names)
+  pub lines : IsScript between script i.lines names

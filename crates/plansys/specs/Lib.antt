@@ -1,7 +1,9 @@
 pub mod DomainFaults
 pub mod Faults
+pub mod Flats
 pub mod Headline
 pub mod Input
+pub mod Laws
 pub mod Scripts
 pub mod Session
 pub mod Steps

@@ -65,14 +65,14 @@ fn check<F: Files, O: Sink>(
 }
 
 /// Says to `err` what is at fault, and gives the status.
-fn tell<E: Sink>(alloc: Global, words: &[String], fault: Fault, err: &mut E) -> u8
-    ensures told { result ≡ fault_status fault → Appends (E.taken err.old) (E.taken err.new) (fault_line (word_texts words.now) fault) }
-    ensures cut { result ≡ 5 → Rose (E.faults err.old) (E.faults err.new) × AppendsFront (E.taken err.old) (E.taken err.new) (fault_line (word_texts words.now) fault) }
+fn tell<E: Sink>(alloc: Global, fault: Fault, err: &mut E) -> u8
+    ensures told { result ≡ fault_status fault → Appends (E.taken err.old) (E.taken err.new) (fault_line fault) }
+    ensures cut { result ≡ 5 → Rose (E.faults err.old) (E.faults err.new) × AppendsFront (E.taken err.old) (E.taken err.new) (fault_line fault) }
     ensures memory { result ≡ 6 → Says (E.taken err.old) (E.taken err.new) out_of_memory_line (E.refusals err.old) (E.refusals err.new)
-        ⊎ (AppendsFront (E.taken err.old) (E.taken err.new) (fault_line (word_texts words.now) fault) × Rose (E.refusals err.old) (E.refusals err.new)) }
+        ⊎ (AppendsFront (E.taken err.old) (E.taken err.new) (fault_line fault) × Rose (E.refusals err.old) (E.refusals err.new)) }
     ensures cases { (result ≡ fault_status fault) ⊎ (result ≡ 5) ⊎ (result ≡ 6) }
 {
-    match fault_line(alloc, words, &fault) {
+    match fault_line(alloc, &fault) {
         Ok(line) => match put(err, line.as_slice()) {
             Ok(()) => fault.status(),
             Err(SinkRefusal::Failed) => 5,
@@ -151,7 +151,7 @@ pub fn plansys_quiet<F: Files, O: Sink, E: Sink>(
 {
     match check(alloc, words, files, out) {
         Ok(()) => 0,
-        Err(Stop::Due(fault)) => tell(alloc, words, fault, err),
+        Err(Stop::Due(fault)) => tell(alloc, fault, err),
         Err(Stop::Broken(Broken::Write)) => {
             last_words(err, b"plansys: cannot write\n");
             5
@@ -226,7 +226,7 @@ pub fn plansys<F: Files, O: Sink, E: Sink>(
     }
     match attempt(alloc, words, files, out) {
         Ok(status) => status,
-        Err(Stop::Due(fault)) => tell(alloc, words, fault, err),
+        Err(Stop::Due(fault)) => tell(alloc, fault, err),
         Err(Stop::Broken(Broken::Write)) => {
             last_words(err, b"plansys: cannot write\n");
             5

@@ -1,17 +1,11 @@
 //! What ends a call before its work, or breaks it off.
 ghost use Rattle.std.specs.Prelude.{◌≡◌, IfOk};
-ghost use Rattle.plansys.specs.Input.{domain_line, too_long_line, cannot_read_line};
-ghost use Rattle.plansys.specs.Faults.{fault_line, fault_status, file_of, word_texts};
+ghost use Rattle.plansys.specs.Input.{domain_line, cannot_read_line};
+ghost use Rattle.plansys.specs.Flats.{too_long_line};
+ghost use Rattle.plansys.specs.Faults.{fault_line, fault_status};
 
 use super::session::Broken;
-use std::alloc::{AllocError, Global};
-
-/// A file that the words name.
-#[derive(Clone, Copy, PartialEq, Eq, Debug)]
-pub enum Source {
-    Domain,
-    Script,
-}
+use std::alloc::{AllocError, AllocFailed, Global};
 
 /// What ends a call before its work.
 #[derive(Debug, Drop)]
@@ -21,9 +15,11 @@ pub enum Fault {
     /// The domain's text is no domain, and these words say why.
     NoDomain(Vec<u8>),
     /// A file is longer than 1,048,576 bytes.
-    TooLong(Source),
+    TooLong(Vec<u8>),
+    /// A script with its files has more than 10,000 command lines.
+    Lines,
     /// A file can't be read.
-    Unread(Source),
+    Unread(Vec<u8>),
 }
 
 impl Fault {
@@ -35,6 +31,7 @@ impl Fault {
             Fault::Usage => 2,
             Fault::NoDomain(_) => 3,
             Fault::TooLong(_) => 3,
+            Fault::Lines => 3,
             Fault::Unread(_) => 4,
         }
     }
@@ -80,23 +77,20 @@ impl From<AllocError> for Stop {
     }
 }
 
-/// The name of a file that the words have. It is empty where the words are too few.
-pub fn file_named(words: &[String], source: Source) -> &str
-    ensures { result.now ≡ file_of (word_texts words.now) source }
-{
-    let place = match source {
-        Source::Domain => 2,
-        Source::Script => 4,
-    };
-    match words.get(place) {
-        Some(word) => word.as_str(),
-        None => "",
+impl<T: Drop> From<AllocFailed<T>> for Stop {
+    ghost use Rattle.plansys.specs.declared.faults.Stop.TheVariants.{Broken};
+    ghost use Rattle.plansys.specs.declared.session.Broken.TheVariants.{OutOfMemory};
+
+    ghost from_gives = { λ _ stop. stop ≡ Broken OutOfMemory };
+
+    fn from(_error: AllocFailed<T>) -> Stop {
+        Stop::Broken(Broken::OutOfMemory)
     }
 }
 
 /// The line that says what is at fault.
-pub fn fault_line(alloc: Global, words: &[String], fault: &Fault) -> Result<Vec<u8>, AllocError>
-    ensures { IfOk result (λ line. line.items ≡ fault_line (word_texts words.now) fault.now) }
+pub fn fault_line(alloc: Global, fault: &Fault) -> Result<Vec<u8>, AllocError>
+    ensures { IfOk result (λ line. line.items ≡ fault_line fault.now) }
 {
     match fault {
         Fault::Usage => {
@@ -107,12 +101,16 @@ pub fn fault_line(alloc: Global, words: &[String], fault: &Fault) -> Result<Vec<
             let line = domain_line(alloc, cause.as_slice())?;
             Ok(line)
         }
-        Fault::TooLong(source) => {
-            let line = too_long_line(alloc, file_named(words, *source))?;
+        Fault::TooLong(file) => {
+            let line = too_long_line(alloc, file.as_slice())?;
             Ok(line)
         }
-        Fault::Unread(source) => {
-            let line = cannot_read_line(alloc, file_named(words, *source))?;
+        Fault::Lines => {
+            let line = Vec::from_slice(alloc, b"plansys: script: Lines\n")?;
+            Ok(line)
+        }
+        Fault::Unread(file) => {
+            let line = cannot_read_line(alloc, file.as_slice())?;
             Ok(line)
         }
     }
@@ -127,20 +125,20 @@ fn domain_line(alloc: Global, cause: &[u8]) -> Result<Vec<u8>, AllocError>
     Ok(line)
 }
 
-fn too_long_line(alloc: Global, file: &str) -> Result<Vec<u8>, AllocError>
+fn too_long_line(alloc: Global, file: &[u8]) -> Result<Vec<u8>, AllocError>
     ensures { IfOk result (λ line. line.items ≡ too_long_line file.now) }
 {
     let mut line = Vec::from_slice(alloc, b"plansys: ")?;
-    line.extend_from_slice(file.as_bytes())?;
+    line.extend_from_slice(file)?;
     line.extend_from_slice(b": TooLong\n")?;
     Ok(line)
 }
 
-fn cannot_read_line(alloc: Global, file: &str) -> Result<Vec<u8>, AllocError>
+fn cannot_read_line(alloc: Global, file: &[u8]) -> Result<Vec<u8>, AllocError>
     ensures { IfOk result (λ line. line.items ≡ cannot_read_line file.now) }
 {
     let mut line = Vec::from_slice(alloc, b"plansys: cannot read ")?;
-    line.extend_from_slice(file.as_bytes())?;
+    line.extend_from_slice(file)?;
     line.push(b'\n')?;
     Ok(line)
 }

@@ -3,20 +3,16 @@ ghost use Rattle.std.specs.Prelude.{◌≡◌, ◌<◌, ◌≤◌, ◌^◌, ℕ,
 ghost use Rattle.ps_world.specs.Tables.{IsLineOf};
 ghost use Rattle.ps_text.specs.Names.{AreNames};
 ghost use Rattle.ps_print.specs.CanonicalWords.{IsParamOf};
-ghost use Rattle.plansys.specs.Input.{IsDomain, argument, first_names, input_of, is_check, is_quiet, is_session, is_value, longest_file};
-ghost use Rattle.plansys.specs.Faults.{word_texts, file_of, IsNotHad, IsJudged, HasNoInput, Gives, GivesDomain};
+ghost use Rattle.plansys.specs.Input.{IsDomain, argument, first_names, input_of, is_check, is_quiet, is_session, is_value};
+ghost use Rattle.plansys.specs.Faults.{word_texts, IsJudged, HasNoInput, Gives, GivesDomain};
 
 use super::causes::cause_text;
-use super::faults::{Fault, Source, Stop, file_named};
-use super::reading::read_script;
-use super::session::Broken;
+use super::faults::{Fault, Stop};
+use super::reading::{read_flat, read_script, read_text};
 use ps_pddl::read_domain;
-use ps_text::{FileRefusal, Files, Names};
+use ps_text::{Files, Names};
 use ps_world::{Domain, Input};
 use std::alloc::Global;
-
-/// The most bytes of a file.
-const LONGEST_FILE: usize = 1_048_576;
 
 /// Whether the words are `session --domain F --script F`, where no F is empty or begins with `-`.
 fn is_session(words: &[String]) -> bool
@@ -30,11 +26,11 @@ fn is_session(words: &[String]) -> bool
         && is_value(words[4].as_bytes())
 }
 
-/// The first word, or nothing.
-fn first_word(words: &[String]) -> &str
-    ensures { result.now ≡ argument (word_texts words.now) 0 }
+/// The word at a place, or nothing.
+fn argument(words: &[String], place: usize) -> &str
+    ensures { result.now ≡ argument (word_texts words.now) place }
 {
-    match words.first() {
+    match words.get(place) {
         Some(word) => word.as_str(),
         None => "",
     }
@@ -44,7 +40,7 @@ fn first_word(words: &[String]) -> &str
 pub fn is_quiet(words: &[String]) -> bool
     ensures { result ≡ is_quiet (word_texts words.now) }
 {
-    first_word(words) == "check"
+    argument(words, 0) == "check"
 }
 
 /// Whether the words are `check --domain F`, where F isn't empty and doesn't begin with `-`.
@@ -63,31 +59,6 @@ fn is_value(word: &[u8]) -> bool
     match word.first() {
         Some(first) => *first != b'-',
         None => false,
-    }
-}
-
-/// The text of a file that the words name.
-fn read_text<F: Files>(
-    alloc: Global,
-    words: &[String],
-    source: Source,
-    files: &mut F,
-) -> Result<Vec<u8>, Stop>
-    ensures text { IfOk result (λ v. IfSome (F.text_of files.old (file_of (word_texts words.now) source)) (λ text. v.items ≡ text)) }
-    ensures short { IfOk result (λ v. length v.items ≤ longest_file) }
-    ensures same { (n : List ℕ) → F.text_of files.new n ≡ F.text_of files.old n }
-    ensures cause { IfErr result (IsNotHad source (F.text_of files.old (file_of (word_texts words.now) source)) (F.faults files.old) (F.faults files.new)) }
-    ensures later { F.faults files.old ≤ F.faults files.new }
-{
-    match files.read(alloc, file_named(words, source)) {
-        Ok(text) => {
-            if text.len() > LONGEST_FILE {
-                return Err(Stop::Due(Fault::TooLong(source)));
-            }
-            Ok(text)
-        }
-        Err(FileRefusal::Failed) => Err(Stop::Due(Fault::Unread(source))),
-        Err(FileRefusal::OutOfMemory) => Err(Stop::Broken(Broken::OutOfMemory)),
     }
 }
 
@@ -121,7 +92,7 @@ pub fn read_checked<F: Files>(
     if !is_check(words) {
         return Err(Stop::Due(Fault::Usage));
     }
-    let text = read_text(alloc, words, Source::Domain, files)?;
+    let text = read_text(alloc, argument(words, 2), files)?;
     let domain = judge_domain(alloc, names, text.as_slice())?;
     Ok(domain)
 }
@@ -147,8 +118,8 @@ pub fn read_input<F: Files>(
     if !is_session(words) {
         return Err(Stop::Due(Fault::Usage));
     }
-    let domain_text = read_text(alloc, words, Source::Domain, files)?;
-    let script = read_text(alloc, words, Source::Script, files)?;
+    let domain_text = read_text(alloc, argument(words, 2), files)?;
+    let script = read_flat(alloc, argument(words, 4), files)?;
     let domain = judge_domain(alloc, names, domain_text.as_slice())?;
     let lines = read_script(alloc, names, script.as_slice())?;
     Ok(Input { domain, lines })

@@ -5,6 +5,7 @@ mod calls;
 mod causes;
 mod faults;
 mod inputs;
+mod laws;
 mod reading;
 mod real;
 mod session;
@@ -20,8 +21,9 @@ use std::{env, io};
 
 const HELP: &str = "\
 plansys session --domain FILE --script FILE
-    Does the lines of a script over a domain, and writes the journal.
-    plansys session --domain samples/first/domain.pddl --script samples/first/script
+    Does the lines of a script over a domain, and writes the journal. A line `source FILE` stands for the lines of that file,
+    on at most four levels, and `quit` ends the script.
+    plansys session --domain samples/rooms/domain.pddl --script samples/rooms/script
 plansys check --domain FILE
     Reads a domain, and writes it in its canonical text.
     plansys check --domain samples/rooms/domain.pddl
