@@ -1,0 +1,23 @@
+-- Names and facts that tie in the order are the same.
+use Rattle.std.proofs.Common.{◌≡◌}
+use Rattle.std.specs.Cmp.{IsTotalOrder}
+use Rattle.std.specs.Cmp.Lexicographic.{slice_cmp}
+use Rattle.std.specs.FinMap.{slice_cmp-IsAntisymmetric, nat_cmp-IsAntisymmetric}
+use Rattle.std.proofs.lemmas.Cmp.{on_total, then_total, lists_total, nat_cmp_total}
+use Rattle.std.proofs.lemmas.Map.Lookups.{CmpEqualImpliesEq, exact_pairs}
+use Rattle.ps_world.specs.Names.{name_cmp}
+use Rattle.ps_world.specs.Facts.{fact_cmp}
+
+pub names_total : IsTotalOrder name_cmp
+names_total = on_total (λ n. n.0) nat_cmp_total
+
+pub facts_total : IsTotalOrder fact_cmp
+facts_total = then_total (on_total (λ f. f.head) names_total) (on_total (λ f. f.args) (lists_total names_total))
+
+pub exact_names : CmpEqualImpliesEq name_cmp
+exact_names a b e = let same : a.0 ≡ b.0 = nat_cmp-IsAntisymmetric a.0 b.0 e in λ i. record { 0 = same i }
+
+pub exact_facts : CmpEqualImpliesEq fact_cmp
+exact_facts a b e =
+    let same = exact_pairs name_cmp (slice_cmp name_cmp) exact_names (slice_cmp-IsAntisymmetric exact_names) (a.head, a.args) (b.head, b.args) e in
+    λ i. record { head = (same i).0; args = (same i).1 }

@@ -1,0 +1,108 @@
+-- What effects change.
+use Rattle.std.specs.Prelude.{ℕ, ℤ, ◌+ℤ◌, ◌-ℤ◌, Bool, false, not, if◌then◌else◌, Option, Some, None, option_map, option_and_then, Result, Ok, Err, List, [], ◌∷◌, ◌++◌, filter, filter_map, fold, length}
+use Rattle.std.specs.List.{list_any}
+use Rattle.std.specs.Option.{option_or}
+use Rattle.std.specs.BTreeMap.{insert_entry}
+use Rattle.std.specs.BTreeSet.{insert_key}
+use Rattle.ps_world.specs.Facts.{fact_cmp}
+use Rattle.ps_world.specs.Trees.{ExprTree}
+use Rattle.ps_world.specs.ExprViews.{expr_tree}
+use Rattle.ps_world.specs.Knowledge.{ground, same_fact, value_in}
+use Rattle.ps_world.specs.declared.numbers.Num.{Num}
+use Rattle.ps_world.specs.declared.facts.Fact.{Fact}
+use Rattle.ps_world.specs.declared.actions.NumOp.{NumOp}
+use Rattle.ps_world.specs.declared.actions.NumOp.TheVariants.{Assign, Increase, Decrease, ScaleUp, ScaleDown}
+use Rattle.ps_world.specs.declared.actions.Effect.{Effect}
+use Rattle.ps_world.specs.declared.actions.Effect.TheVariants.{Add, Delete, Number}
+use Rattle.ps_world.specs.declared.known.Knowledge.{Knowledge}
+use Rattle.ps_action.specs.declared.refusals.EffectRefusal.{EffectRefusal}
+use Rattle.ps_action.specs.declared.refusals.EffectRefusal.TheVariants.{Clash, Undefined, Range}
+use Rattle.ps_action.specs.Values.{in_range, of_both, product, quotient, value}
+
+-- ---- the new value that a numeric effect gives
+
+-- the count of thousandths that an old value becomes by a number, where that is defined: only to be assigned it needs no old value
+abbrev pub new_count : NumOp → Option Num → Option Num → Option ℤ
+new_count Assign old by = by
+new_count Increase old by = of_both (λ x y. Some (x +ℤ y)) old by
+new_count Decrease old by = of_both (λ x y. Some (x -ℤ y)) old by
+new_count ScaleUp old by = of_both (λ x y. Some (product x y)) old by
+new_count ScaleDown old by = of_both quotient old by
+
+-- the count that a numeric effect gives a function term in this knowledge, where it is defined
+abbrev pub count_after : Knowledge → NumOp → Fact → ExprTree → Option ℤ
+count_after k how f x = new_count how (value_in k f) (value k x)
+
+-- the function term that an effect gives a value, with that value, where it is defined and in range
+abbrev pub value_set : Knowledge → Effect → Option (Fact × Num)
+value_set k (Add l) = None
+value_set k (Delete l) = None
+value_set k (Number how l x) = option_map (λ n. (ground l, n)) (option_and_then in_range (count_after k how (ground l) (expr_tree x)))
+
+-- ---- what is at fault
+
+-- why there is no new value, if there is none
+abbrev pub range_fault : ℕ → Option Num → Option EffectRefusal
+range_fault at None = Some (Range at)
+range_fault at (Some n) = None
+
+abbrev pub count_fault : ℕ → Option ℤ → Option EffectRefusal
+count_fault at None = Some (Undefined at)
+count_fault at (Some z) = range_fault at (in_range z)
+
+-- whether an effect gives this function term a value
+abbrev pub sets : Fact → Effect → Bool
+sets f (Add l) = false
+sets f (Delete l) = false
+sets f (Number how l x) = same_fact f (ground l)
+
+-- What is at fault with an effect at its place, after those before it: that one of them gives the same term a value, that the
+-- new value isn't defined, or that it is out of range.
+abbrev pub fault_of_effect : Knowledge → List Effect → ℕ → Effect → Option EffectRefusal
+fault_of_effect k before at (Add l) = None
+fault_of_effect k before at (Delete l) = None
+fault_of_effect k before at (Number how l x) =
+    if list_any (sets (ground l)) before then Some (Clash at) else count_fault at (count_after k how (ground l) (expr_tree x))
+
+-- the first fault of these effects, after those before them
+abbrev pub faults_from : Knowledge → List Effect → List Effect → Option EffectRefusal
+faults_from k before [] = None
+faults_from k before (e ∷ es) = option_or (fault_of_effect k before (length before) e) (faults_from k (before ++ e ∷ []) es)
+
+-- the first fault of a list of effects: all new values are those in this knowledge
+abbrev pub fault_of_effects : Knowledge → List Effect → Option EffectRefusal
+fault_of_effects k es = faults_from k [] es
+
+-- ---- the change
+
+-- whether an effect deletes this fact
+abbrev pub deletes : Fact → Effect → Bool
+deletes f (Add l) = false
+deletes f (Delete l) = same_fact f (ground l)
+deletes f (Number how l x) = false
+
+-- the fact that an effect adds, if it adds one
+abbrev pub added_by : Effect → Option Fact
+added_by (Add l) = Some (ground l)
+added_by (Delete l) = None
+added_by (Number how l x) = None
+
+-- values with one more, which stands in place of an old one
+abbrev pub with_value : List (Fact × Num) → Fact × Num → List (Fact × Num)
+with_value values v = insert_entry fact_cmp values v.0 v.1
+
+-- Knowledge with the deletes of a list of effects made, then its adds, then these values put in.
+abbrev pub made : Knowledge → List Effect → List (Fact × Num) → Knowledge
+made k es ready = record k {
+  facts = fold (insert_key fact_cmp) (filter (λ f. not (list_any (deletes f) es)) k.facts) (filter_map added_by es);
+  values = fold with_value k.values ready;
+}
+
+-- this, unless something is at fault
+abbrev pub unless : {R A : Type 0} → Option R → A → Result A R
+unless (Some fault) new = Err fault
+unless None new = Ok new
+
+-- the knowledge after a list of effects, or its first fault
+abbrev pub effect : Knowledge → List Effect → Result Knowledge EffectRefusal
+effect k es = unless (fault_of_effects k es) (made k es (filter_map (value_set k) es))

@@ -1,0 +1,67 @@
+-- What conditions hold.
+use Rattle.std.specs.Prelude.{Bool, true, false, not, ◌&&◌, int_lt, int_le, ℤ, Option, Some, None, List, []}
+use Rattle.std.specs.Ordering.{int_eq}
+use Rattle.ps_world.specs.Names.{same_name, object}
+use Rattle.ps_world.specs.Trees.{CondTree, CondTrees, all_of, no, holds, same, compares, is_a, none, more, cond_trees}
+use Rattle.ps_world.specs.Knowledge.{ground, is_known, kind_of, is_below, name_of}
+use Rattle.ps_world.specs.declared.names.Name.{Name}
+use Rattle.ps_world.specs.declared.numbers.Num.{Num}
+use Rattle.ps_world.specs.declared.conditions.Rel.{Rel}
+use Rattle.ps_world.specs.declared.conditions.Rel.TheVariants.{Lt, Le, Eq, Ge, Gt}
+use Rattle.ps_world.specs.declared.domains.Domain.{Domain}
+use Rattle.ps_world.specs.declared.known.Knowledge.{Knowledge}
+use Rattle.ps_action.specs.Values.{value}
+
+-- whether two numbers compare so
+abbrev pub related : Rel → ℤ → ℤ → Bool
+related Lt a b = int_lt a b
+related Le a b = int_le a b
+related Eq a b = int_eq a b
+related Ge a b = int_le b a
+related Gt a b = int_lt b a
+
+-- whether two sides compare so: not where one of them isn't defined
+abbrev pub compare_so : Rel → Option Num → Option Num → Bool
+compare_so rel (Some a) (Some b) = related rel a b
+compare_so rel a b = false
+
+-- whether what has this type, if it is an instance, fits that one
+abbrev pub fits : Domain → Option Name → Name → Bool
+fits d None kind = false
+fits d (Some have) kind = is_below d have kind
+
+abbrev mutual
+  -- whether a condition holds; the domain counts for types alone
+  pub is_true : Domain → Knowledge → CondTree → Bool
+  is_true d k (all_of cs) = are_true d k cs
+  is_true d k (no c) = not (is_true d k c)
+  is_true d k (holds l) = is_known k (ground l)
+  is_true d k (same s t) = same_name (name_of s) (name_of t)
+  is_true d k (compares rel x y) = compare_so rel (value k x) (value k y)
+  is_true d k (is_a t kind) = fits d (kind_of k (name_of t)) kind
+
+  -- whether each of several does
+  pub are_true : Domain → Knowledge → CondTrees → Bool
+  are_true d k none = true
+  are_true d k (more c cs) = is_true d k c && are_true d k cs
+
+-- whether each condition of a list holds
+abbrev pub all_true : Domain → Knowledge → List CondTree → Bool
+all_true d k cs = are_true d k (cond_trees cs)
+
+abbrev mutual
+  -- no condition in it says that an instance has a type
+  pub HasNoType : CondTree → Type 0
+  HasNoType (all_of cs) = HaveNoType cs
+  HasNoType (no c) = HasNoType c
+  HasNoType (is_a t kind) = ⊥
+  HasNoType c = Unit {0}
+
+  -- the same of each of several
+  pub HaveNoType : CondTrees → Type 0
+  HaveNoType none = Unit {0}
+  HaveNoType (more c cs) = HasNoType c × HaveNoType cs
+
+-- a domain that declares nothing
+abbrev pub no_domain : Domain
+no_domain = record { name = object; types = []; constants = []; predicates = []; functions = []; actions = [] }

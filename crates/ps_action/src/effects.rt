@@ -1,0 +1,130 @@
+//! What effects give, and what is at fault with them.
+ghost use Rattle.std.specs.Prelude.{◌≡◌, filter_map, IfOk};
+ghost use Rattle.std.specs.List.{list_any};
+ghost use Rattle.ps_world.specs.ExprViews.{expr_tree};
+ghost use Rattle.ps_action.specs.Effects.{count_after, count_fault, fault_of_effect, fault_of_effects, new_count, sets, value_set};
+
+use crate::known::Known;
+use crate::refusals::EffectRefusal;
+use crate::values::{in_range, product, quotient, value_of};
+use ps_world::{Effect, Expr, Fact, Num, NumOp};
+use std::alloc::{AllocError, Global};
+
+/// The count of thousandths that an old value becomes by a number. None exactly where that isn't defined.
+fn new_count(how: NumOp, old: Option<Num>, by: Num) -> Option<i128>
+    ensures { result ≡ new_count how old (Some by) }
+{
+    match (how, old) {
+        (NumOp::Assign, _) => Some(by.milli() as i128),
+        (NumOp::Increase, Some(old)) => Some(old.milli() as i128 + by.milli() as i128),
+        (NumOp::Decrease, Some(old)) => Some(old.milli() as i128 - by.milli() as i128),
+        (NumOp::ScaleUp, Some(old)) => Some(product(old, by)),
+        (NumOp::ScaleDown, Some(old)) => quotient(old, by),
+        (_, None) => None,
+    }
+}
+
+/// The count that a numeric effect gives. None exactly where it isn't defined.
+fn count_after<K: Known>(known: &K, how: NumOp, term: &Fact, expr: &Expr) -> Option<i128>
+    ensures { result ≡ count_after (K.known known.now) how term.now (expr_tree expr.now) }
+{
+    match value_of(known, expr) {
+        Some(by) => new_count(how, known.value(term), by),
+        None => None,
+    }
+}
+
+/// Why a count is no new value, if it is none.
+fn count_fault(at: usize, count: Option<i128>) -> Option<EffectRefusal>
+    ensures { result ≡ count_fault at count }
+{
+    match count {
+        None => Some(EffectRefusal::Undefined { at }),
+        Some(milli) if in_range(milli).is_none() => Some(EffectRefusal::Range { at }),
+        Some(_) => None,
+    }
+}
+
+/// Whether an effect gives this function term a value.
+fn sets(term: &Fact, effect: &Effect) -> bool
+    ensures { result ≡ sets term.now effect.now }
+{
+    match effect {
+        Effect::Number(_, lifted, _) => term.cmp(&lifted.ground()).is_eq(),
+        _ => false,
+    }
+}
+
+/// Whether one of these effects gives this function term a value.
+fn is_set(term: &Fact, effects: &[Effect]) -> bool
+    ensures { result ≡ list_any (sets term.now) effects.now }
+{
+    effects.iter().any(|effect| sets(term, effect))
+}
+
+/// What is at fault with an effect at its place, after those before it.
+fn fault_of_effect<K: Known>(
+    known: &K,
+    before: &[Effect],
+    at: usize,
+    effect: &Effect,
+) -> Option<EffectRefusal>
+    ensures { result ≡ fault_of_effect (K.known known.now) before.now at effect.now }
+{
+    match effect {
+        Effect::Number(how, lifted, expr) => {
+            let term = lifted.ground();
+            if is_set(&term, before) {
+                return Some(EffectRefusal::Clash { at });
+            }
+            count_fault(at, count_after(known, *how, &term, expr))
+        }
+        _ => None,
+    }
+}
+
+/// The first fault of a list of effects, if it has one. All new values are those in what is known now. For each effect in order:
+/// `Clash` where an earlier one gives the same term a value, `Undefined`, `Range`. It takes no memory.
+pub fn fault_of_effects<K: Known>(known: &K, effects: &[Effect]) -> Option<EffectRefusal>
+    ensures { result ≡ fault_of_effects (K.known known.now) effects.now }
+{
+    for (at, effect) in effects.iter().enumerate() {
+        if let Some(fault) = fault_of_effect(known, &effects[..at], at, effect) {
+            return Some(fault);
+        }
+    }
+    None
+}
+
+/// The function term that an effect gives a value, with that value. None where it gives none, or where that isn't defined or is out
+/// of range.
+fn value_set<K: Known>(known: &K, effect: &Effect) -> Option<(Fact, Num)>
+    ensures { result ≡ value_set (K.known known.now) effect.now }
+{
+    match effect {
+        Effect::Number(how, lifted, expr) => {
+            let term = lifted.ground();
+            let count = count_after(known, *how, &term, expr)?;
+            let number = in_range(count)?;
+            Some((term, number))
+        }
+        _ => None,
+    }
+}
+
+/// The function terms that effects give values, each with its value. The only error is want of memory.
+pub fn values_set<K: Known>(
+    alloc: Global,
+    known: &K,
+    effects: &[Effect],
+) -> Result<Vec<(Fact, Num)>, AllocError>
+    ensures { IfOk result (λ v. v.items ≡ filter_map (value_set (K.known known.now)) effects.now) }
+{
+    let mut all = Vec::new(alloc);
+    for effect in effects {
+        if let Some(one) = value_set(known, effect) {
+            all.push(one)?;
+        }
+    }
+    Ok(all)
+}

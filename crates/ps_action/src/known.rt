@@ -1,0 +1,93 @@
+//! What conditions and effects ask of what is known.
+ghost use Rattle.std.specs.Prelude.{◌≡◌};
+ghost use Rattle.std.specs.List.{list_any};
+ghost use Rattle.std.specs.Map.{lookup};
+ghost use Rattle.ps_world.specs.Names.{same_name};
+ghost use Rattle.ps_world.specs.Knowledge.{is_below, is_known, kind_of, same_fact, value_in};
+
+use ps_world::{Domain, Fact, Knowledge, Name, Num};
+
+/// What is known, which contracts see as `known` of it. Nothing here takes memory.
+pub trait Known {
+    ghost use Rattle.ps_world.specs.declared.known.Knowledge.{Knowledge as KnowledgeView};
+
+    ghost known: { Self → KnowledgeView };
+
+    /// Whether a fact is known.
+    fn has(&self, fact: &Fact) -> bool
+        ensures { result ≡ is_known (known self.now) fact.now };
+
+    /// The value of a function term. None exactly where it has none.
+    fn value(&self, term: &Fact) -> Option<Num>
+        ensures { result ≡ value_in (known self.now) term.now };
+
+    /// The type of an instance. None exactly where the name is no instance.
+    fn kind_of(&self, name: Name) -> Option<Name>
+        ensures { result ≡ kind_of (known self.now) name };
+}
+
+/// The types of a domain, which contracts see as `types` of it.
+pub trait Types {
+    ghost use Rattle.ps_world.specs.declared.domains.Domain.{Domain as DomainView};
+
+    ghost types: { Self → DomainView };
+
+    /// Whether the first type is the second or below it.
+    fn is_subtype(&self, low: Name, high: Name) -> bool
+        ensures { result ≡ is_below (types self.now) low high };
+}
+
+/// Whether the fact is one of these.
+fn is_among(facts: &[Fact], fact: &Fact) -> bool
+    ensures { result ≡ list_any (same_fact fact.now) facts.now }
+{
+    facts.iter().any(|there| fact.cmp(there).is_eq())
+}
+
+/// The value of a function term among these.
+fn value_among(values: &[(Fact, Num)], term: &Fact) -> Option<Num>
+    ensures { result ≡ lookup (same_fact term.now) values.now }
+{
+    for (there, number) in values {
+        if term.cmp(there).is_eq() {
+            return Some(*number);
+        }
+    }
+    None
+}
+
+/// The type of an instance among these.
+fn kind_among(instances: &[(Name, Name)], name: Name) -> Option<Name>
+    ensures { result ≡ lookup (same_name name) instances.now }
+{
+    for (there, kind) in instances {
+        if name == *there {
+            return Some(*kind);
+        }
+    }
+    None
+}
+
+impl Known for Knowledge {
+    ghost known = { λ k. k };
+
+    fn has(&self, fact: &Fact) -> bool {
+        is_among(self.facts.as_slice(), fact)
+    }
+
+    fn value(&self, term: &Fact) -> Option<Num> {
+        value_among(self.values.as_slice(), term)
+    }
+
+    fn kind_of(&self, name: Name) -> Option<Name> {
+        kind_among(self.instances.as_slice(), name)
+    }
+}
+
+impl Types for Domain {
+    ghost types = { λ d. d };
+
+    fn is_subtype(&self, low: Name, high: Name) -> bool {
+        self.is_below(low, high)
+    }
+}

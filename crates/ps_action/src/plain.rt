@@ -1,0 +1,93 @@
+//! The slow functions that equal the definitions. `ps_eval` has the fast ones.
+ghost use Rattle.std.specs.Prelude.{◌≡◌, Ok, IfOk, IfErr, IsOk};
+ghost use Rattle.ps_world.specs.CondViews.{cond_tree};
+ghost use Rattle.ps_world.specs.declared.domains.Domain.{Domain as DomainView};
+ghost use Rattle.ps_action.specs.Effects.{effect, made};
+ghost use Rattle.ps_action.specs.Refusals.{RefusesEffects};
+ghost use Rattle.ps_action.specs.Truth.{HasNoType, is_true};
+ghost use Rattle.ps_action.specs.declared.refusals.EffectRefusal.TheVariants.{OutOfMemory};
+
+mod lists;
+
+use self::lists::{facts_added, facts_kept, values_with};
+use crate::effects::{fault_of_effects, values_set};
+use crate::known::Types;
+use crate::refusals::EffectRefusal;
+use crate::truth::is_true;
+use ps_world::{Cond, Duplicate, Effect, Fact, Knowledge, Name, Num, Seq};
+use std::alloc::{AllocError, Global};
+
+/// The types of a domain that declares nothing, where each type stands below itself alone.
+struct NoTypes;
+
+impl Types for NoTypes {
+    ghost use Rattle.ps_action.specs.Truth.{no_domain};
+
+    ghost types = { λ t. no_domain };
+
+    fn is_subtype(&self, low: Name, high: Name) -> bool {
+        low == high
+    }
+}
+
+/// Whether a condition holds that doesn't say of an instance that it has a type. A variable counts as `object`. It takes no memory.
+pub fn holds_plain(known: &Knowledge, cond: &Cond) -> bool
+    requires { HasNoType (cond_tree cond.now) }
+    ensures { (d : DomainView) → result ≡ is_true d known.now (cond_tree cond.now) }
+{
+    is_true(known, &NoTypes, cond)
+}
+
+/// The knowledge after a list of effects, all of which read what is known before: deletes are made first, then adds, then new values.
+///
+/// It is refused at the first effect, in the order of the list, that has a fault; the faults of one effect come in this order:
+/// `Clash` where an earlier effect gives the same term a value, `Undefined`, `Range`. `OutOfMemory` comes only where nothing else
+/// refuses the effects.
+pub fn apply_plain(
+    alloc: Global,
+    known: &Knowledge,
+    effects: &[Effect],
+) -> Result<Knowledge, EffectRefusal>
+    ensures ok { IfOk result (λ new. effect known.now effects.now ≡ Ok new) }
+    ensures cause { IfErr result (λ r. RefusesEffects r (effect known.now effects.now)) }
+    ensures memory { IfErr result (λ r. r ≡ OutOfMemory → IsOk (effect known.now effects.now)) }
+{
+    if let Some(fault) = fault_of_effects(known, effects) {
+        return Err(fault);
+    }
+    let ready = values_set(alloc, known, effects)?;
+    Ok(make(alloc, known, effects, &ready)?)
+}
+
+/// What is known, copied, with the deletes of effects made, then their adds, then these values put in.
+fn make(
+    alloc: Global,
+    known: &Knowledge,
+    effects: &[Effect],
+    ready: &[(Fact, Num)],
+) -> Result<Knowledge, AllocError>
+    ensures { IfOk result (λ new. new ≡ made known.now effects.now ready.now) }
+{
+    let kept = facts_kept(alloc, known.facts.as_slice(), effects)?;
+    let facts = facts_added(alloc, kept, effects)?;
+    let values = values_with(alloc, known.values.as_slice(), ready)?;
+    Ok(Knowledge {
+        instances: known.instances.copy(alloc)?,
+        facts: Seq::of(facts),
+        values: Seq::of(values),
+        goal: copied_goal(alloc, &known.goal)?,
+    })
+}
+
+/// A goal, copied, if there is one.
+fn copied_goal(alloc: Global, goal: &Option<Cond>) -> Result<Option<Cond>, AllocError>
+    ensures { IfOk result (λ copied. copied ≡ goal.now) }
+{
+    match goal {
+        None => Ok(None),
+        Some(goal) => Ok(Some(goal.copy(alloc)?)),
+    }
+}
+
+#[cfg(test)]
+mod tests;
