@@ -16,7 +16,7 @@ at_same : (n m : Name) → is_at (name_cmp n) m ≡ same_name n m
 at_same n m = grind (arith, nat_tests)
 
 -- names are the same in either order
-same_turned : (n m : Name) → same_name n m ≡ same_name m n
+pub same_turned : (n m : Name) → same_name n m ≡ same_name m n
 same_turned n m = grind (arith, nat_tests)
 
 -- a name is looked up by its order as by its number

@@ -4,6 +4,7 @@ ghost use Rattle.std.specs.Option.{option_copied};
 ghost use Rattle.ps_world.specs.Knowledge.{is_type, is_below, predicate_of, function_of, action_of};
 
 use super::declared::Declared;
+use ps_action::Types;
 use ps_world::{ActionDef, Decl, Domain, Name};
 use std::alloc::{AllocError, Global};
 use std::marker::Model;
@@ -74,6 +75,14 @@ impl Expert {
         ensures { option_copied result ≡ action_of self.now name }
     {
         self.declared.action(name)
+    }
+}
+
+impl Types for Expert {
+    ghost types = { λ e. e };
+
+    fn is_subtype(&self, low: Name, high: Name) -> bool {
+        Expert::is_subtype(self, low, high)
     }
 }
 

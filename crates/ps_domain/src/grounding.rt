@@ -1,0 +1,114 @@
+//! Ground actions: an act's action with the arguments of the act put in.
+ghost use Rattle.std.specs.Prelude.{◌≡◌, length, Ok, IfOk, IfErr, IsOk};
+ghost use Rattle.std.specs.Map.{lookup};
+ghost use Rattle.ps_world.specs.Names.{same_name};
+ghost use Rattle.ps_action.specs.Grounding.{ground_act, grounded, unfit, first_unfit};
+ghost use Rattle.ps_action.specs.Refusals.{RefusesGround};
+ghost use Rattle.ps_action.specs.declared.refusals.GroundRefusal.TheVariants.{OutOfMemory};
+
+use super::expert::Expert;
+use super::putting::{put_effects, put_expr, put_list};
+use ps_action::{Act, GroundAction, GroundRefusal};
+use ps_world::{ActionDef, Name, Param};
+use std::alloc::{AllocError, Global};
+
+/// The type of an instance among these. None exactly where the name is none of them.
+fn kind_among(instances: &[(Name, Name)], name: Name) -> Option<Name>
+    ensures { result ≡ lookup (same_name name) instances.now }
+{
+    for there in instances {
+        if name == there.0 {
+            return Some(there.1);
+        }
+    }
+    None
+}
+
+/// Why a name of this type can't stand for a parameter, if it can't.
+fn unfit(
+    expert: &Expert,
+    kind: Option<Name>,
+    want: Name,
+    name: Name,
+    at: usize,
+) -> Option<GroundRefusal>
+    ensures { result ≡ unfit expert.now kind want name at }
+{
+    match kind {
+        None => Some(GroundRefusal::NoInstance(name)),
+        Some(kind) if expert.is_subtype(kind, want) => None,
+        Some(_) => Some(GroundRefusal::WrongType { at }),
+    }
+}
+
+/// The first argument that is no instance or doesn't fit its parameter.
+fn first_unfit(
+    expert: &Expert,
+    instances: &[(Name, Name)],
+    params: &[Param],
+    names: &[Name],
+) -> Option<GroundRefusal>
+    requires { length params.now ≡ length names.now }
+    ensures { result ≡ first_unfit expert.now instances.now params.now names.now 0 }
+{
+    for at in 0..params.len() {
+        let kind = kind_among(instances, names[at]);
+        let found = unfit(expert, kind, params[at].kind, names[at], at);
+        if found.is_some() {
+            return found;
+        }
+    }
+    None
+}
+
+/// The ground action of an act of this action. The only error is want of memory.
+pub fn grounded(alloc: Global, action: &ActionDef, act: &Act) -> Result<GroundAction, AllocError>
+    requires { length action.now.params ≡ length act.now.args }
+    ensures { IfOk result (λ g. g ≡ grounded action.now act.now) }
+{
+    let params = action.params.as_slice();
+    let args = act.args.as_slice();
+    Ok(GroundAction {
+        act: *act,
+        duration: put_expr(alloc, args, &action.duration)?,
+        start: put_list(alloc, params, args, &action.start)?,
+        over: put_list(alloc, params, args, &action.over)?,
+        end: put_list(alloc, params, args, &action.end)?,
+        at_start: put_effects(alloc, args, action.at_start.as_slice())?,
+        at_end: put_effects(alloc, args, action.at_end.as_slice())?,
+    })
+}
+
+impl Expert {
+    /// The ground action of an act among these instances, or the first refusal: `NoAction`, `Arity`, and then for each
+    /// argument `NoInstance`, `WrongType`. `OutOfMemory` comes only where nothing else refuses the act.
+    pub fn ground(
+        &self,
+        alloc: Global,
+        instances: &[(Name, Name)],
+        act: &Act,
+    ) -> Result<GroundAction, GroundRefusal>
+        ensures ok { IfOk result (λ g. ground_act self.now instances.now act.now ≡ Ok g) }
+        ensures cause { IfErr result (λ r. RefusesGround r (ground_act self.now instances.now act.now)) }
+        // Want of memory stands last.
+        ensures memory { IfErr result (λ r. r ≡ OutOfMemory → IsOk (ground_act self.now instances.now act.now)) }
+    {
+        let Some(action) = self.action(act.action) else {
+            return Err(GroundRefusal::NoAction);
+        };
+        let params = action.params.as_slice();
+        let args = act.args.as_slice();
+        let want = params.len();
+        let got = args.len();
+        if want != got {
+            return Err(GroundRefusal::Arity { want, got });
+        }
+        if let Some(fault) = first_unfit(self, instances, params, args) {
+            return Err(fault);
+        }
+        Ok(grounded(alloc, action, act)?)
+    }
+}
+
+#[cfg(test)]
+mod tests;

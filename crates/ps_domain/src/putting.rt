@@ -1,0 +1,159 @@
+//! Arguments in place of the variables of an action.
+ghost use Rattle.std.specs.Prelude.{◌≡◌, length, map, IfOk};
+ghost use Rattle.ps_world.specs.CondViews.{cond_tree};
+ghost use Rattle.ps_action.specs.Grounding.{put_term, put_lifted, put_tree, put_expr, put_cond, put_effect, fitting, put_list};
+
+use ps_world::{
+    BoxedCond, BoxedExpr, Cond, Conds, Effect, Expr, Lifted, Name, Param, Seq, Term, Terms,
+};
+use std::alloc::{AllocError, Global};
+
+/// The argument that stands for a variable: `object` where there is none.
+fn put_term(args: &[Name], term: Term) -> Term
+    ensures { result ≡ put_term args.now term }
+{
+    match term {
+        Term::Var(i) => {
+            let arg = args.get(usize::from(i)).copied();
+            Term::Const(arg.unwrap_or(Name::OBJECT))
+        }
+        Term::Const(name) => Term::Const(name),
+    }
+}
+
+fn put_lifted(alloc: Global, args: &[Name], lifted: &Lifted) -> Result<Lifted, AllocError>
+    ensures { IfOk result (λ put. put ≡ put_lifted args.now lifted.now) }
+{
+    let mut put = Vec::with_capacity(alloc, lifted.terms.len())?;
+    for term in lifted.terms.as_slice() {
+        put.push(put_term(args, *term))?;
+    }
+    // No list of terms has more than six, so there is always one of these.
+    let terms = Terms::of(put.as_slice()).ok_or(AllocError)?;
+    Ok(Lifted {
+        head: lifted.head,
+        terms,
+    })
+}
+
+/// An expression with arguments in place of its variables. The only error is want of memory.
+#[cycle(put_expr)]
+pub fn put_expr(alloc: Global, args: &[Name], expr: &Expr) -> Result<Expr, AllocError>
+    ensures { IfOk result (λ put. put ≡ put_expr args.now expr.now) }
+{
+    match expr {
+        Expr::Num(number) => Ok(Expr::Num(*number)),
+        Expr::Fun(lifted) => Ok(Expr::Fun(put_lifted(alloc, args, lifted)?)),
+        Expr::Neg(inner) => Ok(Expr::Neg(put_boxed_expr(alloc, args, inner)?)),
+        Expr::Bin(op, left, right) => {
+            let left = put_boxed_expr(alloc, args, left)?;
+            let right = put_boxed_expr(alloc, args, right)?;
+            Ok(Expr::Bin(*op, left, right))
+        }
+    }
+}
+
+#[cycle(put_expr)]
+fn put_boxed_expr(alloc: Global, args: &[Name], boxed: &BoxedExpr) -> Result<BoxedExpr, AllocError>
+    ensures { IfOk result (λ put. put ≡ put_tree args.now boxed.now) }
+{
+    let inner = put_expr(alloc, args, boxed.get())?;
+    BoxedExpr::new(alloc, inner)
+}
+
+#[cycle(put_cond)]
+fn put_cond(alloc: Global, args: &[Name], cond: &Cond) -> Result<Cond, AllocError>
+    ensures { IfOk result (λ put. cond_tree put ≡ put_cond args.now (cond_tree cond.now)) }
+{
+    match cond {
+        Cond::And(parts) => Ok(Cond::And(put_conds(alloc, args, parts)?)),
+        Cond::Not(inner) => Ok(Cond::Not(put_boxed_cond(alloc, args, inner)?)),
+        Cond::Holds(lifted) => Ok(Cond::Holds(put_lifted(alloc, args, lifted)?)),
+        Cond::Same(one, other) => Ok(Cond::Same(put_term(args, *one), put_term(args, *other))),
+        Cond::Cmp(rel, left, right) => {
+            let left = put_expr(alloc, args, left)?;
+            let right = put_expr(alloc, args, right)?;
+            Ok(Cond::Cmp(*rel, left, right))
+        }
+        Cond::IsA(term, kind) => Ok(Cond::IsA(put_term(args, *term), *kind)),
+    }
+}
+
+#[cycle(put_cond)]
+fn put_boxed_cond(alloc: Global, args: &[Name], boxed: &BoxedCond) -> Result<BoxedCond, AllocError>
+    ensures { IfOk result (λ put. put ≡ put_cond args.now boxed.now) }
+{
+    let inner = put_cond(alloc, args, boxed.get())?;
+    BoxedCond::new(alloc, inner)
+}
+
+/// Conditions with arguments in place of their variables. The only error is want of memory.
+#[cycle(put_cond)]
+pub fn put_conds(alloc: Global, args: &[Name], conds: &Conds) -> Result<Conds, AllocError>
+    ensures { IfOk result (λ put. put ≡ map (put_cond args.now) conds.now) }
+{
+    let mut put = Conds::new(alloc);
+    for cond in conds.as_slice() {
+        put.push(put_cond(alloc, args, cond)?)?;
+    }
+    Ok(put)
+}
+
+/// That each argument fits its parameter.
+fn fitting(alloc: Global, params: &[Param], args: &[Name]) -> Result<Conds, AllocError>
+    requires { length params.now ≡ length args.now }
+    ensures { IfOk result (λ conds. conds ≡ fitting params.now args.now) }
+{
+    let mut fitting = Conds::new(alloc);
+    for at in 0..params.len() {
+        fitting.push(Cond::IsA(Term::Const(args[at]), params[at].kind))?;
+    }
+    Ok(fitting)
+}
+
+/// Conditions with arguments in place of their variables, and before them that each argument fits its parameter. The only
+/// error is want of memory.
+pub fn put_list(
+    alloc: Global,
+    params: &[Param],
+    args: &[Name],
+    conds: &Conds,
+) -> Result<Conds, AllocError>
+    requires { length params.now ≡ length args.now }
+    ensures { IfOk result (λ put. put ≡ put_list params.now args.now conds.now) }
+{
+    let mut put = fitting(alloc, params, args)?;
+    for cond in conds.as_slice() {
+        put.push(put_cond(alloc, args, cond)?)?;
+    }
+    Ok(put)
+}
+
+fn put_effect(alloc: Global, args: &[Name], effect: &Effect) -> Result<Effect, AllocError>
+    ensures { IfOk result (λ put. put ≡ put_effect args.now effect.now) }
+{
+    match effect {
+        Effect::Add(lifted) => Ok(Effect::Add(put_lifted(alloc, args, lifted)?)),
+        Effect::Delete(lifted) => Ok(Effect::Delete(put_lifted(alloc, args, lifted)?)),
+        Effect::Number(how, lifted, by) => {
+            let term = put_lifted(alloc, args, lifted)?;
+            let by = put_expr(alloc, args, by)?;
+            Ok(Effect::Number(*how, term, by))
+        }
+    }
+}
+
+/// Effects with arguments in place of their variables. The only error is want of memory.
+pub fn put_effects(
+    alloc: Global,
+    args: &[Name],
+    effects: &[Effect],
+) -> Result<Seq<Effect>, AllocError>
+    ensures { IfOk result (λ put. put ≡ map (put_effect args.now) effects.now) }
+{
+    let mut put = Seq::new(alloc);
+    for effect in effects {
+        put.push(put_effect(alloc, args, effect)?)?;
+    }
+    Ok(put)
+}
