@@ -3,10 +3,15 @@ pub mod Changes
 pub mod Contained
 pub mod Facts
 pub mod Filters
+pub mod Gathered
 pub mod Goals
 pub mod Keys
 pub mod Namings
 pub mod Opening
+pub mod PutFacts
+pub mod PutSuits
+pub mod PutValues
+pub mod Puts
 pub mod Removals
 pub mod Suits
 pub mod Values

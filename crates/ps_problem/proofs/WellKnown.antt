@@ -45,7 +45,7 @@ opening_well_known d h = record {
 -- ---- what goes on to suit the domain
 
 -- the goal could be set
-abbrev CanBeGoal : Domain → Knowledge → Option Cond → Type 0
+abbrev pub CanBeGoal : Domain → Knowledge → Option Cond → Type 0
 CanBeGoal d k goal = IfSome goal (λ goal. fault_of_cond d k (cond_tree goal) ≡ None)
 
 module _ (d : Domain) (old new : Knowledge) (w : IsWellKnown d old) (keeps : (n t : Name) → kind_of old n ≡ Some t → kind_of new n ≡ Some t) where
@@ -65,7 +65,7 @@ module _ (d : Domain) (old new : Knowledge) (w : IsWellKnown d old) (keeps : (n 
   goal_kept None h = tt
   goal_kept (Some goal) h = cond_stays d old new (record { 0 = 0 }) (Unit {0}) kept (cond_tree goal) (inr tt) h
 
-  after_growth : Rises new → length new.instances ≤ most_instances → ((n t : Name) → kind_of new n ≡ Some t → is_type d t ≡ true) → ((f : Fact) → Contains new.facts f → Contains old.facts f ⊎ Suits d old (predicate_of d f.head) f.args) → ((f : Fact) (x : Num) → value_in new f ≡ Some x → (value_in old f ≡ Some x) ⊎ Suits d old (function_of d f.head) f.args) → CanBeGoal d old new.goal → IsWellKnown d new
+  pub after_growth : Rises new → length new.instances ≤ most_instances → ((n t : Name) → kind_of new n ≡ Some t → is_type d t ≡ true) → ((f : Fact) → Contains new.facts f → Contains old.facts f ⊎ Suits d old (predicate_of d f.head) f.args) → ((f : Fact) (x : Num) → value_in new f ≡ Some x → (value_in old f ≡ Some x) ⊎ Suits d old (function_of d f.head) f.args) → CanBeGoal d old new.goal → IsWellKnown d new
   after_growth rises few types facts values goal = record {
     rises = rises;
     few = few;

@@ -1,3 +1,4 @@
 pub mod Changes
 pub mod Namings
+pub mod Puts
 pub mod WellKnown

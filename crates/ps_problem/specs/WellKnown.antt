@@ -1,5 +1,5 @@
 -- That what is known suits the domain.
-use Rattle.std.specs.Prelude.{◌≡◌, ◌≤◌, false, true, Option, None, Some, Ok, List, length, All, IfSome}
+use Rattle.std.specs.Prelude.{◌≡◌, ◌≤◌, false, true, Option, None, Some, Ok, List, filter_map, length, All, IfSome}
 use Rattle.std.specs.List.{AllPairs, AllZip, Contains}
 use Rattle.ps_world.specs.Names.{same_name}
 use Rattle.ps_world.specs.CondViews.{cond_tree}
@@ -11,7 +11,9 @@ use Rattle.ps_world.specs.declared.domains.Param.{Param}
 use Rattle.ps_world.specs.declared.domains.Decl.{Decl}
 use Rattle.ps_world.specs.declared.domains.Domain.{Domain}
 use Rattle.ps_world.specs.declared.known.Knowledge.{Knowledge}
+use Rattle.ps_world.specs.declared.actions.Effect.{Effect}
 use Rattle.ps_world.specs.declared.edits.Edit.{Edit}
+use Rattle.ps_action.specs.Effects.{added_by, made}
 use Rattle.ps_problem.specs.Changes.{Rises}
 
 -- the name is an instance, and its type is the parameter's or below it
@@ -44,3 +46,12 @@ pub record HasConstants (d : Domain) : Type 0 where
 pub record EditsKeepWellKnown : Type 0 where
   pub first : (d : Domain) → HasConstants d → IsWellKnown d (opening d)
   pub next : (d : Domain) (old : Knowledge) (edit : Edit) (new : Knowledge) → edited d old edit ≡ Ok new → IsWellKnown d old → IsWellKnown d new
+
+-- each fact that is added is declared and fits, and so does each term that is given a value
+pub record PutSuits (d : Domain) (k : Knowledge) (effects : List Effect) (ready : List (Fact × Num)) : Type 0 where
+  pub facts : (f : Fact) → Contains (filter_map added_by effects) f → Suits d k (predicate_of d f.head) f.args
+  pub terms : (v : Fact × Num) → Contains ready v → Suits d k (function_of d v.0.head) v.0.args
+
+-- effects and values that suit the domain leave what is known so
+abbrev pub PutsKeepWellKnown : Type 0
+PutsKeepWellKnown = (d : Domain) (k : Knowledge) (effects : List Effect) (ready : List (Fact × Num)) → PutSuits d k effects ready → IsWellKnown d k → IsWellKnown d (made k effects ready)

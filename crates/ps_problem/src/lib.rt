@@ -1,8 +1,8 @@
-//! The problem expert: what a session knows, and the edits of it.
+//! The problem expert: what a session knows, and the edits and effects on it.
 #![tactic(auto)]
 
 mod laws;
 mod problem;
 
-pub use laws::{edits_change_what_they_say, edits_keep_well_known};
+pub use laws::{edits_change_what_they_say, edits_keep_well_known, puts_keep_well_known};
 pub use problem::Problem;

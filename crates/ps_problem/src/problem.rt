@@ -9,13 +9,14 @@ mod facts;
 mod faults;
 mod known;
 mod namings;
+mod puts;
 mod removal;
 mod values;
 
 use self::facts::Facts;
 use self::values::Values;
 use ps_domain::Expert;
-use ps_world::{Cond, Edit, EditRefusal, Name};
+use ps_world::{Cond, Duplicate, Edit, EditRefusal, Name};
 use std::alloc::{AllocError, Global};
 use std::collections::BTreeMap;
 use std::marker::Model;
@@ -56,6 +57,23 @@ impl Problem {
             facts: Facts::new(alloc),
             values: Values::new(alloc),
             goal: None,
+        })
+    }
+
+    /// An equal problem. The only error is want of memory.
+    pub fn copy(&self) -> Result<Problem, AllocError>
+        ensures { IfOk result (λ p. p ≡ self.now) }
+    {
+        let goal = match &self.goal {
+            None => None,
+            Some(goal) => Some(goal.copy(self.alloc)?),
+        };
+        Ok(Problem {
+            alloc: self.alloc,
+            instances: self.instances.clone()?,
+            facts: self.facts.copy()?,
+            values: self.values.copy()?,
+            goal,
         })
     }
 

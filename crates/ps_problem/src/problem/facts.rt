@@ -1,14 +1,18 @@
 //! The facts that are known.
-ghost use Rattle.std.specs.Prelude.{◌≡◌, ◌≢◌, [], false, true, not, filter, IfOk, OnOk, OnErr};
+ghost use Rattle.std.specs.Prelude.{◌≡◌, ◌≢◌, ℕ, [], false, true, not, ◌&&◌, filter, filter_map, fold, take, IfOk, OnOk, OnErr};
 ghost use Rattle.std.specs.List.{list_any};
+ghost use Rattle.std.specs.List.Sorted.{IsStrictlySortedBy};
 ghost use Rattle.std.specs.BTreeSet.{insert_key};
 ghost use Rattle.ps_world.specs.Names.{same_name};
 ghost use Rattle.ps_world.specs.Facts.{fact_cmp};
+ghost use Rattle.ps_world.specs.declared.facts.Fact.{Fact};
 ghost use Rattle.ps_world.specs.Knowledge.{is_among, same_fact};
+ghost use Rattle.ps_action.specs.Effects.{added_by};
 ghost use Rattle.ps_problem.specs.Namings.{AreNamed};
+ghost use Rattle.ps_problem.specs.Puts.{deleted_by, fresh_in, lost_in, without_one};
 
 use super::namings::{Naming, note, take_naming};
-use ps_world::{Fact, Name};
+use ps_world::{Effect, Fact, Name};
 use std::alloc::{AllocError, Global};
 use std::collections::BTreeSet;
 use std::marker::Model;
@@ -50,6 +54,16 @@ impl Facts {
         self.all.contains(fact)
     }
 
+    /// An equal set. The only error is want of memory.
+    pub fn copy(&self) -> Result<Facts, AllocError>
+        ensures { IfOk result (λ facts. facts ≡ self.now) }
+    {
+        Ok(Facts {
+            all: self.all.clone()?,
+            namings: self.namings.clone()?,
+        })
+    }
+
     /// Puts a fact in, and answers whether it is new. The only error is want of memory, and then nothing changes.
     pub fn insert(&mut self, fact: Fact) -> Result<bool, AllocError>
         ensures ok { OnOk result (self.new ≡ insert_key fact_cmp self.old fact) }
@@ -82,6 +96,72 @@ impl Facts {
         leave_out_named(&mut self.all, &mut self.namings, name);
     }
 
+    /// Puts these facts in. The only error is want of memory, and then some of the first may be there.
+    pub fn insert_all(&mut self, facts: &[Fact]) -> Result<(), AllocError>
+        ensures ok { OnOk result (self.new ≡ fold (insert_key fact_cmp) self.old facts.now) }
+        ensures err { OnErr result ((k : ℕ) × (self.new ≡ fold (insert_key fact_cmp) self.old (take k facts.now))) }
+    {
+        for fact in facts {
+            self.insert(*fact)?;
+        }
+        Ok(())
+    }
+
+    /// Takes these facts out, those of them that are there.
+    pub fn remove_all(&mut self, facts: &[Fact])
+        ensures { self.new ≡ fold without_one self.old facts.now }
+    {
+        for fact in facts {
+            self.remove(fact);
+        }
+    }
+
+    /// The facts that effects add and that aren't there, in the order of the effects. The only error is want of memory.
+    pub fn fresh(&self, alloc: Global, effects: &[Effect]) -> Result<Vec<Fact>, AllocError>
+        ensures fresh { IfOk result (λ v. v.items ≡ fresh_in self.now effects.now) }
+        ensures rises { OnOk result (IsStrictlySortedBy fact_cmp self.now) }
+    {
+        // A set says of its length that its items rise.
+        let _count = self.all.len();
+        let mut fresh = Vec::new(alloc);
+        for effect in effects {
+            if let Some(fact) = added(effect) {
+                if !self.contains(&fact) {
+                    fresh.push(fact)?;
+                }
+            }
+        }
+        Ok(fresh)
+    }
+
+    /// The facts that are there, that effects delete and that none of them adds, in the order of the effects. The only error
+    /// is want of memory.
+    pub fn lost(&self, alloc: Global, effects: &[Effect]) -> Result<Vec<Fact>, AllocError>
+        ensures { IfOk result (λ v. v.items ≡ lost_in self.now effects.now) }
+    {
+        let come = all_added(alloc, effects)?;
+        self.lost_but(alloc, effects, &come)
+    }
+
+    fn lost_but(
+        &self,
+        alloc: Global,
+        effects: &[Effect],
+        come: &BTreeSet<Fact>,
+    ) -> Result<Vec<Fact>, AllocError>
+        ensures { IfOk result (λ v. v.items ≡ filter (λ f. list_any (same_fact f) self.now && not (list_any (same_fact f) come.now.keys)) (filter_map deleted_by effects.now)) }
+    {
+        let mut lost = Vec::new(alloc);
+        for effect in effects {
+            if let Some(fact) = deleted(effect) {
+                if self.contains(&fact) && !come.contains(&fact) {
+                    lost.push(fact)?;
+                }
+            }
+        }
+        Ok(lost)
+    }
+
     /// The facts in their order. The only error is want of memory.
     pub fn list(&self, alloc: Global) -> Result<Vec<Fact>, AllocError>
         ensures { IfOk result (λ v. v.items ≡ self.now) }
@@ -101,6 +181,39 @@ impl Facts {
         }
         Ok(found)
     }
+}
+
+/// The fact that an effect adds. None exactly where it adds none.
+fn added(effect: &Effect) -> Option<Fact>
+    ensures { result ≡ added_by effect.now }
+{
+    match effect {
+        Effect::Add(lifted) => Some(lifted.ground()),
+        Effect::Delete(_) | Effect::Number(..) => None,
+    }
+}
+
+/// The fact that an effect deletes. None exactly where it deletes none.
+fn deleted(effect: &Effect) -> Option<Fact>
+    ensures { result ≡ deleted_by effect.now }
+{
+    match effect {
+        Effect::Delete(lifted) => Some(lifted.ground()),
+        Effect::Add(_) | Effect::Number(..) => None,
+    }
+}
+
+/// All facts that effects add. The only error is want of memory.
+fn all_added(alloc: Global, effects: &[Effect]) -> Result<BTreeSet<Fact>, AllocError>
+    ensures { IfOk result (λ s. (f : Fact) → list_any (same_fact f) s.keys ≡ list_any (same_fact f) (filter_map added_by effects.now)) }
+{
+    let mut all = BTreeSet::new(alloc);
+    for effect in effects {
+        if let Some(fact) = added(effect) {
+            all.insert(fact)?;
+        }
+    }
+    Ok(all)
 }
 
 /// Takes out every fact that names this, and each note of the name.

@@ -6,6 +6,7 @@ ghost use Rattle.ps_world.specs.Names.{same_name};
 ghost use Rattle.ps_world.specs.Knowledge.{is_below, is_known, kind_of, value_in};
 
 use super::Problem;
+use ps_action::Known;
 use ps_domain::Expert;
 use ps_world::{Cond, Fact, Name, Num};
 use std::alloc::AllocError;
@@ -83,5 +84,21 @@ impl Problem {
         ensures { IfOk result (λ v. v.items ≡ filter (λ f. same_name head f.head) self.now.facts) }
     {
         self.facts.list_of(self.alloc, head)
+    }
+}
+
+impl Known for Problem {
+    ghost known = { λ p. p };
+
+    fn has(&self, fact: &Fact) -> bool {
+        Problem::has(self, fact)
+    }
+
+    fn value(&self, term: &Fact) -> Option<Num> {
+        Problem::value(self, term)
+    }
+
+    fn kind_of(&self, name: Name) -> Option<Name> {
+        Problem::kind_of(self, name)
     }
 }

@@ -1,8 +1,9 @@
-//! Each edit beside the plain one, each refusal in its order, what a removal takes along, and the readers.
+//! Each edit beside the plain one, each refusal in its order, what a removal takes along, the readers, effects that are put in,
+//! and copies.
 use super::Problem;
 use ps_domain::Expert;
 use ps_world::{
-    Args, BoxedCond, BoxedExpr, Cond, Conds, Decl, Domain, Edit, EditRefusal, Expr, Fact,
+    Args, BoxedCond, BoxedExpr, Cond, Conds, Decl, Domain, Edit, EditRefusal, Effect, Expr, Fact,
     Knowledge, Lifted, Name, Num, Op, Param, Rel, Seq, Term, Terms, edit_plain,
 };
 use std::alloc::{AllocError, Global};
@@ -462,4 +463,169 @@ fn reads_what_is_known_and_removes_it(rt: HostRuntime) -> Result<(), Fail> {
 fn is_full_at_1000(rt: HostRuntime) -> Result<(), Fail> {
     let expert = rooms(rt.alloc())?;
     Ok(fill_new(&rt, rt.alloc(), &expert)?)
+}
+
+#[derive(Clone, Copy)]
+enum Move {
+    /// The robot comes to the room.
+    To(Name, Name),
+    /// The robot leaves the room.
+    From(Name, Name),
+}
+
+fn effect_of(step: Move) -> Result<Effect, Fail> {
+    Ok(match step {
+        Move::To(robot, room) => Effect::Add(lifted(ROBOT_AT, robot, Some(room))?),
+        Move::From(robot, room) => Effect::Delete(lifted(ROBOT_AT, robot, Some(room))?),
+    })
+}
+
+/// Whether a robot is in the hall, whether it is in the dock, and its load in whole numbers.
+type Place = (bool, bool, i64);
+
+/// Two effects, two loads in whole numbers, whether anything changes, and what is known of Leia and of the other afterwards.
+#[derive(Clone, Copy)]
+struct Put {
+    moves: [Move; 2],
+    loads: [(Name, i64); 2],
+    changed: bool,
+    after: [Place; 2],
+}
+
+/// From where both are in the hall, Leia with a load of 1 and the other with 2.
+const PUTS: [Put; 6] = [
+    Put {
+        moves: [Move::From(LEIA, HALL), Move::To(LEIA, DOCK)],
+        loads: [(LEIA, 1), (LEIA, 3)],
+        changed: true,
+        after: [(false, true, 3), (true, false, 2)],
+    },
+    // What is deleted and added stays, and the last value counts.
+    Put {
+        moves: [Move::From(LEIA, DOCK), Move::To(LEIA, DOCK)],
+        loads: [(R2D2, 5), (R2D2, 2)],
+        changed: false,
+        after: [(false, true, 3), (true, false, 2)],
+    },
+    Put {
+        moves: [Move::To(LEIA, DOCK), Move::From(LEIA, DOCK)],
+        loads: [(LEIA, 3), (R2D2, 2)],
+        changed: false,
+        after: [(false, true, 3), (true, false, 2)],
+    },
+    Put {
+        moves: [Move::From(R2D2, DOCK), Move::To(R2D2, HALL)],
+        loads: [(LEIA, 3), (R2D2, 7)],
+        changed: true,
+        after: [(false, true, 3), (true, false, 7)],
+    },
+    Put {
+        moves: [Move::From(R2D2, HALL), Move::From(R2D2, HALL)],
+        loads: [(LEIA, 3), (R2D2, 7)],
+        changed: true,
+        after: [(false, true, 3), (false, false, 7)],
+    },
+    Put {
+        moves: [Move::To(R2D2, DOCK), Move::To(R2D2, DOCK)],
+        loads: [(LEIA, 0), (LEIA, 3)],
+        changed: true,
+        after: [(false, true, 3), (false, true, 7)],
+    },
+];
+
+fn load(robot: Name, whole: i64) -> Result<(Fact, Num), Fail> {
+    Ok((fact(LOAD, &[robot])?, number(whole.saturating_mul(1000))?))
+}
+
+fn put_row(problem: &mut Problem, row: &Put) -> Result<bool, Fail> {
+    let [first, second] = row.moves;
+    let [(one, heavy), (other, light)] = row.loads;
+    let ready = [load(one, heavy)?, load(other, light)?];
+    let effects = [effect_of(first)?, effect_of(second)?];
+    Ok(problem.put(&effects, &ready)?)
+}
+
+fn is_at(problem: &Problem, robot: Name, place: Place) -> Result<bool, Fail> {
+    let (hall, dock, whole) = place;
+    let in_hall = problem.has(&fact(ROBOT_AT, &[robot, HALL])?);
+    let in_dock = problem.has(&fact(ROBOT_AT, &[robot, DOCK])?);
+    let (term, number) = load(robot, whole)?;
+    Ok(in_hall == hall && in_dock == dock && problem.value(&term) == Some(number))
+}
+
+fn put_rows(rt: &impl Abort, problem: &mut Problem) -> Result<(), Fail> {
+    for (at, row) in PUTS.iter().enumerate() {
+        assert_eq!(rt; put_row(problem, row)?, row.changed, "at {at}");
+        let [leia, other] = row.after;
+        assert!(rt; is_at(problem, LEIA, leia)?, "at {at}");
+        assert!(rt; is_at(problem, R2D2, other)?, "at {at}");
+    }
+    Ok(())
+}
+
+/// What was put in leaves with the instance that it names.
+fn remove_put(rt: &impl Abort, expert: &Expert, problem: &mut Problem) -> Result<(), Fail> {
+    assert_eq!(rt; problem.edit(expert, &Edit::RemoveInstance(R2D2)), CHANGED);
+    assert!(rt; is_at(problem, LEIA, (false, true, 3))?);
+    assert!(rt; !problem.has(&fact(ROBOT_AT, &[R2D2, DOCK])?));
+    assert_eq!(rt; problem.value(&fact(LOAD, &[R2D2])?), None);
+    Ok(())
+}
+
+fn put_all(
+    rt: &impl Abort,
+    alloc: Global,
+    expert: &Expert,
+    problem: &mut Problem,
+) -> Result<(), Fail> {
+    make_beside(rt, alloc, expert, problem, &OF_TWO)?;
+    put_rows(rt, problem)?;
+    remove_put(rt, expert, problem)
+}
+
+fn put_in_new(rt: &impl Abort, alloc: Global, expert: &Expert) -> Result<(), Fail> {
+    let mut problem = Problem::new(alloc, expert)?;
+    put_all(rt, alloc, expert, &mut problem)
+}
+
+#[test]
+fn puts_deletes_adds_and_values(rt: HostRuntime) -> Result<(), Fail> {
+    let expert = rooms(rt.alloc())?;
+    put_in_new(&rt, rt.alloc(), &expert)
+}
+
+/// An edit of the copy leaves what it was copied from.
+fn edit_copy(
+    rt: &impl Abort,
+    expert: &Expert,
+    problem: &Problem,
+    copy: &mut Problem,
+) -> Result<(), Fail> {
+    reads(rt, expert, copy)?;
+    assert!(rt; copy.goal() == problem.goal());
+    assert_eq!(rt; copy.edit(expert, &Edit::RemoveInstance(LEIA)), CHANGED);
+    assert!(rt; is_of_r2d2(copy)?);
+    reads(rt, expert, problem)
+}
+
+fn copy_and_edit(
+    rt: &impl Abort,
+    alloc: Global,
+    expert: &Expert,
+    problem: &mut Problem,
+) -> Result<(), Fail> {
+    make_beside(rt, alloc, expert, problem, &OF_TWO)?;
+    let mut copy = problem.copy()?;
+    edit_copy(rt, expert, problem, &mut copy)
+}
+
+fn copy_new(rt: &impl Abort, alloc: Global, expert: &Expert) -> Result<(), Fail> {
+    let mut problem = Problem::new(alloc, expert)?;
+    copy_and_edit(rt, alloc, expert, &mut problem)
+}
+
+#[test]
+fn copies_are_equal_and_apart(rt: HostRuntime) -> Result<(), Fail> {
+    let expert = rooms(rt.alloc())?;
+    copy_new(&rt, rt.alloc(), &expert)
 }

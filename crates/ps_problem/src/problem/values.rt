@@ -1,11 +1,13 @@
 //! The values of functions that are known.
-ghost use Rattle.std.specs.Prelude.{◌≡◌, ◌≢◌, [], false, true, not, filter, is_some, IfOk, OnOk, OnErr};
-ghost use Rattle.std.specs.Map.{lookup, keys_of};
+ghost use Rattle.std.specs.Prelude.{◌≡◌, ◌≢◌, ◌↔◌, ℕ, [], false, true, not, filter, fold, take, is_some, All, IfOk, OnOk, OnErr, IsTrue};
+ghost use Rattle.std.specs.Map.{lookup, keys_of, set_value};
 ghost use Rattle.std.specs.List.Sorted.{IsStrictlySortedBy};
 ghost use Rattle.std.specs.BTreeMap.{insert_entry};
 ghost use Rattle.ps_world.specs.Facts.{fact_cmp};
 ghost use Rattle.ps_world.specs.Knowledge.{is_among, same_fact};
+ghost use Rattle.ps_action.specs.Effects.{with_value};
 ghost use Rattle.ps_problem.specs.Namings.{AreNamed};
+ghost use Rattle.ps_problem.specs.Puts.{held_in, put_back, with_held};
 
 use super::namings::{Naming, note, take_naming};
 use ps_world::{Fact, Name, Num};
@@ -46,6 +48,16 @@ impl Values {
         }
     }
 
+    /// Equal values. The only error is want of memory.
+    pub fn copy(&self) -> Result<Values, AllocError>
+        ensures { IfOk result (λ values. values ≡ self.now) }
+    {
+        Ok(Values {
+            all: self.all.clone()?,
+            namings: self.namings.clone()?,
+        })
+    }
+
     /// The value that the function has there. None exactly where it has none.
     pub fn get(&self, fact: &Fact) -> Option<Num>
         ensures { result ≡ lookup (same_fact fact.now) self.now }
@@ -84,6 +96,76 @@ impl Values {
         leave_out_named(&mut self.all, &mut self.namings, name);
     }
 
+    /// Sets these values one after another. The only error is want of memory, and then some of the first may be set.
+    pub fn insert_all(&mut self, ready: &[(Fact, Num)]) -> Result<(), AllocError>
+        ensures ok { OnOk result (self.new ≡ fold with_value self.old ready.now) }
+        ensures err { OnErr result ((k : ℕ) × (self.new ≡ fold with_value self.old (take k ready.now))) }
+    {
+        for (term, number) in ready {
+            self.insert(*term, *number)?;
+        }
+        Ok(())
+    }
+
+    /// The terms of these values, each with the value that it has here. The only error is want of memory.
+    pub fn held(
+        &self,
+        alloc: Global,
+        ready: &[(Fact, Num)],
+    ) -> Result<Vec<(Fact, Option<Num>)>, AllocError>
+        ensures held { IfOk result (λ v. v.items ≡ held_in self.now ready.now) }
+        ensures rises { OnOk result (IsStrictlySortedBy fact_cmp (keys_of self.now)) }
+    {
+        // A map says of its length that its keys rise.
+        let _count = self.all.len();
+        let mut held = Vec::with_capacity(alloc, ready.len())?;
+        for (term, _) in ready {
+            held.push((*term, self.get(term)))?;
+        }
+        Ok(held)
+    }
+
+    /// Whether each of these terms has the value that it held.
+    pub fn are_held(&self, held: &[(Fact, Option<Num>)]) -> bool
+        ensures { IsTrue result ↔ All (λ h. lookup (same_fact h.0) self.now ≡ h.1) held.now }
+    {
+        for (term, value) in held {
+            if !is_same(self.get(term), *value) {
+                return false;
+            }
+        }
+        true
+    }
+
+    /// Gives each of these terms the value that it held; a number only where it has a value now.
+    pub fn put_back_all(&mut self, held: &[(Fact, Option<Num>)])
+        ensures { self.new ≡ fold with_held self.old held.now }
+    {
+        for (term, value) in held {
+            self.put_back(term, *value);
+        }
+    }
+
+    fn put_back(&mut self, term: &Fact, value: Option<Num>)
+        ensures { self.new ≡ put_back self.old term.now value }
+    {
+        match value {
+            None => {
+                self.remove(term);
+            }
+            Some(number) => self.replace(term, number),
+        }
+    }
+
+    /// Gives a term that has a value another one. It takes no memory.
+    fn replace(&mut self, term: &Fact, number: Num)
+        ensures { self.new ≡ set_value (same_fact term.now) self.old number }
+    {
+        if let Some(place) = self.all.get_mut(term) {
+            *place = number;
+        }
+    }
+
     /// The functions at their arguments with their values, in order. The only error is want of memory.
     pub fn list(&self, alloc: Global) -> Result<Vec<(Fact, Num)>, AllocError>
         ensures { IfOk result (λ v. v.items ≡ self.now) }
@@ -93,6 +175,17 @@ impl Values {
             all.push((*fact, *number))?;
         }
         Ok(all)
+    }
+}
+
+/// Whether two values are the same.
+fn is_same(a: Option<Num>, b: Option<Num>) -> bool
+    ensures { IsTrue result ↔ (a ≡ b) }
+{
+    match (a, b) {
+        (Some(a), Some(b)) => a == b,
+        (None, None) => true,
+        _ => false,
     }
 }
 
