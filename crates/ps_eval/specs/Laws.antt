@@ -1,0 +1,20 @@
+-- A law of truth.
+use Rattle.std.specs.Prelude.{◌≡◌, List, All}
+use Rattle.ps_world.specs.Trees.{CondTree}
+use Rattle.ps_world.specs.Knowledge.{is_known, kind_of, value_in}
+use Rattle.ps_world.specs.declared.domains.Domain.{Domain}
+use Rattle.ps_world.specs.declared.known.Knowledge.{Knowledge}
+use Rattle.ps_action.specs.Truth.{all_true}
+use Rattle.ps_eval.specs.declared.touched.Touched.{Touched}
+use Rattle.ps_eval.specs.declared.touched.Touched.TheVariants.{Fact, Value, Instance}
+use Rattle.ps_eval.specs.Touching.{read_by_list}
+
+-- this thing is the same in both
+abbrev pub Agree : Knowledge → Knowledge → Touched → Type 0
+Agree one other (Fact f) = is_known one f ≡ is_known other f
+Agree one other (Value f) = value_in one f ≡ value_in other f
+Agree one other (Instance n) = kind_of one n ≡ kind_of other n
+
+-- conditions hold in both or in neither, where all that they read is the same in both
+abbrev pub TruthReadsWhatIsNamed : Type 0
+TruthReadsWhatIsNamed = (d : Domain) (one other : Knowledge) (cs : List CondTree) → All (Agree one other) (read_by_list cs) → all_true d one cs ≡ all_true d other cs

@@ -1,0 +1,13 @@
+//! Conditions and effects over what a session knows.
+#![tactic(auto)]
+
+mod evaluation;
+mod laws;
+mod touched;
+
+pub use evaluation::{apply, defined, duration, holds, holds_all};
+pub use laws::truth_reads_what_is_named;
+pub use touched::{Touched, changed_by, edited_by, reads};
+
+#[cfg(test)]
+mod tests;

@@ -1,0 +1,147 @@
+//! What conditions read and what effects and edits change.
+ghost use Rattle.std.specs.Prelude.{◌≡◌, [], ◌∷◌, ◌++◌, map, IfOk, OnOk};
+ghost use Rattle.ps_world.specs.CondViews.{cond_tree};
+ghost use Rattle.ps_world.specs.ExprViews.{expr_tree};
+ghost use Rattle.ps_world.specs.Knowledge.{name_of};
+ghost use Rattle.ps_eval.specs.declared.touched.Touched.TheVariants.{Instance};
+ghost use Rattle.ps_eval.specs.Touching.{arguments, changed_by_edit, changed_by_effect, read_by, read_by_expr, read_by_list};
+
+use ps_world::{
+    BoxedCond, BoxedExpr, Cond, Conds, Edit, Effect, Expr, Fact as GroundFact, Lifted, Name, Term,
+};
+use std::alloc::{AllocError, Global};
+
+/// One thing that can change.
+#[derive(Clone, Copy, PartialEq, Eq)]
+pub enum Touched {
+    /// Whether the fact is known.
+    Fact(GroundFact),
+    /// The value of the function term.
+    Value(GroundFact),
+    /// Whether the name is an instance, and of which type.
+    Instance(Name),
+}
+
+fn push_name(term: &Term, all: &mut Vec<Touched>) -> Result<(), AllocError>
+    ensures { OnOk result (all.new.items ≡ all.old.items ++ Instance (name_of term.now) ∷ []) }
+{
+    all.push(Touched::Instance(term.name()))?;
+    Ok(())
+}
+
+fn push_arguments(lifted: &Lifted, all: &mut Vec<Touched>) -> Result<(), AllocError>
+    ensures { OnOk result (all.new.items ≡ all.old.items ++ arguments lifted.now) }
+{
+    for term in lifted.terms.as_slice() {
+        push_name(term, all)?;
+    }
+    Ok(())
+}
+
+#[cycle(expr)]
+fn push_expr(expr: &Expr, all: &mut Vec<Touched>) -> Result<(), AllocError>
+    ensures { OnOk result (all.new.items ≡ all.old.items ++ read_by_expr (expr_tree expr.now)) }
+{
+    match expr {
+        Expr::Num(_) => Ok(()),
+        Expr::Fun(lifted) => {
+            all.push(Touched::Value(lifted.ground()))?;
+            push_arguments(lifted, all)
+        }
+        Expr::Neg(inner) => push_boxed_expr(inner, all),
+        Expr::Bin(_, left, right) => {
+            push_boxed_expr(left, all)?;
+            push_boxed_expr(right, all)
+        }
+    }
+}
+
+#[cycle(expr)]
+fn push_boxed_expr(expr: &BoxedExpr, all: &mut Vec<Touched>) -> Result<(), AllocError>
+    ensures { OnOk result (all.new.items ≡ all.old.items ++ read_by_expr expr.now) }
+{
+    push_expr(expr.get(), all)
+}
+
+#[cycle(cond)]
+fn push_cond(cond: &Cond, all: &mut Vec<Touched>) -> Result<(), AllocError>
+    ensures { OnOk result (all.new.items ≡ all.old.items ++ read_by (cond_tree cond.now)) }
+{
+    match cond {
+        Cond::And(parts) => push_conds(parts, all),
+        Cond::Not(inner) => push_boxed_cond(inner, all),
+        Cond::Holds(lifted) => {
+            all.push(Touched::Fact(lifted.ground()))?;
+            push_arguments(lifted, all)
+        }
+        Cond::Same(one, other) => {
+            push_name(one, all)?;
+            push_name(other, all)
+        }
+        Cond::Cmp(_, left, right) => {
+            push_expr(left, all)?;
+            push_expr(right, all)
+        }
+        Cond::IsA(term, _) => push_name(term, all),
+    }
+}
+
+#[cycle(cond)]
+fn push_boxed_cond(cond: &BoxedCond, all: &mut Vec<Touched>) -> Result<(), AllocError>
+    ensures { OnOk result (all.new.items ≡ all.old.items ++ read_by cond.now) }
+{
+    push_cond(cond.get(), all)
+}
+
+#[cycle(cond)]
+fn push_conds(conds: &Conds, all: &mut Vec<Touched>) -> Result<(), AllocError>
+    ensures { OnOk result (all.new.items ≡ all.old.items ++ read_by_list conds.now) }
+{
+    for cond in conds.as_slice() {
+        push_cond(cond, all)?;
+    }
+    Ok(())
+}
+
+/// What a list of conditions reads: each fact and function term that stands in it, and each name that stands there as an
+/// argument, in a `(= a b)` or where its type is asked for. One thing may be named twice. The only error is want of memory.
+pub fn reads(alloc: Global, conds: &Conds) -> Result<Vec<Touched>, AllocError>
+    ensures { IfOk result (λ v. v.items ≡ read_by_list conds.now) }
+{
+    let mut all = Vec::new(alloc);
+    push_conds(conds, &mut all)?;
+    Ok(all)
+}
+
+fn changed_by_effect(effect: &Effect) -> Touched
+    ensures { result ≡ changed_by_effect effect.now }
+{
+    match effect {
+        Effect::Add(lifted) | Effect::Delete(lifted) => Touched::Fact(lifted.ground()),
+        Effect::Number(_, lifted, _) => Touched::Value(lifted.ground()),
+    }
+}
+
+/// What a list of effects changes: each fact that it adds or deletes, and each function term that it gives a value. One thing may
+/// be named twice. The only error is want of memory.
+pub fn changed_by(alloc: Global, effects: &[Effect]) -> Result<Vec<Touched>, AllocError>
+    ensures { IfOk result (λ v. v.items ≡ map changed_by_effect effects.now) }
+{
+    let mut all = Vec::new(alloc);
+    for effect in effects {
+        all.push(changed_by_effect(effect))?;
+    }
+    Ok(all)
+}
+
+/// What an edit changes. None exactly for the two edits of the goal. A removed instance takes what names it with it.
+pub fn edited_by(edit: &Edit) -> Option<Touched>
+    ensures { result ≡ changed_by_edit edit.now }
+{
+    match edit {
+        Edit::AddInstance(name, _) | Edit::RemoveInstance(name) => Some(Touched::Instance(*name)),
+        Edit::AddFact(fact) | Edit::RemoveFact(fact) => Some(Touched::Fact(*fact)),
+        Edit::SetValue(term, _) | Edit::RemoveValue(term) => Some(Touched::Value(*term)),
+        Edit::SetGoal(_) | Edit::RemoveGoal => None,
+    }
+}
