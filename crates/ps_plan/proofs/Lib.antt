@@ -1,0 +1,11 @@
+pub mod Copies
+pub mod Limits
+pub mod LineParts
+pub mod NamedParts
+pub mod PartSteps
+pub mod PlanNames
+pub mod PrintedLines
+pub mod PrintedNames
+pub mod PrintedParts
+pub mod PrintedPlans
+pub mod Rising

@@ -1,0 +1,10 @@
+use Rattle.std.proofs.Common.{◌≡◌, [], length}
+use Rattle.ps_plan.specs.PlanText.{planned, said_by}
+use Rattle.ps_plan.proofs.reading.read_steps.Given as goal
+
+-- the steps are those of all lines if those that stand are gone on with by the lines that are left
+abbrev pub invariant-loop-rest : goal.invariant-loop-rest
+invariant-loop-rest l = planned l.fn.names [] (said_by l.bytes) ≡ planned l.names l.steps.items (said_by l.rest)
+
+abbrev pub decreases-loop-rest : goal.decreases-loop-rest
+decreases-loop-rest l = length l.rest

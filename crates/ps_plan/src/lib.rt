@@ -1,0 +1,24 @@
+//! Plans: their texts, their judging and their times.
+#![tactic(auto)]
+
+mod faults;
+mod judging;
+mod laws;
+mod lines;
+mod naming;
+mod parts;
+mod printing;
+mod reading;
+mod refusals;
+mod steps;
+#[cfg(test)]
+mod tests;
+mod timing;
+
+pub use faults::MOST_STEPS;
+pub use judging::check_plan;
+pub use laws::{printed_plans_are_read, timed_plans_rise};
+pub use printing::print_plan;
+pub use reading::read_plan;
+pub use refusals::PlanTextRefusal;
+pub use timing::timed;

@@ -1,0 +1,61 @@
+//! Reading the text of a plan.
+ghost use Rattle.std.specs.Prelude.{◌≡◌, ◌≤◌, [], length, None, All, IfErr, IfOk, OnErr, OnOk};
+ghost use Rattle.ps_text.specs.Names.{AreNames};
+ghost use Rattle.ps_plan.specs.PlanText.{IsPlan, IsStepOf, RefusesPlan, plan_fault, planned, said_by};
+ghost use Rattle.ps_plan.specs.declared.refusals.PlanTextRefusal.TheVariants.{OutOfMemory};
+
+use super::faults::plan_fault;
+use super::lines::{first_line, says};
+use super::naming::copy_of;
+use super::refusals::PlanTextRefusal;
+use super::steps::{place, step_of};
+use ps_action::PlanStep;
+use ps_text::Names;
+use std::alloc::{AllocError, Global};
+
+/// The steps that the lines of a text without a fault say, in the order of time. Their names are put into the table.
+fn read_steps(alloc: Global, names: &mut Names, bytes: &[u8]) -> Result<Vec<PlanStep>, AllocError>
+    requires { plan_fault bytes.now ≡ None }
+    ensures steps { IfOk result (λ steps. planned names.old [] (said_by bytes.now) ≡ (steps.items, names.new)) }
+{
+    let mut steps = Vec::new(alloc);
+    let mut rest = bytes;
+    while !rest.is_empty() {
+        let (line, after) = first_line(rest);
+        if let Some(said) = says(line) {
+            place(step_of(names, &said)?, &mut steps)?;
+        }
+        rest = after;
+    }
+    Ok(steps)
+}
+
+/// The plan that a text is, its steps in the order of time. Steps of equal times keep the order of the text.
+///
+/// A line says a step as `TIME: (ACTION NAME*) [DURATION]`, with at most 6 names, and numbers that aren't negative. Blank lines, and lines
+/// whose first byte is `;`, say nothing. The names are put into the table in the order of the text.
+///
+/// It refuses the first line that is out of the grammar (`Line`), or that says the 257th step (`Long`), whichever comes first, and
+/// `OutOfMemory` only where no line is at fault. A refusal changes nothing.
+pub fn read_plan(
+    alloc: Global,
+    names: &mut Names,
+    bytes: &[u8],
+) -> Result<Vec<PlanStep>, PlanTextRefusal>
+    ensures ok { IfOk result (λ steps. IsPlan names.old bytes.now steps.items names.new) }
+    ensures cause { IfErr result (λ refusal. RefusesPlan refusal bytes.now) }
+    ensures memory { IfErr result (λ refusal. refusal ≡ OutOfMemory → plan_fault bytes.now ≡ None) }
+    ensures err { OnErr result (names.new ≡ names.old) }
+    ensures few { IfOk result (λ steps. length steps.items ≤ 256) }
+    ensures named { IfOk result (λ steps. All (IsStepOf (length names.new)) steps.items) }
+    ensures grows { OnOk result (length names.old ≤ length names.new) }
+    ensures names { OnOk result (AreNames names.new) }
+{
+    if let Some(fault) = plan_fault(bytes) {
+        return Err(fault);
+    }
+    let mut more = copy_of(alloc, names)?;
+    let steps = read_steps(alloc, &mut more, bytes)?;
+    *names = more;
+    Ok(steps)
+}
