@@ -1,10 +1,10 @@
 -- The lines up to the first `quit`.
 use Rattle.std.proofs.Common.{◌≡◌, ℕ, ◌≤◌, List, [], ◌∷◌, ◌++◌, All, length, take, drop, arith}
 use Rattle.std.proofs.lemmas.List.Elements.{All-nil, All-cons, All-head, All-tail}
-use Rattle.ps_world.specs.History.{due_lines}
-use Rattle.ps_world.specs.declared.inputs.Command.TheVariants as command
-use Rattle.ps_world.specs.declared.inputs.Line.{Line}
-use Rattle.ps_world.specs.declared.inputs.Line.TheVariants.{Good, Bad}
+use Rattle.ps_machine.specs.History.{due_lines}
+use Rattle.ps_machine.specs.declared.inputs.Command.TheVariants as command
+use Rattle.ps_machine.specs.declared.inputs.Line.{Line}
+use Rattle.ps_machine.specs.declared.inputs.Line.TheVariants.{Good, Bad}
 
 -- the lines before a place are due, and those from there on up to a `quit`
 abbrev pub IsDueUpTo : List Line → ℕ → Type 0

@@ -1,26 +1,26 @@
 -- A script with its files, line by line.
-use Rattle.std.proofs.Common.{◌≡◌, ℕ, zero, suc, ◌+◌, ◌<◌, ◌≤◌, inl, inr, Bool, true, false, if◌then◌else◌, nat_lt, Option, Some, None, IfSome, Result, Ok, Err, IfOk, IfErr, List, [], ◌∷◌, ◌++◌, length, take, drop, get_or, slice_range, refl, sym, ap, ◌∙◌, subst, arith}
+use Rattle.std.proofs.Common.{◌≡◌, ℕ, zero, suc, ◌+◌, ◌<◌, ◌≤◌, inl, inr, Bool, true, false, if◌then◌else◌, nat_lt, Option, Some, None, IfSome, Result, Ok, Err, IfOk, IfErr, List, [], ◌∷◌, ◌++◌, length, take, drop, get_or, slice_range, refl, sym, ap, ◌∙◌, subst, arith, ◌&&◌}
 use Rattle.std.proofs.lemmas.Bool.Decides.{nat_tests}
 use Rattle.std.proofs.Common.{drop-cons}
-use Rattle.std.proofs.Math.Seq.{take-suc, take-length}
+use Rattle.std.proofs.Math.Seq.{take-suc}
 use Rattle.std.proofs.lemmas.List.{map-append, take-append-drop}
 use Rattle.ps_world.specs.Names.{Table}
 use Rattle.ps_world.specs.Lines.{lines_of, same_text}
 use Rattle.ps_text.specs.Words.{pieces}
 use Rattle.ps_text.specs.declared.spans.Span.{Span}
 use Rattle.ps_text.proofs.Tables.{same_text-refl}
-use Rattle.ps_script.specs.Files.{after_run, file_in, is_source}
-use Rattle.ps_script.specs.Lines.{IsRead, is_nothing}
+use Rattle.ps_script.specs.Files.{after_run, file_in, is_run_plan, is_source}
+use Rattle.ps_script.specs.Lines.{IsPlain, IsRead, is_nothing}
 use Rattle.ps_script.specs.Lines.IsRead.{nothing, source, source_nothing, run_plan, run_nothing, without_class, without_number, without_form, without_shape, unbuilt, good}
 use Rattle.ps_script.specs.declared.reading.Read.{Read}
 use Rattle.ps_script.specs.declared.reading.Read.TheVariants as read
-use Rattle.plansys.specs.Flats.{Texts, Flat, IsKind, MayBe, and_then, flatten, longest_file, most_lines, lines_line, on_source, sourced, step, too_long_line, walk, with_file, with_line, with_text_line, without}
+use Rattle.plansys.specs.Flats.{Texts, Flat, IsKind, MayBe, and_then, flatten, longest_file, most_lines, lines_line, on_source, sourced, step, too_long_line, walk, with_file, with_line, with_plan_line, with_text_line, without}
 use Rattle.plansys.specs.Flats.Flat.{lines, fault, missing}
 use Rattle.plansys.specs.Faults.{IsCut, IsFull, IsNotHad}
 use Rattle.plansys.specs.declared.reading.flatten.Flattened.{Flattened}
-use Rattle.plansys.specs.declared.reading.flatten.Flattened.TheVariants.{TooDeep}
+use Rattle.plansys.specs.declared.reading.flatten.Flattened.TheVariants.{Plan, TooDeep}
 use Rattle.plansys.specs.declared.reading.flatten.Kind.{Kind}
-use Rattle.plansys.specs.declared.reading.flatten.Kind.TheVariants.{Nothing, Source, Command}
+use Rattle.plansys.specs.declared.reading.flatten.Kind.TheVariants.{Nothing, Source, RunPlan, Command}
 use Rattle.plansys.specs.declared.faults.Fault.TheVariants.{Usage, NoDomain, TooLong, Lines, Unread}
 use Rattle.plansys.specs.declared.faults.Stop.{Stop}
 use Rattle.plansys.specs.declared.faults.Stop.TheVariants.{Due, Broken}
@@ -47,10 +47,10 @@ and_then-assoc (lines now false) y z = refl
 and_then-assoc (fault s l) y z = refl
 and_then-assoc missing y z = refl
 
-walk-append : (on : List ℕ → List Flattened → Flat) (xs ys : List (List ℕ)) (before : List Flattened) → walk on (xs ++ ys) before ≡ and_then (walk on xs before) (walk on ys)
-walk-append on [] ys before = refl
-walk-append on (x ∷ xs) ys before =
-    ap (and_then (step on x before)) (λ i now. walk-append on xs ys now i) ∙ sym (and_then-assoc (step on x before) (walk on xs) (walk on ys))
+walk-append : (plans : Bool) (texts : Texts) (on : List ℕ → List Flattened → Flat) (xs ys : List (List ℕ)) (before : List Flattened) → walk plans texts on (xs ++ ys) before ≡ and_then (walk plans texts on xs before) (walk plans texts on ys)
+walk-append plans texts on [] ys before = refl
+walk-append plans texts on (x ∷ xs) ys before =
+    ap (and_then (step plans texts on x before)) (λ i now. walk-append plans texts on xs ys now i) ∙ sym (and_then-assoc (step plans texts on x before) (walk plans texts on xs) (walk plans texts on ys))
 
 -- ---- what isn't told of one file more
 
@@ -83,28 +83,36 @@ with_file-narrow file use_of n texts other = by_case (same_text file other) wher
   by_case true = inr refl
   by_case false = told_narrow file use_of n texts other (texts file)
 
-module _ (on : Texts → List ℕ → List Flattened → Flat) (n : (file : List ℕ) (before : List Flattened) → IsNarrow (λ t. on t file before)) where
+plan_line-narrow : (bytes : List ℕ) (before : List Flattened) (named : Option (List ℕ)) → IsNarrow (λ t. with_plan_line t bytes before named)
+plan_line-narrow bytes before None texts file = inl refl
+plan_line-narrow bytes before (Some other) texts file = by_case (nat_lt (length before) most_lines) where
+  by_case : (b : Bool) → MayBe (if b then with_file other (λ plan. lines (before ++ Plan bytes plan ∷ []) false) (without file texts other) else fault 3 lines_line) (if b then with_file other (λ plan. lines (before ++ Plan bytes plan ∷ []) false) (texts other) else fault 3 lines_line)
+  by_case true = with_file-narrow other (λ t plan. lines (before ++ Plan bytes plan ∷ []) false) (λ plan t f. inl refl) texts file
+  by_case false = inl refl
+
+module _ (plans : Bool) (on : Texts → List ℕ → List Flattened → Flat) (n : (file : List ℕ) (before : List Flattened) → IsNarrow (λ t. on t file before)) where
   sourced-narrow : (bytes : List ℕ) (before : List Flattened) (named : Option (List ℕ)) → IsNarrow (λ t. sourced (on t) bytes before named)
   sourced-narrow bytes before None texts file = inl refl
   sourced-narrow bytes before (Some other) texts file = n other before texts file
 
-  step-narrow : (bytes : List ℕ) (before : List Flattened) → IsNarrow (λ t. step (on t) bytes before)
-  step-narrow bytes before texts file = by_case (is_nothing bytes) (is_source bytes) where
-    by_case : (a b : Bool) → MayBe (if a then lines before false else (if b then sourced (on (without file texts)) bytes before (file_in (after_run bytes)) else with_text_line bytes before)) (if a then lines before false else (if b then sourced (on texts) bytes before (file_in (after_run bytes)) else with_text_line bytes before))
-    by_case true b = inl refl
-    by_case false true = sourced-narrow bytes before (file_in (after_run bytes)) texts file
-    by_case false false = inl refl
+  step-narrow : (bytes : List ℕ) (before : List Flattened) → IsNarrow (λ t. step plans t (on t) bytes before)
+  step-narrow bytes before texts file = by_case (is_nothing bytes) (is_source bytes) (plans && is_run_plan bytes) where
+    by_case : (a b c : Bool) → MayBe (if a then lines before false else (if b then sourced (on (without file texts)) bytes before (file_in (after_run bytes)) else (if c then with_plan_line (without file texts) bytes before (file_in (after_run (after_run bytes))) else with_text_line bytes before))) (if a then lines before false else (if b then sourced (on texts) bytes before (file_in (after_run bytes)) else (if c then with_plan_line texts bytes before (file_in (after_run (after_run bytes))) else with_text_line bytes before)))
+    by_case true b c = inl refl
+    by_case false true c = sourced-narrow bytes before (file_in (after_run bytes)) texts file
+    by_case false false true = plan_line-narrow bytes before (file_in (after_run (after_run bytes))) texts file
+    by_case false false false = inl refl
 
-  walk-narrow : (ls : List (List ℕ)) (before : List Flattened) → IsNarrow (λ t. walk (on t) ls before)
+  walk-narrow : (ls : List (List ℕ)) (before : List Flattened) → IsNarrow (λ t. walk plans t (on t) ls before)
   walk-narrow [] before texts file = inl refl
   walk-narrow (bytes ∷ ls) before texts file =
-      and_then-narrow (λ t. step (on t) bytes before) (λ t now. walk (on t) ls now) (step-narrow bytes before) (λ now. walk-narrow ls now) texts file
+      and_then-narrow (λ t. step plans t (on t) bytes before) (λ t now. walk plans t (on t) ls now) (step-narrow bytes before) (λ now. walk-narrow ls now) texts file
 
-pub on_source-narrow : (n : ℕ) (file : List ℕ) (before : List Flattened) → IsNarrow (λ t. on_source n t file before)
+pub on_source-narrow : (plans : Bool) (n : ℕ) (file : List ℕ) (before : List Flattened) → IsNarrow (λ t. on_source plans n t file before)
 unfolding on_source
-on_source-narrow zero file before texts other = inl refl
-on_source-narrow (suc n) file before texts other =
-    with_file-narrow file (λ t text. walk (on_source n t) (lines_of text) before) (λ text. walk-narrow (λ t. on_source n t) (λ f b. on_source-narrow n f b) (lines_of text) before) texts other
+on_source-narrow plans zero file before texts other = inl refl
+on_source-narrow plans (suc n) file before texts other =
+    with_file-narrow file (λ t text. walk plans t (on_source plans n t) (lines_of text) before) (λ text. walk-narrow plans (λ t. on_source plans n t) (λ f b. on_source-narrow plans n f b) (lines_of text) before) texts other
 
 -- ---- where flattening is cut off
 
@@ -193,46 +201,36 @@ abbrev pub kind : Read → Kind
 kind read.Nothing = Nothing
 kind (read.Line line) = Command
 kind (read.Source file) = Source file
-kind (read.RunPlan file) = Command
+kind (read.RunPlan file) = RunPlan file
+
+plain_is : (bytes : List ℕ) → IsPlain bytes → IsKind bytes Command
+plain_is bytes plain = (plain.something, inr (plain.no_source, inl plain.no_plan))
 
 pub is_kind : (t : Table) (bytes : List ℕ) (r : Read) (after : Table) → IsRead t bytes r after → IsKind bytes (kind r)
 is_kind t bytes r after h =
     elim h as (λ r a i. IsKind bytes (kind r)) [
       | nothing e ↦ e
       | source file some is e ↦ (some, is, e)
-      | source_nothing some is e ↦ (some, inr e)
-      | run_plan file some other is e ↦ (some, inl other)
-      | run_nothing some other is e ↦ (some, inl other)
-      | without_class at plain f ↦ (plain.something, inl plain.no_source)
-      | without_number at plain f ↦ (plain.something, inl plain.no_source)
-      | without_form tokens plain are e ↦ (plain.something, inl plain.no_source)
-      | without_shape form tokens i plain are is f ↦ (plain.something, inl plain.no_source)
-      | unbuilt form tokens is e ↦ (is.plain.something, inl is.plain.no_source)
-      | good form tokens ls a ts command is words spelt e ↦ (is.plain.something, inl is.plain.no_source)
+      | source_nothing some is e ↦ (some, inl (is, e))
+      | run_plan file some other is e ↦ (some, other, is, e)
+      | run_nothing some other is e ↦ (some, inr (other, inr e))
+      | without_class at plain f ↦ plain_is bytes plain
+      | without_number at plain f ↦ plain_is bytes plain
+      | without_form tokens plain are e ↦ plain_is bytes plain
+      | without_shape form tokens i plain are is f ↦ plain_is bytes plain
+      | unbuilt form tokens is e ↦ plain_is bytes is.plain
+      | good form tokens ls a ts command is words spelt e ↦ plain_is bytes is.plain
     ]
 
 -- what a line is, where it was told
 pub kind_is : (t : Table) (bytes : List ℕ) (r other : Read) (after : Table) → r ≡ other → IsRead t bytes r after → IsKind bytes (kind other)
 kind_is t bytes r other after e h = subst (λ (x : Read). IsKind bytes (kind x)) e (is_kind t bytes r after h)
 
-module _ (on : List ℕ → List Flattened → Flat) (bytes : List ℕ) (before : List Flattened) where
-  pub step-nothing : IsKind bytes Nothing → step on bytes before ≡ lines before false
-  step-nothing e = rw e refl
-
-  pub step-source : (file : List ℕ) → IsKind bytes (Source file) → step on bytes before ≡ on file before
+module _ (plans : Bool) (texts : Texts) (on : List ℕ → List Flattened → Flat) (bytes : List ℕ) (before : List Flattened) where
+  pub step-source : (file : List ℕ) → IsKind bytes (Source file) → step plans texts on bytes before ≡ on file before
   step-source file e = rw (e.0, e.1, e.2) refl
 
-  pub step-command : IsKind bytes Command → step on bytes before ≡ with_text_line bytes before
-  step-command h = rw h.0 (elim h.1 [ inl e ↦ rw e refl | inr e ↦ rw e (same (is_source bytes)) ]) where
-    same : (b : Bool) → (if b then with_text_line bytes before else with_text_line bytes before) ≡ with_text_line bytes before
-    same true = refl
-    same false = refl
-
--- there is room for one line more
-pub with_line-room : (before : List Flattened) (line : Flattened) (ended : Bool) → length before < most_lines → with_line before line ended ≡ lines (before ++ line ∷ []) ended
-with_line-room before line ended lt = let b : nat_lt (length before) most_lines ≡ true = grind (arith, nat_tests) in rw b refl
-
--- there is none
+-- there is no room for one line more
 pub full_cut : (x : Texts → Flat) (before : List Flattened) (line : Flattened) (ended : Bool) (texts : Texts) (first after : ℕ) (stop : Stop) → x texts ≡ with_line before line ended → IsFull before stop → IsCut x texts first after stop
 full_cut x before line ended texts first after (Due Usage) e h = absurd h
 full_cut x before line ended texts first after (Due (NoDomain cause)) e h = absurd h
@@ -267,31 +265,31 @@ pieces-split text spans i lt =
     let split : take i spans ++ span_at spans i ∷ drop (suc i) spans ≡ spans = ap (λ x. take i spans ++ x) (sym (drop-cons spans i (record { from = 0; to = 0 }) lt)) ∙ take-append-drop i spans in
     ap (pieces text) (sym split) ∙ map-append (λ (x : Span). slice_range text x.from x.to) (take i spans) (span_at spans i ∷ drop (suc i) spans)
 
-module _ (on : List ℕ → List Flattened → Flat) (text : List ℕ) (spans : List Span) (i : ℕ) (before now : List Flattened) (lt : i < length spans) (taken : MayBe (walk on (pieces text (take i spans)) before) (lines now false)) where
+module _ (plans : Bool) (texts : Texts) (on : List ℕ → List Flattened → Flat) (text : List ℕ) (spans : List Span) (i : ℕ) (before now : List Flattened) (lt : i < length spans) (taken : MayBe (walk plans texts on (pieces text (take i spans)) before) (lines now false)) where
   -- one line more is taken
-  pub walk-next : (new : List Flattened) → MayBe (step on (line_at text spans i) now) (lines new false) → MayBe (walk on (pieces text (take (i + 1) spans)) before) (lines new false)
+  pub walk-next : (new : List Flattened) → MayBe (step plans texts on (line_at text spans i) now) (lines new false) → MayBe (walk plans texts on (pieces text (take (i + 1) spans)) before) (lines new false)
   walk-next new h =
-      let here : MayBe (walk on (line_at text spans i ∷ []) now) (lines new false) = then_lines (step on (line_at text spans i) now) (lines new false) (walk on []) new h (inl refl) in
-      subst (λ f. MayBe f (lines new false)) (sym (ap (λ ls. walk on ls before) (pieces-next text spans i lt) ∙ walk-append on (pieces text (take i spans)) (line_at text spans i ∷ []) before))
-      (then_lines (walk on (pieces text (take i spans)) before) (lines new false) (walk on (line_at text spans i ∷ [])) now taken here)
+      let here : MayBe (walk plans texts on (line_at text spans i ∷ []) now) (lines new false) = then_lines (step plans texts on (line_at text spans i) now) (lines new false) (walk plans texts on []) new h (inl refl) in
+      subst (λ f. MayBe f (lines new false)) (sym (ap (λ ls. walk plans texts on ls before) (pieces-next text spans i lt) ∙ walk-append plans texts on (pieces text (take i spans)) (line_at text spans i ∷ []) before))
+      (then_lines (walk plans texts on (pieces text (take i spans)) before) (lines new false) (walk plans texts on (line_at text spans i ∷ [])) now taken here)
 
   -- the line ends the script
-  pub walk-ended : (new : List Flattened) → MayBe (step on (line_at text spans i) now) (lines new true) → MayBe (walk on (pieces text spans) before) (lines new true)
+  pub walk-ended : (new : List Flattened) → MayBe (step plans texts on (line_at text spans i) now) (lines new true) → MayBe (walk plans texts on (pieces text spans) before) (lines new true)
   walk-ended new h =
       let rest = pieces text (drop (suc i) spans) in
-      let here : MayBe (walk on (line_at text spans i ∷ rest) now) (lines new true) = then_ended (step on (line_at text spans i) now) (walk on rest) new h in
-      subst (λ f. MayBe f (lines new true)) (sym (ap (λ ls. walk on ls before) (pieces-split text spans i lt) ∙ walk-append on (pieces text (take i spans)) (line_at text spans i ∷ rest) before))
-      (then_lines (walk on (pieces text (take i spans)) before) (lines new true) (walk on (line_at text spans i ∷ rest)) now taken here)
+      let here : MayBe (walk plans texts on (line_at text spans i ∷ rest) now) (lines new true) = then_ended (step plans texts on (line_at text spans i) now) (walk plans texts on rest) new h in
+      subst (λ f. MayBe f (lines new true)) (sym (ap (λ ls. walk plans texts on ls before) (pieces-split text spans i lt) ∙ walk-append plans texts on (pieces text (take i spans)) (line_at text spans i ∷ rest) before))
+      (then_lines (walk plans texts on (pieces text (take i spans)) before) (lines new true) (walk plans texts on (line_at text spans i ∷ rest)) now taken here)
 
 -- flattening is cut off in a line
-pub walk-cut : (n : ℕ) (texts : Texts) (text : List ℕ) (spans : List Span) (i : ℕ) (before now : List Flattened) (first middle after : ℕ) (stop : Stop) → i < length spans → first ≤ middle → MayBe (walk (on_source n texts) (pieces text (take i spans)) before) (lines now false) → IsCut (λ t. step (on_source n t) (line_at text spans i) now) texts middle after stop → IsCut (λ t. walk (on_source n t) (pieces text spans) before) texts first after stop
-walk-cut n texts text spans i before now first middle after stop lt le taken cut =
+pub walk-cut : (plans : Bool) (n : ℕ) (texts : Texts) (text : List ℕ) (spans : List Span) (i : ℕ) (before now : List Flattened) (first middle after : ℕ) (stop : Stop) → i < length spans → first ≤ middle → MayBe (walk plans texts (on_source plans n texts) (pieces text (take i spans)) before) (lines now false) → IsCut (λ t. step plans t (on_source plans n t) (line_at text spans i) now) texts middle after stop → IsCut (λ t. walk plans t (on_source plans n t) (pieces text spans) before) texts first after stop
+walk-cut plans n texts text spans i before now first middle after stop lt le taken cut =
     let rest = pieces text (drop (suc i) spans) in
     let front = pieces text (take i spans) in
-    let here : IsCut (λ t. walk (on_source n t) (line_at text spans i ∷ rest) now) texts middle after stop = cut_before (λ t. step (on_source n t) (line_at text spans i) now) (λ t. walk (on_source n t) rest) texts middle after stop cut in
-    let whole : IsCut (λ t. and_then (walk (on_source n t) front before) (walk (on_source n t) (line_at text spans i ∷ rest))) texts middle after stop = cut_then (λ t. walk (on_source n t) front before) (λ t. walk (on_source n t) (line_at text spans i ∷ rest)) texts now middle after stop (walk-narrow (on_source n) (on_source-narrow n) front before) taken here in
-    cut_earlier (λ t. walk (on_source n t) (pieces text spans) before) texts first middle after stop le
-    (cut_same (λ t. and_then (walk (on_source n t) front before) (walk (on_source n t) (line_at text spans i ∷ rest))) (λ t. walk (on_source n t) (pieces text spans) before) texts middle after stop (λ t. ap (λ ls. walk (on_source n t) ls before) (pieces-split text spans i lt) ∙ walk-append (on_source n t) front (line_at text spans i ∷ rest) before) whole)
+    let here : IsCut (λ t. walk plans t (on_source plans n t) (line_at text spans i ∷ rest) now) texts middle after stop = cut_before (λ t. step plans t (on_source plans n t) (line_at text spans i) now) (λ t. walk plans t (on_source plans n t) rest) texts middle after stop cut in
+    let whole : IsCut (λ t. and_then (walk plans t (on_source plans n t) front before) (walk plans t (on_source plans n t) (line_at text spans i ∷ rest))) texts middle after stop = cut_then (λ t. walk plans t (on_source plans n t) front before) (λ t. walk plans t (on_source plans n t) (line_at text spans i ∷ rest)) texts now middle after stop (walk-narrow plans (on_source plans n) (on_source-narrow plans n) front before) taken here in
+    cut_earlier (λ t. walk plans t (on_source plans n t) (pieces text spans) before) texts first middle after stop le
+    (cut_same (λ t. and_then (walk plans t (on_source plans n t) front before) (walk plans t (on_source plans n t) (line_at text spans i ∷ rest))) (λ t. walk plans t (on_source plans n t) (pieces text spans) before) texts middle after stop (λ t. ap (λ ls. walk plans t (on_source plans n t) ls before) (pieces-split text spans i lt) ∙ walk-append plans t (on_source plans n t) front (line_at text spans i ∷ rest) before) whole)
 
 -- the texts that files tell are the same
 pub same_texts : (a b : Texts) → ((n : List ℕ) → a n ≡ b n) → a ≡ b
@@ -309,94 +307,114 @@ if_err-map (Ok x) f p = tt
 if_err-map (Err e) f p = f e p
 
 -- a file that a line names, where no more files may be opened
-pub on_source-zero : (n : ℕ) (texts : Texts) (file : List ℕ) (before : List Flattened) → n ≡ 0 → on_source n texts file before ≡ with_line before TooDeep false
+pub on_source-zero : (plans : Bool) (n : ℕ) (texts : Texts) (file : List ℕ) (before : List Flattened) → n ≡ 0 → on_source plans n texts file before ≡ with_line before TooDeep false
 unfolding on_source
-on_source-zero n texts file before e = rw e refl
+on_source-zero plans n texts file before e = rw e refl
 
 -- one where they may
-pub on_source-open : (n m : ℕ) (texts : Texts) (file : List ℕ) (before : List Flattened) → n ≡ suc m → on_source n texts file before ≡ with_file file (λ text. flatten m texts text before) (texts file)
+pub on_source-open : (plans : Bool) (n m : ℕ) (texts : Texts) (file : List ℕ) (before : List Flattened) → n ≡ suc m → on_source plans n texts file before ≡ with_file file (λ text. flatten plans m texts text before) (texts file)
 unfolding on_source
-on_source-open n m texts file before e = rw e refl
+on_source-open plans n m texts file before e = rw e refl
+
+-- ---- a line that runs the plan in a file
+
+-- there is room for it, and the file was read, where it is told
+pub plan_had : (texts : Texts) (bytes : List ℕ) (before : List Flattened) (file named text : List ℕ) → named ≡ file → length before < most_lines → length text ≤ longest_file → IfSome (texts named) (λ t. text ≡ t) → MayBe (with_plan_line texts bytes before (Some file)) (lines (before ++ Plan bytes text ∷ []) false)
+plan_had texts bytes before file named text same lt short had =
+    let b : nat_lt (length before) most_lines ≡ true = grind (arith, nat_tests) in
+    rw b (file_had file (λ plan. lines (before ++ Plan bytes plan ∷ []) false) (texts file) text (lines (before ++ Plan bytes text ∷ []) false) short (subst (λ (f : List ℕ). IfSome (texts f) (λ t. text ≡ t)) same had) (inl refl))
+
+-- there is no room for it
+pub plan_full : (texts : Texts) (bytes : List ℕ) (before : List Flattened) (file : List ℕ) (first after : ℕ) (stop : Stop) → IsFull before stop → IsCut (λ t. with_plan_line t bytes before (Some file)) texts first after stop
+plan_full texts bytes before file first after (Due Usage) h = absurd h
+plan_full texts bytes before file first after (Due (NoDomain cause)) h = absurd h
+plan_full texts bytes before file first after (Due (TooLong other)) h = absurd h
+plan_full texts bytes before file first after (Due Lines) h = let b : nat_lt (length before) most_lines ≡ false = grind (arith, nat_tests) in rw b (inl refl)
+plan_full texts bytes before file first after (Due (Unread other)) h = absurd h
+plan_full texts bytes before file first after (Broken Write) h = absurd h
+plan_full texts bytes before file first after (Broken OutOfMemory) h = tt
+
+-- the file can't be had
+pub plan_unhad : (texts : Texts) (bytes : List ℕ) (before : List Flattened) (file named : List ℕ) (first after : ℕ) (stop : Stop) → named ≡ file → length before < most_lines → IsNotHad named (texts named) first after stop → IsCut (λ t. with_plan_line t bytes before (Some file)) texts first after stop
+plan_unhad texts bytes before file named first after stop same lt h =
+    let b : nat_lt (length before) most_lines ≡ true = grind (arith, nat_tests) in
+    cut_same (λ t. with_file file (λ plan. lines (before ++ Plan bytes plan ∷ []) false) (t file)) (λ t. with_plan_line t bytes before (Some file)) texts first after stop (λ t. rw b refl)
+    (file_cut file (λ t plan. lines (before ++ Plan bytes plan ∷ []) false) texts first after stop (subst (λ (f : List ℕ). IsNotHad f (texts f) first after stop) same h))
 
 -- ---- a line that names a file
 
-module _ (n : ℕ) (texts : Texts) (bytes : List ℕ) (before : List Flattened) (file : List ℕ) (is : IsKind bytes (Source file)) where
-  pub deep_step : n ≡ 0 → (want : Flat) → with_line before TooDeep false ≡ want → MayBe (step (on_source n texts) bytes before) want
-  deep_step e want h = inl (step-source (on_source n texts) bytes before file is ∙ on_source-zero n texts file before e ∙ h)
+module _ (plans : Bool) (n : ℕ) (texts : Texts) (bytes : List ℕ) (before : List Flattened) (file : List ℕ) (is : IsKind bytes (Source file)) where
+  pub deep_step : n ≡ 0 → (want : Flat) → with_line before TooDeep false ≡ want → MayBe (step plans texts (on_source plans n texts) bytes before) want
+  deep_step e want h = inl (step-source plans texts (on_source plans n texts) bytes before file is ∙ on_source-zero plans n texts file before e ∙ h)
 
-  pub deep_cut : n ≡ 0 → (first after : ℕ) (stop : Stop) → IsFull before stop → IsCut (λ t. step (on_source n t) bytes before) texts first after stop
+  pub deep_cut : n ≡ 0 → (first after : ℕ) (stop : Stop) → IsFull before stop → IsCut (λ t. step plans t (on_source plans n t) bytes before) texts first after stop
   deep_cut e first after stop h =
-      full_cut (λ t. step (on_source n t) bytes before) before TooDeep false texts first after stop (step-source (on_source n texts) bytes before file is ∙ on_source-zero n texts file before e) h
+      full_cut (λ t. step plans t (on_source plans n t) bytes before) before TooDeep false texts first after stop (step-source plans texts (on_source plans n texts) bytes before file is ∙ on_source-zero plans n texts file before e) h
 
   module _ (m : ℕ) (opened : n ≡ suc m) (named : List ℕ) (same : named ≡ file) where
-    opened_step : (t : Texts) → step (on_source n t) bytes before ≡ with_file file (λ text. flatten m t text before) (t file)
-    opened_step t = step-source (on_source n t) bytes before file is ∙ on_source-open n m t file before opened
+    opened_step : (t : Texts) → step plans t (on_source plans n t) bytes before ≡ with_file file (λ text. flatten plans m t text before) (t file)
+    opened_step t = step-source plans t (on_source plans n t) bytes before file is ∙ on_source-open plans n m t file before opened
 
-    pub file_unhad : (first after : ℕ) (stop : Stop) → IsNotHad named (texts named) first after stop → IsCut (λ t. step (on_source n t) bytes before) texts first after stop
+    pub file_unhad : (first after : ℕ) (stop : Stop) → IsNotHad named (texts named) first after stop → IsCut (λ t. step plans t (on_source plans n t) bytes before) texts first after stop
     file_unhad first after stop h =
-        cut_same (λ t. with_file file (λ text. flatten m t text before) (t file)) (λ t. step (on_source n t) bytes before) texts first after stop opened_step
-        (file_cut file (λ t text. flatten m t text before) texts first after stop (subst (λ (f : List ℕ). IsNotHad f (texts f) first after stop) same h))
+        cut_same (λ t. with_file file (λ text. flatten plans m t text before) (t file)) (λ t. step plans t (on_source plans n t) bytes before) texts first after stop opened_step
+        (file_cut file (λ t text. flatten plans m t text before) texts first after stop (subst (λ (f : List ℕ). IsNotHad f (texts f) first after stop) same h))
 
     module _ (text used : List ℕ) (e : used ≡ text) (later : Texts) (told : (k : List ℕ) → later k ≡ texts k) (short : length text ≤ longest_file) (had : IfSome (texts named) (λ t. text ≡ t)) where
-      pub file_step : (want : Flat) → MayBe (flatten m later used before) want → MayBe (step (on_source n texts) bytes before) want
+      pub file_step : (want : Flat) → MayBe (flatten plans m later used before) want → MayBe (step plans texts (on_source plans n texts) bytes before) want
       file_step want h =
-          let here : MayBe (flatten m texts text before) want = subst (λ (t : Texts). MayBe (flatten m t text before) want) (same_texts later texts told) (subst (λ (x : List ℕ). MayBe (flatten m later x before) want) e h) in
+          let here : MayBe (flatten plans m texts text before) want = subst (λ (t : Texts). MayBe (flatten plans m t text before) want) (same_texts later texts told) (subst (λ (x : List ℕ). MayBe (flatten plans m later x before) want) e h) in
           subst (λ f. MayBe f want) (sym (opened_step texts))
-          (file_had file (λ x. flatten m texts x before) (texts file) text want short (subst (λ (f : List ℕ). IfSome (texts f) (λ t. text ≡ t)) same had) here)
+          (file_had file (λ x. flatten plans m texts x before) (texts file) text want short (subst (λ (f : List ℕ). IfSome (texts f) (λ t. text ≡ t)) same had) here)
 
-      pub file_cut_off : (first middle after : ℕ) (stop : Stop) → first ≤ middle → IsCut (λ t. flatten m t used before) later middle after stop → IsCut (λ t. step (on_source n t) bytes before) texts first after stop
+      pub file_cut_off : (first middle after : ℕ) (stop : Stop) → first ≤ middle → IsCut (λ t. flatten plans m t used before) later middle after stop → IsCut (λ t. step plans t (on_source plans n t) bytes before) texts first after stop
       file_cut_off first middle after stop le c =
-          let here : IsCut (λ t. flatten m t text before) texts middle after stop = subst (λ (t : Texts). IsCut (λ x. flatten m x text before) t middle after stop) (same_texts later texts told) (subst (λ (x : List ℕ). IsCut (λ t. flatten m t x before) later middle after stop) e c) in
-          cut_earlier (λ t. step (on_source n t) bytes before) texts first middle after stop le
-          (cut_same (λ t. with_file file (λ x. flatten m t x before) (t file)) (λ t. step (on_source n t) bytes before) texts middle after stop opened_step
-          (file_cut_in file (λ t x. flatten m t x before) texts text middle after stop short (subst (λ (f : List ℕ). IfSome (texts f) (λ t. text ≡ t)) same had) here))
+          let here : IsCut (λ t. flatten plans m t text before) texts middle after stop = subst (λ (t : Texts). IsCut (λ x. flatten plans m x text before) t middle after stop) (same_texts later texts told) (subst (λ (x : List ℕ). IsCut (λ t. flatten plans m t x before) later middle after stop) e c) in
+          cut_earlier (λ t. step plans t (on_source plans n t) bytes before) texts first middle after stop le
+          (cut_same (λ t. with_file file (λ x. flatten plans m t x before) (t file)) (λ t. step plans t (on_source plans n t) bytes before) texts middle after stop opened_step
+          (file_cut_in file (λ t x. flatten plans m t x before) texts text middle after stop short (subst (λ (f : List ℕ). IfSome (texts f) (λ t. text ≡ t)) same had) here))
 
 -- ---- a whole text
 
-module _ (n : ℕ) (texts later : Texts) (told : (k : List ℕ) → later k ≡ texts k) (text : List ℕ) (spans items : List Span) (deref : spans ≡ items) (whole : pieces text items ≡ lines_of text) (i : ℕ) (before now : List Flattened) (lt : i < length spans) (taken : MayBe (walk (on_source n texts) (pieces text (take i spans)) before) (lines now false)) where
+module _ (plans : Bool) (n : ℕ) (texts later : Texts) (told : (k : List ℕ) → later k ≡ texts k) (text : List ℕ) (spans items : List Span) (deref : spans ≡ items) (whole : pieces text items ≡ lines_of text) (i : ℕ) (before now : List Flattened) (lt : i < length spans) (taken : MayBe (walk plans texts (on_source plans n texts) (pieces text (take i spans)) before) (lines now false)) where
   whole_pieces : pieces text spans ≡ lines_of text
   whole_pieces = ap (pieces text) deref ∙ whole
 
-  pub text_next : (new : List Flattened) (ended : Bool) → ended ≡ false → MayBe (step (on_source n later) (line_at text spans i) now) (lines new ended) → MayBe (walk (on_source n texts) (pieces text (take (i + 1) spans)) before) (lines new false)
+  pub text_next : (new : List Flattened) (ended : Bool) → ended ≡ false → MayBe (step plans later (on_source plans n later) (line_at text spans i) now) (lines new ended) → MayBe (walk plans texts (on_source plans n texts) (pieces text (take (i + 1) spans)) before) (lines new false)
   text_next new ended e g =
-      let h : MayBe (step (on_source n later) (line_at text spans i) now) (lines new false) = subst (λ x. MayBe (step (on_source n later) (line_at text spans i) now) (lines new x)) e g in
-      walk-next (on_source n texts) text spans i before now lt taken new (subst (λ (t : Texts). MayBe (step (on_source n t) (line_at text spans i) now) (lines new false)) (same_texts later texts told) h)
+      let h : MayBe (step plans later (on_source plans n later) (line_at text spans i) now) (lines new false) = subst (λ x. MayBe (step plans later (on_source plans n later) (line_at text spans i) now) (lines new x)) e g in
+      walk-next plans texts (on_source plans n texts) text spans i before now lt taken new (subst (λ (t : Texts). MayBe (step plans t (on_source plans n t) (line_at text spans i) now) (lines new false)) (same_texts later texts told) h)
 
-  pub text_ended : (new : List Flattened) (ended : Bool) → ended ≡ true → MayBe (step (on_source n later) (line_at text spans i) now) (lines new ended) → MayBe (flatten n texts text before) (lines new true)
+  pub text_ended : (new : List Flattened) (ended : Bool) → ended ≡ true → MayBe (step plans later (on_source plans n later) (line_at text spans i) now) (lines new ended) → MayBe (flatten plans n texts text before) (lines new true)
   text_ended new ended e g =
-      let h : MayBe (step (on_source n later) (line_at text spans i) now) (lines new true) = subst (λ x. MayBe (step (on_source n later) (line_at text spans i) now) (lines new x)) e g in
-      subst (λ ls. MayBe (walk (on_source n texts) ls before) (lines new true)) whole_pieces
-      (walk-ended (on_source n texts) text spans i before now lt taken new (subst (λ (t : Texts). MayBe (step (on_source n t) (line_at text spans i) now) (lines new true)) (same_texts later texts told) h))
+      let h : MayBe (step plans later (on_source plans n later) (line_at text spans i) now) (lines new true) = subst (λ x. MayBe (step plans later (on_source plans n later) (line_at text spans i) now) (lines new x)) e g in
+      subst (λ ls. MayBe (walk plans texts (on_source plans n texts) ls before) (lines new true)) whole_pieces
+      (walk-ended plans texts (on_source plans n texts) text spans i before now lt taken new (subst (λ (t : Texts). MayBe (step plans t (on_source plans n t) (line_at text spans i) now) (lines new true)) (same_texts later texts told) h))
 
-  pub text_cut : (first middle after : ℕ) (stop : Stop) → first ≤ middle → IsCut (λ t. step (on_source n t) (line_at text spans i) now) later middle after stop → IsCut (λ t. flatten n t text before) texts first after stop
+  pub text_cut : (first middle after : ℕ) (stop : Stop) → first ≤ middle → IsCut (λ t. step plans t (on_source plans n t) (line_at text spans i) now) later middle after stop → IsCut (λ t. flatten plans n t text before) texts first after stop
   text_cut first middle after stop le c =
-      subst (λ ls. IsCut (λ t. walk (on_source n t) ls before) texts first after stop) whole_pieces
-      (walk-cut n texts text spans i before now first middle after stop lt le taken (subst (λ (t : Texts). IsCut (λ x. step (on_source n x) (line_at text spans i) now) t middle after stop) (same_texts later texts told) c))
-
--- all lines are taken
-pub text_whole : (on : List ℕ → List Flattened → Flat) (text : List ℕ) (spans items : List Span) (i : ℕ) (before now : List Flattened) → spans ≡ items → pieces text items ≡ lines_of text → i ≡ length spans → MayBe (walk on (pieces text (take i spans)) before) (lines now false) → MayBe (walk on (lines_of text) before) (lines now false)
-text_whole on text spans items i before now deref whole count h =
-    subst (λ ls. MayBe (walk on ls before) (lines now false)) (ap (λ k. pieces text (take k spans)) count ∙ ap (pieces text) (take-length spans ∙ deref) ∙ whole) h
+      subst (λ ls. IsCut (λ t. walk plans t (on_source plans n t) ls before) texts first after stop) whole_pieces
+      (walk-cut plans n texts text spans i before now first middle after stop lt le taken (subst (λ (t : Texts). IsCut (λ x. step plans x (on_source plans n x) (line_at text spans i) now) t middle after stop) (same_texts later texts told) c))
 
 -- ---- the script's own file
 
-module _ (file : List ℕ) (texts : Texts) where
-  script_opened : (t : Texts) → on_source 5 t file [] ≡ with_file file (λ text. flatten 4 t text []) (t file)
-  script_opened t = on_source-open 5 4 t file [] refl
+module _ (plans : Bool) (file : List ℕ) (texts : Texts) where
+  script_opened : (t : Texts) → on_source plans 5 t file [] ≡ with_file file (λ text. flatten plans 4 t text []) (t file)
+  script_opened t = on_source-open plans 5 4 t file [] refl
 
-  pub script_unhad : (first after : ℕ) (stop : Stop) → IsNotHad file (texts file) first after stop → IsCut (λ t. on_source 5 t file []) texts first after stop
+  pub script_unhad : (first after : ℕ) (stop : Stop) → IsNotHad file (texts file) first after stop → IsCut (λ t. on_source plans 5 t file []) texts first after stop
   script_unhad first after stop h =
-      cut_same (λ t. with_file file (λ text. flatten 4 t text []) (t file)) (λ t. on_source 5 t file []) texts first after stop script_opened (file_cut file (λ t text. flatten 4 t text []) texts first after stop h)
+      cut_same (λ t. with_file file (λ text. flatten plans 4 t text []) (t file)) (λ t. on_source plans 5 t file []) texts first after stop script_opened (file_cut file (λ t text. flatten plans 4 t text []) texts first after stop h)
 
   module _ (text used : List ℕ) (e : used ≡ text) (later : Texts) (told : (k : List ℕ) → later k ≡ texts k) (short : length text ≤ longest_file) (had : IfSome (texts file) (λ t. text ≡ t)) (before : List Flattened) (none : before ≡ []) where
-    pub script_step : (want : Flat) → MayBe (flatten 4 later used before) want → MayBe (on_source 5 texts file []) want
+    pub script_step : (want : Flat) → MayBe (flatten plans 4 later used before) want → MayBe (on_source plans 5 texts file []) want
     script_step want h =
-        let here : MayBe (flatten 4 texts text []) want = subst (λ (b : List Flattened). MayBe (flatten 4 texts text b) want) none (subst (λ (t : Texts). MayBe (flatten 4 t text before) want) (same_texts later texts told) (subst (λ (x : List ℕ). MayBe (flatten 4 later x before) want) e h)) in
-        subst (λ f. MayBe f want) (sym (script_opened texts)) (file_had file (λ x. flatten 4 texts x []) (texts file) text want short had here)
+        let here : MayBe (flatten plans 4 texts text []) want = subst (λ (b : List Flattened). MayBe (flatten plans 4 texts text b) want) none (subst (λ (t : Texts). MayBe (flatten plans 4 t text before) want) (same_texts later texts told) (subst (λ (x : List ℕ). MayBe (flatten plans 4 later x before) want) e h)) in
+        subst (λ f. MayBe f want) (sym (script_opened texts)) (file_had file (λ x. flatten plans 4 texts x []) (texts file) text want short had here)
 
-    pub script_cut_off : (first middle after : ℕ) (stop : Stop) → first ≤ middle → IsCut (λ t. flatten 4 t used before) later middle after stop → IsCut (λ t. on_source 5 t file []) texts first after stop
+    pub script_cut_off : (first middle after : ℕ) (stop : Stop) → first ≤ middle → IsCut (λ t. flatten plans 4 t used before) later middle after stop → IsCut (λ t. on_source plans 5 t file []) texts first after stop
     script_cut_off first middle after stop le c =
-        let here : IsCut (λ t. flatten 4 t text []) texts middle after stop = subst (λ (b : List Flattened). IsCut (λ t. flatten 4 t text b) texts middle after stop) none (subst (λ (t : Texts). IsCut (λ x. flatten 4 x text before) t middle after stop) (same_texts later texts told) (subst (λ (x : List ℕ). IsCut (λ t. flatten 4 t x before) later middle after stop) e c)) in
-        cut_earlier (λ t. on_source 5 t file []) texts first middle after stop le
-        (cut_same (λ t. with_file file (λ x. flatten 4 t x []) (t file)) (λ t. on_source 5 t file []) texts middle after stop script_opened
-        (file_cut_in file (λ t x. flatten 4 t x []) texts text middle after stop short had here))
+        let here : IsCut (λ t. flatten plans 4 t text []) texts middle after stop = subst (λ (b : List Flattened). IsCut (λ t. flatten plans 4 t text b) texts middle after stop) none (subst (λ (t : Texts). IsCut (λ x. flatten plans 4 x text before) t middle after stop) (same_texts later texts told) (subst (λ (x : List ℕ). IsCut (λ t. flatten plans 4 t x before) later middle after stop) e c)) in
+        cut_earlier (λ t. on_source plans 5 t file []) texts first middle after stop le
+        (cut_same (λ t. with_file file (λ x. flatten plans 4 t x []) (t file)) (λ t. on_source plans 5 t file []) texts middle after stop script_opened
+        (file_cut_in file (λ t x. flatten plans 4 t x []) texts text middle after stop short had here))

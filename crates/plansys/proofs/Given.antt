@@ -1,25 +1,25 @@
 -- Why there is nothing to work on, or what there is.
-use Rattle.std.proofs.Common.{◌≡◌, ℕ, ◌<◌, ◌≤◌, Bool, true, false, if◌then◌else◌, nat_lt, ap, Option, Some, None, Err, List, IfSome, codes, length, refl, sym, ◌∙◌, subst, inl, inr, arith}
-use Rattle.std.proofs.lemmas.Bool.{and_parts, cases_Bool, false≢true}
+use Rattle.std.proofs.Common.{◌≡◌, ℕ, ◌<◌, ◌≤◌, Bool, true, false, if◌then◌else◌, nat_lt, Option, Some, None, Err, List, [], IfSome, codes, length, refl, sym, ◌∙◌, subst, inl, inr, arith}
+use Rattle.std.proofs.lemmas.Bool.{and_parts, or_parts, cases_Bool, false≢true}
 use Rattle.std.proofs.lemmas.Bool.Decides.{nat_tests}
 use Rattle.ps_world.specs.Names.{Table}
 use Rattle.ps_world.specs.Lines.{same_text}
 use Rattle.ps_world.specs.declared.domains.Domain.{Domain}
-use Rattle.ps_world.specs.declared.inputs.Line.{Line}
+use Rattle.ps_machine.specs.declared.inputs.Line.{Line}
 use Rattle.ps_text.proofs.Tables.{same_text-refl, same_text-same}
 use Rattle.ps_pddl.specs.Reading.{IsRead}
 use Rattle.plansys.specs.DomainFaults.{cause_text}
 use Rattle.plansys.specs.Scripts.{IsScript}
 use Rattle.plansys.specs.Session.{input_with}
-use Rattle.plansys.specs.Input.{Outcome, IsDomain, IsNoDomain, IsInput, argument, is_session, is_check, is_quiet, names_domain, domain_file, script_file, first_names, script_in, with_text, with_script, input_of, usage_line, domain_line}
+use Rattle.plansys.specs.Input.{Outcome, IsDomain, IsNoDomain, IsInput, argument, is_session, is_check, is_validate, is_quiet, names_domain, domain_file, script_file, plan_file, first_names, script_in, with_text, with_script, with_plan, input_of, usage_line, domain_line}
 use Rattle.plansys.specs.Flats.{Texts, Flat, MayBe, longest_file, lines_line, too_long_line, without}
 use Rattle.plansys.specs.Flats.Flat.{lines, fault as cut_off, missing}
 use Rattle.plansys.specs.declared.reading.flatten.Flattened.{Flattened}
-use Rattle.plansys.proofs.Flattening.{cut_earlier, same_texts}
-use Rattle.plansys.specs.Input.Outcome.{given, checked, fault, untold}
+use Rattle.plansys.proofs.Flattening.{cut_earlier, on_source-narrow, same_texts}
+use Rattle.plansys.specs.Input.Outcome.{checked, validated, fault, untold}
 use Rattle.plansys.specs.Headline.{IsFault, IsDue, IsUntold}
 use Rattle.plansys.specs.Headline.IsDue.{misused, no_domain, too_long, too_many, unread}
-use Rattle.plansys.specs.Faults.{IsCut, IsNotHad, IsJudged, HasNoInput, Gives, GivesDomain}
+use Rattle.plansys.specs.Faults.{IsCut, IsNotHad, IsJudged, HasNoInput, Gives, GivesDomain, GivesPlan}
 use Rattle.plansys.specs.declared.faults.Fault.TheVariants.{Usage, NoDomain, TooLong, Lines, Unread}
 use Rattle.plansys.specs.declared.faults.Stop.{Stop}
 use Rattle.plansys.specs.declared.faults.Stop.TheVariants.{Due, Broken}
@@ -27,59 +27,104 @@ use Rattle.plansys.specs.declared.session.Broken.TheVariants.{Write, OutOfMemory
 
 -- ---- words
 
--- the words of a session don't begin with `check`
-not_session : (ws : List (List ℕ)) → is_quiet ws ≡ true → is_session ws ≡ false
-not_session ws q =
-    elim (cases_Bool (is_session ws)) [
-      | inl s ↦
-          let two = (and_parts _ _ (and_parts _ _ (and_parts _ _ (and_parts _ _ s).0).0).0).0 in
-          let first : same_text (argument ws 0) (codes "session") ≡ true = (and_parts _ _ two).1 in
-          absurd (false≢true (subst (λ w. same_text w (codes "session") ≡ true) (same_text-same (argument ws 0) (codes "check") q) first))
+-- the first word is this one
+abbrev pub begins : List (List ℕ) → List ℕ → Type 0
+begins ws word = same_text (argument ws 0) word ≡ true
+
+begins-session : (ws : List (List ℕ)) → is_session ws ≡ true → begins ws (codes "session")
+begins-session ws h = (and_parts _ _ (and_parts _ _ (and_parts _ _ (and_parts _ _ (and_parts _ _ h).0).0).0).0).1
+
+begins-check : (ws : List (List ℕ)) → is_check ws ≡ true → begins ws (codes "check")
+begins-check ws h = (and_parts _ _ (and_parts _ _ (and_parts _ _ h).0).0).1
+
+begins-validate : (ws : List (List ℕ)) → is_validate ws ≡ true → begins ws (codes "validate")
+begins-validate ws h = (and_parts _ _ (and_parts _ _ (and_parts _ _ (and_parts _ _ (and_parts _ _ (and_parts _ _ (and_parts _ _ h).0).0).0).0).0).0).1
+
+-- words that begin with one word are of no form that begins with another
+other_form : (ws : List (List ℕ)) (form : Bool) (word other : List ℕ) → (form ≡ true → begins ws other) → same_text word other ≡ false → begins ws word → form ≡ false
+other_form ws form word other begin apart h =
+    elim (cases_Bool form) [
+      | inl is ↦ absurd (false≢true (sym apart ∙ subst (λ w. same_text w other ≡ true) (same_text-same (argument ws 0) word h) (begin is)))
       | inr n ↦ n
     ]
 
-quiet-check : (ws : List (List ℕ)) → is_check ws ≡ true → is_quiet ws ≡ true
-quiet-check ws h = (and_parts _ _ (and_parts _ _ (and_parts _ _ h).0).0).1
+module _ (ws : List (List ℕ)) where
+  no_session-check : begins ws (codes "check") → is_session ws ≡ false
+  no_session-check = other_form ws (is_session ws) (codes "check") (codes "session") (begins-session ws) refl
 
-not_check : (ws : List (List ℕ)) → is_quiet ws ≡ false → is_check ws ≡ false
-not_check ws h =
-    elim (cases_Bool (is_check ws)) [
-      | inl c ↦ absurd (false≢true (sym h ∙ quiet-check ws c))
-      | inr n ↦ n
-    ]
+  no_session-validate : begins ws (codes "validate") → is_session ws ≡ false
+  no_session-validate = other_form ws (is_session ws) (codes "validate") (codes "session") (begins-session ws) refl
 
-names-session : (ws : List (List ℕ)) → is_session ws ≡ true → names_domain ws ≡ true
-names-session ws h = rw h refl
+  no_check-validate : begins ws (codes "validate") → is_check ws ≡ false
+  no_check-validate = other_form ws (is_check ws) (codes "validate") (codes "check") (begins-check ws) refl
+
+  no_validate-check : begins ws (codes "check") → is_validate ws ≡ false
+  no_validate-check = other_form ws (is_validate ws) (codes "check") (codes "validate") (begins-validate ws) refl
+
+  -- words of no mode that always returns
+  not_quiet : (form : Bool) (word : List ℕ) → (form ≡ true → begins ws word) → same_text (argument ws 0) word ≡ false → form ≡ false
+  not_quiet form word begin apart =
+      elim (cases_Bool form) [
+        | inl is ↦ absurd (false≢true (sym apart ∙ begin is))
+        | inr n ↦ n
+      ]
+
+  no_check-quiet : is_quiet ws ≡ false → is_check ws ≡ false
+  no_check-quiet q = not_quiet (is_check ws) (codes "check") (begins-check ws) (or_parts _ _ q).0
+
+  no_validate-quiet : is_quiet ws ≡ false → is_validate ws ≡ false
+  no_validate-quiet q = not_quiet (is_validate ws) (codes "validate") (begins-validate ws) (or_parts _ _ q).1
+
+-- the words of a session, or those of a plan to be validated
+abbrev pub names_script : Bool → List (List ℕ) → Bool
+names_script false ws = is_session ws
+names_script true ws = is_validate ws
+
+-- what the script of such words gives with a domain's text
+abbrev pub with_flat : Bool → List (List ℕ) → Texts → Flat → List ℕ → Outcome
+with_flat false ws texts flat domain = with_script flat domain
+with_flat true ws texts flat domain = with_plan (plan_file ws) (texts (plan_file ws)) flat domain
+
+names-script : (plans : Bool) (ws : List (List ℕ)) → names_script plans ws ≡ true → names_domain ws ≡ true
+names-script false ws h = rw h refl
+names-script true ws h = rw (no_session-validate ws (begins-validate ws h), no_check-validate ws (begins-validate ws h), h) refl
 
 names-check : (ws : List (List ℕ)) → is_check ws ≡ true → names_domain ws ≡ true
-names-check ws h = rw (not_session ws (quiet-check ws h), h) refl
+names-check ws h = rw (no_session-check ws (begins-check ws h), h) refl
 
--- the outcome of the words of a session
-abbrev of_session : List (List ℕ) → Texts → Outcome
-of_session ws texts = with_text (domain_file ws) (with_script (script_in (script_file ws) texts)) (texts (domain_file ws))
+-- the outcome of the words of a session, or of a plan to be validated
+abbrev of_script : Bool → List (List ℕ) → Texts → Outcome
+of_script plans ws texts = with_text (domain_file ws) (with_flat plans ws texts (script_in plans (script_file ws) texts)) (texts (domain_file ws))
 
 -- the outcome of the words of a check
 abbrev of_check : List (List ℕ) → Texts → Outcome
 of_check ws texts = with_text (domain_file ws) checked (texts (domain_file ws))
 
-input_of-session : (ws : List (List ℕ)) (texts : Texts) → is_session ws ≡ true → input_of ws texts ≡ of_session ws texts
+input_of-script : (plans : Bool) (ws : List (List ℕ)) (texts : Texts) → names_script plans ws ≡ true → input_of ws texts ≡ of_script plans ws texts
 unfolding input_of
-input_of-session ws texts h = rw h refl
+input_of-script false ws texts h = rw h refl
+input_of-script true ws texts h = rw (no_session-validate ws (begins-validate ws h), no_check-validate ws (begins-validate ws h), h) refl
 
 input_of-check : (ws : List (List ℕ)) (texts : Texts) → is_check ws ≡ true → input_of ws texts ≡ of_check ws texts
 unfolding input_of
-input_of-check ws texts h = rw (not_session ws (quiet-check ws h), h) refl
+input_of-check ws texts h = rw (no_session-check ws (begins-check ws h), h) refl
 
-input_of-misused : (ws : List (List ℕ)) (texts : Texts) → is_session ws ≡ false → is_check ws ≡ false → input_of ws texts ≡ fault 2 usage_line
+input_of-misused : (ws : List (List ℕ)) (texts : Texts) → is_session ws ≡ false → is_check ws ≡ false → is_validate ws ≡ false → input_of ws texts ≡ fault 2 usage_line
 unfolding input_of
-input_of-misused ws texts s c = rw (s, c) refl
+input_of-misused ws texts s c v = rw (s, c, v) refl
 
--- the words aren't those of a session, or of a check
+misused_words : (ws : List (List ℕ)) (texts : Texts) (before now : ℕ) → is_session ws ≡ false → is_check ws ≡ false → is_validate ws ≡ false → IsDue (input_of ws texts) ws texts before now 2 usage_line
+misused_words ws texts before now s c v = misused (rw (input_of-misused ws texts s c v) (refl, refl))
+
+-- the words aren't those of a session, of a check, or of a plan to be validated
 pub no_session : (ws : List (List ℕ)) (texts : Texts) (before now : ℕ) → is_quiet ws ≡ false → is_session ws ≡ false → IsDue (input_of ws texts) ws texts before now 2 usage_line
-no_session ws texts before now q h = misused (rw (input_of-misused ws texts h (not_check ws q)) (refl, refl))
+no_session ws texts before now q h = misused_words ws texts before now h (no_check-quiet ws q) (no_validate-quiet ws q)
 
-pub no_check : (ws : List (List ℕ)) (texts : Texts) (before now : ℕ) → is_quiet ws ≡ true → is_check ws ≡ false → IsDue (input_of ws texts) ws texts before now 2 usage_line
-no_check ws texts before now q h = misused (rw (input_of-misused ws texts (not_session ws q) h) (refl, refl))
+pub no_check : (ws : List (List ℕ)) (texts : Texts) (before now : ℕ) → begins ws (codes "check") → is_check ws ≡ false → IsDue (input_of ws texts) ws texts before now 2 usage_line
+no_check ws texts before now b h = misused_words ws texts before now (no_session-check ws b) h (no_validate-check ws b)
+
+pub no_validate : (ws : List (List ℕ)) (texts : Texts) (before now : ℕ) → begins ws (codes "validate") → is_validate ws ≡ false → IsDue (input_of ws texts) ws texts before now 2 usage_line
+no_validate ws texts before now b h = misused_words ws texts before now (no_session-validate ws b) (no_check-validate ws b) h
 
 -- ---- texts
 
@@ -107,12 +152,21 @@ fact-told P (Some t) text p e = subst P e p
 -- ---- files
 
 -- without the domain's text nothing is told
+unread_first : (use_of : List ℕ → Outcome) (told : Option (List ℕ)) (file : List ℕ) → told ≡ None → IsUntold (with_text file use_of told)
+unread_first use_of told file none = subst (λ t. IsUntold (with_text file use_of t)) (sym none) tt
+
 untold_first : (ws : List (List ℕ)) (texts : Texts) (file : List ℕ) → names_domain ws ≡ true → file ≡ domain_file ws → IsUntold (input_of ws (without file texts))
 untold_first ws texts file h e =
     let none : without file texts (domain_file ws) ≡ None = rw (e, same_text-refl (domain_file ws)) refl in
+    let other : Texts = without file texts in
+    let by_script : (plans : Bool) → names_script plans ws ≡ true → IsUntold (input_of ws other) =
+    λ plans is. subst IsUntold (sym (input_of-script plans ws other is)) (unread_first (with_flat plans ws other (script_in plans (script_file ws) other)) (other (domain_file ws)) (domain_file ws) none) in
     elim (cases_Bool (is_session ws)) [
-      | inl s ↦ subst IsUntold (sym (input_of-session ws (without file texts) s ∙ ap (with_text (domain_file ws) (with_script (script_in (script_file ws) (without file texts)))) none)) tt
-      | inr n ↦ let c : is_check ws ≡ true = rw n at h in subst IsUntold (sym (input_of-check ws (without file texts) c ∙ ap (with_text (domain_file ws) checked) none)) tt
+      | inl s ↦ by_script false s
+      | inr n ↦ elim (cases_Bool (is_check ws)) [
+        | inl c ↦ subst IsUntold (sym (input_of-check ws other c)) (unread_first checked (other (domain_file ws)) (domain_file ws) none)
+        | inr m ↦ by_script true (rw (n, m) at h)
+      ]
     ]
 
 -- the domain's file isn't had, which is read first
@@ -126,37 +180,57 @@ first_not_had ws texts use_of before now (Due (Unread file)) h n = unread file.i
 first_not_had ws texts use_of before now (Broken Write) h n = absurd n
 first_not_had ws texts use_of before now (Broken OutOfMemory) h n = tt
 
-pub no_domain_file : (ws : List (List ℕ)) (texts : Texts) (before now : ℕ) (stop : Stop) → is_session ws ≡ true → IsNotHad (domain_file ws) (texts (domain_file ws)) before now stop → HasNoInput (input_of ws texts) ws texts before now stop
-no_domain_file ws texts before now stop h n =
-    subst (λ o. HasNoInput o ws texts before now stop) (sym (input_of-session ws texts h)) (first_not_had ws texts (with_script (script_in (script_file ws) texts)) before now stop (names-session ws h) n)
+pub no_domain_file : (plans : Bool) (ws : List (List ℕ)) (texts : Texts) (before now : ℕ) (stop : Stop) → names_script plans ws ≡ true → IsNotHad (domain_file ws) (texts (domain_file ws)) before now stop → HasNoInput (input_of ws texts) ws texts before now stop
+no_domain_file plans ws texts before now stop h n =
+    subst (λ o. HasNoInput o ws texts before now stop) (sym (input_of-script plans ws texts h)) (first_not_had ws texts (with_flat plans ws texts (script_in plans (script_file ws) texts)) before now stop (names-script plans ws h) n)
 
 pub no_checked_file : (ws : List (List ℕ)) (texts : Texts) (before now : ℕ) (stop : Stop) → is_check ws ≡ true → IsNotHad (domain_file ws) (texts (domain_file ws)) before now stop → HasNoInput (input_of ws texts) ws texts before now stop
 no_checked_file ws texts before now stop h n =
     subst (λ o. HasNoInput o ws texts before now stop) (sym (input_of-check ws texts h)) (first_not_had ws texts checked before now stop (names-check ws h) n)
 
 -- a script that is at fault, or not told, is so in the outcome
-script_fault : (flat : Flat) (domain line : List ℕ) → MayBe flat (cut_off 3 line) → IsFault (with_script flat domain) 3 line
-script_fault flat domain line (inl e) = subst (λ f. IsFault (with_script f domain) 3 line) (sym e) (refl, refl)
-script_fault flat domain line (inr e) = subst (λ f. IsFault (with_script f domain) 3 line) (sym e) tt
+flat_fault : (plans : Bool) (ws : List (List ℕ)) (texts : Texts) (domain line : List ℕ) → IsFault (with_flat plans ws texts (cut_off 3 line) domain) 3 line
+flat_fault false ws texts domain line = (refl, refl)
+flat_fault true ws texts domain line = (refl, refl)
 
-module _ (ws : List (List ℕ)) (texts : Texts) (domain : List ℕ) (h : is_session ws ≡ true) (short : length domain ≤ longest_file) (e : IfSome (texts (domain_file ws)) (λ t. domain ≡ t)) where
-  faulty_script : (line : List ℕ) → MayBe (script_in (script_file ws) texts) (cut_off 3 line) → IsFault (input_of ws texts) 3 line
-  faulty_script line m =
-      subst (λ o. IsFault o 3 line) (sym (input_of-session ws texts h))
-      (text-told (λ o. IsFault o 3 line) (domain_file ws) (with_script (script_in (script_file ws) texts)) (texts (domain_file ws)) domain tt short e (script_fault (script_in (script_file ws) texts) domain line m))
+flat_missing : (P : Outcome → Type 0) (plans : Bool) (ws : List (List ℕ)) (texts : Texts) (domain : List ℕ) → P untold → P (with_flat plans ws texts missing domain)
+flat_missing P false ws texts domain u = u
+flat_missing P true ws texts domain u = u
 
-  untold_script : (file : List ℕ) → script_in (script_file ws) (without file texts) ≡ missing → IsUntold (input_of ws (without file texts))
+-- what holds of what a script may be, and where it isn't told, holds of the outcome
+flat_told : (P : Outcome → Type 0) (plans : Bool) (ws : List (List ℕ)) (texts : Texts) (flat want : Flat) (domain : List ℕ) → MayBe flat want → P untold → P (with_flat plans ws texts want domain) → P (with_flat plans ws texts flat domain)
+flat_told P plans ws texts flat want domain (inl e) u p = subst (λ f. P (with_flat plans ws texts f domain)) (sym e) p
+flat_told P plans ws texts flat want domain (inr e) u p = subst (λ f. P (with_flat plans ws texts f domain)) (sym e) (flat_missing P plans ws texts domain u)
+
+module _ (plans : Bool) (ws : List (List ℕ)) (texts : Texts) (domain : List ℕ) (h : names_script plans ws ≡ true) (short : length domain ≤ longest_file) (e : IfSome (texts (domain_file ws)) (λ t. domain ≡ t)) where
+  -- what holds of what the script gives with the domain's text holds of the outcome
+  of_flat : (P : Outcome → Type 0) (want : Flat) → MayBe (script_in plans (script_file ws) texts) want → P untold → P (with_flat plans ws texts want domain) → P (input_of ws texts)
+  of_flat P want m u p =
+      let flat = script_in plans (script_file ws) texts in
+      subst P (sym (input_of-script plans ws texts h))
+      (text-told P (domain_file ws) (with_flat plans ws texts flat) (texts (domain_file ws)) domain u short e (flat_told P plans ws texts flat want domain m u p))
+
+  faulty_script : (line : List ℕ) → MayBe (script_in plans (script_file ws) texts) (cut_off 3 line) → IsFault (input_of ws texts) 3 line
+  faulty_script line m = of_flat (λ o. IsFault o 3 line) (cut_off 3 line) m tt (flat_fault plans ws texts domain line)
+
+  -- without a text that the script rests on nothing is told
+  untold_later : (file : List ℕ) → IsUntold (with_flat plans ws (without file texts) (script_in plans (script_file ws) (without file texts)) domain) → IsUntold (input_of ws (without file texts))
+  untold_later file u =
+      let use_of : List ℕ → Outcome = with_flat plans ws (without file texts) (script_in plans (script_file ws) (without file texts)) in
+      subst IsUntold (sym (input_of-script plans ws (without file texts) h)) (by_case use_of u (same_text (domain_file ws) file)) where
+        by_case : (use_of : List ℕ → Outcome) → IsUntold (use_of domain) → (b : Bool) → IsUntold (with_text (domain_file ws) use_of (if b then None else texts (domain_file ws)))
+        by_case use_of u true = tt
+        by_case use_of u false = text-told IsUntold (domain_file ws) use_of (texts (domain_file ws)) domain tt short e u
+
+  untold_script : (file : List ℕ) → script_in plans (script_file ws) (without file texts) ≡ missing → IsUntold (input_of ws (without file texts))
   untold_script file m =
-      subst IsUntold (sym (input_of-session ws (without file texts) h ∙ ap (λ f. with_text (domain_file ws) (with_script f) (without file texts (domain_file ws))) m)) (by_case (same_text (domain_file ws) file)) where
-        by_case : (b : Bool) → IsUntold (with_text (domain_file ws) (with_script missing) (if b then None else texts (domain_file ws)))
-        by_case true = tt
-        by_case false = text-told IsUntold (domain_file ws) (with_script missing) (texts (domain_file ws)) domain tt short e tt
+      untold_later file (subst (λ f. IsUntold (with_flat plans ws (without file texts) f domain)) (sym m) (flat_missing IsUntold plans ws (without file texts) domain tt))
 
   -- the script isn't had
-  pub no_script : (later : Texts) → ((n : List ℕ) → later n ≡ texts n) → (before middle now : ℕ) (stop : Stop) → before ≤ middle → IsCut (script_in (script_file ws)) later middle now stop → HasNoInput (input_of ws texts) ws texts before now stop
+  pub no_script : (later : Texts) → ((n : List ℕ) → later n ≡ texts n) → (before middle now : ℕ) (stop : Stop) → before ≤ middle → IsCut (script_in plans (script_file ws)) later middle now stop → HasNoInput (input_of ws texts) ws texts before now stop
   no_script later told before middle now stop le c =
-      no_script_here before now stop (cut_earlier (script_in (script_file ws)) texts before middle now stop le (subst (λ (t : Texts). IsCut (script_in (script_file ws)) t middle now stop) (same_texts later texts told) c)) where
-        no_script_here : (before now : ℕ) (stop : Stop) → IsCut (script_in (script_file ws)) texts before now stop → HasNoInput (input_of ws texts) ws texts before now stop
+      no_script_here before now stop (cut_earlier (script_in plans (script_file ws)) texts before middle now stop le (subst (λ (t : Texts). IsCut (script_in plans (script_file ws)) t middle now stop) (same_texts later texts told) c)) where
+        no_script_here : (before now : ℕ) (stop : Stop) → IsCut (script_in plans (script_file ws)) texts before now stop → HasNoInput (input_of ws texts) ws texts before now stop
         no_script_here before now (Due Usage) c = absurd c
         no_script_here before now (Due (NoDomain cause)) c = absurd c
         no_script_here before now (Due (TooLong file)) c = too_long file.items (faulty_script (too_long_line file.items) c)
@@ -164,6 +238,37 @@ module _ (ws : List (List ℕ)) (texts : Texts) (domain : List ℕ) (h : is_sess
         no_script_here before now (Due (Unread file)) c = unread file.items (untold_script file.items c.0) c.1
         no_script_here before now (Broken Write) c = absurd c
         no_script_here before now (Broken OutOfMemory) c = tt
+
+-- ---- the plan's file
+
+module _ (ws : List (List ℕ)) (texts : Texts) (domain : List ℕ) (h : is_validate ws ≡ true) (short : length domain ≤ longest_file) (e : IfSome (texts (domain_file ws)) (λ t. domain ≡ t)) (script : List Flattened) (ended : Bool) (flat : MayBe (script_in true (script_file ws) texts) (lines script ended)) where
+  -- what holds of what the plan's text gives holds of the outcome
+  of_plan : (P : Outcome → Type 0) → P untold → P (with_text (plan_file ws) (validated domain script) (texts (plan_file ws))) → P (input_of ws texts)
+  of_plan P u p = of_flat true ws texts domain h short e P (lines script ended) flat u p
+
+  untold_plan : IsUntold (input_of ws (without (plan_file ws) texts))
+  untold_plan =
+      let other : Texts = without (plan_file ws) texts in
+      let none : other (plan_file ws) ≡ None = rw (same_text-refl (plan_file ws)) refl in
+      let told : IsUntold (with_flat true ws other (script_in true (script_file ws) texts) domain) =
+      flat_told IsUntold true ws other (script_in true (script_file ws) texts) (lines script ended) domain flat tt (unread_first (validated domain script) (other (plan_file ws)) (plan_file ws) none) in
+      untold_later true ws texts domain h short e (plan_file ws)
+      (flat_told IsUntold true ws other (script_in true (script_file ws) other) (script_in true (script_file ws) texts) domain (on_source-narrow true 5 (script_file ws) [] texts (plan_file ws)) tt told)
+
+  -- the plan's file isn't had
+  pub no_plan : (later : Texts) → ((n : List ℕ) → later n ≡ texts n) → (before middle now : ℕ) (stop : Stop) → before ≤ middle → IsNotHad (plan_file ws) (later (plan_file ws)) middle now stop → HasNoInput (input_of ws texts) ws texts before now stop
+  no_plan later told before middle now (Due Usage) le n = absurd n
+  no_plan later told before middle now (Due (NoDomain cause)) le n = absurd n
+  no_plan later told before middle now (Due (TooLong file)) le n =
+      let long : IfSome (texts (plan_file ws)) (λ text. longest_file < length text) = subst (λ (t : Option (List ℕ)). IfSome t (λ text. longest_file < length text)) (told (plan_file ws)) n.1 in
+      let due : IsFault (input_of ws texts) 3 (too_long_line (plan_file ws)) =
+      of_plan (λ o. IsFault o 3 (too_long_line (plan_file ws))) tt (too_long-told (plan_file ws) (validated domain script) (texts (plan_file ws)) long) in
+      too_long file.items (subst (λ f. IsFault (input_of ws texts) 3 (too_long_line f)) (sym n.0) due)
+  no_plan later told before middle now (Due Lines) le n = absurd n
+  no_plan later told before middle now (Due (Unread file)) le n =
+      unread file.items (subst (λ (f : List ℕ). IsUntold (input_of ws (without f texts))) (sym n.0) untold_plan) (elim n.1 [ inl lt ↦ inl (omega arith) | inr top ↦ inr top ])
+  no_plan later told before middle now (Broken Write) le n = absurd n
+  no_plan later told before middle now (Broken OutOfMemory) le n = tt
 
 -- ---- the domain's text
 
@@ -193,23 +298,30 @@ module _ (ws : List (List ℕ)) (texts : Texts) (domain : List ℕ) (short : len
   pub gives_domain : (d : Domain) (t : Table) → is_check ws ≡ true → IsDomain domain d t → GivesDomain (input_of ws texts) d t
   gives_domain d t h read = of_checked (λ o. GivesDomain o d t) h tt read
 
-  module _ (script : List Flattened) (ended : Bool) (flat : MayBe (script_in (script_file ws) texts) (lines script ended)) where
-    -- what holds of a session's texts holds of its outcome
-    of_given : (P : Outcome → Type 0) → is_session ws ≡ true → P untold → P (given domain script) → P (input_of ws texts)
-    of_given P h u p =
-        subst P (sym (input_of-session ws texts h))
-        (text-told P (domain_file ws) (with_script (script_in (script_file ws) texts)) (texts (domain_file ws)) domain u short e
-        (elim flat [
-          | inl same ↦ subst (λ f. P (with_script f domain)) (sym same) p
-          | inr none ↦ subst (λ f. P (with_script f domain)) (sym none) u
-        ]))
+  module _ (script : List Flattened) (ended : Bool) where
+    module _ (flat : MayBe (script_in false (script_file ws) texts) (lines script ended)) where
+      pub refused_given : (before now : ℕ) (stop : Stop) → is_session ws ≡ true → IsJudged domain stop → HasNoInput (input_of ws texts) ws texts before now stop
+      refused_given before now stop h j =
+          refused ws texts (input_of ws texts) domain before now stop e (λ line n. of_flat false ws texts domain h short e (λ o. IsFault o 3 line) (lines script ended) flat tt (refl, n)) j
 
-    pub refused_given : (before now : ℕ) (stop : Stop) → is_session ws ≡ true → IsJudged domain stop → HasNoInput (input_of ws texts) ws texts before now stop
-    refused_given before now stop h j =
-        refused ws texts (input_of ws texts) domain before now stop e (λ line n. of_given (λ o. IsFault o 3 line) h tt (refl, n)) j
+      -- both are read
+      pub gives : (d : Domain) (t last : Table) (all : List Line) → is_session ws ≡ true → IsDomain domain d t → IsScript t script all last → Gives (input_of ws texts) (input_with d all) last
+      gives d t last all h read are =
+          let is : IsInput domain script (input_with d all) last = record { between = t; read = read; lines = are } in
+          of_flat false ws texts domain h short e (λ o. Gives o (input_with d all) last) (lines script ended) flat tt is
 
-    -- both are read
-    pub gives : (d : Domain) (t last : Table) (all : List Line) → is_session ws ≡ true → IsDomain domain d t → IsScript t script all last → Gives (input_of ws texts) (input_with d all) last
-    gives d t last all h read are =
-        let is : IsInput domain script (input_with d all) last = record { between = t; read = read; lines = are } in
-        of_given (λ o. Gives o (input_with d all) last) h tt is
+    module _ (flat : MayBe (script_in true (script_file ws) texts) (lines script ended)) (plan : List ℕ) (short_plan : length plan ≤ longest_file) (had : IfSome (texts (plan_file ws)) (λ t. plan ≡ t)) where
+      -- what holds of all three texts holds of the outcome
+      of_validated : (P : Outcome → Type 0) → is_validate ws ≡ true → P untold → P (validated domain script plan) → P (input_of ws texts)
+      of_validated P h u p =
+          of_plan ws texts domain h short e script ended flat P u (text-told P (plan_file ws) (validated domain script) (texts (plan_file ws)) plan u short_plan had p)
+
+      pub refused_validated : (before now : ℕ) (stop : Stop) → is_validate ws ≡ true → IsJudged domain stop → HasNoInput (input_of ws texts) ws texts before now stop
+      refused_validated before now stop h j =
+          refused ws texts (input_of ws texts) domain before now stop e (λ line n. of_validated (λ o. IsFault o 3 line) h tt (refl, n)) j
+
+      -- all three are read
+      pub gives_plan : (d : Domain) (t last : Table) (all : List Line) → is_validate ws ≡ true → IsDomain domain d t → IsScript t script all last → GivesPlan (input_of ws texts) (input_with d all) last plan
+      gives_plan d t last all h read are =
+          let is : IsInput domain script (input_with d all) last = record { between = t; read = read; lines = are } in
+          of_validated (λ o. GivesPlan o (input_with d all) last plan) h tt (is, refl)

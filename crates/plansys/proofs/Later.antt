@@ -3,7 +3,8 @@ use Rattle.std.proofs.Common.{ℕ, ◌≤◌, All, List, arith}
 use Rattle.std.proofs.lemmas.List.Elements.{All-weaker}
 use Rattle.ps_world.specs.Trees.{ExprTree, number, value_of, negated, operated, CondTree, CondTrees, all_of, no, holds, same, compares, is_a, none, more}
 use Rattle.ps_world.specs.CondViews.{cond_tree}
-use Rattle.ps_world.specs.Tables.{IsOf, IsFactOf, IsGroundTermOf, IsGroundOf, IsGroundExprOf, IsGoalOf, AreGoalsOf, IsEditOf, IsQueryOf, IsLineOf}
+use Rattle.ps_world.specs.Tables.{IsOf, IsFactOf, IsGroundTermOf, IsGroundOf, IsGroundExprOf, IsGoalOf, AreGoalsOf, IsEditOf}
+use Rattle.ps_machine.specs.Tables.{IsQueryOf, IsLineOf}
 use Rattle.ps_world.specs.declared.schemas.Term.{Term}
 use Rattle.ps_world.specs.declared.schemas.Term.TheVariants.{Var, Const}
 use Rattle.ps_world.specs.declared.schemas.Lifted.{Lifted}
@@ -11,11 +12,11 @@ use Rattle.ps_world.specs.declared.facts.Fact.{Fact}
 use Rattle.ps_world.specs.declared.domains.Param.{Param}
 use Rattle.ps_world.specs.declared.edits.Edit.{Edit}
 use Rattle.ps_world.specs.declared.edits.Edit.TheVariants.{AddInstance, RemoveInstance, AddFact, RemoveFact, SetValue, RemoveValue, SetGoal, RemoveGoal}
-use Rattle.ps_world.specs.declared.inputs.Query.{Query}
-use Rattle.ps_world.specs.declared.inputs.Query.TheVariants as query
-use Rattle.ps_world.specs.declared.inputs.Command.TheVariants as command
-use Rattle.ps_world.specs.declared.inputs.Line.{Line}
-use Rattle.ps_world.specs.declared.inputs.Line.TheVariants.{Good, Bad}
+use Rattle.ps_machine.specs.declared.inputs.Query.{Query}
+use Rattle.ps_machine.specs.declared.inputs.Query.TheVariants as query
+use Rattle.ps_machine.specs.declared.inputs.Command.TheVariants as command
+use Rattle.ps_machine.specs.declared.inputs.Line.{Line}
+use Rattle.ps_machine.specs.declared.inputs.Line.TheVariants.{Good, Bad}
 use Rattle.ps_print.specs.CanonicalWords.{IsParamOf}
 
 module _ (m n : ℕ) (h : m ≤ n) where

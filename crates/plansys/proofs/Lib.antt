@@ -7,6 +7,7 @@ pub mod Later
 pub mod LinesNamed
 pub mod NameLines
 pub mod OneScript
+pub mod PlanNames
 pub mod Replies
 pub mod ScriptLines
 pub mod Sessions

@@ -6,7 +6,8 @@ use Rattle.ps_world.specs.Numbers.{IsCount}
 use Rattle.ps_world.specs.Trees.{cond_trees}
 use Rattle.ps_world.specs.CondViews.{cond_tree}
 use Rattle.ps_world.specs.ExprViews.{expr_tree}
-use Rattle.ps_world.specs.Tables.{IsOf, IsFactOf, IsGroundTermOf, IsGroundOf, IsGroundExprOf, IsGoalOf, AreGoalsOf, IsLineOf}
+use Rattle.ps_world.specs.Tables.{IsOf, IsFactOf, IsGroundTermOf, IsGroundOf, IsGroundExprOf, IsGoalOf, AreGoalsOf}
+use Rattle.ps_machine.specs.Tables.{IsLineOf}
 use Rattle.ps_world.specs.declared.names.Name.{Name}
 use Rattle.ps_world.specs.declared.schemas.Term.TheVariants.{Const}
 use Rattle.ps_world.specs.declared.expressions.Op.{Op}
@@ -16,10 +17,10 @@ use Rattle.ps_world.specs.declared.conditions.Rel.{Rel}
 use Rattle.ps_world.specs.declared.conditions.Rel.TheVariants.{Eq}
 use Rattle.ps_world.specs.declared.conditions.Cond.{Cond}
 use Rattle.ps_world.specs.declared.conditions.Cond.TheVariants as cond
-use Rattle.ps_world.specs.declared.inputs.Command.{Command}
-use Rattle.ps_world.specs.declared.inputs.LineCause.{LineCause}
-use Rattle.ps_world.specs.declared.inputs.LineCause.TheVariants.{NotBuilt}
-use Rattle.ps_world.specs.declared.inputs.Line.TheVariants.{Good, Bad}
+use Rattle.ps_machine.specs.declared.inputs.Command.{Command}
+use Rattle.ps_machine.specs.declared.inputs.LineCause.{LineCause}
+use Rattle.ps_machine.specs.declared.inputs.LineCause.TheVariants.{NotBuilt}
+use Rattle.ps_machine.specs.declared.inputs.Line.TheVariants.{Good, Bad}
 use Rattle.ps_text.specs.Names.{interned, AreNames}
 use Rattle.ps_text.specs.Tokens.{AreTokens}
 use Rattle.ps_text.specs.declared.lexing.Token.{Token}

@@ -5,7 +5,7 @@ use Rattle.std.proofs.lemmas.Bool.{eqb-true}
 use Rattle.std.proofs.lemmas.Bool.Decides.{nat_tests}
 use Rattle.ps_world.specs.Names.{Table}
 use Rattle.ps_world.specs.Lines.{is_line}
-use Rattle.ps_world.specs.Laws.{AreLines}
+use Rattle.ps_world.specs.Lines.{AreLines}
 use Rattle.ps_text.specs.Names.{is_letter, is_name_byte, bad_place, fault_at, name_fault, AreNames}
 
 -- a byte that no name has

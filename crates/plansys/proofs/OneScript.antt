@@ -1,21 +1,22 @@
 -- A script is read as one list of lines at most.
 use Rattle.std.proofs.Common.{◌≡◌, List, [], ◌∷◌, ◌++◌, refl, sym, ap, subst, ◌∙◌}
 use Rattle.ps_world.specs.Names.{Table}
-use Rattle.ps_world.specs.declared.inputs.LineCause.TheVariants.{Nest}
-use Rattle.ps_world.specs.declared.inputs.Line.{Line}
-use Rattle.ps_script.specs.declared.reading.Read.{Read}
+use Rattle.ps_machine.specs.declared.inputs.Line.{Line}
 use Rattle.ps_script.proofs.OneAnswer.{lines_are_read_as_one}
 use Rattle.plansys.specs.Laws.{ScriptsAreReadAsOne}
-use Rattle.plansys.specs.Scripts.{Adds, IsScript, given_by}
+use Rattle.plansys.specs.Scripts.{Adds, IsScript, given_by, table_after_plan}
 use Rattle.plansys.specs.Scripts.IsScript.{nothing, one_more}
 use Rattle.plansys.specs.declared.reading.flatten.Flattened.{Flattened}
-use Rattle.plansys.specs.declared.reading.flatten.Flattened.TheVariants.{Text, TooDeep}
+use Rattle.plansys.specs.declared.reading.flatten.Flattened.TheVariants.{Text, Plan, TooDeep}
 
 -- a command line adds one list of lines at most
 adds_one : (table : Table) (one : Flattened) (new more : List Line) (after other : Table) → Adds table one new after → Adds table one more other → (new ≡ more) × (after ≡ other)
 adds_one table (Text bytes) new more after other h g =
     let same = lines_are_read_as_one table bytes h.0 g.0 after other h.1 g.1 in
     (h.2 ∙ ap given_by same.0 ∙ sym g.2, same.1)
+adds_one table (Plan bytes text) new more after other h g =
+    let same = lines_are_read_as_one table bytes h.0 g.0 h.1 g.1 h.2 g.2 in
+    (h.3 ∙ ap given_by same.0 ∙ sym g.3, h.4 ∙ ap (λ t. table_after_plan t text) same.1 ∙ sym g.4)
 adds_one table TooDeep new more after other h g = (h.0 ∙ sym g.0, h.1 ∙ sym g.1)
 
 -- two lists with an item at their ends are the same only where the items are, and what stands before them

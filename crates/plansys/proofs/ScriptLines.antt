@@ -4,18 +4,19 @@ use Rattle.std.proofs.Math.Seq.{take-suc, take-length}
 use Rattle.std.proofs.lemmas.List.{length-append}
 use Rattle.std.proofs.lemmas.List.Elements.{All-nil, All-append, All-weaker}
 use Rattle.ps_world.specs.Names.{Table}
-use Rattle.ps_world.specs.Tables.{IsLineOf}
-use Rattle.ps_world.specs.declared.inputs.LineCause.TheVariants.{Nest}
-use Rattle.ps_world.specs.declared.inputs.Line.{Line}
+use Rattle.ps_machine.specs.Tables.{IsLineOf}
+use Rattle.ps_machine.specs.declared.inputs.LineCause.TheVariants.{Nest}
+use Rattle.ps_machine.specs.declared.inputs.Line.{Line}
 use Rattle.ps_text.specs.Names.{AreNames}
 use Rattle.ps_script.specs.declared.reading.Read.{Read}
 use Rattle.ps_script.specs.declared.reading.Read.TheVariants as read
 use Rattle.plansys.specs.Scripts.{Adds, IsScript, given_by}
 use Rattle.plansys.specs.Scripts.IsScript.{nothing, one_more}
 use Rattle.plansys.specs.declared.reading.flatten.Flattened.{Flattened}
-use Rattle.plansys.specs.declared.reading.flatten.Flattened.TheVariants.{Text, TooDeep}
+use Rattle.plansys.specs.declared.reading.flatten.Flattened.TheVariants.{Text, Plan, TooDeep}
 use Rattle.plansys.proofs.Later.{line-later}
 use Rattle.plansys.proofs.LinesNamed.{bad_named, named_after}
+use Rattle.plansys.proofs.PlanNames.{after_plan}
 
 -- What a script leaves: a table of names that has at least those before, among them the names of all its lines, and as
 -- many lines at most as were read.
@@ -37,6 +38,15 @@ adds_named : (table : Table) (one : Flattened) (new : List Line) (after : Table)
 adds_named table (Text bytes) new after n h =
     let own = named_after table bytes h.0 after n h.1 in
     (own.names, own.grows, subst (All (IsLineOf (length after))) (sym h.2) own.named, subst (λ (ls : List Line). length ls ≤ 1) (sym h.2) (one_at_most h.0))
+adds_named table (Plan bytes text) new after n h =
+    let between = h.1 in
+    let own = named_after table bytes h.0 between n h.2 in
+    let last = after_plan between text own.names in
+    let grows : length between ≤ length after = subst (λ (t : Table). length between ≤ length t) (sym h.4) last.1 in
+    let here : All (IsLineOf (length between)) new = subst (All (IsLineOf (length between))) (sym h.3) own.named in
+    let few : length new ≤ 1 = subst (λ (ls : List Line). length ls ≤ 1) (sym h.3) (one_at_most h.0) in
+    let all : All (IsLineOf (length after)) new = All-weaker (IsLineOf (length between)) (IsLineOf (length after)) (line-later (length between) (length after) grows) new here in
+    (subst AreNames (sym h.4) last.0, omega (arith, own.grows, grows), all, few)
 adds_named table TooDeep new after n h =
     rw (h.0, h.1) (n, omega arith, bad_named (length table) Nest, omega arith)
 

@@ -7,30 +7,31 @@ use Rattle.std.proofs.lemmas.List.Folds.{list_any-append}
 use Rattle.std.proofs.lemmas.Bool.{eq-eqb}
 use Rattle.ps_world.specs.Names.{Table}
 use Rattle.ps_world.specs.Knowledge.{edited, opening}
-use Rattle.ps_world.specs.Texts.{edit_text, query_text, refusal_text}
+use Rattle.ps_world.specs.Texts.{edit_text}
+use Rattle.ps_machine.specs.Texts.{query_text, refusal_text}
 use Rattle.ps_world.specs.Lines.{same_text}
-use Rattle.ps_world.specs.History.{known_after, know, answers_line, answered, due_lines, next_line, refusal_of_query, is_legal, has_hand, IsHistory, is_refusal}
-use Rattle.ps_world.specs.History.IsHistory.{nothing, block}
-use Rattle.ps_world.specs.Journal.{entry_text, journal_text, header}
+use Rattle.ps_machine.specs.History.{known_after, know, answers_line, answered, due_lines, next_line, refusal_of_query, is_legal, has_hand, IsHistory, is_refusal}
+use Rattle.ps_machine.specs.History.IsHistory.{nothing, block}
+use Rattle.ps_machine.specs.Journal.{entry_text, journal_text, header}
 use Rattle.ps_world.specs.Tables.{IsKnownOf}
-use Rattle.ps_world.specs.Laws.{AreLines}
+use Rattle.ps_world.specs.Lines.{AreLines}
 use Rattle.ps_world.specs.declared.domains.Domain.{Domain}
 use Rattle.ps_world.specs.declared.known.Knowledge.{Knowledge}
 use Rattle.ps_world.specs.declared.edits.Edit.{Edit}
 use Rattle.ps_world.specs.declared.edits.EditRefusal.{EditRefusal}
-use Rattle.ps_world.specs.declared.inputs.Query.{Query}
-use Rattle.ps_world.specs.declared.inputs.Command.TheVariants as command
-use Rattle.ps_world.specs.declared.inputs.Line.{Line}
-use Rattle.ps_world.specs.declared.inputs.Line.TheVariants.{Good, Bad}
-use Rattle.ps_world.specs.declared.inputs.Input.{Input}
-use Rattle.ps_world.specs.declared.journal.By.TheVariants.{Terminal}
-use Rattle.ps_world.specs.declared.journal.Refusal.{Refusal}
-use Rattle.ps_world.specs.declared.journal.Refusal.TheVariants as refusal
-use Rattle.ps_world.specs.declared.journal.Event.{Event}
-use Rattle.ps_world.specs.declared.journal.Event.TheVariants as event
-use Rattle.ps_world.specs.declared.journal.Entry.{Entry}
-use Rattle.ps_world.proofs.Journals.{know-push, answered-push, journal_text-push, hands-history}
-use Rattle.ps_world.proofs.ReadBack.{AreEntriesIn-journal_text}
+use Rattle.ps_machine.specs.declared.inputs.Query.{Query}
+use Rattle.ps_machine.specs.declared.inputs.Command.TheVariants as command
+use Rattle.ps_machine.specs.declared.inputs.Line.{Line}
+use Rattle.ps_machine.specs.declared.inputs.Line.TheVariants.{Good, Bad}
+use Rattle.ps_machine.specs.declared.inputs.Input.{Input}
+use Rattle.ps_machine.specs.declared.journal.By.TheVariants.{Terminal}
+use Rattle.ps_machine.specs.declared.journal.Refusal.{Refusal}
+use Rattle.ps_machine.specs.declared.journal.Refusal.TheVariants as refusal
+use Rattle.ps_machine.specs.declared.journal.Event.{Event}
+use Rattle.ps_machine.specs.declared.journal.Event.TheVariants as event
+use Rattle.ps_machine.specs.declared.journal.Entry.{Entry}
+use Rattle.ps_machine.proofs.Journals.{know-push, answered-push, journal_text-push, hands-history}
+use Rattle.ps_machine.proofs.ReadBack.{AreEntriesIn-journal_text}
 use Rattle.ps_text.specs.Causes.{AppendsFront}
 use Rattle.plansys.specs.Steps.{by_terminal, edit_event, event_of, query_event}
 use Rattle.plansys.specs.Session.{IsDone, IsCut}

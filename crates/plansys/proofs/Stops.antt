@@ -1,20 +1,22 @@
 -- What an attempt comes to.
-use Rattle.std.proofs.Common.{◌≡◌, ℕ, ◌<◌, ◌⊎◌, Option, Some, None, List, inl, inr, refl, sym, subst}
+use Rattle.std.proofs.Common.{◌≡◌, ℕ, ◌⊎◌, Option, Some, None, List, inl, inr, refl, sym, subst, ap, ◌∙◌}
 use Rattle.std.specs.Io.KnownBytes.{Appends, Keeps}
 use Rattle.ps_world.specs.Names.{Table}
 use Rattle.ps_world.specs.DomainTexts.{domain_text}
 use Rattle.ps_world.specs.declared.domains.Domain.{Domain}
-use Rattle.ps_world.specs.declared.inputs.Line.{Line}
-use Rattle.ps_world.specs.declared.inputs.Input.{Input}
+use Rattle.ps_machine.specs.declared.inputs.Line.{Line}
+use Rattle.ps_machine.specs.declared.inputs.Input.{Input}
 use Rattle.ps_text.specs.Causes.{Rose, AppendsFront}
 use Rattle.plansys.specs.Session.{input_with, IsDone, IsCut}
 use Rattle.plansys.specs.Input.{Outcome}
-use Rattle.plansys.specs.Input.Outcome.{given, checked, fault, untold}
+use Rattle.plansys.specs.Input.Outcome.{given, checked, validated, fault, untold}
+use Rattle.ps_validate.specs.Verdicts.{known_after, verdict}
+use Rattle.ps_validate.specs.declared.verdicts.Invalid.{Invalid}
+use Rattle.plansys.specs.Verdicts.{verdict_line, verdict_status}
 use Rattle.plansys.specs.Headline.{IsAnswered, IsFront, IsFault, IsDue, LeadsTo}
 use Rattle.plansys.specs.Headline.IsDue.{misused, no_domain, too_long, too_many, unread}
-use Rattle.plansys.specs.Faults.{Gives, GivesDomain, HasNoInput, IsStopped}
-use Rattle.plansys.specs.declared.faults.Stop.{Stop}
-use Rattle.plansys.specs.declared.faults.Stop.TheVariants.{Due, Broken}
+use Rattle.plansys.specs.Faults.{Gives, GivesDomain, GivesPlan, IsStopped}
+use Rattle.plansys.specs.declared.faults.Stop.TheVariants.{Broken}
 use Rattle.plansys.specs.declared.session.Broken.{Broken as Break}
 use Rattle.plansys.specs.declared.session.Broken.TheVariants.{Write, OutOfMemory}
 
@@ -27,6 +29,7 @@ Keeps-same (Some xs) = refl
 pub answered : (outcome : Outcome) (i : Input) (names : Table) (old new : Option (List ℕ)) (status : ℕ) → Gives outcome i names → IsDone i names old new status → IsAnswered outcome old new status
 answered (given domain script) i names old new status g d = (i, names, g, d)
 answered (checked domain) i names old new status g d = absurd g
+answered (validated domain script plan) i names old new status g d = absurd g
 answered (fault s l) i names old new status g d = absurd g
 answered untold i names old new status g d = tt
 
@@ -34,35 +37,45 @@ answered untold i names old new status g d = tt
 pub front : (outcome : Outcome) (i : Input) (names : Table) (old new : Option (List ℕ)) → Gives outcome i names → IsCut i names old new → IsFront outcome old new
 front (given domain script) i names old new g d = inr (i, names, g, d)
 front (checked domain) i names old new g d = absurd g
+front (validated domain script plan) i names old new g d = absurd g
 front (fault s l) i names old new g d = absurd g
 front untold i names old new g d = tt
 
 -- the text of the domain that was given
 pub printed : (outcome : Outcome) (d : Domain) (names : Table) (old new : Option (List ℕ)) → GivesDomain outcome d names → Appends old new (domain_text names d) → IsAnswered outcome old new 0
 printed (given domain script) d names old new g a = absurd g
+printed (validated domain script plan) d names old new g a = absurd g
 printed (checked domain) d names old new g a = (refl, (d, names, g, a))
 printed (fault s l) d names old new g a = absurd g
 printed untold d names old new g a = tt
 
+-- the line that the plan is answered with
+pub told_plan : (outcome : Outcome) (i : Input) (names : Table) (plan : List ℕ) (wrong : Option Invalid) (after : Table) (old new : Option (List ℕ)) → GivesPlan outcome i names plan → (wrong, after) ≡ verdict i.domain (known_after i.domain i.lines) names plan → Appends old new (verdict_line after wrong) → IsAnswered outcome old new (verdict_status wrong)
+told_plan (given domain script) i names plan wrong after old new g e a = absurd g
+told_plan (checked domain) i names plan wrong after old new g e a = absurd g
+told_plan (validated domain script text) i names plan wrong after old new g e a =
+    let same : (wrong, after) ≡ verdict i.domain (known_after i.domain i.lines) names text = e ∙ ap (verdict i.domain (known_after i.domain i.lines) names) (sym g.1) in
+    (i, names, g.0, subst (λ v. (verdict_status wrong ≡ verdict_status v.0) × Appends old new (verdict_line v.1 v.0)) same (refl, a))
+told_plan (fault s l) i names plan wrong after old new g e a = absurd g
+told_plan untold i names plan wrong after old new g e a = tt
+
 -- a front of it
-pub half_printed : (outcome : Outcome) (d : Domain) (names : Table) (old new : Option (List ℕ)) → GivesDomain outcome d names → AppendsFront old new (domain_text names d) → IsFront outcome old new
-half_printed (given domain script) d names old new g a = absurd g
-half_printed (checked domain) d names old new g a = inr (d, names, g, a)
-half_printed (fault s l) d names old new g a = absurd g
-half_printed untold d names old new g a = tt
+pub half_told : (outcome : Outcome) (i : Input) (names : Table) (plan : List ℕ) (wrong : Option Invalid) (after : Table) (old new : Option (List ℕ)) → GivesPlan outcome i names plan → (wrong, after) ≡ verdict i.domain (known_after i.domain i.lines) names plan → AppendsFront old new (verdict_line after wrong) → IsFront outcome old new
+half_told (given domain script) i names plan wrong after old new g e a = absurd g
+half_told (checked domain) i names plan wrong after old new g e a = absurd g
+half_told (validated domain script text) i names plan wrong after old new g e a =
+    let same : (wrong, after) ≡ verdict i.domain (known_after i.domain i.lines) names text = e ∙ ap (verdict i.domain (known_after i.domain i.lines) names) (sym g.1) in
+    inr (i, names, g.0, subst (λ v. AppendsFront old new (verdict_line v.1 v.0)) same a)
+half_told (fault s l) i names plan wrong after old new g e a = absurd g
+half_told untold i names plan wrong after old new g e a = tt
 
 -- nothing was written
 pub no_front : (outcome : Outcome) (t : Option (List ℕ)) → IsFront outcome t t
 no_front (given domain script) t = inl (Keeps-same t)
 no_front (checked domain) t = inl (Keeps-same t)
+no_front (validated domain script plan) t = inl (Keeps-same t)
 no_front (fault s l) t = Keeps-same t
 no_front untold t = tt
-
--- there was no input, and nothing was written
-pub stopped_before : (outcome : Outcome) (ws : List (List ℕ)) (texts : List ℕ → Option (List ℕ)) (before now : ℕ) (t : Option (List ℕ)) (f : ℕ) (stop : Stop) → HasNoInput outcome ws texts before now stop → IsStopped outcome ws texts before now t t f f stop
-stopped_before outcome ws texts before now t f (Due x) h = (h, Keeps-same t)
-stopped_before outcome ws texts before now t f (Broken Write) h = absurd h
-stopped_before outcome ws texts before now t f (Broken OutOfMemory) h = no_front outcome t
 
 -- a session was broken off
 pub stopped_in : (outcome : Outcome) (ws : List (List ℕ)) (texts : List ℕ → Option (List ℕ)) (before now : ℕ) (old new : Option (List ℕ)) (f f' : ℕ) (b : Break) → IsFront outcome old new → (b ≡ Write → Rose f f') → IsStopped outcome ws texts before now old new f f' (Broken b)
@@ -75,15 +88,10 @@ same_input i d lines p q = λ j. record { domain = p j; lines = q j }
 
 -- ---- what an outcome leads to
 
-pub leads-answered : (outcome : Outcome) (old new : Option (List ℕ)) (status : ℕ) → status < 2 → IsAnswered outcome old new status → LeadsTo outcome status
-leads-answered (given domain script) old new status lt h = inl (h.0, h.1, h.2, lt)
-leads-answered (checked domain) old new status lt h = inl (h.1.0, h.1.1, h.1.2, h.0)
-leads-answered (fault s l) old new status lt h = absurd h
-leads-answered untold old new status lt h = tt
-
 leads-fault : (outcome : Outcome) (status : ℕ) (line : List ℕ) → IsFault outcome status line → LeadsTo outcome status
 leads-fault (given domain script) status line h = inr (line, h.1, sym h.0)
 leads-fault (checked domain) status line h = inr (line, h.1, sym h.0)
+leads-fault (validated domain script plan) status line h = inr (line, h.1, sym h.0)
 leads-fault (fault s l) status line h = sym h.0
 leads-fault untold status line h = tt
 

@@ -27,7 +27,8 @@ is_none-same : {X : Type 0} (o : Option X) → is_none o ≡ true → o ≡ None
 is_none-same None h = refl
 is_none-same (Some x) h = absurd (cc)
 
-with_name : (t : Table) (w : List ℕ) → is_name w ≡ true → AreNames t → AreNames (interned t (folded w))
+-- a word that is a name is put into a table of names
+pub with_name : (t : Table) (w : List ℕ) → is_name w ≡ true → AreNames t → AreNames (interned t (folded w))
 with_name t w h n = AreNames-interned t (folded w) n (IsNameText-folded w (is_none-same (name_fault w) h))
 
 -- ---- a domain's text

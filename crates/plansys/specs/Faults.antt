@@ -5,13 +5,13 @@ use Rattle.std.specs.declared.string.String.{String}
 use Rattle.std.specs.declared.alloc.Global.{Global}
 use Rattle.ps_world.specs.Names.{Table}
 use Rattle.ps_world.specs.declared.domains.Domain.{Domain}
-use Rattle.ps_world.specs.declared.inputs.Input.{Input}
+use Rattle.ps_machine.specs.declared.inputs.Input.{Input}
 use Rattle.ps_text.specs.Causes.{Rose}
 use Rattle.plansys.specs.Input.{Outcome, IsDomain, IsNoDomain, IsInput, usage_line, domain_line, cannot_read_line}
 use Rattle.plansys.specs.Flats.{Texts, Flat, MayBe, longest_file, most_lines, lines_line, too_long_line, without}
 use Rattle.plansys.specs.Flats.Flat.{fault, missing}
 use Rattle.plansys.specs.declared.reading.flatten.Flattened.{Flattened}
-use Rattle.plansys.specs.Input.Outcome.{given, checked, fault as at_fault, untold}
+use Rattle.plansys.specs.Input.Outcome.{given, checked, validated, fault as at_fault, untold}
 use Rattle.plansys.specs.Headline.{IsDue, IsFront}
 use Rattle.plansys.specs.declared.faults.Fault.{Fault}
 use Rattle.plansys.specs.declared.faults.Fault.TheVariants.{Usage, NoDomain, TooLong, Lines, Unread}
@@ -90,15 +90,25 @@ HasNoInput outcome ws texts before now (Broken OutOfMemory) = Unit {0}
 abbrev pub Gives : Outcome → Input → Table → Type 0
 Gives (given domain script) input table = IsInput domain script input table
 Gives (checked domain) input table = ⊥
+Gives (validated domain script plan) input table = ⊥
 Gives (at_fault s l) input table = ⊥
 Gives untold input table = Unit {0}
 
 -- the text of a check is read as this domain with this table, where it is told
 abbrev pub GivesDomain : Outcome → Domain → Table → Type 0
 GivesDomain (given domain script) d table = ⊥
+GivesDomain (validated domain script plan) d table = ⊥
 GivesDomain (checked domain) d table = IsDomain domain d table
 GivesDomain (at_fault s l) d table = ⊥
 GivesDomain untold d table = Unit {0}
+
+-- the texts that are to be validated are read as this input with this table, and as this text of a plan, where they are told
+abbrev pub GivesPlan : Outcome → Input → Table → List ℕ → Type 0
+GivesPlan (given domain script) input table plan = ⊥
+GivesPlan (checked domain) input table plan = ⊥
+GivesPlan (validated domain script text) input table plan = IsInput domain script input table × (text ≡ plan)
+GivesPlan (at_fault s l) input table plan = ⊥
+GivesPlan untold input table plan = Unit {0}
 
 -- Why the work isn't done, and what `out` took: nothing where a fault is due, else a front of the text.
 abbrev pub IsStopped : Outcome → List (List ℕ) → (List ℕ → Option (List ℕ)) → ℕ → ℕ → Option (List ℕ) → Option (List ℕ) → ℕ → ℕ → Stop → Type 0

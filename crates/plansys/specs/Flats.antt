@@ -2,12 +2,12 @@
 use Rattle.std.specs.Prelude.{◌≡◌, ℕ, zero, suc, Bool, true, false, ◌&&◌, ◌==◌, ◌⊎◌, nat_lt, if◌then◌else◌, Option, Some, None, List, [], ◌∷◌, ◌++◌, codes, length}
 use Rattle.ps_world.specs.Lines.{line_end, lines_of, same_text}
 use Rattle.ps_text.specs.Words.{reads_as, word_at, words}
-use Rattle.ps_script.specs.Files.{after_run, file_in, is_source}
+use Rattle.ps_script.specs.Files.{after_run, file_in, is_run_plan, is_source}
 use Rattle.ps_script.specs.Lines.{is_nothing}
 use Rattle.plansys.specs.declared.reading.flatten.Flattened.{Flattened}
-use Rattle.plansys.specs.declared.reading.flatten.Flattened.TheVariants.{Text, TooDeep}
+use Rattle.plansys.specs.declared.reading.flatten.Flattened.TheVariants.{Text, Plan, TooDeep}
 use Rattle.plansys.specs.declared.reading.flatten.Kind.{Kind}
-use Rattle.plansys.specs.declared.reading.flatten.Kind.TheVariants.{Nothing, Source, Command}
+use Rattle.plansys.specs.declared.reading.flatten.Kind.TheVariants.{Nothing, Source, RunPlan, Command}
 
 -- the texts of files by their names, where they are told
 abbrev pub Texts : Type 0
@@ -68,33 +68,45 @@ abbrev pub sourced : (List ℕ → List Flattened → Flat) → List ℕ → Lis
 sourced on_source bytes before None = with_text_line bytes before
 sourced on_source bytes before (Some file) = on_source file before
 
+-- A line that runs the plan in a file: the file is read, unless there is no room for the line. Where the line names no file, none is
+-- read.
+abbrev pub with_plan_line : Texts → List ℕ → List Flattened → Option (List ℕ) → Flat
+with_plan_line texts bytes before None = with_text_line bytes before
+with_plan_line texts bytes before (Some file) =
+    if nat_lt (length before) most_lines then with_file file (λ plan. lines (before ++ Plan bytes plan ∷ []) false) (texts file)
+    else fault 3 lines_line
+
 -- what a line of a file is
 abbrev pub IsKind : List ℕ → Kind → Type 0
 IsKind bytes Nothing = is_nothing bytes ≡ true
 IsKind bytes (Source file) = (is_nothing bytes ≡ false) × (is_source bytes ≡ true) × (file_in (after_run bytes) ≡ Some file)
-IsKind bytes Command = (is_nothing bytes ≡ false) × ((is_source bytes ≡ false) ⊎ (file_in (after_run bytes) ≡ None))
+IsKind bytes (RunPlan file) = (is_nothing bytes ≡ false) × (is_source bytes ≡ false) × (is_run_plan bytes ≡ true) × (file_in (after_run (after_run bytes)) ≡ Some file)
+IsKind bytes Command =
+    (is_nothing bytes ≡ false) × (((is_source bytes ≡ true) × (file_in (after_run bytes) ≡ None))
+    ⊎ ((is_source bytes ≡ false) × ((is_run_plan bytes ≡ false) ⊎ (file_in (after_run (after_run bytes)) ≡ None))))
 
--- one line of a file: nothing, a file's lines, or a command line
-abbrev pub step : (List ℕ → List Flattened → Flat) → List ℕ → List Flattened → Flat
-step on_source bytes before =
+-- one line of a file: nothing, a file's lines, a line that runs a plan where the files of plans are read, or any other command line
+abbrev pub step : Bool → Texts → (List ℕ → List Flattened → Flat) → List ℕ → List Flattened → Flat
+step plans texts on_source bytes before =
     if is_nothing bytes then lines before false
     else (if is_source bytes then sourced on_source bytes before (file_in (after_run bytes))
-    else with_text_line bytes before)
+    else (if plans && is_run_plan bytes then with_plan_line texts bytes before (file_in (after_run (after_run bytes)))
+    else with_text_line bytes before))
 
 -- the lines of a file, one after another
-abbrev pub walk : (List ℕ → List Flattened → Flat) → List (List ℕ) → List Flattened → Flat
-walk on_source [] before = lines before false
-walk on_source (bytes ∷ rest) before = and_then (step on_source bytes before) (λ now. walk on_source rest now)
+abbrev pub walk : Bool → Texts → (List ℕ → List Flattened → Flat) → List (List ℕ) → List Flattened → Flat
+walk plans texts on_source [] before = lines before false
+walk plans texts on_source (bytes ∷ rest) before = and_then (step plans texts on_source bytes before) (λ now. walk plans texts on_source rest now)
 
 -- The lines of a file that is named where so many levels of files may still be opened: its own lines, or one that stands
 -- too deep.
-unfoldable pub on_source : ℕ → Texts → List ℕ → List Flattened → Flat
-on_source zero texts file before = with_line before TooDeep false
-on_source (suc n) texts file before = with_file file (λ text. walk (on_source n texts) (lines_of text) before) (texts file)
+unfoldable pub on_source : Bool → ℕ → Texts → List ℕ → List Flattened → Flat
+on_source plans zero texts file before = with_line before TooDeep false
+on_source plans (suc n) texts file before = with_file file (λ text. walk plans texts (on_source plans n texts) (lines_of text) before) (texts file)
 
 -- the lines of a text with those of its files
-abbrev pub flatten : ℕ → Texts → List ℕ → List Flattened → Flat
-flatten n texts text before = walk (on_source n texts) (lines_of text) before
+abbrev pub flatten : Bool → ℕ → Texts → List ℕ → List Flattened → Flat
+flatten plans n texts text before = walk plans texts (on_source plans n texts) (lines_of text) before
 
 -- it is this, where the texts that matter are told
 abbrev pub MayBe : Flat → Flat → Type 0

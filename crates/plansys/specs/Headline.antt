@@ -5,19 +5,24 @@ use Rattle.ps_text.specs.Causes.{Rose, AppendsFront}
 use Rattle.ps_world.specs.Names.{Table}
 use Rattle.ps_world.specs.DomainTexts.{domain_text}
 use Rattle.ps_world.specs.declared.domains.Domain.{Domain}
-use Rattle.ps_world.specs.declared.inputs.Input.{Input}
+use Rattle.ps_machine.specs.declared.inputs.Input.{Input}
 use Rattle.ps_pddl.specs.Reading.{IsRead}
 use Rattle.ps_pddl.specs.declared.refusals.DomainRefusal.{DomainRefusal}
 use Rattle.plansys.specs.DomainFaults.{cause_text}
+use Rattle.ps_validate.specs.Verdicts.{known_after, verdict}
 use Rattle.plansys.specs.Session.{IsDone, IsCut}
+use Rattle.plansys.specs.Verdicts.{verdict_line, verdict_status}
+use Rattle.ps_validate.specs.declared.verdicts.Invalid.{Invalid}
+use Rattle.plansys.specs.declared.reading.flatten.Flattened.{Flattened}
 use Rattle.plansys.specs.Input.{Outcome, IsDomain, IsNoDomain, IsInput, first_names, input_of, domain_file, usage_line, domain_line, cannot_read_line}
 use Rattle.plansys.specs.Flats.{lines_line, too_long_line, without}
-use Rattle.plansys.specs.Input.Outcome.{given, checked, fault, untold}
+use Rattle.plansys.specs.Input.Outcome.{given, checked, validated, fault, untold}
 
 -- the outcome is this fault, or a domain's text that is no domain; where the texts aren't told, nothing is claimed
 abbrev pub IsFault : Outcome → ℕ → List ℕ → Type 0
 IsFault (given domain script) status line = (3 ≡ status) × IsNoDomain domain line
 IsFault (checked domain) status line = (3 ≡ status) × IsNoDomain domain line
+IsFault (validated domain script plan) status line = (3 ≡ status) × IsNoDomain domain line
 IsFault (fault s l) status line = (s ≡ status) × (l ≡ line)
 IsFault untold status line = Unit {0}
 
@@ -29,19 +34,30 @@ IsPrinted domain old new = (d : Domain) × (names : Table) × IsDomain domain d 
 abbrev pub IsHalfPrinted : List ℕ → Option (List ℕ) → Option (List ℕ) → Type 0
 IsHalfPrinted domain old new = (d : Domain) × (names : Table) × IsDomain domain d names × AppendsFront old new (domain_text names d)
 
--- The answers 0 and 1: with the input that the texts are, what `out` took is a whole session of it, which ends with this
--- status. A check answers 0 alone, and `out` took the canonical text of the domain.
+-- with the input that the texts are, what is wrong with the plan's text after the edits of the script, if something is, and the
+-- table that it is told with
+abbrev pub WithVerdict : List ℕ → List Flattened → List ℕ → (Option Invalid × Table → Type 0) → Type 0
+WithVerdict domain script plan claim =
+    (i : Input) × (names : Table) × IsInput domain script i names × claim (verdict i.domain (known_after i.domain i.lines) names plan)
+
+-- The answers 0, 1 and 7: with the input that the texts are, what `out` took is a whole session of it, which ends with this
+-- status. A check answers 0 alone, and `out` took the canonical text of the domain. A plan that is validated is answered with 0
+-- exactly where nothing is wrong with it, and with 7 else, and `out` took the line that says so.
 abbrev pub IsAnswered : Outcome → Option (List ℕ) → Option (List ℕ) → ℕ → Type 0
 IsAnswered (given domain script) old new status = (i : Input) × (names : Table) × IsInput domain script i names × IsDone i names old new status
 IsAnswered (checked domain) old new status = (status ≡ 0) × IsPrinted domain old new
+IsAnswered (validated domain script plan) old new status =
+    WithVerdict domain script plan (λ v. (status ≡ verdict_status v.0) × Appends old new (verdict_line v.1 v.0))
 IsAnswered (fault s l) old new status = ⊥
 IsAnswered untold old new status = Unit {0}
 
 -- The answers 5 and 6: what `out` took is nothing, or a front of the text of a history of the input that the texts are,
--- or of the domain's canonical text.
+-- or of the domain's canonical text, or of the line that a plan is answered with.
 abbrev pub IsFront : Outcome → Option (List ℕ) → Option (List ℕ) → Type 0
 IsFront (given domain script) old new = Keeps old new ⊎ ((i : Input) × (names : Table) × IsInput domain script i names × IsCut i names old new)
 IsFront (checked domain) old new = Keeps old new ⊎ IsHalfPrinted domain old new
+IsFront (validated domain script plan) old new =
+    Keeps old new ⊎ WithVerdict domain script plan (λ v. AppendsFront old new (verdict_line v.1 v.0))
 IsFront (fault s l) old new = Keeps old new
 IsFront untold old new = Unit {0}
 
@@ -49,6 +65,7 @@ IsFront untold old new = Unit {0}
 abbrev pub IsUntold : Outcome → Type 0
 IsUntold (given domain script) = ⊥
 IsUntold (checked domain) = ⊥
+IsUntold (validated domain script plan) = ⊥
 IsUntold (fault s l) = ⊥
 IsUntold untold = Unit {0}
 
@@ -73,6 +90,8 @@ LeadsTo (given domain script) status =
     ((i : Input) × (names : Table) × IsInput domain script i names × (status < 2)) ⊎ ((line : List ℕ) × IsNoDomain domain line × (status ≡ 3))
 LeadsTo (checked domain) status =
     ((d : Domain) × (names : Table) × IsDomain domain d names × (status ≡ 0)) ⊎ ((line : List ℕ) × IsNoDomain domain line × (status ≡ 3))
+LeadsTo (validated domain script plan) status =
+    WithVerdict domain script plan (λ v. status ≡ verdict_status v.0) ⊎ ((line : List ℕ) × IsNoDomain domain line × (status ≡ 3))
 LeadsTo (fault s l) status = status ≡ s
 LeadsTo untold status = Unit {0}
 

@@ -1,9 +1,9 @@
 -- The input of a call: what its words and the texts of its files say.
-use Rattle.std.specs.Prelude.{◌≡◌, ℕ, Bool, not, ◌&&◌, ◌||◌, ◌==◌, nat_lt, if◌then◌else◌, Option, Some, None, Ok, Err, List, [], ◌∷◌, ◌++◌, codes, length, slice_index_or}
+use Rattle.std.specs.Prelude.{◌≡◌, ℕ, Bool, true, false, not, ◌&&◌, ◌||◌, ◌==◌, nat_lt, if◌then◌else◌, Option, Some, None, Ok, Err, List, [], ◌∷◌, ◌++◌, codes, length, slice_index_or}
 use Rattle.ps_world.specs.Names.{Table}
 use Rattle.ps_world.specs.Lines.{same_text, line_end}
 use Rattle.ps_world.specs.declared.domains.Domain.{Domain}
-use Rattle.ps_world.specs.declared.inputs.Input.{Input}
+use Rattle.ps_machine.specs.declared.inputs.Input.{Input}
 use Rattle.ps_pddl.specs.Reading.{IsRead}
 use Rattle.ps_pddl.specs.declared.refusals.DomainRefusal.{DomainRefusal}
 use Rattle.plansys.specs.DomainFaults.{cause_text}
@@ -29,15 +29,21 @@ is_session ws =
 
 -- whether the first word is that of a mode that always returns
 abbrev pub is_quiet : List (List ℕ) → Bool
-is_quiet ws = same_text (argument ws 0) (codes "check")
+is_quiet ws = same_text (argument ws 0) (codes "check") || same_text (argument ws 0) (codes "validate")
 
 -- check --domain F
 abbrev pub is_check : List (List ℕ) → Bool
-is_check ws = length ws == 3 && is_quiet ws && same_text (argument ws 1) (codes "--domain") && is_value (argument ws 2)
+is_check ws =
+    length ws == 3 && same_text (argument ws 0) (codes "check") && same_text (argument ws 1) (codes "--domain") && is_value (argument ws 2)
+
+-- validate --domain F --script F --plan F
+abbrev pub is_validate : List (List ℕ) → Bool
+is_validate ws =
+    length ws == 7 && same_text (argument ws 0) (codes "validate") && same_text (argument ws 1) (codes "--domain") && is_value (argument ws 2) && same_text (argument ws 3) (codes "--script") && is_value (argument ws 4) && same_text (argument ws 5) (codes "--plan") && is_value (argument ws 6)
 
 -- the words are of a form, so that the third of them names a domain's file
 abbrev pub names_domain : List (List ℕ) → Bool
-names_domain ws = is_session ws || is_check ws
+names_domain ws = is_session ws || (is_check ws || is_validate ws)
 
 -- the name of the domain's file
 abbrev pub domain_file : List (List ℕ) → List ℕ
@@ -46,6 +52,10 @@ domain_file ws = argument ws 2
 -- the name of the script's file
 abbrev pub script_file : List (List ℕ) → List ℕ
 script_file ws = argument ws 4
+
+-- the name of the plan's file
+abbrev pub plan_file : List (List ℕ) → List ℕ
+plan_file ws = argument ws 6
 
 -- The lines for what is at fault.
 
@@ -72,11 +82,12 @@ out_of_memory_line = codes "plansys: out of memory" ++ line_end
 -- The input.
 
 -- What a call is given: for a session the text of the domain and the command lines of the script with its files, for a check
--- the domain's text, or what is at fault, with the status and the line that say so. It isn't told where the files don't tell a
--- text that matters.
+-- the domain's text, for a plan to be validated both with the text of the plan, or what is at fault, with the status and the
+-- line that say so. It isn't told where the files don't tell a text that matters.
 pub data Outcome : Type 0 where
   given : List ℕ → List Flattened → Outcome
   checked : List ℕ → Outcome
+  validated : List ℕ → List Flattened → List ℕ → Outcome
   fault : ℕ → List ℕ → Outcome
   untold : Outcome
 
@@ -85,9 +96,9 @@ abbrev pub with_text : List ℕ → (List ℕ → Outcome) → Option (List ℕ)
 with_text file use_of None = untold
 with_text file use_of (Some text) = if nat_lt longest_file (length text) then fault 3 (too_long_line file) else use_of text
 
--- the script in a file, with the files that it names
-abbrev pub script_in : List ℕ → Texts → Flat
-script_in file texts = on_source 5 texts file []
+-- the script in a file, with the files that it names, and with those of plans where they are read
+abbrev pub script_in : Bool → List ℕ → Texts → Flat
+script_in plans file texts = on_source plans 5 texts file []
 
 -- what a domain's text gives with a script
 abbrev pub with_script : Flat → List ℕ → Outcome
@@ -95,13 +106,20 @@ with_script (lines all ended) domain = given domain all
 with_script (cut_off status line) domain = fault status line
 with_script missing domain = untold
 
+-- what a domain's text gives with a script and the text of a plan
+abbrev pub with_plan : List ℕ → Option (List ℕ) → Flat → List ℕ → Outcome
+with_plan file told (lines all ended) domain = with_text file (λ plan. validated domain all plan) told
+with_plan file told (cut_off status line) domain = fault status line
+with_plan file told missing domain = untold
+
 -- The texts that the words and the texts by file name give. The domain's file is read, then the script's, with the files that
--- it names where they stand.
+-- it names where they stand, then the plan's. A session doesn't read the files of plans that its script names.
 unfoldable pub input_of : List (List ℕ) → Texts → Outcome
 input_of ws texts =
-    if is_session ws then with_text (domain_file ws) (with_script (script_in (script_file ws) texts)) (texts (domain_file ws))
+    if is_session ws then with_text (domain_file ws) (with_script (script_in false (script_file ws) texts)) (texts (domain_file ws))
     else (if is_check ws then with_text (domain_file ws) checked (texts (domain_file ws))
-    else fault 2 usage_line)
+    else (if is_validate ws then with_text (domain_file ws) (with_plan (plan_file ws) (texts (plan_file ws)) (script_in true (script_file ws) texts)) (texts (domain_file ws))
+    else fault 2 usage_line))
 
 -- What the texts are read as. The domain's text is judged first. Names are numbered in the order in which the texts have
 -- them, the domain's first.

@@ -1,7 +1,7 @@
 -- What scripts are read as.
 use Rattle.std.specs.Prelude.{◌≡◌, List}
 use Rattle.ps_world.specs.Names.{Table}
-use Rattle.ps_world.specs.declared.inputs.Line.{Line}
+use Rattle.ps_machine.specs.declared.inputs.Line.{Line}
 use Rattle.plansys.specs.Scripts.{IsScript}
 use Rattle.plansys.specs.declared.reading.flatten.Flattened.{Flattened}
 

@@ -7,3 +7,4 @@ pub mod Laws
 pub mod Scripts
 pub mod Session
 pub mod Steps
+pub mod Verdicts

@@ -2,12 +2,12 @@
 use Rattle.std.specs.Prelude.{◌≡◌, ℕ, List, Option, All}
 use Rattle.std.specs.Io.KnownBytes.{Appends}
 use Rattle.ps_world.specs.Names.{Table}
-use Rattle.ps_world.specs.History.{IsHistory, IsWhole, status_of}
-use Rattle.ps_world.specs.Journal.{journal_text, AreEntriesIn}
+use Rattle.ps_machine.specs.History.{IsHistory, IsWhole, status_of}
+use Rattle.ps_machine.specs.Journal.{journal_text, AreEntriesIn}
 use Rattle.ps_world.specs.declared.domains.Domain.{Domain}
-use Rattle.ps_world.specs.declared.inputs.Line.{Line}
-use Rattle.ps_world.specs.declared.inputs.Input.{Input}
-use Rattle.ps_world.specs.declared.journal.Entry.{Entry}
+use Rattle.ps_machine.specs.declared.inputs.Line.{Line}
+use Rattle.ps_machine.specs.declared.inputs.Input.{Input}
+use Rattle.ps_machine.specs.declared.journal.Entry.{Entry}
 use Rattle.ps_text.specs.Causes.{AppendsFront}
 
 -- the input of a domain and its lines

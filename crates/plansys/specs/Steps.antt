@@ -1,22 +1,22 @@
 -- How a line of the terminal is answered.
 use Rattle.std.specs.Prelude.{ℕ, Option, Some, None, Result, Ok, Err}
 use Rattle.ps_world.specs.Knowledge.{edited}
-use Rattle.ps_world.specs.History.{refusal_of_query}
+use Rattle.ps_machine.specs.History.{refusal_of_query}
 use Rattle.ps_world.specs.declared.domains.Domain.{Domain}
 use Rattle.ps_world.specs.declared.known.Knowledge.{Knowledge}
 use Rattle.ps_world.specs.declared.edits.Edit.{Edit}
 use Rattle.ps_world.specs.declared.edits.EditRefusal.{EditRefusal}
-use Rattle.ps_world.specs.declared.inputs.Query.{Query}
-use Rattle.ps_world.specs.declared.inputs.Command.TheVariants as command
-use Rattle.ps_world.specs.declared.inputs.Line.{Line}
-use Rattle.ps_world.specs.declared.inputs.Line.TheVariants.{Good, Bad}
-use Rattle.ps_world.specs.declared.journal.By.{By}
-use Rattle.ps_world.specs.declared.journal.By.TheVariants.{Terminal}
-use Rattle.ps_world.specs.declared.journal.Refusal.{Refusal}
-use Rattle.ps_world.specs.declared.journal.Refusal.TheVariants as refusal
-use Rattle.ps_world.specs.declared.journal.Event.{Event}
-use Rattle.ps_world.specs.declared.journal.Event.TheVariants as event
-use Rattle.ps_world.specs.declared.journal.Entry.{Entry}
+use Rattle.ps_machine.specs.declared.inputs.Query.{Query}
+use Rattle.ps_machine.specs.declared.inputs.Command.TheVariants as command
+use Rattle.ps_machine.specs.declared.inputs.Line.{Line}
+use Rattle.ps_machine.specs.declared.inputs.Line.TheVariants.{Good, Bad}
+use Rattle.ps_machine.specs.declared.journal.By.{By}
+use Rattle.ps_machine.specs.declared.journal.By.TheVariants.{Terminal}
+use Rattle.ps_machine.specs.declared.journal.Refusal.{Refusal}
+use Rattle.ps_machine.specs.declared.journal.Refusal.TheVariants as refusal
+use Rattle.ps_machine.specs.declared.journal.Event.{Event}
+use Rattle.ps_machine.specs.declared.journal.Event.TheVariants as event
+use Rattle.ps_machine.specs.declared.journal.Entry.{Entry}
 use Rattle.ps_text.specs.declared.sinks.SinkRefusal.{SinkRefusal}
 use Rattle.ps_text.specs.declared.sinks.SinkRefusal.TheVariants as sink
 use Rattle.plansys.specs.declared.session.Broken.{Broken}

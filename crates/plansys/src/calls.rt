@@ -1,21 +1,28 @@
 //! The top calls.
-ghost use Rattle.std.specs.Prelude.{◌≡◌, ◌≢◌, ◌<◌, ◌≤◌, ◌⊎◌, ℕ, List, true, false, IfOk, IfErr, OnOk, OnErr};
+ghost use Rattle.std.specs.Prelude.{◌≡◌, ◌≢◌, ◌<◌, ◌≤◌, ◌⊎◌, ℕ, List, codes, true, false, IfOk, IfErr, OnOk, OnErr};
 ghost use Rattle.std.specs.Io.KnownBytes.{Appends, Keeps};
 ghost use Rattle.ps_world.specs.DomainTexts.{domain_text};
+ghost use Rattle.ps_world.specs.Lines.{same_text};
 ghost use Rattle.ps_text.specs.Causes.{HasCause, Rose, AppendsFront};
-ghost use Rattle.plansys.specs.Input.{input_of, is_quiet, cannot_write_line, out_of_memory_line};
+ghost use Rattle.ps_text.specs.Names.{AreNames};
+ghost use Rattle.ps_validate.specs.Verdicts.{known_after, verdict};
+ghost use Rattle.plansys.specs.Input.{argument, input_of, is_quiet, cannot_write_line, out_of_memory_line};
 ghost use Rattle.plansys.specs.Headline.{IsAnswered, IsFront, IsEnded, IsHalfTold, Says, LeadsTo};
 ghost use Rattle.plansys.specs.Faults.{word_texts, fault_line, fault_status, IsStopped};
+ghost use Rattle.plansys.specs.Verdicts.{verdict_line};
 ghost use Rattle.plansys.specs.declared.session.Broken.TheVariants.{Write};
 
 use super::faults::{Fault, Stop, fault_line};
-use super::inputs::{is_quiet, read_checked, read_input};
+use super::inputs::{is_quiet, is_validation, read_checked, read_input, read_validated};
 use super::session::{Broken, run};
+use super::verdicts::{verdict_line, verdict_status};
 use ps_domain::Expert;
+use ps_machine::Input;
 use ps_pddl::print_domain;
 use ps_text::{Files, Names, Sink, SinkRefusal, put};
-use ps_world::{Domain, Input};
-use std::alloc::Global;
+use ps_validate::{Invalid, known_after, verdict};
+use ps_world::Domain;
+use std::alloc::{AllocError, Global};
 
 /// Reads the input and does its session. The answer is the session's status, 0 or 1.
 fn attempt<F: Files, O: Sink>(
@@ -54,7 +61,7 @@ fn check<F: Files, O: Sink>(
     files: &mut F,
     out: &mut O,
 ) -> Result<(), Stop>
-    requires { is_quiet (word_texts words.now) ≡ true }
+    requires { same_text (argument (word_texts words.now) 0) (codes "check") ≡ true }
     ensures printed { OnOk result (IsAnswered (input_of (word_texts words.now) (F.text_of files.old)) (O.taken out.old) (O.taken out.new) 0) }
     ensures stopped { IfErr result (IsStopped (input_of (word_texts words.now) (F.text_of files.old)) (word_texts words.now) (F.text_of files.old) (F.faults files.old) (F.faults files.new) (O.taken out.old) (O.taken out.new) (O.faults out.old) (O.faults out.new)) }
 {
@@ -62,6 +69,77 @@ fn check<F: Files, O: Sink>(
     let domain = read_checked(alloc, words, &mut names, files)?;
     print(alloc, &names, &domain, out)?;
     Ok(())
+}
+
+/// Writes the line that a plan is answered with by one `put`.
+fn print_verdict<O: Sink>(
+    alloc: Global,
+    names: &Names,
+    wrong: &Option<Invalid>,
+    out: &mut O,
+) -> Result<(), Broken>
+    ensures done { OnOk result (Appends (O.taken out.old) (O.taken out.new) (verdict_line names.now wrong.now)) }
+    ensures cut { OnErr result (AppendsFront (O.taken out.old) (O.taken out.new) (verdict_line names.now wrong.now)) }
+    ensures cause { HasCause Write (O.faults out.old) (O.faults out.new) result }
+{
+    let line = verdict_line(alloc, names, wrong)?;
+    put(out, line.as_slice())?;
+    Ok(())
+}
+
+/// What is wrong with the text of a plan after the edits of the input's lines, if something is. The only error is want of memory.
+fn judge(
+    alloc: Global,
+    names: &mut Names,
+    input: Input,
+    plan: &[u8],
+) -> Result<Option<Invalid>, AllocError>
+    requires { AreNames names.old }
+    ensures { IfOk result (λ wrong. (wrong, names.new) ≡ verdict input.domain (known_after input.domain input.lines) names.old plan.now) }
+{
+    let Input { domain, lines } = input;
+    let expert = Expert::new(alloc, domain)?;
+    let problem = known_after(alloc, &expert, lines.as_slice())?;
+    verdict(alloc, names, &expert, &problem, plan)
+}
+
+/// Reads a domain, a script and the text of a plan, and writes what the plan is worth after the script's edits. The answer is 0
+/// where nothing is wrong with it, else 7.
+fn validate<F: Files, O: Sink>(
+    alloc: Global,
+    words: &[String],
+    files: &mut F,
+    out: &mut O,
+) -> Result<u8, Stop>
+    requires { same_text (argument (word_texts words.now) 0) (codes "validate") ≡ true }
+    ensures answered { IfOk result (IsAnswered (input_of (word_texts words.now) (F.text_of files.old)) (O.taken out.old) (O.taken out.new)) }
+    ensures valid_or_not { IfOk result (λ status. (status ≡ 0) ⊎ (status ≡ 7)) }
+    ensures stopped { IfErr result (IsStopped (input_of (word_texts words.now) (F.text_of files.old)) (word_texts words.now) (F.text_of files.old) (F.faults files.old) (F.faults files.new) (O.taken out.old) (O.taken out.new) (O.faults out.old) (O.faults out.new)) }
+{
+    let mut names = Names::new(alloc)?;
+    let (input, plan) = read_validated(alloc, words, &mut names, files)?;
+    let wrong = judge(alloc, &mut names, input, plan.as_slice())?;
+    print_verdict(alloc, &names, &wrong, out)?;
+    Ok(verdict_status(&wrong))
+}
+
+/// Does the mode of the words, which always returns. The answer is 0, or 7 where a plan that was to be validated isn't valid.
+fn attempt_quiet<F: Files, O: Sink>(
+    alloc: Global,
+    words: &[String],
+    files: &mut F,
+    out: &mut O,
+) -> Result<u8, Stop>
+    requires { is_quiet (word_texts words.now) ≡ true }
+    ensures answered { IfOk result (IsAnswered (input_of (word_texts words.now) (F.text_of files.old)) (O.taken out.old) (O.taken out.new)) }
+    ensures valid_or_not { IfOk result (λ status. (status ≡ 0) ⊎ (status ≡ 7)) }
+    ensures stopped { IfErr result (IsStopped (input_of (word_texts words.now) (F.text_of files.old)) (word_texts words.now) (F.text_of files.old) (F.faults files.old) (F.faults files.new) (O.taken out.old) (O.taken out.new) (O.faults out.old) (O.faults out.new)) }
+{
+    if is_validation(words) {
+        return validate(alloc, words, files, out);
+    }
+    check(alloc, words, files, out)?;
+    Ok(0)
 }
 
 /// Says to `err` what is at fault, and gives the status.
@@ -92,18 +170,20 @@ fn last_words<E: Sink>(err: &mut E, line: &[u8])
     let _ = put(err, line);
 }
 
-/// Does the modes that always return, of which there is `check`, and gives the exit status:
+/// Does the modes that always return, `check` and `validate`, and gives the exit status:
 ///
 /// | Status | Where |
 /// |---|---|
-/// | 0 | the domain was written in its canonical text |
-/// | 2 | the words aren't `check --domain F` |
-/// | 3 | the file is too long, or its text is no domain |
-/// | 4 | the file can't be read |
+/// | 0 | the domain was written in its canonical text, or the plan is valid |
+/// | 2 | the words aren't `check --domain F` or `validate --domain F --script F --plan F` |
+/// | 3 | a file is too long, a script has too many lines, or the domain's text is no domain |
+/// | 4 | a file can't be read |
 /// | 5 | a write to `out` failed, or one to `err` of the line of status 2, 3 or 4 |
 /// | 6 | want of memory |
+/// | 7 | the plan isn't valid |
 ///
-/// The first fault decides, in the order of the work: the words, the file, its text.
+/// The first fault decides, in the order of the work: the words, the domain's file, the script's file and the files that it
+/// names, the plan's file, the domain's text.
 pub fn plansys_quiet<F: Files, O: Sink, E: Sink>(
     alloc: Global,
     words: &[String],
@@ -113,10 +193,10 @@ pub fn plansys_quiet<F: Files, O: Sink, E: Sink>(
 ) -> u8
     requires { is_quiet (word_texts words.now) ≡ true }
 
-    // `out` took the canonical text of the domain that the text under the file's name is.
-    ensures printed { result ≡ 0
-        → IsAnswered (input_of (word_texts words.now) (F.text_of files.old)) (O.taken out.old) (O.taken out.new) 0 }
-    ensures silent { result ≡ 0 → Keeps (E.taken err.old) (E.taken err.new) }
+    // `out` took the canonical text of the domain that the text under the file's name is, or the line that says what a plan is worth.
+    ensures answered { (result ≡ 0) ⊎ (result ≡ 7)
+        → IsAnswered (input_of (word_texts words.now) (F.text_of files.old)) (O.taken out.old) (O.taken out.new) result }
+    ensures silent { (result ≡ 0) ⊎ (result ≡ 7) → Keeps (E.taken err.old) (E.taken err.new) }
 
     // The words, the texts or the files are at fault: nothing was written to `out`, and `err` took the line that says so.
     ensures usage { result ≡ 2 → IsEnded (input_of (word_texts words.now) (F.text_of files.old)) (word_texts words.now) (F.text_of files.old)
@@ -127,7 +207,7 @@ pub fn plansys_quiet<F: Files, O: Sink, E: Sink>(
         (F.faults files.old) (F.faults files.new) 4 (O.taken out.old) (O.taken out.new) (E.taken err.old) (E.taken err.new) }
     ensures unread_failed { result ≡ 4 → Rose (F.faults files.old) (F.faults files.new) }
 
-    // A write failed: to `out`, which then has a front of the domain's text, or to `err`, of the line of status 2, 3 or 4.
+    // A write failed: to `out`, which then has a front of the domain's text or of the plan's line, or to `err`, of the line of status 2, 3 or 4.
     ensures unwritten { result ≡ 5
         → (Rose (O.faults out.old) (O.faults out.new)
         × IsFront (input_of (word_texts words.now) (F.text_of files.old)) (O.taken out.old) (O.taken out.new)
@@ -147,10 +227,10 @@ pub fn plansys_quiet<F: Files, O: Sink, E: Sink>(
     // Where memory suffices and neither a read nor a write fails, the words and texts alone decide the status.
     ensures complete { LeadsTo (input_of (word_texts words.now) (F.text_of files.old)) result ⊎ (result ≡ 6)
         ⊎ Rose (F.faults files.old) (F.faults files.new) ⊎ Rose (O.faults out.old) (O.faults out.new) ⊎ Rose (E.faults err.old) (E.faults err.new) }
-    ensures no_other { (result ≡ 0) ⊎ ((2 ≤ result) × (result < 7)) }
+    ensures no_other { (result ≡ 0) ⊎ ((2 ≤ result) × (result ≤ 7)) }
 {
-    match check(alloc, words, files, out) {
-        Ok(()) => 0,
+    match attempt_quiet(alloc, words, files, out) {
+        Ok(status) => status,
         Err(Stop::Due(fault)) => tell(alloc, fault, err),
         Err(Stop::Broken(Broken::Write)) => {
             last_words(err, b"plansys: cannot write\n");
@@ -167,15 +247,17 @@ pub fn plansys_quiet<F: Files, O: Sink, E: Sink>(
 ///
 /// | Status | Where |
 /// |---|---|
-/// | 0 | the session was done, and no line was refused; or the domain was written in its canonical text |
+/// | 0 | the session was done, and no line was refused; the domain was written in its canonical text; the plan is valid |
 /// | 1 | the session was done, and a line was refused |
-/// | 2 | the words aren't `session --domain F --script F` or `check --domain F` |
-/// | 3 | a file is too long, or the domain's text is no domain |
+/// | 2 | the words aren't `session --domain F --script F`, `check --domain F` or `validate --domain F --script F --plan F` |
+/// | 3 | a file is too long, a script has too many lines, or the domain's text is no domain |
 /// | 4 | a file can't be read |
 /// | 5 | a write to `out` failed, or one to `err` of the line of status 2, 3 or 4 |
 /// | 6 | want of memory |
+/// | 7 | the plan isn't valid |
 ///
-/// The first fault decides, in the order of the work: the words, the domain's file, the script's file, the domain's text.
+/// The first fault decides, in the order of the work: the words, the domain's file, the script's file and the files that it
+/// names, the plan's file, the domain's text.
 pub fn plansys<F: Files, O: Sink, E: Sink>(
     alloc: Global,
     words: &[String],
@@ -184,10 +266,11 @@ pub fn plansys<F: Files, O: Sink, E: Sink>(
     err: &mut E,
 ) -> u8
     // The headline: what `out` took is the text of one journal, which is a whole legal history of the input that the
-    // words and files give, and the status is that history's. For a check `out` took the canonical text of the domain.
-    ensures session { result < 2
+    // words and files give, and the status is that history's. For a check `out` took the canonical text of the domain, and for a
+    // plan to be validated the line that says what it is worth.
+    ensures session { (result < 2) ⊎ (result ≡ 7)
         → IsAnswered (input_of (word_texts words.now) (F.text_of files.old)) (O.taken out.old) (O.taken out.new) result }
-    ensures silent { result < 2 → Keeps (E.taken err.old) (E.taken err.new) }
+    ensures silent { (result < 2) ⊎ (result ≡ 7) → Keeps (E.taken err.old) (E.taken err.new) }
 
     // The words, the texts or the files are at fault: nothing was written to `out`, and `err` took the line that says so.
     ensures usage { result ≡ 2 → IsEnded (input_of (word_texts words.now) (F.text_of files.old)) (word_texts words.now) (F.text_of files.old)
@@ -218,8 +301,9 @@ pub fn plansys<F: Files, O: Sink, E: Sink>(
     // Where memory suffices and neither a read nor a write fails, the words and texts alone decide the status.
     ensures complete { LeadsTo (input_of (word_texts words.now) (F.text_of files.old)) result ⊎ (result ≡ 6)
         ⊎ Rose (F.faults files.old) (F.faults files.new) ⊎ Rose (O.faults out.old) (O.faults out.new) ⊎ Rose (E.faults err.old) (E.faults err.new) }
-    ensures check { is_quiet (word_texts words.now) ≡ true → result ≢ 1 }
-    ensures no_other { result < 7 }
+    ensures quiet { is_quiet (word_texts words.now) ≡ true → result ≢ 1 }
+    ensures loud { is_quiet (word_texts words.now) ≡ false → result ≢ 7 }
+    ensures no_other { result ≤ 7 }
 {
     if is_quiet(words) {
         return plansys_quiet(alloc, words, files, out, err);

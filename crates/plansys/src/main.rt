@@ -12,6 +12,7 @@ mod session;
 #[cfg(test)]
 mod tests;
 mod texts;
+mod verdicts;
 
 use calls::plansys;
 use real::{RealFiles, RealSink};
@@ -27,6 +28,10 @@ plansys session --domain FILE --script FILE
 plansys check --domain FILE
     Reads a domain, and writes it in its canonical text.
     plansys check --domain samples/rooms/domain.pddl
+plansys validate --domain FILE --script FILE --plan FILE
+    Does the edits of a script over a domain, and says whether the plan reaches the goal that they set: `valid`, or what is
+    wrong with it.
+    plansys validate --domain samples/rooms/domain.pddl --script samples/rooms/goal --plan samples/rooms/plan
 plansys --help
 plansys --version
 ";

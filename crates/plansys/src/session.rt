@@ -4,22 +4,24 @@ ghost use Rattle.std.specs.Io.KnownBytes.{Appends};
 ghost use Rattle.ps_text.specs.Names.{AreNames};
 ghost use Rattle.ps_text.specs.Causes.{HasCause, AppendsFront};
 ghost use Rattle.ps_world.specs.Knowledge.{edited};
-ghost use Rattle.ps_world.specs.History.{due_lines, known_after, is_refusal, refusal_of_query};
-ghost use Rattle.ps_world.specs.Journal.{entry_text};
-ghost use Rattle.ps_world.specs.Tables.{IsLineOf, IsEditOf, IsKnownOf, IsEventOf};
+ghost use Rattle.ps_machine.specs.History.{due_lines, known_after, is_refusal, refusal_of_query};
+ghost use Rattle.ps_machine.specs.Journal.{entry_text};
+ghost use Rattle.ps_world.specs.Tables.{IsEditOf, IsKnownOf};
+ghost use Rattle.ps_machine.specs.Tables.{IsLineOf, IsEventOf};
 ghost use Rattle.ps_print.specs.CanonicalWords.{IsParamOf};
 ghost use Rattle.plansys.specs.Steps.{by_terminal, edit_event, event_of, query_event};
 ghost use Rattle.plansys.specs.Session.{IsDone, IsCut, input_with};
-ghost use Rattle.ps_world.specs.declared.journal.Event.TheVariants.{Refused};
-ghost use Rattle.ps_world.specs.declared.journal.Refusal.TheVariants.{Edit as RefusedEdit};
+ghost use Rattle.ps_machine.specs.declared.journal.Event.TheVariants.{Refused};
+ghost use Rattle.ps_machine.specs.declared.journal.Refusal.TheVariants.{Edit as RefusedEdit};
 ghost use Rattle.ps_world.specs.declared.edits.EditRefusal.TheVariants.{OutOfMemory as NoMemory};
 ghost use Rattle.plansys.specs.declared.session.Broken.TheVariants.{Write, OutOfMemory};
 
 use super::texts::entry_text;
 use ps_domain::Expert;
+use ps_machine::{By, Command, Entry, Event, Line, Query, Refusal};
 use ps_problem::Problem;
 use ps_text::{Names, Sink, SinkRefusal, put};
-use ps_world::{By, Command, Duplicate, Edit, EditRefusal, Entry, Event, Line, Query, Refusal};
+use ps_world::{Duplicate, Edit, EditRefusal};
 use std::alloc::{AllocError, AllocFailed, Global};
 
 /// Why a session was broken off.

@@ -1,4 +1,6 @@
 //! Calls of the program over files and sinks in memory.
+mod validations;
+
 use super::calls::plansys;
 use ps_text::{MemFiles, MemSink, SureFiles, SureSink};
 use std::alloc::{AllocError, Global};

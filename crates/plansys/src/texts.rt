@@ -1,7 +1,7 @@
 //! The texts of the journal's entries.
 ghost use Rattle.std.specs.Prelude.{◌≡◌, ◌++◌, IfOk, OnOk};
-ghost use Rattle.ps_world.specs.Texts.{query_text, line_cause_text, refusal_text, by_text, event_text, entry_line};
-ghost use Rattle.ps_world.specs.Journal.{entry_text};
+ghost use Rattle.ps_machine.specs.Texts.{query_text, line_cause_text, refusal_text, by_text, event_text, entry_line};
+ghost use Rattle.ps_machine.specs.Journal.{entry_text};
 
 mod edits;
 mod facts;
@@ -10,14 +10,14 @@ mod replies;
 #[cfg(test)]
 mod tests;
 
+pub use self::edits::push_arity;
 use self::edits::{push_edit, push_edit_refusal};
-pub use self::facts::{name_text, push_number};
-use self::facts::{push_name_after, push_number_after};
+pub use self::facts::{name_text, push_name_after, push_number, push_number_after};
 use self::replies::push_replies;
 use ps_domain::Expert;
+use ps_machine::{By, Entry, Event, LineCause, Query, Refusal};
 use ps_problem::Problem;
 use ps_text::Names;
-use ps_world::{By, Entry, Event, LineCause, Query, Refusal};
 use std::alloc::{AllocError, Global};
 
 /// The text of an entry: its line, and the lines that answer a query. A name that the table hasn't is printed as nothing.

@@ -1,9 +1,9 @@
 -- What a line is read as, by what was found out of it.
 use Rattle.std.proofs.Common.{◌≡◌, ℕ, true, false, List, [], ◌∷◌, length, Option, None, Some, IfSome, refl, sym, ◌∙◌, ap, subst}
 use Rattle.ps_world.specs.Names.{Table}
-use Rattle.ps_world.specs.declared.inputs.Command.{Command}
-use Rattle.ps_world.specs.declared.inputs.LineCause.TheVariants as cause
-use Rattle.ps_world.specs.declared.inputs.Line.TheVariants.{Good}
+use Rattle.ps_machine.specs.declared.inputs.Command.{Command}
+use Rattle.ps_machine.specs.declared.inputs.LineCause.TheVariants as cause
+use Rattle.ps_machine.specs.declared.inputs.Line.TheVariants.{Good}
 use Rattle.ps_text.specs.Tokens.{AreTokens, RefusesText}
 use Rattle.ps_text.specs.Words.{words}
 use Rattle.ps_text.specs.declared.lexing.LexRefusal.{LexRefusal}

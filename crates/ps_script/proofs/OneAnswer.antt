@@ -1,9 +1,9 @@
 -- A line is read as one thing at most.
 use Rattle.std.proofs.Common.{◌≡◌, ℕ, ◌⊎◌, inl, inr, false, if◌then◌else◌, List, length, Option, None, Some, refl, sym, ◌∙◌, ap, subst}
 use Rattle.ps_world.specs.Names.{Table}
-use Rattle.ps_world.specs.declared.inputs.Command.{Command}
-use Rattle.ps_world.specs.declared.inputs.LineCause.TheVariants as cause
-use Rattle.ps_world.specs.declared.inputs.Line.TheVariants.{Good}
+use Rattle.ps_machine.specs.declared.inputs.Command.{Command}
+use Rattle.ps_machine.specs.declared.inputs.LineCause.TheVariants as cause
+use Rattle.ps_machine.specs.declared.inputs.Line.TheVariants.{Good}
 use Rattle.ps_text.specs.Tokens.{AreTokens, IsFirstFault}
 use Rattle.ps_text.specs.Words.{words}
 use Rattle.ps_text.specs.declared.lexing.LexRefusal.{LexRefusal}

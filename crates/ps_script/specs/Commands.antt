@@ -3,9 +3,9 @@ use Rattle.std.specs.Prelude.{Option, None, Some}
 use Rattle.ps_world.specs.declared.names.Name.{Name}
 use Rattle.ps_world.specs.declared.facts.Fact.{Fact}
 use Rattle.ps_world.specs.declared.edits.Edit.TheVariants as edit
-use Rattle.ps_world.specs.declared.inputs.Query.TheVariants as query
-use Rattle.ps_world.specs.declared.inputs.Command.{Command}
-use Rattle.ps_world.specs.declared.inputs.Command.TheVariants.{Edit, Ask, Quit}
+use Rattle.ps_machine.specs.declared.inputs.Query.TheVariants as query
+use Rattle.ps_machine.specs.declared.inputs.Command.{Command}
+use Rattle.ps_machine.specs.declared.inputs.Command.TheVariants.{Edit, Ask, Quit}
 use Rattle.ps_forms.specs.Nested.{Nesteds}
 use Rattle.ps_forms.specs.Places.{head, rest, items_at}
 use Rattle.ps_script.specs.Goals.{fact_of, first_condition}

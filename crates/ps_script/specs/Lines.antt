@@ -2,10 +2,10 @@
 use Rattle.std.specs.Prelude.{◌≡◌, ℕ, Bool, true, false, ◌||◌, ◌==◌, List, [], ◌∷◌, codes, length, map, slice_get, slice_range, None, Some}
 use Rattle.std.specs.Option.{option_map_or}
 use Rattle.ps_world.specs.Names.{Table}
-use Rattle.ps_world.specs.declared.inputs.Command.{Command}
-use Rattle.ps_world.specs.declared.inputs.LineCause.{LineCause}
-use Rattle.ps_world.specs.declared.inputs.LineCause.TheVariants as cause
-use Rattle.ps_world.specs.declared.inputs.Line.TheVariants.{Good, Bad}
+use Rattle.ps_machine.specs.declared.inputs.Command.{Command}
+use Rattle.ps_machine.specs.declared.inputs.LineCause.{LineCause}
+use Rattle.ps_machine.specs.declared.inputs.LineCause.TheVariants as cause
+use Rattle.ps_machine.specs.declared.inputs.Line.TheVariants.{Good, Bad}
 use Rattle.ps_text.specs.Names.{interned}
 use Rattle.ps_text.specs.Tokens.{AreTokens, IsFirstFault}
 use Rattle.ps_text.specs.Words.{words}

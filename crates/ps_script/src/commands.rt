@@ -7,7 +7,8 @@ ghost use Rattle.ps_script.specs.Commands.{after_two, command_of, fourth_name, s
 use super::forms::Form;
 use super::goals::{fact_of, first_condition};
 use ps_forms::{Tree, head, items_at, rest};
-use ps_world::{Command, Edit, Fact, Name, Query};
+use ps_machine::{Command, Query};
+use ps_world::{Edit, Fact, Name};
 use std::alloc::{AllocError, Global};
 
 /// What stands after the two fixed words of an edit.

@@ -13,9 +13,9 @@ use super::commands::command_of;
 use super::files::{FileName, after_run, file_in, is_run_plan, is_source, trimmed};
 use super::forms::{Form, form_of};
 use ps_forms::{lexemes_of, mark_of, trees_of};
+use ps_machine::{Line, LineCause};
 use ps_shape::Mark;
 use ps_text::{LexRefusal, NameRefusal, Names, Token, Words, tokens};
-use ps_world::{Line, LineCause};
 use std::alloc::{AllocError, Global};
 
 /// What a line is read as.

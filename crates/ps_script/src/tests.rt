@@ -1,9 +1,10 @@
 //! Tables of whole lines: what each is read as, and the names after it.
 use super::*;
+use ps_machine::{Command, Line, LineCause, Query};
 use ps_text::Names;
 use ps_world::{
-    Args, BoxedCond, BoxedExpr, Command, Cond, Conds, Edit, Expr, Fact, Lifted, Line, LineCause,
-    Name, Num, Op, Query, Rel, Term, Terms,
+    Args, BoxedCond, BoxedExpr, Cond, Conds, Edit, Expr, Fact, Lifted, Name, Num, Op, Rel, Term,
+    Terms,
 };
 use std::alloc::{AllocError, Global};
 use std::test::Fail;

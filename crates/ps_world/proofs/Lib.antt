@@ -2,9 +2,7 @@ pub mod Climbs
 pub mod CondRanks
 pub mod Digits
 pub mod Faults
-pub mod Journals
 pub mod OneLine
-pub mod ReadBack
 pub mod SameConds
 pub mod ShortLists
 pub mod Tables

@@ -6,13 +6,12 @@ use Rattle.std.proofs.lemmas.List.Folds.{list_all-append}
 use Rattle.std.proofs.lemmas.Bool.Decides.{nat_tests}
 use Rattle.ps_world.specs.Names.{Table, object, name_text}
 use Rattle.ps_world.specs.Numbers.{decimals_text, magnitude_text, number_text}
-use Rattle.ps_world.specs.Lines.{is_line}
+use Rattle.ps_world.specs.Lines.{AreLines, is_line}
 use Rattle.ps_world.specs.Trees.{ExprTree, number, value_of, negated, operated, CondTree, CondTrees, all_of, no, holds, same, compares, is_a, none, more}
 use Rattle.ps_world.specs.ExprViews.{expr_tree}
 use Rattle.ps_world.specs.CondViews.{cond_tree}
 use Rattle.ps_world.specs.DomainTexts.{after_spaces, spaced, typed_text, param_text, decl_text, term_text, lifted_text, op_text, expr_text, rel_text, cond_text, conds_text, num_op_text, effect_text, timed_text, conditions_text, effects_text, action_lines, section_lines, domain_lines}
-use Rattle.ps_world.specs.Texts.{args_text, fact_text, value_text, goal_text, edit_text, query_text, edit_refusal_text, line_cause_text, refusal_text, by_text, event_text, entry_line}
-use Rattle.ps_world.specs.Laws.{AreLines}
+use Rattle.ps_world.specs.Texts.{args_text, fact_text, value_text, goal_text, edit_text, edit_refusal_text}
 use Rattle.ps_world.specs.declared.names.Name.{Name}
 use Rattle.ps_world.specs.declared.numbers.Num.{Num}
 use Rattle.ps_world.specs.declared.facts.Fact.{Fact}
@@ -36,17 +35,6 @@ use Rattle.ps_world.specs.declared.edits.Edit.{Edit}
 use Rattle.ps_world.specs.declared.edits.Edit.TheVariants.{AddInstance, RemoveInstance, AddFact, RemoveFact, SetValue, RemoveValue, SetGoal, RemoveGoal}
 use Rattle.ps_world.specs.declared.edits.EditRefusal.{EditRefusal}
 use Rattle.ps_world.specs.declared.edits.EditRefusal.TheVariants.{NoType, InstanceThere, Full, NoInstance, Constant, NoPredicate, Arity, WrongType, NoFact, NoFunction, NoValue, NoGoal, OutOfMemory}
-use Rattle.ps_world.specs.declared.inputs.LineCause.{LineCause}
-use Rattle.ps_world.specs.declared.inputs.LineCause.TheVariants as line
-use Rattle.ps_world.specs.declared.inputs.Query.{Query}
-use Rattle.ps_world.specs.declared.inputs.Query.TheVariants as query
-use Rattle.ps_world.specs.declared.journal.By.{By}
-use Rattle.ps_world.specs.declared.journal.By.TheVariants.{Terminal}
-use Rattle.ps_world.specs.declared.journal.Refusal.{Refusal}
-use Rattle.ps_world.specs.declared.journal.Refusal.TheVariants as refusal
-use Rattle.ps_world.specs.declared.journal.Event.{Event}
-use Rattle.ps_world.specs.declared.journal.Event.TheVariants as event
-use Rattle.ps_world.specs.declared.journal.Entry.{Entry}
 use Rattle.ps_world.proofs.Digits.{is_ink, is_inked, is_inked-decimal}
 
 -- ---- bytes, numbers and lists
@@ -62,7 +50,7 @@ is_line-inked : (bs : List ℕ) → is_inked bs ≡ true → is_line bs ≡ true
 is_line-inked [] h = refl
 is_line-inked (b ∷ bs) h = is_line-ink (b ∷ bs) h
 
-is_line-decimal : (n : ℕ) → is_line (decimal n) ≡ true
+pub is_line-decimal : (n : ℕ) → is_line (decimal n) ≡ true
 is_line-decimal n = is_line-inked (decimal n) (is_inked-decimal n)
 
 no_end-digit : (k : ℕ) → not (48 + k == 10) ≡ true
@@ -74,7 +62,7 @@ is_line-decimals n = rw (no_end-digit (n / 100 % 10), no_end-digit (n / 10 % 10)
 is_line-magnitude : (n : ℕ) → is_line (magnitude_text n) ≡ true
 is_line-magnitude n = is_line-append (decimal (n / 1000)) (decimals_text n) (is_line-decimal (n / 1000)) (is_line-decimals n)
 
-is_line-number : (x : Num) → is_line (number_text x) ≡ true
+pub is_line-number : (x : Num) → is_line (number_text x) ≡ true
 is_line-number (pos n) = is_line-magnitude n
 is_line-number (negsuc n) = is_line-magnitude (suc n)
 
@@ -82,10 +70,10 @@ is_line-number (negsuc n) = is_line-magnitude (suc n)
 abbrev pub are_lines : List (List ℕ) → Bool
 are_lines = list_all is_line
 
-are_lines-more : (t : List ℕ) (ts : List (List ℕ)) → is_line t ≡ true → are_lines ts ≡ true → are_lines (t ∷ ts) ≡ true
+pub are_lines-more : (t : List ℕ) (ts : List (List ℕ)) → is_line t ≡ true → are_lines ts ≡ true → are_lines (t ∷ ts) ≡ true
 are_lines-more t ts p q = rw (p, q) refl
 
-are_lines-append : (a b : List (List ℕ)) → are_lines a ≡ true → are_lines b ≡ true → are_lines (a ++ b) ≡ true
+pub are_lines-append : (a b : List (List ℕ)) → are_lines a ≡ true → are_lines b ≡ true → are_lines (a ++ b) ≡ true
 are_lines-append a b p q = rw (list_all-append, p, q) refl
 
 module _ {X : Type 0} where
@@ -268,9 +256,9 @@ are_lines-action names a h = are_lines-acted names h a
 pub are_lines-domain : (names : Table) (d : Domain) → AreLines names → are_lines (domain_lines names d) ≡ true
 are_lines-domain names d h = are_lines-whole names h d
 
--- ---- entries
+-- ---- facts and edits
 
-is_line-args : (names : Table) (ns : List Name) → AreLines names → is_line (args_text names ns) ≡ true
+pub is_line-args : (names : Table) (ns : List Name) → AreLines names → is_line (args_text names ns) ≡ true
 is_line-args names ns h = is_line-flat_map (λ n. codes " " ++ name_text names n) ns (λ n. is_line-name names n h)
 
 pub is_line-fact : (names : Table) (f : Fact) → AreLines names → is_line (fact_text names f) ≡ true
@@ -286,7 +274,7 @@ is_line-value names f x h =
 pub is_line-goal : (names : Table) (goal : Cond) → AreLines names → is_line (goal_text names goal) ≡ true
 is_line-goal names goal h = is_line-cond names h [] (cond_tree goal)
 
-is_line-edit : (names : Table) (e : Edit) → AreLines names → is_line (edit_text names e) ≡ true
+pub is_line-edit : (names : Table) (e : Edit) → AreLines names → is_line (edit_text names e) ≡ true
 is_line-edit names (AddInstance n t) h =
     is_line-append (name_text names n) (codes " " ++ name_text names t) (is_line-name names n h) (is_line-name names t h)
 is_line-edit names (RemoveInstance n) h = is_line-name names n h
@@ -297,20 +285,7 @@ is_line-edit names (RemoveValue f) h = is_line-fact names f h
 is_line-edit names (SetGoal goal) h = is_line-goal names goal h
 is_line-edit names RemoveGoal h = refl
 
-is_line-query : (names : Table) (q : Query) → AreLines names → is_line (query_text names q) ≡ true
-is_line-query names query.ModelTypes h = refl
-is_line-query names query.ModelPredicates h = refl
-is_line-query names query.ModelFunctions h = refl
-is_line-query names query.ModelActions h = refl
-is_line-query names (query.ModelPredicate n) h = is_line-name names n h
-is_line-query names (query.ModelAction n) h = is_line-name names n h
-is_line-query names query.Domain h = refl
-is_line-query names query.ProblemInstances h = refl
-is_line-query names query.ProblemPredicates h = refl
-is_line-query names query.ProblemFunctions h = refl
-is_line-query names query.ProblemGoal h = refl
-
-is_line-edit_refusal : (names : Table) (r : EditRefusal) → AreLines names → is_line (edit_refusal_text names r) ≡ true
+pub is_line-edit_refusal : (names : Table) (r : EditRefusal) → AreLines names → is_line (edit_refusal_text names r) ≡ true
 is_line-edit_refusal names NoType h = refl
 is_line-edit_refusal names InstanceThere h = refl
 is_line-edit_refusal names Full h = refl
@@ -325,29 +300,3 @@ is_line-edit_refusal names NoFunction h = refl
 is_line-edit_refusal names NoValue h = refl
 is_line-edit_refusal names NoGoal h = refl
 is_line-edit_refusal names OutOfMemory h = refl
-
-is_line-cause : (cause : LineCause) → is_line (line_cause_text cause) ≡ true
-is_line-cause (line.Lex at) = is_line-decimal at
-is_line-cause (line.Number at) = is_line-decimal at
-is_line-cause line.Command = refl
-is_line-cause (line.Shape at) = is_line-decimal at
-is_line-cause line.Nest = refl
-is_line-cause line.NotBuilt = refl
-
-is_line-refusal : (names : Table) (r : Refusal) → AreLines names → is_line (refusal_text names r) ≡ true
-is_line-refusal names (refusal.Line cause) h = is_line-cause cause
-is_line-refusal names (refusal.Edit r) h = is_line-edit_refusal names r h
-is_line-refusal names refusal.NoPredicate h = refl
-is_line-refusal names refusal.NoAction h = refl
-
-is_line-by : (by : By) (rest : List ℕ) → is_line rest ≡ true → is_line (by_text by ++ rest) ≡ true
-is_line-by (Terminal n) rest h = is_line-append (decimal n) rest (is_line-decimal n) h
-
-is_line-event : (names : Table) (e : Event) → AreLines names → is_line (event_text names e) ≡ true
-is_line-event names (event.Edit by edit) h = is_line-by by (codes " " ++ edit_text names edit) (is_line-edit names edit h)
-is_line-event names (event.Refused by why) h = is_line-by by (codes " " ++ refusal_text names why) (is_line-refusal names why h)
-is_line-event names (event.Ask q) h = is_line-query names q h
-is_line-event names event.Quit h = refl
-
-pub is_line-entry : (names : Table) (e : Entry) → AreLines names → is_line (entry_line names e) ≡ true
-is_line-entry names e h = is_line-append (decimal e.hand) (codes " " ++ event_text names e.what) (is_line-decimal e.hand) (is_line-event names e.what h)

@@ -6,16 +6,12 @@ pub mod ExprFalls
 pub mod ExprViews
 pub mod DomainTexts
 pub mod Facts
-pub mod History
-pub mod Journal
 pub mod Knowledge
-pub mod Laws
 pub mod Lines
 pub mod Names
 pub mod Numbers
 pub mod Refusals
 pub mod Same
-pub mod Sample
 pub mod ShortLists
 pub mod Tables
 pub mod Terms

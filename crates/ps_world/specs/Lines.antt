@@ -1,5 +1,5 @@
 -- Texts as lists of bytes, and their lines.
-use Rattle.std.specs.Prelude.{ℕ, Bool, nat_eq, not, List, [], ◌∷◌, if◌then◌else◌, ◌==◌}
+use Rattle.std.specs.Prelude.{◌≡◌, ℕ, Bool, true, nat_eq, not, All, List, [], ◌∷◌, if◌then◌else◌, ◌==◌}
 use Rattle.std.specs.List.{list_all}
 use Rattle.std.specs.Cmp.Lexicographic.{pointwise}
 
@@ -24,3 +24,7 @@ is_line text = list_all (λ b. not (b == 10)) text
 -- what ends a line
 abbrev pub line_end : List ℕ
 line_end = 10 ∷ []
+
+-- each of these texts is one line
+abbrev pub AreLines : List (List ℕ) → Type 0
+AreLines texts = All (λ text. is_line text ≡ true) texts

@@ -14,15 +14,6 @@ use Rattle.ps_world.specs.declared.edits.Edit.{Edit}
 use Rattle.ps_world.specs.declared.edits.Edit.TheVariants.{AddInstance, RemoveInstance, AddFact, RemoveFact, SetValue, RemoveValue, SetGoal, RemoveGoal}
 use Rattle.ps_world.specs.declared.edits.EditRefusal.{EditRefusal}
 use Rattle.ps_world.specs.declared.edits.EditRefusal.TheVariants.{NoType, InstanceThere, Full, NoInstance, Constant, NoPredicate, Arity, WrongType, NoFact, NoFunction, NoValue, NoGoal, OutOfMemory}
-use Rattle.ps_world.specs.declared.inputs.Query.{Query}
-use Rattle.ps_world.specs.declared.inputs.Query.TheVariants as query
-use Rattle.ps_world.specs.declared.inputs.Command.TheVariants as command
-use Rattle.ps_world.specs.declared.inputs.Line.{Line}
-use Rattle.ps_world.specs.declared.inputs.Line.TheVariants.{Good, Bad}
-use Rattle.ps_world.specs.declared.journal.Refusal.{Refusal}
-use Rattle.ps_world.specs.declared.journal.Refusal.TheVariants as refusal
-use Rattle.ps_world.specs.declared.journal.Event.{Event}
-use Rattle.ps_world.specs.declared.journal.Event.TheVariants as event
 
 -- the name is one of so many
 abbrev pub IsOf : ℕ → Name → Type 0
@@ -89,19 +80,6 @@ IsEditOf count (RemoveValue f) = IsFactOf count f
 IsEditOf count (SetGoal goal) = IsGoalOf count (cond_tree goal)
 IsEditOf count RemoveGoal = Unit {0}
 
--- a query's names are
-abbrev pub IsQueryOf : ℕ → Query → Type 0
-IsQueryOf count (query.ModelPredicate n) = IsOf count n
-IsQueryOf count (query.ModelAction n) = IsOf count n
-IsQueryOf count q = Unit {0}
-
--- a line's names are
-abbrev pub IsLineOf : ℕ → Line → Type 0
-IsLineOf count (Good (command.Edit edit)) = IsEditOf count edit
-IsLineOf count (Good (command.Ask q)) = IsQueryOf count q
-IsLineOf count (Good command.Quit) = Unit {0}
-IsLineOf count (Bad cause) = Unit {0}
-
 -- the names of an edit's refusal are, and it isn't want of memory
 abbrev pub IsEditRefusalOf : ℕ → EditRefusal → Type 0
 IsEditRefusalOf count NoType = Unit {0}
@@ -117,17 +95,3 @@ IsEditRefusalOf count NoFunction = Unit {0}
 IsEditRefusalOf count NoValue = Unit {0}
 IsEditRefusalOf count NoGoal = Unit {0}
 IsEditRefusalOf count OutOfMemory = ⊥
-
--- the same of any refusal
-abbrev pub IsRefusalOf : ℕ → Refusal → Type 0
-IsRefusalOf count (refusal.Line cause) = Unit {0}
-IsRefusalOf count (refusal.Edit r) = IsEditRefusalOf count r
-IsRefusalOf count refusal.NoPredicate = Unit {0}
-IsRefusalOf count refusal.NoAction = Unit {0}
-
--- the names of an event are, and no want of memory stands in it
-abbrev pub IsEventOf : ℕ → Event → Type 0
-IsEventOf count (event.Edit by edit) = IsEditOf count edit
-IsEventOf count (event.Refused by why) = IsRefusalOf count why
-IsEventOf count (event.Ask q) = IsQueryOf count q
-IsEventOf count event.Quit = Unit {0}

@@ -1,4 +1,4 @@
--- The texts of the journal's entries. A text is a list of bytes.
+-- The texts of facts, goals and edits, and of why an edit is refused. A text is a list of bytes.
 use Rattle.std.specs.Prelude.{ℕ, List, [], ◌++◌, codes}
 use Rattle.std.specs.List.{flat_map}
 use Rattle.std.specs.Fmt.{decimal}
@@ -14,17 +14,6 @@ use Rattle.ps_world.specs.declared.edits.Edit.{Edit}
 use Rattle.ps_world.specs.declared.edits.Edit.TheVariants.{AddInstance, RemoveInstance, AddFact, RemoveFact, SetValue, RemoveValue, SetGoal, RemoveGoal}
 use Rattle.ps_world.specs.declared.edits.EditRefusal.{EditRefusal}
 use Rattle.ps_world.specs.declared.edits.EditRefusal.TheVariants.{NoType, InstanceThere, Full, NoInstance, Constant, NoPredicate, Arity, WrongType, NoFact, NoFunction, NoValue, NoGoal, OutOfMemory}
-use Rattle.ps_world.specs.declared.inputs.LineCause.{LineCause}
-use Rattle.ps_world.specs.declared.inputs.LineCause.TheVariants as line
-use Rattle.ps_world.specs.declared.inputs.Query.{Query}
-use Rattle.ps_world.specs.declared.inputs.Query.TheVariants as query
-use Rattle.ps_world.specs.declared.journal.By.{By}
-use Rattle.ps_world.specs.declared.journal.By.TheVariants.{Terminal}
-use Rattle.ps_world.specs.declared.journal.Refusal.{Refusal}
-use Rattle.ps_world.specs.declared.journal.Refusal.TheVariants as refusal
-use Rattle.ps_world.specs.declared.journal.Event.{Event}
-use Rattle.ps_world.specs.declared.journal.Event.TheVariants as event
-use Rattle.ps_world.specs.declared.journal.Entry.{Entry}
 
 -- names, each after a space
 abbrev pub args_text : Table → List Name → List ℕ
@@ -53,20 +42,6 @@ edit_text names (RemoveValue f) = codes "remove function " ++ fact_text names f
 edit_text names (SetGoal goal) = codes "set goal " ++ goal_text names goal
 edit_text names RemoveGoal = codes "remove goal"
 
--- a query, as a line of the terminal says it
-abbrev pub query_text : Table → Query → List ℕ
-query_text names query.ModelTypes = codes "get model types"
-query_text names query.ModelPredicates = codes "get model predicates"
-query_text names query.ModelFunctions = codes "get model functions"
-query_text names query.ModelActions = codes "get model actions"
-query_text names (query.ModelPredicate n) = codes "get model predicate " ++ name_text names n
-query_text names (query.ModelAction n) = codes "get model action " ++ name_text names n
-query_text names query.Domain = codes "get domain"
-query_text names query.ProblemInstances = codes "get problem instances"
-query_text names query.ProblemPredicates = codes "get problem predicates"
-query_text names query.ProblemFunctions = codes "get problem functions"
-query_text names query.ProblemGoal = codes "get problem goal"
-
 -- the cause for which an edit is refused; want of memory stands in no entry, and has no text
 abbrev pub edit_refusal_text : Table → EditRefusal → List ℕ
 edit_refusal_text names NoType = codes "NoType"
@@ -82,34 +57,3 @@ edit_refusal_text names NoFunction = codes "NoFunction"
 edit_refusal_text names NoValue = codes "NoValue"
 edit_refusal_text names NoGoal = codes "NoGoal"
 edit_refusal_text names OutOfMemory = []
-
--- the cause for which a line is no command
-abbrev pub line_cause_text : LineCause → List ℕ
-line_cause_text (line.Lex at) = codes "Lex " ++ decimal at
-line_cause_text (line.Number at) = codes "Number " ++ decimal at
-line_cause_text line.Command = codes "Command"
-line_cause_text (line.Shape at) = codes "Shape " ++ decimal at
-line_cause_text line.Nest = codes "Nest"
-line_cause_text line.NotBuilt = codes "NotBuilt"
-
--- the cause of a refusal
-abbrev pub refusal_text : Table → Refusal → List ℕ
-refusal_text names (refusal.Line cause) = line_cause_text cause
-refusal_text names (refusal.Edit r) = edit_refusal_text names r
-refusal_text names refusal.NoPredicate = codes "NoPredicate"
-refusal_text names refusal.NoAction = codes "NoAction"
-
--- whose edit it is
-abbrev pub by_text : By → List ℕ
-by_text (Terminal n) = codes "terminal " ++ decimal n
-
--- an event
-abbrev pub event_text : Table → Event → List ℕ
-event_text names (event.Edit by edit) = codes "edit " ++ (by_text by ++ (codes " " ++ edit_text names edit))
-event_text names (event.Refused by why) = codes "refused " ++ (by_text by ++ (codes " " ++ refusal_text names why))
-event_text names (event.Ask q) = codes "ask " ++ query_text names q
-event_text names event.Quit = codes "quit"
-
--- an entry's line, without the LF that ends it
-abbrev pub entry_line : Table → Entry → List ℕ
-entry_line names e = decimal e.hand ++ (codes " " ++ event_text names e.what)

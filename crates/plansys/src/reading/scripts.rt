@@ -1,14 +1,16 @@
 //! The lines of a script.
 ghost use Rattle.std.specs.Prelude.{◌≡◌, ◌≤◌, ◌++◌, List, length, IfOk, OnOk, All};
-ghost use Rattle.ps_world.specs.Tables.{IsLineOf};
+ghost use Rattle.ps_machine.specs.Tables.{IsLineOf};
 ghost use Rattle.ps_text.specs.Names.{AreNames};
-ghost use Rattle.plansys.specs.Scripts.{Adds, IsScript, given_by};
-ghost use Rattle.ps_world.specs.declared.inputs.Line.{Line as LineView};
+ghost use Rattle.plansys.specs.Scripts.{Adds, IsScript, given_by, table_after_plan};
+ghost use Rattle.ps_machine.specs.declared.inputs.Line.{Line as LineView};
 
 use super::flatten::Flattened;
+use ps_machine::{Line, LineCause};
+use ps_plan::{PlanTextRefusal, read_plan};
 use ps_script::{Read, read_line};
 use ps_text::Names;
-use ps_world::{Line, LineCause, Seq};
+use ps_world::Seq;
 use std::alloc::{AllocError, Global};
 
 /// Puts the line that a line of the text is read as at the end of those before it, if it is one.
@@ -28,6 +30,16 @@ fn push_read(read: Read, all: &mut Vec<Line>) -> Result<(), AllocError>
     }
 }
 
+/// Puts the names of a plan's text into the table, unless it has a fault.
+fn put_plan_names(alloc: Global, names: &mut Names, text: &[u8]) -> Result<(), AllocError>
+    ensures { OnOk result (names.new ≡ table_after_plan names.old text.now) }
+{
+    match read_plan(alloc, names, text) {
+        Err(PlanTextRefusal::OutOfMemory) => Err(AllocError),
+        _ => Ok(()),
+    }
+}
+
 /// Puts what a command line is read as at the end of the lines before it.
 fn push_one(
     alloc: Global,
@@ -42,6 +54,11 @@ fn push_one(
             let read = read_line(alloc, names, bytes.as_slice())?;
             push_read(read, all)
         }
+        Flattened::Plan(bytes, text) => {
+            let read = read_line(alloc, names, bytes.as_slice())?;
+            put_plan_names(alloc, names, text.as_slice())?;
+            push_read(read, all)
+        }
         Flattened::TooDeep => {
             all.push(Line::Bad(LineCause::Nest))?;
             Ok(())
@@ -51,7 +68,8 @@ fn push_one(
 
 /// The lines that the command lines of a script are, in order.
 ///
-/// The names of good lines are put into the table, and `run` and `plan` of a line that names a plan's file. Such a line is `NotBuilt`.
+/// The names of good lines are put into the table, and `run` and `plan` of a line that runs the plan in a file, and the names of
+/// that file's text where it was read and has no fault. Such a line is `NotBuilt`.
 /// The only error is want of memory.
 pub fn read_script(
     alloc: Global,
@@ -76,8 +94,9 @@ pub fn read_script(
 mod tests {
     use super::*;
     use crate::reading::flatten::read_flat;
+    use ps_machine::Command;
     use ps_text::MemFiles;
-    use ps_world::{Args, Command, Edit, Fact, Name};
+    use ps_world::{Args, Edit, Fact, Name};
     use std::test::Fail;
 
     #[test]
@@ -123,7 +142,7 @@ mod tests {
         let mut files = MemFiles::new(alloc);
         files.put_text("script", b"get domain\nsource zeta\nset instance c b")?;
         files.put_text("zeta", b"set instance b a")?;
-        let script = read_flat(alloc, "script", &mut files)
+        let script = read_flat(alloc, true, "script", &mut files)
             .ok()
             .ok_or("a script")?;
         let mut names = Names::new(alloc)?;

@@ -33,7 +33,12 @@ pub fn push_edit(names: &Names, edit: &Edit, text: &mut Vec<u8>) -> Result<(), A
 }
 
 /// Adds that the number of arguments isn't that of the parameters.
-fn push_arity(alloc: Global, want: usize, got: usize, text: &mut Vec<u8>) -> Result<(), AllocError>
+pub fn push_arity(
+    alloc: Global,
+    want: usize,
+    got: usize,
+    text: &mut Vec<u8>,
+) -> Result<(), AllocError>
     ensures { OnOk result (text.new.items ≡ text.old.items ++ edit_refusal_text [] (Arity want got)) }
 {
     push_number_after(alloc, b"Arity ", want as u64, text)?;

@@ -2,7 +2,7 @@
 ghost use Rattle.std.specs.Prelude.{◌≡◌, ◌∷◌, [], ◌++◌, map, IfOk, OnOk};
 ghost use Rattle.std.specs.Option.{option_copied};
 ghost use Rattle.ps_world.specs.Texts.{fact_text, value_text};
-ghost use Rattle.ps_world.specs.Journal.{in_order, instance_text, goal_line, reply_text};
+ghost use Rattle.ps_machine.specs.Journal.{in_order, instance_text, goal_line, reply_text};
 
 use super::facts::{push_fact, push_goal_after, push_instance_after, push_value};
 use super::replies::push_reply;

@@ -4,15 +4,16 @@ ghost use Rattle.std.specs.Option.{option_copied, option_map_or};
 ghost use Rattle.ps_world.specs.Lines.{line_end, lines_of};
 ghost use Rattle.ps_world.specs.Names.{name_text};
 ghost use Rattle.ps_world.specs.DomainTexts.{action_lines, decl_text, domain_lines};
-ghost use Rattle.ps_world.specs.Journal.{answer_lines, reply_lines, reply_mark, reply_text};
+ghost use Rattle.ps_machine.specs.Journal.{answer_lines, reply_lines, reply_mark, reply_text};
 
 use super::facts::name_text;
 use super::known::{push_facts, push_goal, push_instances, push_values};
 use ps_domain::Expert;
+use ps_machine::{Event, Query};
 use ps_print::{print_domain, push_action, push_decl};
 use ps_problem::Problem;
 use ps_text::{Names, lines};
-use ps_world::{ActionDef, Decl, Domain, Event, Param, Query};
+use ps_world::{ActionDef, Decl, Domain, Param};
 use std::alloc::{AllocError, Global};
 
 /// Adds the reply lines of an event. Only a query has any.

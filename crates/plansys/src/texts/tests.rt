@@ -1,12 +1,13 @@
 //! The texts of hand-made entries over a small domain.
 use super::entry_text;
 use ps_domain::Expert;
+use ps_machine::{By, Entry, Event, LineCause, Query, Refusal};
 use ps_pddl::read_domain;
 use ps_problem::Problem;
 use ps_text::Names;
 use ps_world::{
-    Args, BoxedCond, By, Cond, Conds, Duplicate, Edit, EditRefusal, Entry, Event, Expr, Fact,
-    Lifted, LineCause, Name, Num, Query, Refusal, Rel, Term, Terms,
+    Args, BoxedCond, Cond, Conds, Duplicate, Edit, EditRefusal, Expr, Fact, Lifted, Name, Num, Rel,
+    Term, Terms,
 };
 use std::alloc::{AllocError, Global};
 use std::process::Abort;

@@ -1,9 +1,8 @@
 //! Each edit, and each refusal in its order, on a domain of robots and rooms.
 use super::edit_plain;
 use crate::{
-    Args, BoxedCond, BoxedExpr, Command, Cond, Conds, Decl, Domain, Duplicate, Edit, EditRefusal,
-    Expr, Fact, Input, Knowledge, Lifted, Line, LineCause, MOST_INSTANCES, Name, Num, Op, Param,
-    Query, Rel, Seq, Term, Terms,
+    Args, BoxedCond, BoxedExpr, Cond, Conds, Decl, Domain, Duplicate, Edit, EditRefusal, Expr,
+    Fact, Knowledge, Lifted, MOST_INSTANCES, Name, Num, Op, Param, Rel, Seq, Term, Terms,
 };
 use std::alloc::{AllocError, Global};
 use std::process::Abort;
@@ -410,29 +409,17 @@ fn is_full_at_1000(rt: HostRuntime) -> Result<(), Fail> {
     fill_new(&rt, rt.alloc(), &domain)
 }
 
-/// A script with a line of each kind.
-fn script(alloc: Global) -> Result<Vec<Line>, Fail> {
-    let goal = goal_of(alloc, Goal::SameAndAway(LEIA, R2D2))?;
-    let all = vec![in alloc;
-        Line::Good(Command::Edit(Edit::SetGoal(goal))),
-        Line::Bad(LineCause::Shape { at: 4 }),
-        Line::Good(Command::Ask(Query::ProblemGoal)),
-        Line::Good(Command::Quit),
-    ]?;
-    Ok(all)
-}
-
-fn is_copied(alloc: Global, input: &Input) -> Result<bool, AllocError> {
-    let copied = input.copy(alloc)?;
-    Ok(copied == *input)
+fn is_copied<T: Duplicate + PartialEq>(alloc: Global, value: &T) -> Result<bool, AllocError> {
+    let copied = value.copy(alloc)?;
+    Ok(copied == *value)
 }
 
 #[test]
-fn copies_an_input(rt: HostRuntime) -> Result<(), Fail> {
-    let lines = Seq::of(script(rt.alloc())?);
-    let domain = domain(rt.alloc())?;
-    let input = Input { domain, lines };
-    let same = is_copied(rt.alloc(), &input)?;
-    assert!(rt; same);
+fn copies_a_domain_and_an_edit(rt: HostRuntime) -> Result<(), Fail> {
+    let alloc = rt.alloc();
+    let domain = domain(alloc)?;
+    assert!(rt; is_copied(alloc, &domain)?);
+    let edit = Edit::SetGoal(goal_of(alloc, Goal::SameAndAway(LEIA, R2D2))?);
+    assert!(rt; is_copied(alloc, &edit)?);
     Ok(())
 }

@@ -16,4 +16,4 @@ returns-in-Err-Due-clause-complete g c =
     let texts = g.F.Files.text_of c.args.files.now in
     let fault = c.in-Err-Due.fault in
     let stopped = rw c.in-Err-Due.field-0-is at c.in-Err-Due.ensures.stopped in
-    completed (input_of ws texts) ws texts (g.F.Files.faults c.args.files.now) (g.F.Files.faults c.check.new.files) (fault_status fault) c.tell.result (g.O.Sink.faults c.args.out.now) (g.O.Sink.faults c.check.new.out) (g.E.Sink.faults c.args.err.now) (g.E.Sink.faults c.tell.new.err) (fault_line fault) stopped.0 c.tell.ensures.cases (λ e. (c.tell.ensures.cut e).0)
+    completed (input_of ws texts) ws texts (g.F.Files.faults c.args.files.now) (g.F.Files.faults c.attempt_quiet.new.files) (fault_status fault) c.tell.result (g.O.Sink.faults c.args.out.now) (g.O.Sink.faults c.attempt_quiet.new.out) (g.E.Sink.faults c.args.err.now) (g.E.Sink.faults c.tell.new.err) (fault_line fault) stopped.0 c.tell.ensures.cases (λ e. (c.tell.ensures.cut e).0)

@@ -6,7 +6,7 @@ use Rattle.plansys.specs.Faults.{word_texts, IsJudged, IsNotHad}
 use Rattle.plansys.proofs.inputs.read_checked.Goals as goal
 
 pub returns-then-not-is_check-clause-cause : goal.returns-then-not-is_check-clause-cause
-returns-then-not-is_check-clause-cause g c = no_check (word_texts c.args.words.now) (g.F.Files.text_of c.args.files.now) (g.F.Files.faults c.args.files.now) (g.F.Files.faults c.args.files.now) c.requires.quiet (search rules)
+returns-then-not-is_check-clause-cause g c = no_check (word_texts c.args.words.now) (g.F.Files.text_of c.args.files.now) (g.F.Files.faults c.args.files.now) (g.F.Files.faults c.args.files.now) c.requires.check (search rules)
 
 pub returns-in_err-text-clause-cause : goal.returns-in_err-text-clause-cause
 returns-in_err-text-clause-cause g c =

@@ -1,4 +1,4 @@
-use Rattle.std.proofs.Common.{◌≡◌, rules, Ok, IfSome, length, subst}
+use Rattle.std.proofs.Common.{◌≡◌, rules, false, Ok, IfSome, length, subst}
 use Rattle.std.proofs.lemmas.Result.{err_from_is_err_and}
 use Rattle.plansys.proofs.TableNames.{AreNames-first, after_read, domain_within}
 use Rattle.plansys.proofs.Later.{params-later}
@@ -19,7 +19,7 @@ returns-in_err-domain_text-clause-cause g c =
     let ws = word_texts c.args.words.now in
     let texts = g.F.Files.text_of c.args.files.now in
     let p = err_from_is_err_and c.from_residual.result c.from_residual.ensures.1 in
-    rw (p.1, p.2) (no_domain_file ws texts (g.F.Files.faults c.args.files.now) (g.F.Files.faults c.read_text.new.files) c.in_err-domain_text.field-0.0 (search rules)
+    rw (p.1, p.2) (no_domain_file false ws texts (g.F.Files.faults c.args.files.now) (g.F.Files.faults c.read_text.new.files) c.in_err-domain_text.field-0.0 (search rules)
     (subst (λ f. IsNotHad f (texts f) (g.F.Files.faults c.args.files.now) (g.F.Files.faults c.read_text.new.files) c.in_err-domain_text.field-0.0) c.argument.ensures c.in_err-domain_text.ensures.cause))
 
 pub returns-in_err-script-clause-cause : goal.returns-in_err-script-clause-cause
@@ -31,8 +31,8 @@ returns-in_err-script-clause-cause g c =
     let middle = g.F.Files.faults c.read_text.new.files in
     let now = g.F.Files.faults c.read_flat.new.files in
     let p = err_from_is_err_and c.from_residual-in_err-script.result c.from_residual-in_err-script.ensures.1 in
-    let cut = subst (λ f. IsCut (script_in f) (g.F.Files.text_of c.read_text.new.files) middle now c.in_err-script.field-0.0) c.argument-2.ensures c.in_err-script.ensures.cause in
-    rw (p.1, p.2) (no_script ws texts domain (search rules) c.in_ok-domain_text.ensures.short had (g.F.Files.text_of c.read_text.new.files) c.read_text.ensures.same (g.F.Files.faults c.args.files.now) middle now c.in_err-script.field-0.0 c.read_text.ensures.later cut)
+    let cut = subst (λ f. IsCut (script_in false f) (g.F.Files.text_of c.read_text.new.files) middle now c.in_err-script.field-0.0) c.argument-2.ensures c.in_err-script.ensures.cause in
+    rw (p.1, p.2) (no_script false ws texts domain (search rules) c.in_ok-domain_text.ensures.short had (g.F.Files.text_of c.read_text.new.files) c.read_text.ensures.same (g.F.Files.faults c.args.files.now) middle now c.in_err-script.field-0.0 c.read_text.ensures.later cut)
 
 pub returns-in_err-domain-clause-cause : goal.returns-in_err-domain-clause-cause
 returns-in_err-domain-clause-cause g c =
@@ -41,8 +41,8 @@ returns-in_err-domain-clause-cause g c =
     let domain = c.in_ok-domain_text.domain_text.items in
     let all = c.in_ok-script.script.items in
     let had = subst (λ f. IfSome (texts f) (λ t. domain ≡ t)) c.argument.ensures c.in_ok-domain_text.ensures.text in
-    let flat = subst (λ t. MayBe (script_in c.argument-2.result.now t) (lines all c.in_ok-script.ensures.ok.0)) (same_texts (g.F.Files.text_of c.read_text.new.files) texts c.read_text.ensures.same) c.in_ok-script.ensures.ok.1 in
-    let named = subst (λ f. MayBe (script_in f texts) (lines all c.in_ok-script.ensures.ok.0)) c.argument-2.ensures flat in
+    let flat = subst (λ t. MayBe (script_in false c.argument-2.result.now t) (lines all c.in_ok-script.ensures.ok.0)) (same_texts (g.F.Files.text_of c.read_text.new.files) texts c.read_text.ensures.same) c.in_ok-script.ensures.ok.1 in
+    let named = subst (λ f. MayBe (script_in false f texts) (lines all c.in_ok-script.ensures.ok.0)) c.argument-2.ensures flat in
     let judged = subst (λ t. IsJudged t c.in_err-domain.field-0.0) c.as_slice.ensures.value c.in_err-domain.ensures.cause in
     let p = err_from_is_err_and c.from_residual-in_err-domain.result c.from_residual-in_err-domain.ensures.1 in
     rw (p.1, p.2) (refused_given ws texts domain c.in_ok-domain_text.ensures.short had all c.in_ok-script.ensures.ok.0 named (g.F.Files.faults c.args.files.now) (g.F.Files.faults c.read_flat.new.files) c.in_err-domain.field-0.0 (search rules) judged)
@@ -54,8 +54,8 @@ returns-clause-ok g c =
     let text = c.in_ok-domain_text.domain_text.items in
     let all = c.in_ok-script.script.items in
     let had = subst (λ f. IfSome (texts f) (λ t. text ≡ t)) c.argument.ensures c.in_ok-domain_text.ensures.text in
-    let flat = subst (λ t. MayBe (script_in c.argument-2.result.now t) (lines all c.in_ok-script.ensures.ok.0)) (same_texts (g.F.Files.text_of c.read_text.new.files) texts c.read_text.ensures.same) c.in_ok-script.ensures.ok.1 in
-    let named = subst (λ f. MayBe (script_in f texts) (lines all c.in_ok-script.ensures.ok.0)) c.argument-2.ensures flat in
+    let flat = subst (λ t. MayBe (script_in false c.argument-2.result.now t) (lines all c.in_ok-script.ensures.ok.0)) (same_texts (g.F.Files.text_of c.read_text.new.files) texts c.read_text.ensures.same) c.in_ok-script.ensures.ok.1 in
+    let named = subst (λ f. MayBe (script_in false f texts) (lines all c.in_ok-script.ensures.ok.0)) c.argument-2.ensures flat in
     let domain = subst (λ t. IsDomain t c.in_ok-domain.domain c.judge_domain.new.names) c.as_slice.ensures.value c.in_ok-domain.ensures.ok in
     gives ws texts text c.in_ok-domain_text.ensures.short had all c.in_ok-script.ensures.ok.0 named c.in_ok-domain.domain c.judge_domain.new.names c.read_script.new.names c.in_ok-lines.lines (search rules) domain
     (subst (λ t. IsScript c.judge_domain.new.names t c.in_ok-lines.lines c.read_script.new.names) c.as_slice-2.ensures.value c.in_ok-lines.ensures.lines)

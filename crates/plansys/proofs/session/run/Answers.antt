@@ -1,6 +1,6 @@
 use Rattle.std.proofs.Common.{arith, ◌≡◌, All, length, slice_get, Some, ap, sym, ◌∙◌, subst, refl}
 use Rattle.std.proofs.lemmas.Option.{slice_get_read}
-use Rattle.ps_world.specs.Tables.{IsLineOf}
+use Rattle.ps_machine.specs.Tables.{IsLineOf}
 use Rattle.ps_world.proofs.Tables.{opening-of}
 use Rattle.plansys.specs.Session.{input_with}
 use Rattle.plansys.proofs.DueLines.{All-due_lines, length-due_lines}

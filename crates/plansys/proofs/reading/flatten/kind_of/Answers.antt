@@ -9,4 +9,4 @@ pub returns-in-Line : goal.returns-in-Line
 returns-in-Line c = kind_is c.args.names.now c.args.line.now c.in_ok-read_line.field-0 (read.Line c.in-Line.field-0) c.read_line.new.names c.in-Line.is c.in_ok-read_line.ensures.read
 
 pub returns : goal.returns
-returns c = kind_is c.args.names.now c.args.line.now c.in_ok-read_line.field-0 (read.RunPlan c.in-RunPlan.field-0) c.read_line.new.names c.in-RunPlan.is c.in_ok-read_line.ensures.read
+returns c = kind_is c.args.names.now c.args.line.now c.in_ok-read_line.field-0 (read.RunPlan c.in-RunPlan.file) c.read_line.new.names c.in-RunPlan.is c.in_ok-read_line.ensures.read

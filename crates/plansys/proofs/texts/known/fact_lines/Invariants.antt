@@ -1,6 +1,6 @@
 use Rattle.std.proofs.Common.{◌≡◌, map, take}
 use Rattle.ps_world.specs.Texts.{fact_text}
-use Rattle.ps_world.specs.Journal.{in_order}
+use Rattle.ps_machine.specs.Journal.{in_order}
 use Rattle.plansys.proofs.texts.known.fact_lines.Given as goal
 
 abbrev pub invariant-loop-fact : goal.invariant-loop-fact

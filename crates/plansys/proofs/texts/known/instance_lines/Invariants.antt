@@ -1,5 +1,5 @@
 use Rattle.std.proofs.Common.{◌≡◌, map, take}
-use Rattle.ps_world.specs.Journal.{in_order, instance_text}
+use Rattle.ps_machine.specs.Journal.{in_order, instance_text}
 use Rattle.plansys.proofs.texts.known.instance_lines.Given as goal
 
 abbrev pub invariant-loop-name : goal.invariant-loop-name

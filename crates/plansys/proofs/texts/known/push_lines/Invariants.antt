@@ -1,5 +1,5 @@
 use Rattle.std.proofs.Common.{◌≡◌, ◌++◌}
-use Rattle.ps_world.specs.Journal.{reply_text}
+use Rattle.ps_machine.specs.Journal.{reply_text}
 use Rattle.plansys.proofs.texts.known.push_lines.Given as goal
 
 abbrev pub invariant-loop-line : goal.invariant-loop-line

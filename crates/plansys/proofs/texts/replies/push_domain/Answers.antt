@@ -1,6 +1,6 @@
 use Rattle.std.proofs.Common.{◌++◌, ◌∙◌, ap}
 use Rattle.ps_world.specs.Lines.{lines_of}
-use Rattle.ps_world.specs.Journal.{reply_text}
+use Rattle.ps_machine.specs.Journal.{reply_text}
 use Rattle.plansys.proofs.Replies.{lines_of-domain}
 use Rattle.plansys.proofs.texts.replies.push_domain.Goals as goal
 

@@ -1,6 +1,6 @@
 use Rattle.std.proofs.Common.{◌≡◌, ◌++◌, drop}
 use Rattle.ps_text.specs.Words.{pieces}
-use Rattle.ps_world.specs.Journal.{reply_text}
+use Rattle.ps_machine.specs.Journal.{reply_text}
 use Rattle.plansys.proofs.texts.replies.push_indented.Given as goal
 
 abbrev pub invariant-loop-span : goal.invariant-loop-span

@@ -1,6 +1,6 @@
 use Rattle.std.proofs.Common.{◌≡◌, ◌++◌, map, drop}
 use Rattle.ps_world.specs.Names.{name_text}
-use Rattle.ps_world.specs.Journal.{reply_text}
+use Rattle.ps_machine.specs.Journal.{reply_text}
 use Rattle.plansys.proofs.texts.replies.push_types.Given as goal
 
 abbrev pub invariant-loop-param : goal.invariant-loop-param

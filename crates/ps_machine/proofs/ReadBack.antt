@@ -1,0 +1,146 @@
+-- The entries that stand in the text of a journal.
+use Rattle.std.proofs.Common.{◌≡◌, ℕ, ◌==◌, ◌&&◌, Bool, true, false, not, List, [], ◌∷◌, ◌++◌, codes, map, filter, fold, drop, Option, Some, None, refl, arith, ap, ◌∙◌, nat_eq, append_assoc}
+use Rattle.std.specs.Cmp.Lexicographic.{slice_cmp}
+use Rattle.std.specs.List.{list_all, starts_with}
+use Rattle.std.specs.Ordering.{match_ordering, nat_cmp}
+use Rattle.std.specs.declared.cmp.Ordering.{Ordering}
+use Rattle.std.specs.declared.cmp.Ordering.TheVariants.{Less, Equal, Greater}
+use Rattle.std.specs.BTreeSet.{insert_key}
+use Rattle.std.specs.Fmt.{decimal}
+use Rattle.std.specs.Option.{option_map_or}
+use Rattle.std.proofs.lemmas.Bool.Decides.{nat_tests}
+use Rattle.ps_world.specs.Names.{Table, name_text}
+use Rattle.ps_world.specs.Lines.{lines_of, is_line}
+use Rattle.ps_world.specs.DomainTexts.{decl_text, action_lines}
+use Rattle.ps_world.specs.Knowledge.{predicate_of, action_of}
+use Rattle.ps_world.specs.Texts.{fact_text, value_text}
+use Rattle.ps_machine.specs.Texts.{event_text, entry_line}
+use Rattle.ps_machine.specs.History.{know}
+use Rattle.ps_machine.specs.Journal.{in_order, instance_text, goal_line, answer_lines, reply_lines, reply_mark, reply_text, entry_text, text_after, journal_text, AreEntriesIn}
+use Rattle.ps_world.specs.Lines.{AreLines}
+use Rattle.ps_world.specs.declared.conditions.Cond.{Cond}
+use Rattle.ps_world.specs.declared.domains.Decl.{Decl}
+use Rattle.ps_world.specs.declared.domains.Domain.{Domain}
+use Rattle.ps_world.specs.declared.actions.ActionDef.{ActionDef}
+use Rattle.ps_world.specs.declared.known.Knowledge.{Knowledge}
+use Rattle.ps_machine.specs.declared.inputs.Input.{Input}
+use Rattle.ps_machine.specs.declared.inputs.Query.{Query}
+use Rattle.ps_machine.specs.declared.inputs.Query.TheVariants as query
+use Rattle.ps_machine.specs.declared.journal.Event.{Event}
+use Rattle.ps_machine.specs.declared.journal.Event.TheVariants as event
+use Rattle.ps_machine.specs.declared.journal.Entry.{Entry}
+use Rattle.ps_world.proofs.Digits.{is_ink, is_inked, is_inked-decimal}
+use Rattle.ps_world.proofs.OneLine.{are_lines, are_lines-map, is_line-append, is_line-name, is_line-fact, is_line-value, is_line-goal, is_line-decl, are_lines-action, are_lines-domain}
+use Rattle.ps_machine.proofs.EntryLines.{is_line-entry}
+
+both : (x y : Bool) → (x && y) ≡ true → (x ≡ true) × (y ≡ true)
+both true y h = (refl, h)
+both false y h = absurd (cc)
+
+is_false : (x : Bool) → not x ≡ true → x ≡ false
+is_false true h = absurd (cc)
+is_false false h = refl
+
+-- Reply lines.
+
+are_lines-insert_key : (cmp : List ℕ → List ℕ → Ordering) (xs : List (List ℕ)) (x : List ℕ) → are_lines xs ≡ true → is_line x ≡ true → are_lines (insert_key cmp xs x) ≡ true
+are_lines-insert_key cmp [] x p q = rw q refl
+are_lines-insert_key cmp (y ∷ ys) x p q =
+    let more = are_lines-insert_key cmp ys x in
+    elim (cmp x y) as (λ o. are_lines (match_ordering o (x ∷ y ∷ ys) (y ∷ ys) (y ∷ insert_key cmp ys x)) ≡ true) [
+      | Less ↦ grind (arith, nat_tests)
+      | Equal ↦ p
+      | Greater ↦ grind (arith, nat_tests)
+    ]
+
+are_lines-fold : (cmp : List ℕ → List ℕ → Ordering) (acc xs : List (List ℕ)) → are_lines acc ≡ true → are_lines xs ≡ true → are_lines (fold (insert_key cmp) acc xs) ≡ true
+are_lines-fold cmp acc [] p q = p
+are_lines-fold cmp acc (x ∷ xs) p q =
+    are_lines-fold cmp (insert_key cmp acc x) xs (are_lines-insert_key cmp acc x p (grind (arith, nat_tests))) (grind (arith, nat_tests))
+
+are_lines-in_order : (lines : List (List ℕ)) → are_lines lines ≡ true → are_lines (in_order lines) ≡ true
+are_lines-in_order lines h = are_lines-fold (slice_cmp nat_cmp) [] lines refl h
+
+are_lines-one : (line : List ℕ) → is_line line ≡ true → are_lines (line ∷ []) ≡ true
+are_lines-one line h = rw h refl
+
+is_line-goal_line : (names : Table) (goal : Option Cond) → AreLines names → is_line (goal_line names goal) ≡ true
+is_line-goal_line names None h = refl
+is_line-goal_line names (Some goal) h = is_line-goal names goal h
+
+are_lines-predicate : (names : Table) (found : Option Decl) → AreLines names → are_lines (option_map_or (λ decl. decl_text names decl ∷ []) found []) ≡ true
+are_lines-predicate names None h = refl
+are_lines-predicate names (Some decl) h = are_lines-one (decl_text names decl) (is_line-decl names decl h)
+
+are_lines-found_action : (names : Table) (found : Option ActionDef) → AreLines names → are_lines (option_map_or (action_lines names) found []) ≡ true
+are_lines-found_action names None h = refl
+are_lines-found_action names (Some action) h = are_lines-action names action h
+
+are_lines-answer : (names : Table) (d : Domain) (k : Knowledge) (q : Query) → AreLines names → are_lines (answer_lines names d k q) ≡ true
+are_lines-answer names d k query.ModelTypes h = are_lines-map (λ p. name_text names p.name) d.types (λ p. is_line-name names p.name h)
+are_lines-answer names d k query.ModelPredicates h = are_lines-map (decl_text names) d.predicates (λ decl. is_line-decl names decl h)
+are_lines-answer names d k query.ModelFunctions h = are_lines-map (decl_text names) d.functions (λ decl. is_line-decl names decl h)
+are_lines-answer names d k query.ModelActions h = are_lines-map (λ a. name_text names a.name) d.actions (λ a. is_line-name names a.name h)
+are_lines-answer names d k (query.ModelPredicate n) h = are_lines-predicate names (predicate_of d n) h
+are_lines-answer names d k (query.ModelAction n) h = are_lines-found_action names (action_of d n) h
+are_lines-answer names d k query.Domain h = are_lines-domain names d h
+are_lines-answer names d k query.ProblemInstances h =
+    are_lines-in_order (map (instance_text names) k.instances)
+    (are_lines-map (instance_text names) k.instances (λ i. is_line-append (name_text names i.0) (codes " - " ++ name_text names i.1) (is_line-name names i.0 h) (is_line-name names i.1 h)))
+are_lines-answer names d k query.ProblemPredicates h =
+    are_lines-in_order (map (fact_text names) k.facts) (are_lines-map (fact_text names) k.facts (λ f. is_line-fact names f h))
+are_lines-answer names d k query.ProblemFunctions h =
+    are_lines-in_order (map (λ v. value_text names v.0 v.1) k.values) (are_lines-map (λ v. value_text names v.0 v.1) k.values (λ v. is_line-value names v.0 v.1 h))
+are_lines-answer names d k query.ProblemGoal h = are_lines-one (goal_line names k.goal) (is_line-goal_line names k.goal h)
+
+are_lines-replies : (names : Table) (d : Domain) (k : Knowledge) (e : Event) → AreLines names → are_lines (reply_lines names d k e) ≡ true
+are_lines-replies names d k (event.Edit by edit) h = refl
+are_lines-replies names d k (event.Refused by why) h = refl
+are_lines-replies names d k (event.Ask q) h = are_lines-answer names d k q h
+are_lines-replies names d k event.Quit h = refl
+
+-- Lines in a text.
+
+lines_of-line : (line rest : List ℕ) → is_line line ≡ true → lines_of (line ++ 10 ∷ rest) ≡ line ∷ lines_of rest
+lines_of-line [] rest h = refl
+lines_of-line (b ∷ bs) rest h =
+    let parts = both (not (b == 10)) (is_line bs) h in
+    rw (is_false (b == 10) parts.0, lines_of-line bs rest parts.1) refl
+
+-- the lines that are no reply
+abbrev kept : List (List ℕ) → List (List ℕ)
+kept lines = filter (λ line. not (starts_with nat_eq line reply_mark)) lines
+
+other_way : (a b : ℕ) → (a == b) ≡ false → nat_eq b a ≡ false
+other_way a b h = grind (arith, nat_tests)
+
+starts_with-inked : (ds rest : List ℕ) → is_inked ds ≡ true → starts_with nat_eq (ds ++ rest) reply_mark ≡ false
+starts_with-inked [] rest h = absurd (cc)
+starts_with-inked (b ∷ bs) rest h =
+    let ink = both (is_ink b) (list_all is_ink bs) h in
+    let no_space : (b == 32) ≡ false = is_false (b == 32) ((both (not (b == 10)) (not (b == 32)) ink.0).1) in
+    rw (other_way b 32 no_space) refl
+
+kept-replies : (lines : List (List ℕ)) (rest : List ℕ) → are_lines lines ≡ true → kept (lines_of (reply_text lines ++ rest)) ≡ kept (lines_of rest)
+kept-replies [] rest h = refl
+kept-replies (l ∷ ls) rest h =
+    let parts = both (is_line l) (are_lines ls) h in
+    let one : reply_text (l ∷ ls) ++ rest ≡ (32 ∷ 32 ∷ l) ++ 10 ∷ (reply_text ls ++ rest) = simp append_assoc in
+    ap (λ text. kept (lines_of text)) one ∙ ap kept (lines_of-line (32 ∷ 32 ∷ l) (reply_text ls ++ rest) parts.0) ∙ kept-replies ls rest parts.1
+
+kept-entry : (names : Table) (d : Domain) (k : Knowledge) (e : Entry) (rest : List ℕ) → AreLines names → kept (lines_of (entry_text names d k e ++ rest)) ≡ entry_line names e ∷ kept (lines_of rest)
+kept-entry names d k e rest h =
+    let replies = reply_lines names d k e.what in
+    let one : entry_text names d k e ++ rest ≡ entry_line names e ++ 10 ∷ (reply_text replies ++ rest) = simp append_assoc in
+    rw (one, lines_of-line (entry_line names e) (reply_text replies ++ rest) (is_line-entry names e h), starts_with-inked (decimal e.hand) (codes " " ++ event_text names e.what) (is_inked-decimal e.hand))
+    (ap (λ more. entry_line names e ∷ more) (kept-replies replies rest (are_lines-replies names d k e.what h)))
+
+kept-text_after : (names : Table) (i : Input) (before es : List Entry) → AreLines names → kept (lines_of (text_after names i before es)) ≡ map (entry_line names) es
+kept-text_after names i before [] h = refl
+kept-text_after names i before (e ∷ es) h =
+    kept-entry names i.domain (know i before) e (text_after names i (before ++ e ∷ []) es) h
+    ∙ ap (λ more. entry_line names e ∷ more) (kept-text_after names i (before ++ e ∷ []) es h)
+
+pub AreEntriesIn-journal_text : (names : Table) (i : Input) (es : List Entry) → AreLines names → AreEntriesIn names (journal_text names i es) es
+AreEntriesIn-journal_text names i es h =
+    ap (λ lines. kept (drop 1 lines)) (lines_of-line (codes "plansys-journal 1") (text_after names i [] es) refl) ∙ kept-text_after names i [] es h

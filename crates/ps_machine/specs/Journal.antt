@@ -1,0 +1,91 @@
+-- The text of a journal, and the entries that a text has.
+use Rattle.std.specs.Prelude.{◌≡◌, ℕ, not, Option, Some, None, List, [], ◌∷◌, ◌++◌, codes, fold, map, filter, drop, nat_eq}
+use Rattle.std.specs.List.{flat_map, starts_with}
+use Rattle.std.specs.Option.{option_map_or}
+use Rattle.std.specs.BTreeSet.{insert_key}
+use Rattle.std.specs.Ordering.{nat_cmp}
+use Rattle.std.specs.Cmp.Lexicographic.{slice_cmp}
+use Rattle.ps_world.specs.Names.{Table, name_text}
+use Rattle.ps_world.specs.DomainTexts.{action_lines, decl_text, domain_lines}
+use Rattle.ps_world.specs.Knowledge.{action_of, predicate_of}
+use Rattle.ps_world.specs.Lines.{line_end, lines_of}
+use Rattle.ps_world.specs.Texts.{fact_text, goal_text, value_text}
+use Rattle.ps_machine.specs.Texts.{entry_line}
+use Rattle.ps_machine.specs.History.{know}
+use Rattle.ps_world.specs.declared.names.Name.{Name}
+use Rattle.ps_world.specs.declared.conditions.Cond.{Cond}
+use Rattle.ps_world.specs.declared.domains.Domain.{Domain}
+use Rattle.ps_world.specs.declared.known.Knowledge.{Knowledge}
+use Rattle.ps_machine.specs.declared.inputs.Input.{Input}
+use Rattle.ps_machine.specs.declared.inputs.Query.{Query}
+use Rattle.ps_machine.specs.declared.inputs.Query.TheVariants as query
+use Rattle.ps_machine.specs.declared.journal.Event.{Event}
+use Rattle.ps_machine.specs.declared.journal.Event.TheVariants as event
+use Rattle.ps_machine.specs.declared.journal.Entry.{Entry}
+
+-- the lines in the order of their bytes, each once
+abbrev pub in_order : List (List ℕ) → List (List ℕ)
+in_order lines = fold (insert_key (slice_cmp nat_cmp)) [] lines
+
+-- an instance with its type, as leia - robot
+abbrev pub instance_text : Table → Name × Name → List ℕ
+instance_text names i = name_text names i.0 ++ (codes " - " ++ name_text names i.1)
+
+-- the line of a goal, or of none
+abbrev pub goal_line : Table → Option Cond → List ℕ
+goal_line names None = codes "none"
+goal_line names (Some goal) = goal_text names goal
+
+-- the lines that answer a query; what is known is told in the order of the lines' bytes, what is declared in that of the domain
+abbrev pub answer_lines : Table → Domain → Knowledge → Query → List (List ℕ)
+answer_lines names d k query.ModelTypes = map (λ p. name_text names p.name) d.types
+answer_lines names d k query.ModelPredicates = map (decl_text names) d.predicates
+answer_lines names d k query.ModelFunctions = map (decl_text names) d.functions
+answer_lines names d k query.ModelActions = map (λ a. name_text names a.name) d.actions
+answer_lines names d k (query.ModelPredicate n) = option_map_or (λ decl. decl_text names decl ∷ []) (predicate_of d n) []
+answer_lines names d k (query.ModelAction n) = option_map_or (action_lines names) (action_of d n) []
+answer_lines names d k query.Domain = domain_lines names d
+answer_lines names d k query.ProblemInstances = in_order (map (instance_text names) k.instances)
+answer_lines names d k query.ProblemPredicates = in_order (map (fact_text names) k.facts)
+answer_lines names d k query.ProblemFunctions = in_order (map (λ v. value_text names v.0 v.1) k.values)
+answer_lines names d k query.ProblemGoal = goal_line names k.goal ∷ []
+
+-- the reply lines of an event, where k is what is known before it; only a query has any
+abbrev pub reply_lines : Table → Domain → Knowledge → Event → List (List ℕ)
+reply_lines names d k (event.Edit by edit) = []
+reply_lines names d k (event.Refused by why) = []
+reply_lines names d k (event.Ask q) = answer_lines names d k q
+reply_lines names d k event.Quit = []
+
+-- what stands before a reply line
+abbrev pub reply_mark : List ℕ
+reply_mark = codes "  "
+
+-- reply lines, each after two spaces and with its end
+abbrev pub reply_text : List (List ℕ) → List ℕ
+reply_text lines = flat_map (λ line. reply_mark ++ (line ++ line_end)) lines
+
+-- an entry's line and its reply lines, where k is what is known before it
+abbrev pub entry_text : Table → Domain → Knowledge → Entry → List ℕ
+entry_text names d k e = entry_line names e ++ (line_end ++ reply_text (reply_lines names d k e.what))
+
+-- the first line of a journal
+abbrev pub header : List ℕ
+header = codes "plansys-journal 1" ++ line_end
+
+-- the text of entries that follow those before
+abbrev pub text_after : Table → Input → List Entry → List Entry → List ℕ
+text_after names i before [] = []
+text_after names i before (e ∷ es) = entry_text names i.domain (know i before) e ++ text_after names i (before ++ e ∷ []) es
+
+-- the text of a journal
+abbrev pub journal_text : Table → Input → List Entry → List ℕ
+journal_text names i es = header ++ text_after names i [] es
+
+-- the entry lines of a text: all but the header and the lines that begin with two spaces
+abbrev pub entry_lines : List ℕ → List (List ℕ)
+entry_lines text = filter (λ line. not (starts_with nat_eq line reply_mark)) (drop 1 (lines_of text))
+
+-- These are the entries of the text: its entry lines are their lines, one for one.
+abbrev pub AreEntriesIn : Table → List ℕ → List Entry → Type 0
+AreEntriesIn names text es = entry_lines text ≡ map (entry_line names) es
