@@ -1,0 +1,7 @@
+pub mod Deals
+pub mod Joined
+pub mod Keeps
+pub mod Lists
+pub mod Places
+pub mod Returns
+pub mod Tokens

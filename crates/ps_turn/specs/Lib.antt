@@ -1,0 +1,5 @@
+pub mod Books
+pub mod Hands
+pub mod Rule
+pub mod Seats
+pub mod Turns

@@ -1,0 +1,44 @@
+-- A seat's token of the table, and what it has to do with the seat's place.
+use Rattle.std.specs.Prelude.{◌≡◌, ℕ, ◌<◌, Bool, true, false, List, [], ◌∷◌, Option, Some, None}
+use Rattle.atomic_table.specs.Table.{Me}
+use Rattle.ps_machine.specs.declared.inputs.Input.{Input}
+use Rattle.ps_machine.specs.declared.journal.Entry.{Entry}
+use Rattle.ps_turn.specs.Books.{Book, Place}
+use Rattle.ps_turn.specs.Rule.{Founded, Known, AreKnown}
+use Rattle.ps_turn.specs.declared.view.Note.{Note}
+use Rattle.ps_turn.specs.declared.view.View.{View}
+
+-- what a book is founded on
+abbrev pub founded_on : Book → Founded
+founded_on book = record { seats = book.seats; base = book.opened; input = book.input }
+
+-- a seat's place as a note
+abbrev pub place_note : Place → Note
+place_note place = record { hand = place.hand; seen = place.seen; mine = place.mine }
+
+module _ {X : Type 0} where
+  -- while a seat holds the turn, the empty slot is out with it
+  abbrev pub slots_of : Bool → List (ℕ × Option X)
+  slots_of true = (0, None) ∷ []
+  slots_of false = []
+
+  -- the token has the seat's hand and the book's input
+  pub record IsSeated (hand : ℕ) (input : Input) (me : Me (Option X) View) : Type 0 where
+    pub live : 0 < hand
+    pub hand_is : me.0.hand ≡ hand
+    pub input_is : me.0.input ≡ Some input
+    pub filled : me.0.opening ≡ false
+    pub alone : me.0.notes ≡ []
+    pub slots_are : me.1 ≡ slots_of me.0.holds
+
+-- the token of a seat that puts the others together: the seat's own, without the turn
+pub record IsKeeper (place : Place) (v : View) : Type 0 where
+  pub live : 0 < v.hand
+  pub hand_is : v.hand ≡ place.hand
+  pub seen_is : v.seen ≡ place.seen
+  pub mine_is : v.mine ≡ place.mine
+  pub aside : v.holds ≡ false
+
+-- what the seat knows and what it has noted of others agrees with the history
+abbrev pub Tells : List Entry → View → Type 0
+Tells log v = (made : ℕ) × Known made log v.hand v.seen v.mine × AreKnown made log v.notes
