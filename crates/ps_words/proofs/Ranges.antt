@@ -1,0 +1,60 @@
+-- The numbers of a session that words ask for are in their ranges.
+use Rattle.std.proofs.Common.{◌≡◌, ℕ, ◌≤◌, ◌&&◌, Bool, true, false, nat_le, List, Option, Some, None, option_map, option_and_then, arith, codes, refl}
+use Rattle.std.specs.Option.{IfSome}
+use Rattle.std.proofs.lemmas.Bool.Decides.{nat_tests}
+use Rattle.clap.proofs.WalkLemmas.{both}
+use Rattle.clap.specs.Walk.{Row, Text, first_of}
+use Rattle.ps_words.specs.Words.{IsInRange, asked_in, budget_in, check_app, check_of, number_of, number_or, replans_in, rows_read, session_app, session_of, session_with, validate_app, validation_of, within, workers_in}
+use Rattle.ps_words.specs.declared.commands.Mode.{Mode}
+use Rattle.ps_words.specs.declared.commands.Mode.TheVariants.{Session, Check, Validate}
+
+-- a number that is found to be within a range is in it
+within-range : (low high m n : ℕ) → within low high m ≡ Some n → (low ≤ n) × (n ≤ high)
+within-range low high m n is = go (nat_le low m && nat_le m high) refl
+  where
+    go : (t : Bool) → (nat_le low m && nat_le m high) ≡ t → (low ≤ n) × (n ≤ high)
+    go false e = let none : None ≡ Some n = rw e at is in cc
+    go true e =
+        let same : Some m ≡ Some n = rw e at is in
+        let p = both (nat_le low m) (nat_le m high) e in
+        let equal : m ≡ n = cc in
+        let above : low ≤ m = grind (arith, nat_tests) in
+        let below : m ≤ high = grind (arith, nat_tests) in
+        (omega arith, omega arith)
+
+-- and so is the number of a text
+read-range : (low high n : ℕ) (o : Option ℕ) → option_and_then (within low high) o ≡ Some n → (low ≤ n) × (n ≤ high)
+read-range low high n None is = cc
+read-range low high n (Some m) is = within-range low high m n is
+
+-- and that of an option, where the usual one is in the range
+option-range : (usual low high n : ℕ) (o : Option Text) → low ≤ usual → usual ≤ high → number_or usual low high o ≡ Some n → (low ≤ n) × (n ≤ high)
+option-range usual low high n None above below is = let same : usual ≡ n = cc in (omega arith, omega arith)
+option-range usual low high n (Some text) above below is = read-range low high n (number_of text) is
+
+-- the numbers of a session, where each of them is in its range
+numbers-range : (rows : List Row) (w b r : Option ℕ) → ((n : ℕ) → w ≡ Some n → (1 ≤ n) × (n ≤ 16)) → ((n : ℕ) → b ≡ Some n → (1 ≤ n) × (n ≤ 200000))
+    → IfSome (option_and_then (λ workers. option_and_then (λ budget. option_map (λ replans. session_with rows workers budget) r) b) w) IsInRange
+numbers-range rows None b r few far = tt
+numbers-range rows (Some w) None r few far = tt
+numbers-range rows (Some w) (Some b) None few far = tt
+numbers-range rows (Some w) (Some b) (Some r) few far = let x = few w refl in let y = far b refl in (x.0, x.1, y.0, y.1)
+
+session-range : (o : Option (List Row)) → IfSome (option_and_then session_of o) IsInRange
+session-range None = tt
+session-range (Some rows) = numbers-range rows (workers_in rows) (budget_in rows) (replans_in rows)
+    (λ n is. option-range 2 1 16 n (first_of (codes "workers") rows) (omega arith) (omega arith) is) (λ n is. option-range 20000 1 200000 n (first_of (codes "budget") rows) (omega arith) (omega arith) is)
+
+check-range : (o : Option (List Row)) → IfSome (option_map check_of o) IsInRange
+check-range None = tt
+check-range (Some rows) = tt
+
+validation-range : (o : Option (List Row)) → IfSome (option_map validation_of o) IsInRange
+validation-range None = tt
+validation-range (Some rows) = tt
+
+-- what words ask for in a mode is in its ranges
+pub asked_in_range : (m : Mode) (words : List Text) → IfSome (asked_in m words) IsInRange
+asked_in_range Session words = session-range (rows_read session_app words)
+asked_in_range Check words = check-range (rows_read check_app words)
+asked_in_range Validate words = validation-range (rows_read validate_app words)

@@ -1,0 +1,35 @@
+-- What a parse gives, by its faults.
+use Rattle.std.proofs.Common.{◌≡◌, ◌⊎◌, inl, inr, List, [], ◌∷◌, Some, None, refl, true, ◌≢◌}
+use Rattle.clap.specs.Faults.{is_simple_and_free}
+use Rattle.clap.specs.Kinds.{IsAmong, Kinds}
+use Rattle.clap.specs.Walk.{Row}
+use Rattle.clap.specs.declared.error.kind.ErrorKind.{ErrorKind}
+use Rattle.clap.proofs.OnLiterals.{clap_on_literals}
+use Rattle.ps_words.specs.Words.{check_app, session_app, unless_faulty, validate_app}
+
+-- words with no fault give their rows
+pub taken_rows : (ks : Kinds) (rows known : List Row) → ks ≡ [] → rows ≡ known → Some rows ≡ unless_faulty ks known
+taken_rows ks rows known none same = rw (none, same) refl
+
+-- words with a fault give nothing
+pub no_rows : (ks : Kinds) (known : List Row) (k : ErrorKind) → IsAmong k ks → None ≡ unless_faulty ks known
+no_rows [] known k h = absurd h
+no_rows (x ∷ xs) known k h = refl
+
+-- an error that isn't want of memory is one of the faults
+pub among : (k other : ErrorKind) (ks : Kinds) → (k ≡ other) ⊎ IsAmong k ks → k ≢ other → IsAmong k ks
+among k other ks (inl same) differs = absurd (differs same)
+among k other ks (inr h) differs = h
+
+-- the commands are of the kind whose parse is known
+pub session_simple : is_simple_and_free session_app ≡ true
+unfolding session_app clap_on_literals
+session_simple = refl
+
+pub check_simple : is_simple_and_free check_app ≡ true
+unfolding check_app clap_on_literals
+check_simple = refl
+
+pub validate_simple : is_simple_and_free validate_app ≡ true
+unfolding validate_app clap_on_literals
+validate_simple = refl

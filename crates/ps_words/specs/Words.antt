@@ -1,0 +1,280 @@
+-- What the words of the command line ask for, or that they aren't in the grammar.
+use Rattle.std.specs.Prelude.{ℕ, ◌≤◌, Bool, true, false, not, ◌&&◌, ◌||◌, ◌==◌, nat_le, nat_lt, if◌then◌else◌, Option, Some, None, option_map, option_and_then, unwrap_or, List, [], ◌∷◌, map, length, codes, string_bytes, slice_index_or}
+use Rattle.std.specs.List.{list_all, list_any, before_first, after_first}
+use Rattle.std.specs.Str.Parse.{digits_value}
+use Rattle.std.specs.declared.alloc.Global.{Global}
+use Rattle.std.specs.declared.string.String.{String}
+use Rattle.clap.specs.Faults.{fault_of}
+use Rattle.clap.specs.Kinds.{Kinds}
+use Rattle.clap.specs.Simple.{App, matches_of, new_rule, new_shape}
+use Rattle.clap.specs.Walk.{Row, Rule, Text, first_of}
+use Rattle.clap.specs.declared.builder.action.ArgAction.TheVariants.{Set, SetTrue}
+use Rattle.ps_world.specs.Lines.{same_text}
+use Rattle.ps_words.specs.declared.asked.Asked.{Asked}
+use Rattle.ps_words.specs.declared.asked.Asked.TheVariants.{Session, Check, Validate}
+use Rattle.ps_words.specs.declared.asked.Settings.{Settings}
+use Rattle.ps_words.specs.declared.commands.Mode.{Mode}
+use Rattle.ps_words.specs.declared.commands.Mode.TheVariants as mode
+
+-- the bytes of each word
+abbrev pub word_texts : List (String Global) → List Text
+word_texts words = map string_bytes words
+
+-- ---- what is asked for
+
+-- what a session is to do: its files, how many workers there are, how many states a search may reach, and whether turns are ordered
+pub record SessionRequest : Type 0 where
+  pub domain : Text
+  pub script : Text
+  pub workers : ℕ
+  pub budget : ℕ
+  pub ordered : Bool
+
+-- what the words ask for, with the names of files as they stand in the words
+pub data Request : Type 0 where
+  a_session : SessionRequest → Request
+  a_check : Text → Request
+  a_validation : Text → Text → Text → Request
+
+-- the most workers
+abbrev pub most_workers : ℕ
+most_workers = 16
+
+-- the most states that a search may be let reach
+abbrev pub most_budget : ℕ
+most_budget = 200000
+
+-- the numbers of a session are in their ranges
+abbrev pub IsInRange : Request → Type 0
+IsInRange (a_session s) = (1 ≤ s.workers) × (s.workers ≤ most_workers) × (1 ≤ s.budget) × (s.budget ≤ most_budget)
+IsInRange (a_check domain) = Unit {0}
+IsInRange (a_validation domain script plan) = Unit {0}
+
+-- what these settings of a session say
+abbrev pub settings_said : Settings → SessionRequest
+settings_said s = record { domain = s.domain.now; script = s.script.now; workers = s.workers; budget = s.budget; ordered = s.ordered }
+
+-- what a value of the program's type says
+abbrev pub said : Asked → Request
+said (Session settings) = a_session (settings_said settings)
+said (Check domain) = a_check domain.now
+said (Validate domain script plan) = a_validation domain.now script.now plan.now
+
+-- ---- the form of the words after the mode
+
+-- an option begins with `-`
+abbrev pub is_option : Text → Bool
+is_option word = slice_index_or word 0 0 == 45
+
+-- a value isn't empty and doesn't begin with `-`
+abbrev pub is_value : Text → Bool
+is_value text = nat_lt 0 (length text) && not (is_option text)
+
+-- a word is bare that is empty, `-` or `--`
+abbrev pub is_bare : Text → Bool
+is_bare word = same_text word [] || (same_text word (codes "-") || same_text word (codes "--"))
+
+-- no word is bare
+abbrev pub has_no_bare : List Text → Bool
+has_no_bare words = not (list_any is_bare words)
+
+-- whether a byte is `=`
+abbrev pub is_equals : ℕ → Bool
+is_equals byte = byte == 61
+
+-- an option's name is what stands before its first `=`, or all of it
+abbrev pub name_of : Text → Text
+name_of word = before_first is_equals word
+
+-- the word is an option of this name
+abbrev pub is_named : Text → Text → Bool
+is_named name word = is_option word && same_text (name_of word) name
+
+-- one of the words is an option of this name
+abbrev pub has_named : Text → List Text → Bool
+has_named name words = list_any (is_named name) words
+
+-- the word is an option whose name one of the others has
+abbrev pub is_repeated : Text → List Text → Bool
+is_repeated word others = is_option word && has_named (name_of word) others
+
+-- no two options have one name
+abbrev pub has_distinct_options : List Text → Bool
+has_distinct_options [] = true
+has_distinct_options (word ∷ words) = not (is_repeated word words) && has_distinct_options words
+
+-- the word has an `=`
+abbrev pub has_equals : Text → Bool
+has_equals word = list_any is_equals word
+
+-- what stands after the first `=` of the word, or nothing
+abbrev pub attached : Text → Text
+attached word = after_first is_equals word
+
+-- if the word is an option with an `=`, it has a value after the first
+abbrev pub has_good_value : Text → Bool
+has_good_value word = not (is_option word) || (not (has_equals word) || is_value (attached word))
+
+-- each option with an `=` has a value after the first
+abbrev pub has_good_values : List Text → Bool
+has_good_values words = list_all has_good_value words
+
+-- an option whose value is the next word: it has no `=`, and isn't `--ordered`
+abbrev pub awaits_value : Text → Bool
+awaits_value word = is_option word && (not (has_equals word) && not (same_text word (codes "--ordered")))
+
+-- one of the words is an option
+abbrev pub has_option : List Text → Bool
+has_option words = list_any is_option words
+
+-- No option stands after a member word, which is a word that is neither an option nor the value of the word before it. Whether
+-- the word before the first of these awaits a value is told.
+abbrev pub options_stand_first : Bool → List Text → Bool
+options_stand_first awaited [] = true
+options_stand_first awaited (word ∷ words) =
+    if is_option word || awaited then options_stand_first (awaits_value word) words else not (has_option words)
+
+-- the words after the mode have the form of options with their values, whatever the options are called
+abbrev pub is_well_formed : List Text → Bool
+is_well_formed words = has_no_bare words && (has_distinct_options words && (has_good_values words && options_stand_first false words))
+
+-- ---- the commands
+
+-- an option `--id` with one value
+abbrev pub option_rule : Text → Bool → Rule
+option_rule id required = record (new_rule id) { long = Some id; action = Some Set; required = required }
+
+-- an option `--id` with no value
+abbrev pub flag_rule : Text → Rule
+flag_rule id = record (new_rule id) { long = Some id; action = Some SetTrue }
+
+-- a command with these options, which has no help and no version of its own
+abbrev pub command_of : Text → List Rule → App
+command_of name rules = record {
+  top = record (new_shape name) { rules = rules; disable_help_flag = true; disable_version_flag = true };
+  subs = [];
+}
+
+-- session --domain F --script F, and what may be set
+unfoldable pub session_app : App
+session_app = command_of (codes "session") (
+    option_rule (codes "domain") true ∷ option_rule (codes "script") true
+    ∷ option_rule (codes "workers") false ∷ option_rule (codes "budget") false ∷ option_rule (codes "replans") false
+    ∷ flag_rule (codes "ordered") ∷ [])
+
+-- check --domain F
+unfoldable pub check_app : App
+check_app = command_of (codes "check") (option_rule (codes "domain") true ∷ [])
+
+-- validate --domain F --script F --plan F
+unfoldable pub validate_app : App
+validate_app = command_of (codes "validate") (
+    option_rule (codes "domain") true ∷ option_rule (codes "script") true ∷ option_rule (codes "plan") true ∷ [])
+
+-- what the words give for each option, where there is no fault in them
+abbrev pub unless_faulty : Kinds → List Row → Option (List Row)
+unless_faulty [] rows = Some rows
+unless_faulty (k ∷ ks) rows = None
+
+-- what the words give for each option of a command, or nothing where the command doesn't take them
+unfoldable pub rows_read : App → List Text → Option (List Row)
+rows_read app words = unless_faulty (fault_of app words) (matches_of app words)
+
+-- ---- the values of options
+
+-- the text of an option
+abbrev pub text_in : Text → List Row → Text
+text_in id rows = unwrap_or (first_of id rows) []
+
+-- whether an option with no value was given
+abbrev pub is_set_in : Text → List Row → Bool
+is_set_in id rows = same_text (text_in id rows) (codes "true")
+
+-- whether a byte is a decimal digit
+abbrev pub is_digit : ℕ → Bool
+is_digit byte = nat_le 48 byte && nat_le byte 57
+
+-- each byte is a decimal digit
+abbrev pub are_digits : Text → Bool
+are_digits text = list_all is_digit text
+
+-- a number is written with 1 to 9 decimal digits
+abbrev pub is_number : Text → Bool
+is_number text = nat_lt 0 (length text) && (nat_le (length text) 9 && are_digits text)
+
+-- the number that a text writes, if it writes one
+abbrev pub number_of : Text → Option ℕ
+number_of text = if is_number text then Some (digits_value 10 text) else None
+
+-- the number, if it is from low to high
+abbrev pub within : ℕ → ℕ → ℕ → Option ℕ
+within low high number = if nat_le low number && nat_le number high then Some number else None
+
+-- the number that a text writes, if it writes one from low to high
+abbrev pub number_in : ℕ → ℕ → Text → Option ℕ
+number_in low high text = option_and_then (within low high) (number_of text)
+
+-- the number of an option that may be left out, where `usual` is what it then is
+abbrev pub number_or : ℕ → ℕ → ℕ → Option Text → Option ℕ
+number_or usual low high None = Some usual
+number_or usual low high (Some text) = number_in low high text
+
+-- how many workers there are
+abbrev pub workers_in : List Row → Option ℕ
+workers_in rows = number_or 2 1 most_workers (first_of (codes "workers") rows)
+
+-- how many states a search may reach before it gives up
+abbrev pub budget_in : List Row → Option ℕ
+budget_in rows = number_or 20000 1 most_budget (first_of (codes "budget") rows)
+
+-- how often a plan may be made anew: there is no replanning yet, so the only number is 0
+abbrev pub replans_in : List Row → Option ℕ
+replans_in rows = number_or 0 0 0 (first_of (codes "replans") rows)
+
+-- ---- what the words ask for
+
+-- a session with these numbers
+abbrev pub session_with : List Row → ℕ → ℕ → Request
+session_with rows workers budget = a_session (record {
+  domain = text_in (codes "domain") rows;
+  script = text_in (codes "script") rows;
+  workers = workers;
+  budget = budget;
+  ordered = is_set_in (codes "ordered") rows;
+})
+
+-- the session that is asked for, where each number has its form and its range
+abbrev pub session_of : List Row → Option Request
+session_of rows = option_and_then (λ workers. option_and_then (λ budget. option_map (λ replans. session_with rows workers budget)
+    (replans_in rows)) (budget_in rows)) (workers_in rows)
+
+-- the check that is asked for
+abbrev pub check_of : List Row → Request
+check_of rows = a_check (text_in (codes "domain") rows)
+
+-- the validation that is asked for
+abbrev pub validation_of : List Row → Request
+validation_of rows = a_validation (text_in (codes "domain") rows) (text_in (codes "script") rows) (text_in (codes "plan") rows)
+
+-- the mode of this name
+abbrev pub mode_of : Text → Option Mode
+mode_of word = if same_text word (codes "session") then Some mode.Session
+    else (if same_text word (codes "check") then Some mode.Check
+    else (if same_text word (codes "validate") then Some mode.Validate else None))
+
+-- what the words ask for in a mode, where its command takes them
+abbrev pub asked_in : Mode → List Text → Option Request
+asked_in mode.Session words = option_and_then session_of (rows_read session_app words)
+asked_in mode.Check words = option_map check_of (rows_read check_app words)
+asked_in mode.Validate words = option_map validation_of (rows_read validate_app words)
+
+-- what the words ask for where their first is this mode, and these follow it
+abbrev pub asked_by : List Text → List Text → Option Mode → Option Request
+asked_by words rest None = None
+asked_by words rest (Some m) = if is_well_formed rest then asked_in m words else None
+
+-- What the words ask for, or nothing where they aren't in the grammar: the first is a mode, the others have the form of options
+-- with their values, the mode's command takes them, and each number has its form and its range.
+unfoldable pub asked_of : List Text → Option Request
+asked_of [] = None
+asked_of (first ∷ rest) = asked_by (first ∷ rest) rest (mode_of first)

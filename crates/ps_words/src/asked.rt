@@ -1,0 +1,141 @@
+//! What the words ask for.
+ghost use Rattle.std.specs.Prelude.{◌≡◌, IfOk, IfSome, option_map};
+ghost use Rattle.clap.specs.Matches.{found_of};
+ghost use Rattle.clap.specs.Walk.{rows_of};
+ghost use Rattle.ps_words.specs.Words.{word_texts, said, session_of, asked_in, asked_of, IsInRange};
+
+use super::commands::{
+    Mode, check_command, is_set, mode_of, session_command, taken, text_of, validate_command,
+    value_of,
+};
+use super::form::is_well_formed;
+use super::numbers::number_or;
+use clap::ArgMatches;
+use std::alloc::{AllocError, Global};
+
+/// The settings of a session.
+#[derive(Clone, Copy, PartialEq, Eq, Debug)]
+pub struct Settings<'a> {
+    /// The file of the domain.
+    pub domain: &'a str,
+    /// The file of the script.
+    pub script: &'a str,
+    /// How many workers there are: 1 to 16, usually 2.
+    pub workers: u32,
+    /// How many states a search for a plan may reach before it gives up: 1 to 200,000, usually 20,000.
+    pub budget: u32,
+    /// Whether the workers' turns come in a fixed order; usually not.
+    pub ordered: bool,
+}
+
+/// What the words ask for.
+#[derive(Clone, Copy, PartialEq, Eq, Debug)]
+pub enum Asked<'a> {
+    /// To do the lines of a script.
+    Session(Settings<'a>),
+    /// To read the domain of a file, and to print it.
+    Check {
+        /// The file of the domain.
+        domain: &'a str,
+    },
+    /// To judge a plan.
+    Validate {
+        /// The file of the domain.
+        domain: &'a str,
+        /// The file of the script.
+        script: &'a str,
+        /// The file of the plan.
+        plan: &'a str,
+    },
+}
+
+/// The session that is asked for, where each number has its form and its range.
+fn session_of<'a>(matches: &ArgMatches<'a>) -> Option<Asked<'a>>
+    ensures { option_map said result ≡ session_of (rows_of (found_of matches.now)) }
+{
+    let workers = number_or(value_of(matches, "workers"), 2, 1, 16)?;
+    let budget = number_or(value_of(matches, "budget"), 20_000, 1, 200_000)?;
+    number_or(value_of(matches, "replans"), 0, 0, 0)?;
+    Some(Asked::Session(Settings {
+        domain: text_of(matches, "domain"),
+        script: text_of(matches, "script"),
+        workers,
+        budget,
+        ordered: is_set(matches, "ordered"),
+    }))
+}
+
+/// What the words ask for where their mode is that of a session.
+fn session_asked<'a>(alloc: Global, words: &'a [String]) -> Result<Option<Asked<'a>>, AllocError>
+    ensures { IfOk result (λ a. option_map said a ≡ asked_in Mode.Session (word_texts words.now)) }
+{
+    let command = session_command(alloc)?;
+    match taken(command, words)? {
+        Some(matches) => Ok(session_of(&matches)),
+        None => Ok(None),
+    }
+}
+
+/// What the words ask for where their mode is that of a check.
+fn check_asked<'a>(alloc: Global, words: &'a [String]) -> Result<Option<Asked<'a>>, AllocError>
+    ensures { IfOk result (λ a. option_map said a ≡ asked_in Mode.Check (word_texts words.now)) }
+{
+    let command = check_command(alloc)?;
+    match taken(command, words)? {
+        Some(matches) => Ok(Some(Asked::Check {
+            domain: text_of(&matches, "domain"),
+        })),
+        None => Ok(None),
+    }
+}
+
+/// What the words ask for where their mode is that of a validation.
+fn validation_asked<'a>(alloc: Global, words: &'a [String]) -> Result<Option<Asked<'a>>, AllocError>
+    ensures { IfOk result (λ a. option_map said a ≡ asked_in Mode.Validate (word_texts words.now)) }
+{
+    let command = validate_command(alloc)?;
+    match taken(command, words)? {
+        Some(matches) => Ok(Some(Asked::Validate {
+            domain: text_of(&matches, "domain"),
+            script: text_of(&matches, "script"),
+            plan: text_of(&matches, "plan"),
+        })),
+        None => Ok(None),
+    }
+}
+
+/// What the words ask for in a mode.
+fn asked_in<'a>(
+    alloc: Global,
+    mode: Mode,
+    words: &'a [String],
+) -> Result<Option<Asked<'a>>, AllocError>
+    ensures { IfOk result (λ a. option_map said a ≡ asked_in mode (word_texts words.now)) }
+{
+    match mode {
+        Mode::Session => session_asked(alloc, words),
+        Mode::Check => check_asked(alloc, words),
+        Mode::Validate => validation_asked(alloc, words),
+    }
+}
+
+/// What the words ask for, without the program's name, or nothing where they aren't in the grammar. The only error is want of
+/// memory, which may come of words that aren't in the grammar, too.
+///
+/// The first word is the mode, and options follow it, each at most once, as `--name value` or `--name=value`, or as `--ordered`
+/// alone. A value isn't empty and doesn't begin with `-`. A number has 1 to 9 decimal digits.
+pub fn read_words<'a>(alloc: Global, words: &'a [String]) -> Result<Option<Asked<'a>>, AllocError>
+    ensures asked { IfOk result (λ a. option_map said a ≡ asked_of (word_texts words.now)) }
+    ensures ranges { IfOk result (λ a. IfSome (option_map said a) IsInRange) }
+{
+    let [first, rest @ ..] = words else {
+        return Ok(None);
+    };
+    let Some(mode) = mode_of(first.as_str()) else {
+        return Ok(None);
+    };
+    if !is_well_formed(rest) {
+        return Ok(None);
+    }
+    asked_in(alloc, mode, words)
+}

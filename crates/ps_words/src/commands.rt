@@ -1,0 +1,142 @@
+//! The modes, and the command of each.
+ghost use Rattle.std.specs.Prelude.{◌≡◌, IfOk, option_map, true, []};
+ghost use Rattle.clap.specs.Faults.{is_simple_and_free};
+ghost use Rattle.clap.specs.Matches.{found_of};
+ghost use Rattle.clap.specs.Simple.{app_of, with_rule};
+ghost use Rattle.clap.specs.Walk.{first_of, rows_of};
+ghost use Rattle.ps_words.specs.Words.{word_texts, command_of, option_rule, flag_rule, session_app, check_app, validate_app, rows_read, text_in, is_set_in, mode_of};
+
+use clap::error::ErrorKind;
+use clap::{Arg, ArgAction, ArgMatches, Command};
+use std::alloc::{AllocError, Global};
+
+/// What the program may be asked to do.
+#[derive(Clone, Copy, PartialEq, Eq, Debug)]
+pub enum Mode {
+    /// Do the lines of a script.
+    Session,
+    /// Read a domain, and print it.
+    Check,
+    /// Judge a plan.
+    Validate,
+}
+
+/// The mode of this name.
+pub fn mode_of(word: &str) -> Option<Mode>
+    ensures { result ≡ mode_of word.now }
+{
+    match word {
+        "session" => Some(Mode::Session),
+        "check" => Some(Mode::Check),
+        "validate" => Some(Mode::Validate),
+        _ => None,
+    }
+}
+
+/// A command with no options yet, which has no help and no version of its own.
+fn bare_command<'a>(alloc: Global, name: &'a str) -> Command<'a>
+    ensures { app_of result ≡ command_of name.now [] }
+{
+    Command::new(alloc, name)
+        .disable_help_flag(true)
+        .disable_version_flag(true)
+}
+
+/// The command with an option `--id` more, which has one value.
+fn with_option<'a>(
+    alloc: Global,
+    command: Command<'a>,
+    id: &'a str,
+    required: bool,
+) -> Result<Command<'a>, AllocError>
+    ensures { IfOk result (λ c. app_of c ≡ with_rule (app_of command.entry) (option_rule id.now required)) }
+{
+    let option = Arg::new(alloc, id)
+        .long(id)
+        .action(ArgAction::Set)
+        .required(required);
+    command.arg(option)
+}
+
+/// The command with an option `--id` more, which has no value.
+fn with_flag<'a>(
+    alloc: Global,
+    command: Command<'a>,
+    id: &'a str,
+) -> Result<Command<'a>, AllocError>
+    ensures { IfOk result (λ c. app_of c ≡ with_rule (app_of command.entry) (flag_rule id.now)) }
+{
+    let flag = Arg::new(alloc, id).long(id).action(ArgAction::SetTrue);
+    command.arg(flag)
+}
+
+/// The command of a session.
+pub fn session_command<'a>(alloc: Global) -> Result<Command<'a>, AllocError>
+    ensures { IfOk result (λ c. app_of c ≡ session_app) }
+{
+    let command = bare_command(alloc, "session");
+    let command = with_option(alloc, command, "domain", true)?;
+    let command = with_option(alloc, command, "script", true)?;
+    let command = with_option(alloc, command, "workers", false)?;
+    let command = with_option(alloc, command, "budget", false)?;
+    let command = with_option(alloc, command, "replans", false)?;
+    with_flag(alloc, command, "ordered")
+}
+
+/// The command of a check.
+pub fn check_command<'a>(alloc: Global) -> Result<Command<'a>, AllocError>
+    ensures { IfOk result (λ c. app_of c ≡ check_app) }
+{
+    let command = bare_command(alloc, "check");
+    with_option(alloc, command, "domain", true)
+}
+
+/// The command of a validation.
+pub fn validate_command<'a>(alloc: Global) -> Result<Command<'a>, AllocError>
+    ensures { IfOk result (λ c. app_of c ≡ validate_app) }
+{
+    let command = bare_command(alloc, "validate");
+    let command = with_option(alloc, command, "domain", true)?;
+    let command = with_option(alloc, command, "script", true)?;
+    with_option(alloc, command, "plan", true)
+}
+
+/// What the words, of which the first is the mode, give for the options of a command, or nothing where the command doesn't take
+/// them.
+pub fn taken<'a>(
+    command: Command<'a>,
+    words: &'a [String],
+) -> Result<Option<ArgMatches<'a>>, AllocError>
+    requires { is_simple_and_free (app_of command) ≡ true }
+    ensures { IfOk result (λ m. option_map (λ x. rows_of (found_of x)) m ≡ rows_read (app_of command.entry) (word_texts words.now)) }
+{
+    match command.try_get_matches_from(words) {
+        Ok(matches) => Ok(Some(matches)),
+        Err(error) if error.kind() == ErrorKind::OutOfMemory => Err(AllocError),
+        Err(_) => Ok(None),
+    }
+}
+
+/// The value of an option, if it was given.
+pub fn value_of<'a>(matches: &ArgMatches<'a>, id: &str) -> Option<&'a str>
+    ensures { option_map (λ t. t.now) result ≡ first_of id.now (rows_of (found_of matches.now)) }
+{
+    matches.get_str(id)
+}
+
+/// The value of an option that a command requires.
+pub fn text_of<'a>(matches: &ArgMatches<'a>, id: &str) -> &'a str
+    ensures { result.now ≡ text_in id.now (rows_of (found_of matches.now)) }
+{
+    match value_of(matches, id) {
+        Some(text) => text,
+        None => "",
+    }
+}
+
+/// Whether an option with no value was given. Its text is then `true`.
+pub fn is_set(matches: &ArgMatches<'_>, id: &str) -> bool
+    ensures { result ≡ is_set_in id.now (rows_of (found_of matches.now)) }
+{
+    text_of(matches, id) == "true"
+}

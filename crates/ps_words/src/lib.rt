@@ -1,0 +1,13 @@
+//! What the words of the command line ask for.
+#![tactic(auto)]
+
+mod asked;
+mod commands;
+mod form;
+mod numbers;
+#[cfg(test)]
+mod tests;
+mod usage;
+
+pub use asked::{Asked, Settings, read_words};
+pub use usage::{USAGE, VERSION};
