@@ -1,0 +1,281 @@
+-- What is prepared leads to the same, and conditions that hold in no state over the atoms lead nowhere.
+use Rattle.std.proofs.Common.{◌≡◌, ℕ, zero, suc, ◌+◌, Bool, true, false, not, cond, ◌&&◌, ◌||◌, List, [], ◌∷◌, ◌++◌, Option, Some, None, option_map, option_and_then, option_to_list, drop, filter, filter_map, fold, map, refl, ap, sym, ◌∙◌}
+use Rattle.std.specs.Prelude.{MatchOption, slice_get}
+use Rattle.std.specs.List.{cons_option, list_all, list_any}
+use Rattle.std.specs.Option.{option_map_or}
+use Rattle.std.specs.BTreeSet.{insert_key}
+use Rattle.std.specs.Result.{result_ok}
+use Rattle.std.proofs.lemmas.Cmp.{eq_by_cmp_equiv}
+use Rattle.std.proofs.lemmas.List.{append_assoc}
+use Rattle.std.proofs.lemmas.List.Elements.{filter_map-append}
+use Rattle.std.proofs.lemmas.List.Folds.{list_all-append}
+use Rattle.ps_world.specs.Facts.{fact_cmp}
+use Rattle.ps_world.specs.Knowledge.{same_fact}
+use Rattle.ps_world.specs.CondViews.{cond_tree}
+use Rattle.ps_world.specs.Trees.{CondTree}
+use Rattle.ps_world.specs.declared.actions.Effect.{Effect}
+use Rattle.ps_world.specs.declared.actions.Effect.TheVariants.{Add, Delete, Number}
+use Rattle.ps_world.specs.declared.conditions.Cond.{Cond}
+use Rattle.ps_world.specs.declared.domains.Domain.{Domain}
+use Rattle.ps_world.specs.declared.facts.Fact.{Fact}
+use Rattle.ps_world.specs.declared.known.Knowledge.{Knowledge}
+use Rattle.ps_world.specs.declared.numbers.Num.{Num}
+use Rattle.ps_action.specs.Effects.{added_by, deletes, fault_of_effects, faults_from, made, unless, value_set}
+use Rattle.ps_action.specs.Truth.{all_true, is_true}
+use Rattle.ps_action.specs.declared.acts.GroundAction.{GroundAction}
+use Rattle.ps_action.specs.declared.refusals.EffectRefusal.{EffectRefusal}
+use Rattle.ps_action.proofs.Keys.{any-insert_key}
+use Rattle.ps_solve.specs.Orders.{facts_total}
+use Rattle.ps_solve.specs.States.{State, at, changed, ended, state_of, stepped, where_so}
+use Rattle.ps_solve.specs.Nodes.{Node, move, moves}
+use Rattle.ps_solve.specs.Prepared.{is_number, known_at, landed, leap, leaps, leapt, passes, turned, with_at, without_at}
+use Rattle.ps_solve.specs.Rows.{AreAtoms, IsOver, plain_state}
+use Rattle.ps_solve.specs.declared.prepared.Prepared.{Prepared}
+use Rattle.ps_solve.specs.declared.prepared.Test.{Test}
+use Rattle.ps_solve.specs.declared.rows.Row.{Row}
+use Rattle.ps_solve.proofs.Expanding.{one_given}
+use Rattle.ps_solve.proofs.FlagRows.{none_filtered, none_known}
+use Rattle.ps_solve.proofs.Removed.{filter_either, fold_option}
+use Rattle.ps_solve.proofs.Settled.{both_true}
+
+-- a row is over the atoms
+pub row_over : (atoms : List Fact) (r : Row) → IsOver atoms (plain_state atoms r)
+row_over atoms r f e = none_known (same_fact f) atoms r.flags.items e
+
+-- ---- conditions
+
+and_false : (a b : Bool) → b ≡ false → (a && b) ≡ false
+and_false true b e = e
+and_false false b e = refl
+
+module _ (d : Domain) (l : Knowledge) where
+  -- one that doesn't hold
+  pub one_false : (i : ℕ) (cs rest : List Cond) (c : Cond) → drop i cs ≡ c ∷ rest → is_true d l (cond_tree c) ≡ false → all_true d l (map cond_tree cs) ≡ false
+  one_false zero [] rest c e f = absurd (cc)
+  one_false zero (x ∷ cs) rest c e f =
+      let same : x ≡ c = cc in
+      ap (λ y. is_true d l (cond_tree y) && all_true d l (map cond_tree cs)) same ∙ rw f refl
+  one_false (suc i) [] rest c e f = absurd (cc)
+  one_false (suc i) (x ∷ cs) rest c e f = and_false (is_true d l (cond_tree x)) (all_true d l (map cond_tree cs)) (one_false i cs rest c e f)
+
+-- ---- changes
+
+both : (a b : Bool) → (a || b) ≡ false → (a ≡ false) × (b ≡ false)
+both true b e = absurd (cc)
+both false b e = (refl, e)
+
+none_left_at : (p q : Fact → Bool) (f : Fact) (fs : List Fact) (a b : Bool) → p f ≡ a → (a || list_any p fs) ≡ false → list_any p (filter q fs) ≡ false → list_any p (cond b (f ∷ filter q fs) (filter q fs)) ≡ false
+none_left_at p q f fs true b h e rest = absurd (cc)
+none_left_at p q f fs false true h e rest = rw h rest
+none_left_at p q f fs false false h e rest = rest
+
+none_left : (p q : Fact → Bool) (fs : List Fact) → list_any p fs ≡ false → list_any p (filter q fs) ≡ false
+none_left p q [] e = refl
+none_left p q (f ∷ fs) e = none_left_at p q f fs (p f) (q f) refl e (none_left p q fs (both (p f) (list_any p fs) e).1)
+
+neither : (a b : Bool) → a ≡ false → b ≡ false → (a || b) ≡ false
+neither a b e f = λ i. e i || f i
+
+none_put : (f : Fact) (adds fs : List Fact) → list_any (same_fact f) adds ≡ false → list_any (same_fact f) fs ≡ false → list_any (same_fact f) (fold (insert_key fact_cmp) fs adds) ≡ false
+none_put f [] fs a e = e
+none_put f (g ∷ adds) fs a e =
+    let w = both (same_fact f g) (list_any (same_fact f) adds) a in
+    none_put f adds (insert_key fact_cmp fs g) w.1 (any-insert_key facts_total f g fs ∙ neither (same_fact f g) (list_any (same_fact f) fs) w.0 e)
+
+-- these effects add atoms alone
+abbrev pub AddAtoms : List Fact → List Effect → Type 0
+AddAtoms atoms es = AreAtoms atoms (filter_map added_by es)
+
+-- what is no atom is none of the atoms
+other_atom : (f g : Fact) (atoms : List Fact) (i : ℕ) → slice_get atoms i ≡ Some g → list_any (same_fact f) atoms ≡ false → same_fact f g ≡ false
+other_atom f g [] i e none = absurd (cc)
+other_atom f g (a ∷ atoms) zero e gone =
+    let same : a ≡ g = cc in
+    ap (same_fact f) (sym same) ∙ (both (same_fact f a) (list_any (same_fact f) atoms) gone).0
+other_atom f g (a ∷ atoms) (suc i) e gone = other_atom f g atoms i e (both (same_fact f a) (list_any (same_fact f) atoms) gone).1
+
+-- the place of an atom is none of what is no atom
+pub placed_atom : (f g : Fact) (atoms : List Fact) (i : ℕ) → slice_get atoms i ≡ Some g → list_any (same_fact f) atoms ≡ false → list_any (same_fact f) (g ∷ []) ≡ false
+placed_atom f g atoms i e gone = neither (same_fact f g) false (other_atom f g atoms i e gone) refl
+
+pub none_more : (p : Fact → Bool) (o : Option Fact) (fs : List Fact) → list_any p (option_to_list o) ≡ false → list_any p (cons_option o fs) ≡ list_any p fs
+none_more p None fs e = refl
+none_more p (Some f) fs e = ap (λ b. b || list_any p fs) (both (p f) false e).0
+
+module _ (k : Knowledge) (atoms : List Fact) where
+  made_over : (s t : State) (es : List Effect) (ready : List (Fact × Num)) (fault : Option EffectRefusal) → IsOver atoms s → AddAtoms atoms es → option_map state_of (result_ok (unless fault (made (at k s) es ready))) ≡ Some t → IsOver atoms t
+  made_over s t es ready (Some r) o a e = absurd (cc)
+  made_over s t es ready None o a e =
+      let same : state_of (made (at k s) es ready) ≡ t = cc in
+      λ f gone.
+      ap (λ (u : State). list_any (same_fact f) u.facts) (sym same)
+      ∙ none_put f (filter_map added_by es) (filter (λ g. not (list_any (deletes g) es)) s.facts) (a f gone) (none_left (same_fact f) (λ g. not (list_any (deletes g) es)) s.facts (o f gone))
+
+  -- effects that add atoms alone lead to a state over the atoms
+  pub changed_over : (s t : State) (es : List Effect) → IsOver atoms s → AddAtoms atoms es → changed k s es ≡ Some t → IsOver atoms t
+  changed_over s t es o a e = made_over s t es (filter_map (value_set (at k s)) es) (fault_of_effects (at k s) es) o a e
+
+  -- what is the same over the atoms leads to the same from a state that effects that add atoms alone lead to
+  pub goes_alike : (b : Bool) (s : State) (es : List Effect) (f g : State → Option State) → IsOver atoms s → AddAtoms atoms es → ((t : State) → IsOver atoms t → f t ≡ g t) → option_and_then f (where_so b (changed k s es)) ≡ option_and_then g (where_so b (changed k s es))
+  goes_alike b s es f g o a h = by b (changed k s es) (λ t e. h t (changed_over s t es o a e))
+    where
+      by : (b : Bool) (c : Option State) → ((t : State) → c ≡ Some t → f t ≡ g t) → option_and_then f (where_so b c) ≡ option_and_then g (where_so b c)
+      by true None h = refl
+      by true (Some t) h = h t refl
+      by false c h = refl
+
+nowhere : (b : Bool) → where_so b None ≡ None
+nowhere true = refl
+nowhere false = refl
+
+nowhere_after : (o : Option State) → option_and_then {U = State} (λ (t : State). None) o ≡ None
+nowhere_after None = refl
+nowhere_after (Some t) = refl
+
+module _ (d : Domain) (k : Knowledge) (atoms : List Fact) (g : GroundAction) where
+  -- conditions that hold in no state over the atoms
+  abbrev pub AreVain : List CondTree → Type 0
+  AreVain cs = (s : State) → IsOver atoms s → all_true d (at k s) cs ≡ false
+
+  -- a start that fails
+  pub no_start : AreVain g.start → (s : State) → IsOver atoms s → stepped d k s g ≡ None
+  no_start v s o = ap (λ b. option_and_then (ended d k g) (where_so b (changed k s g.at_start))) (v s o)
+
+  no_end : ((t : State) → IsOver atoms t → ended d k g t ≡ None) → AddAtoms atoms g.at_start → (s : State) → IsOver atoms s → stepped d k s g ≡ None
+  no_end h a s o =
+      goes_alike k atoms (all_true d (at k s) g.start) s g.at_start (ended d k g) (λ t. None) o a h
+      ∙ nowhere_after (where_so (all_true d (at k s) g.start) (changed k s g.at_start))
+
+  -- an over-all condition that fails after each start
+  pub no_over : AreVain g.over → AddAtoms atoms g.at_start → (s : State) → IsOver atoms s → stepped d k s g ≡ None
+  no_over v = no_end (λ t o. ap (λ b. where_so b (where_so (all_true d (at k t) g.end) (changed k t g.at_end))) (v t o))
+
+  -- an end condition that does
+  pub no_last : AreVain g.end → AddAtoms atoms g.at_start → (s : State) → IsOver atoms s → stepped d k s g ≡ None
+  no_last v =
+      no_end (λ t o. ap (λ b. where_so (all_true d (at k t) g.over) (where_so b (changed k t g.at_end))) (v t o) ∙ nowhere (all_true d (at k t) g.over))
+
+  -- a ground action whose parts were prepared
+  pub leads_alike : (p : Prepared) → ((s : State) → passes d k atoms p.start s ≡ all_true d (at k s) g.start) → ((s : State) → passes d k atoms p.over s ≡ all_true d (at k s) g.over) → ((s : State) → passes d k atoms p.end s ≡ all_true d (at k s) g.end) → ((s : State) → IsOver atoms s → turned k atoms p.at_start s ≡ changed k s g.at_start) → ((s : State) → IsOver atoms s → turned k atoms p.at_end s ≡ changed k s g.at_end) → AddAtoms atoms g.at_start → (s : State) → IsOver atoms s → leapt d k atoms s p ≡ stepped d k s g
+  leads_alike p start over end at_start at_end a s o =
+      (λ i. option_and_then (landed d k atoms p) (where_so (start s i) (at_start s o i)))
+      ∙ goes_alike k atoms (all_true d (at k s) g.start) s g.at_start (landed d k atoms p) (ended d k g) o a (λ t q i. where_so (over t i) (where_so (end t i) (at_end t q i)))
+
+-- ---- tests
+
+and_last : (a b c : Bool) → (a && (b && c)) ≡ ((a && b) && c)
+and_last true b c = refl
+and_last false b c = refl
+
+and_swap : (a b c : Bool) → ((a && c) && b) ≡ ((a && b) && c)
+and_swap true true c = and_true c
+  where
+    and_true : (c : Bool) → (c && true) ≡ c
+    and_true true = refl
+    and_true false = refl
+and_swap true false true = refl
+and_swap true false false = refl
+and_swap false b c = refl
+
+pub true_last : (a : Bool) → (a && true) ≡ a
+true_last true = refl
+true_last false = refl
+
+module _ (d : Domain) (k : Knowledge) (atoms : List Fact) (s : State) where
+  -- one more place
+  pub more_wanted : (wanted : List ℕ) (others : List CondTree) (i : ℕ) (f : Fact) → slice_get atoms i ≡ Some f → (list_all (known_at atoms s) (wanted ++ i ∷ []) && all_true d (at k s) others) ≡ ((list_all (known_at atoms s) wanted && all_true d (at k s) others) && list_any (same_fact f) s.facts)
+  more_wanted wanted others i f e =
+      ap (λ b. b && all_true d (at k s) others) (list_all-append (known_at atoms s) wanted (i ∷ []) ∙ ap (λ b. list_all (known_at atoms s) wanted && b) (true_last (known_at atoms s i) ∙ ap (λ o. option_map_or (λ g. list_any (same_fact g) s.facts) o false) e))
+      ∙ and_swap (list_all (known_at atoms s) wanted) (all_true d (at k s) others) (list_any (same_fact f) s.facts)
+
+  -- one more of the other conditions
+  pub more_others : (wanted : List ℕ) (others : List CondTree) (c : CondTree) → (list_all (known_at atoms s) wanted && all_true d (at k s) (others ++ c ∷ [])) ≡ ((list_all (known_at atoms s) wanted && all_true d (at k s) others) && is_true d (at k s) c)
+  more_others wanted others c =
+      ap (λ b. list_all (known_at atoms s) wanted && b) (both_true d (at k s) others (c ∷ []) ∙ ap (λ b. all_true d (at k s) others && b) (true_last (is_true d (at k s) c)))
+      ∙ and_last (list_all (known_at atoms s) wanted) (all_true d (at k s) others) (is_true d (at k s) c)
+
+  -- what is left is tested after what was taken in
+  pub tested_more : (cs : List Cond) (i : ℕ) (c : Cond) (old new : Test) → drop i cs ≡ c ∷ drop (i + 1) cs → passes d k atoms new s ≡ (passes d k atoms old s && is_true d (at k s) (cond_tree c)) → (passes d k atoms new s && all_true d (at k s) (map cond_tree (drop (i + 1) cs))) ≡ (passes d k atoms old s && all_true d (at k s) (map cond_tree (drop i cs)))
+  tested_more cs i c old new split e =
+      ap (λ b. b && all_true d (at k s) (map cond_tree (drop (i + 1) cs))) e
+      ∙ sym (and_last (passes d k atoms old s) (is_true d (at k s) (cond_tree c)) (all_true d (at k s) (map cond_tree (drop (i + 1) cs))))
+      ∙ ap (λ (l : List Cond). passes d k atoms old s && all_true d (at k s) (map cond_tree l)) (sym split)
+
+-- ---- changes by places
+
+module _ (atoms : List Fact) where
+  without_atoms_by : (fs : List Fact) (o : Option Fact) → AreAtoms atoms fs → AreAtoms atoms (option_map_or (λ f. filter (λ g. not (same_fact f g)) fs) o fs)
+  without_atoms_by fs None a = a
+  without_atoms_by fs (Some h) a = λ f gone. none_left (same_fact f) (λ g. not (same_fact h g)) fs (a f gone)
+
+  -- what is left are atoms
+  pub without_atoms : (places : List ℕ) (fs : List Fact) → AreAtoms atoms fs → AreAtoms atoms (fold (without_at atoms) fs places)
+  without_atoms [] fs a = a
+  without_atoms (i ∷ places) fs a = without_atoms places (without_at atoms fs i) (without_atoms_by fs (slice_get atoms i) a)
+
+  -- one more effect that deletes
+  pub deleted_more : (es : List Effect) (i : ℕ) (e : Effect) (fs : List Fact) → drop i es ≡ e ∷ drop (i + 1) es → filter (λ f. not (list_any (deletes f) (drop (i + 1) es))) (filter (λ f. not (deletes f e)) fs) ≡ filter (λ f. not (list_any (deletes f) (drop i es))) fs
+  deleted_more es i e fs split =
+      filter_either (λ f. deletes f e) (λ f. list_any (deletes f) (drop (i + 1) es)) fs
+      ∙ (λ j. filter (λ f. not (list_any (deletes f) (sym split j))) fs)
+
+  -- a fact that is no atom is taken out of atoms in vain
+  pub vain_delete : (g : Fact) (fs : List Fact) → list_any (same_fact g) atoms ≡ false → AreAtoms atoms fs → fs ≡ filter (λ f. not (same_fact g f)) fs
+  vain_delete g fs none a = sym (none_filtered (same_fact g) fs (a g none))
+
+  swap : (g : Fact) (fs : List Fact) → filter (λ f. not (same_fact g f)) fs ≡ filter (λ f. not (same_fact f g)) fs
+  swap g fs = λ i. filter (λ f. not ((eq_by_cmp_equiv facts_total).symm g f i)) fs
+
+  -- the place of a fact that is deleted
+  pub placed_delete : (g : Fact) (fs : List Fact) (o : Option ℕ) → MatchOption o (list_any (same_fact g) atoms ≡ false) (λ i. slice_get atoms i ≡ Some g) → AreAtoms atoms fs → option_map_or (without_at atoms fs) o fs ≡ filter (λ f. not (same_fact f g)) fs
+  placed_delete g fs None m a = vain_delete g fs m a ∙ swap g fs
+  placed_delete g fs (Some i) m a = ap (λ o. option_map_or (λ f. filter (λ h. not (same_fact f h)) fs) o fs) m ∙ swap g fs
+
+-- one more effect that adds
+pub added_more : (es : List Effect) (i : ℕ) (e : Effect) (fs : List Fact) → drop i es ≡ e ∷ drop (i + 1) es → fold (insert_key fact_cmp) (fold (insert_key fact_cmp) fs (option_to_list (added_by e))) (filter_map added_by (drop (i + 1) es)) ≡ fold (insert_key fact_cmp) fs (filter_map added_by (drop i es))
+added_more es i e fs split =
+    fold_option (insert_key fact_cmp) fs (added_by e) (filter_map added_by (drop (i + 1) es))
+    ∙ ap (λ (l : List Effect). fold (insert_key fact_cmp) fs (filter_map added_by l)) (sym split)
+
+-- ---- effects that give no number
+
+no_fault : (k : Knowledge) (before es : List Effect) → list_any is_number es ≡ false → faults_from k before es ≡ None
+no_fault k before [] e = refl
+no_fault k before (Add l ∷ es) e = no_fault k (before ++ Add l ∷ []) es e
+no_fault k before (Delete l ∷ es) e = no_fault k (before ++ Delete l ∷ []) es e
+no_fault k before (Number how l x ∷ es) e = absurd (cc)
+
+no_values : (k : Knowledge) (es : List Effect) → list_any is_number es ≡ false → filter_map (value_set k) es ≡ []
+no_values k [] e = refl
+no_values k (Add l ∷ es) e = no_values k es e
+no_values k (Delete l ∷ es) e = no_values k es e
+no_values k (Number how l x ∷ es) e = absurd (cc)
+
+module _ (k : Knowledge) (s : State) (es : List Effect) (none : list_any is_number es ≡ false) where
+  plainly : changed k s es ≡ Some (record { facts = fold (insert_key fact_cmp) (filter (λ f. not (list_any (deletes f) es)) s.facts) (filter_map added_by es); values = s.values })
+  plainly = λ i. option_map state_of (result_ok (unless (no_fault (at k s) [] es none i) (made (at k s) es (no_values (at k s) es none i))))
+
+  -- places that are cleared and set make these effects
+  pub flagged : (atoms : List Fact) (cleared set : List ℕ) → IsOver atoms s → ((fs : List Fact) → AreAtoms atoms fs → fold (without_at atoms) fs cleared ≡ filter (λ f. not (list_any (deletes f) es)) fs) → ((fs : List Fact) → fold (with_at atoms) fs set ≡ fold (insert_key fact_cmp) fs (filter_map added_by es)) → Some (record { facts = fold (with_at atoms) (fold (without_at atoms) s.facts cleared) set; values = s.values }) ≡ changed k s es
+  flagged atoms cleared set o del put =
+      (λ i. Some (record { facts = (put (fold (without_at atoms) s.facts cleared) ∙ ap (λ fs. fold (insert_key fact_cmp) fs (filter_map added_by es)) (del s.facts o)) i; values = s.values }))
+      ∙ sym plainly
+
+-- ---- prepared ground actions, one after another
+
+module _ (d : Domain) (k : Knowledge) (atoms : List Fact) (n : Node) where
+  leap_by : (p : Prepared) (g : GroundAction) → p.act ≡ g.act → leapt d k atoms n.state p ≡ stepped d k n.state g → leap d k atoms n p ≡ move d k n g
+  leap_by p g act e = λ i. option_map (λ s. let m : Node = record { state = s; path = n.path ++ act i ∷ [] } in m) (e i)
+
+  -- one more that is prepared
+  pub prepared_more : (all : List GroundAction) (i : ℕ) (a : GroundAction) (found : List Prepared) (p : Prepared) → drop i all ≡ a ∷ drop (i + 1) all → p.act ≡ a.act → leapt d k atoms n.state p ≡ stepped d k n.state a → leaps d k atoms (found ++ p ∷ []) n ++ moves d k (drop (i + 1) all) n ≡ leaps d k atoms found n ++ moves d k (drop i all) n
+  prepared_more all i a found p split act e =
+      ap (λ l. l ++ moves d k (drop (i + 1) all) n) (filter_map-append (leap d k atoms n) found (p ∷ []))
+      ∙ append_assoc (leaps d k atoms found n) (cons_option (leap d k atoms n p) []) (moves d k (drop (i + 1) all) n)
+      ∙ ap (λ l. leaps d k atoms found n ++ l) (one_given (leap d k atoms n p) (moves d k (drop (i + 1) all) n) ∙ ap (λ o. cons_option o (moves d k (drop (i + 1) all) n)) (leap_by p a act e) ∙ ap (λ l. moves d k l n) (sym split))
+
+  -- one that leads nowhere
+  pub idle_more : (all : List GroundAction) (i : ℕ) (a : GroundAction) (found : List Prepared) → drop i all ≡ a ∷ drop (i + 1) all → stepped d k n.state a ≡ None → leaps d k atoms found n ++ moves d k (drop (i + 1) all) n ≡ leaps d k atoms found n ++ moves d k (drop i all) n
+  idle_more all i a found split e =
+      ap (λ (o : Option State). leaps d k atoms found n ++ cons_option (option_map (λ s. let m : Node = record { state = s; path = n.path ++ a.act ∷ [] } in m) o) (moves d k (drop (i + 1) all) n)) (sym e)
+      ∙ ap (λ l. leaps d k atoms found n ++ moves d k l n) (sym split)

@@ -1,0 +1,33 @@
+-- Conditions that hold in every state may be left out.
+use Rattle.std.proofs.Common.{◌≡◌, Bool, true, false, ◌&&◌, List, [], ◌∷◌, ◌++◌, option_map, option_and_then, refl, ap, sym, ◌∙◌}
+use Rattle.ps_world.specs.Trees.{CondTree}
+use Rattle.ps_world.specs.declared.domains.Domain.{Domain}
+use Rattle.ps_world.specs.declared.known.Knowledge.{Knowledge}
+use Rattle.ps_action.specs.declared.acts.GroundAction.{GroundAction}
+use Rattle.ps_action.specs.Truth.{all_true, is_true}
+use Rattle.ps_solve.specs.States.{State, at, changed, where_so}
+use Rattle.ps_solve.specs.Nodes.{Node, move}
+
+and_assoc : (a b c : Bool) → ((a && b) && c) ≡ (a && (b && c))
+and_assoc true b c = refl
+and_assoc false b c = refl
+
+module _ (d : Domain) (l : Knowledge) where
+  pub both_true : (xs ys : List CondTree) → all_true d l (xs ++ ys) ≡ (all_true d l xs && all_true d l ys)
+  both_true [] ys = refl
+  both_true (x ∷ xs) ys = ap (λ b. is_true d l x && b) (both_true xs ys) ∙ sym (and_assoc (is_true d l x) (all_true d l xs) (all_true d l ys))
+
+  -- one that holds is left out
+  pub left_out : (xs ys : List CondTree) (c : CondTree) → is_true d l c ≡ true → all_true d l (xs ++ ys) ≡ all_true d l (xs ++ c ∷ ys)
+  left_out xs ys c e = both_true xs ys ∙ ap (λ b. all_true d l xs && (b && all_true d l ys)) (sym e) ∙ sym (both_true xs (c ∷ ys))
+
+module _ (d : Domain) (k : Knowledge) where
+  -- the same conditions in every state
+  abbrev pub AlikeConds : List CondTree → List CondTree → Type 0
+  AlikeConds xs ys = (s : State) → all_true d (at k s) xs ≡ all_true d (at k s) ys
+
+  -- ground actions whose conditions hold in the same states lead to the same nodes
+  pub alike_moves : (g h : GroundAction) → g.act ≡ h.act → AlikeConds g.start h.start → AlikeConds g.over h.over → AlikeConds g.end h.end → g.at_start ≡ h.at_start → g.at_end ≡ h.at_end → (n : Node) → move d k n g ≡ move d k n h
+  alike_moves g h act start over end at_start at_end n =
+      λ i. option_map (λ s. record { state = s; path = n.path ++ act i ∷ [] })
+      (option_and_then (λ s. where_so (over s i) (where_so (end s i) (changed k s (at_end i)))) (where_so (start n.state i) (changed k n.state (at_start i))))

@@ -1,0 +1,18 @@
+use Rattle.std.proofs.Common.{◌++◌, List, Result, option_to_list, ap, sym, ◌∙◌}
+use Rattle.std.specs.Result.{result_ok}
+use Rattle.ps_action.specs.declared.acts.GroundAction.{GroundAction}
+use Rattle.ps_action.specs.declared.refusals.GroundRefusal.{GroundRefusal}
+use Rattle.ps_solve.specs.Nodes.{moves}
+use Rattle.ps_solve.proofs.Gathering.{one_more}
+use Rattle.ps_solve.proofs.forward.push_ground.Goals as goal
+
+pub returns-in_ok-push-in-Ok : goal.returns-in_ok-push-in-Ok
+returns-in_ok-push-in-Ok c =
+    let d = c.args.expert.now in
+    let k = c.args.problem.now in
+    let found = c.args.found.now.items in
+    let light = c.in_ok-lightened-in-Ok.field-0 in
+    λ n.
+    ap (λ (l : List GroundAction). moves d k l n) c.in_ok-push-in-Ok.ensures.items
+    ∙ one_more d k n found light c.in-Ok.action (c.in_ok-lightened-in-Ok.ensures n)
+    ∙ ap (λ (r : Result GroundAction GroundRefusal). moves d k found n ++ moves d k (option_to_list (result_ok r)) n) (sym c.in-Ok.ensures.ok)

@@ -1,0 +1,38 @@
+use Rattle.std.proofs.Common.{◌≡◌, ◌+◌, ◌&&◌, ◌∷◌, [], List, drop, map, ap, sym, ◌∙◌, arith}
+use Rattle.std.proofs.lemmas.List.{drop_all, drop_more}
+use Rattle.ps_world.specs.CondViews.{cond_tree}
+use Rattle.ps_world.specs.Trees.{CondTree}
+use Rattle.ps_world.specs.declared.conditions.Cond.{Cond}
+use Rattle.ps_action.specs.Truth.{all_true}
+use Rattle.ps_solve.specs.States.{at}
+use Rattle.ps_solve.specs.Prepared.{passes}
+use Rattle.ps_solve.proofs.Preparing.{one_false, tested_more, true_last}
+use Rattle.ps_solve.proofs.prepared.test_of.Goals as goal
+
+pub loop-cond-preserved : goal.loop-cond-preserved
+loop-cond-preserved c =
+    let items = c.as_slice-cond-items.result.now in
+    let i = c.loop-cond.cond-index in
+    let x = c.cond-item.result in
+    let split : drop i items ≡ x ∷ drop (i + 1) items = drop_more items i x (omega arith) ∙ ap (λ (y : Cond). y ∷ drop (i + 1) items) (sym c.cond-item.is) in
+    λ d k s. tested_more d k c.args.atoms.now s items i x c.loop-cond.test c.take_in.new.test split (c.in_ok-take_in.ensures.taken c.if-not-branch.false d k s) ∙ c.loop-cond.invariant d k s
+
+pub returns-then-not-branch : goal.returns-then-not-branch
+returns-then-not-branch c =
+    let items = c.as_slice-cond-items.result.now in
+    let i = c.loop-cond.cond-index in
+    let x = c.cond-item.result in
+    let split : drop i items ≡ x ∷ drop (i + 1) items = drop_more items i x (omega arith) ∙ ap (λ (y : Cond). y ∷ drop (i + 1) items) (sym c.cond-item.is) in
+    λ d k s o.
+    ap (λ (l : List CondTree). all_true d (at k s) l) (sym c.as_slice-cond-items.ensures)
+    ∙ one_false d (at k s) i items (drop (i + 1) items) x split (c.in_ok-take_in.ensures.vain c.if-not-branch.true d k s o)
+
+pub returns : goal.returns
+returns c =
+    let items = c.as_slice-cond-items.result.now in
+    let i = c.loop-cond.cond-index in
+    let gone : drop i items ≡ [] = drop_all i items (omega arith) in
+    λ d k s.
+    sym (true_last (passes d k c.args.atoms.now c.loop-cond.test s))
+    ∙ ap (λ (l : List Cond). passes d k c.args.atoms.now c.loop-cond.test s && all_true d (at k s) (map cond_tree l)) (sym gone)
+    ∙ c.loop-cond.invariant d k s

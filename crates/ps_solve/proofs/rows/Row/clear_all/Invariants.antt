@@ -1,0 +1,10 @@
+use Rattle.std.proofs.Common.{◌≡◌, drop, fold}
+use Rattle.ps_solve.specs.Prepared.{without_at}
+use Rattle.ps_solve.specs.Rows.{facts_of}
+use Rattle.ps_solve.proofs.rows.Row.clear_all.Given as goal
+
+abbrev pub invariant-loop-place : goal.invariant-loop-place
+invariant-loop-place l = record {
+  facts : fold (without_at l.atoms) (facts_of l.atoms l.self.flags.items) (drop l.place-index l.places) ≡ fold (without_at l.atoms) (facts_of l.atoms l.initial.self.flags.items) l.places;
+  values : l.self.values ≡ l.initial.self.values;
+}

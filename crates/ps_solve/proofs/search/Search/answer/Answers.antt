@@ -1,0 +1,92 @@
+use Rattle.std.proofs.Common.{◌≡◌, ◌<◌, ◌-◌, ℕ, Option, option_map, unwrap_or, length, map, ap, sym, ◌∙◌, arith}
+use Rattle.std.proofs.lemmas.List.{length-map}
+use Rattle.ps_action.specs.Plans.{most_acts}
+use Rattle.ps_action.specs.Search.{answer_from}
+use Rattle.ps_action.specs.declared.answers.Answer.{Answer}
+use Rattle.ps_action.specs.declared.answers.Answer.TheVariants.{Spent}
+use Rattle.ps_solve.specs.Endings.{ending}
+use Rattle.ps_solve.specs.Prepared.{leaps}
+use Rattle.ps_solve.specs.Rows.{plain_node, plain_state}
+use Rattle.ps_solve.specs.declared.nodes.Reached.{Reached}
+use Rattle.ps_solve.proofs.Depths.{begins_at, deepens_by, goes_on, is_last, none_found, searched_from, stops}
+use Rattle.ps_solve.proofs.Levels.{found}
+use Rattle.ps_solve.proofs.search.Search.answer.Goals as goal
+use Rattle.ps_solve.specs.Nodes.{Node}
+
+pub loop-depth-init : goal.loop-depth-init
+loop-depth-init g c =
+    let d = g.T.Types.types c.args.self.now.types.now in
+    let k = g.K.Known.known c.args.self.now.given.now in
+    let atoms = c.args.self.now.atoms.now in
+    record {
+      here = begins_at d k c.args.self.now.goal.now (plain_state atoms c.args.start) (map (plain_node atoms) c.in_ok-level.level.items) (map (plain_state atoms) c.begin.new.seen.keys) c.requires.start c.in_ok-level.ensures.nodes c.in_ok-level.ensures.seen;
+      wide = c.in_ok-level.ensures.wide;
+      left = λ most e.
+          let whole : most - 0 ≡ most = omega arith in
+          ap (λ (m : ℕ). answer_from d k c.args.budget m 0) whole;
+    }
+
+pub returns-in-Some : goal.returns-in-Some
+returns-in-Some g c =
+    let d = g.T.Types.types c.args.self.now.types.now in
+    let k = g.K.Known.known c.args.self.now.given.now in
+    let goal = c.args.self.now.goal.now in
+    let n = c.loop-depth.depth in
+    let atoms = c.args.self.now.atoms.now in
+    let plain : Reached → Node = plain_node atoms in
+    let count : c.len.result ≡ length (map (plain_state atoms) c.loop-depth.seen.keys) = c.len.ensures.len ∙ sym (length-map c.loop-depth.seen.keys (plain_state atoms)) in
+    let is_ending = c.in_ok-answer.ensures ∙ (λ i. ending (option_map (λ (m : Node). m.path) (found d k goal (map plain (c.deref.ensures.value i)))) (map plain (c.deref.ensures.value i)) (count i) c.args.budget n) in
+    searched_from d k c.args.budget c.in-Some.answer (λ most e.
+    let below : n < most = omega arith in
+    stops d k goal c.requires.goal n (map plain c.loop-depth.level.items) (map (plain_state atoms) c.loop-depth.seen.keys) c.args.budget most c.loop-depth.invariant.here (c.loop-depth.invariant.left most e) below c.in-Some.answer (sym is_ending ∙ c.in-Some.is))
+
+pub loop-depth-preserved : goal.loop-depth-preserved
+loop-depth-preserved g c =
+    let d = g.T.Types.types c.args.self.now.types.now in
+    let k = g.K.Known.known c.args.self.now.given.now in
+    let goal = c.args.self.now.goal.now in
+    let n = c.loop-depth.depth in
+    let ns = c.loop-depth.level.items in
+    let rows = c.loop-depth.seen.keys in
+    let atoms = c.args.self.now.atoms.now in
+    let plain : Reached → Node = plain_node atoms in
+    let count : c.len.result ≡ length (map (plain_state atoms) rows) = c.len.ensures.len ∙ sym (length-map rows (plain_state atoms)) in
+    let is_ending = c.in_ok-answer.ensures ∙ (λ i. ending (option_map (λ (m : Node). m.path) (found d k goal (map plain (c.deref.ensures.value i)))) (map plain (c.deref.ensures.value i)) (count i) c.args.budget n) in
+    let none = sym is_ending ∙ c.in-None.is in
+    record {
+      here = deepens_by d k goal Reached plain (leaps d k atoms c.args.self.now.actions.now) c.requires.actions n ns c.deref-in-None.result.now (map plain c.in_ok-level-in-None.level.items) (map (plain_state atoms) rows) (map (plain_state atoms) c.next_level.new.seen.keys) c.loop-depth.invariant.here (none_found (found d k goal (map plain ns)) (map plain ns) (length (map (plain_state atoms) rows)) c.args.budget n none) c.deref-in-None.ensures.value c.in_ok-level-in-None.ensures.nodes c.in_ok-level-in-None.ensures.seen;
+      wide = c.in_ok-level-in-None.ensures.wide;
+      left = λ most e.
+          let below : n < most = omega arith in
+          goes_on d k goal c.requires.goal n (map plain ns) (map (plain_state atoms) rows) c.args.budget most c.loop-depth.invariant.here (c.loop-depth.invariant.left most e) below none;
+    }
+
+pub returns-in-Some-2 : goal.returns-in-Some-2
+returns-in-Some-2 g c =
+    let d = g.T.Types.types c.args.self.now.types.now in
+    let k = g.K.Known.known c.args.self.now.given.now in
+    let goal = c.args.self.now.goal.now in
+    let n = c.loop-depth.depth in
+    let last : most_acts ≡ n = omega arith in
+    let atoms = c.args.self.now.atoms.now in
+    let plain : Reached → Node = plain_node atoms in
+    let count : c.len-2.result ≡ length (map (plain_state atoms) c.loop-depth.seen.keys) = c.len-2.ensures.len ∙ sym (length-map c.loop-depth.seen.keys (plain_state atoms)) in
+    let is_ending = c.in_ok-answer-2.ensures ∙ (λ i. ending (option_map (λ (m : Node). m.path) (found d k goal (map plain (c.deref-2.ensures.value i)))) (map plain (c.deref-2.ensures.value i)) (count i) c.args.budget (last i)) in
+    searched_from d k c.args.budget c.in-Some-2.answer (λ most e.
+    ap (λ (o : Option Answer). unwrap_or o (Spent n)) (sym c.in-Some-2.is ∙ is_ending)
+    ∙ is_last d k goal c.requires.goal n (map plain c.loop-depth.level.items) (map (plain_state atoms) c.loop-depth.seen.keys) c.args.budget most c.loop-depth.invariant.here (c.loop-depth.invariant.left most e) (sym last ∙ sym e))
+
+pub returns : goal.returns
+returns g c =
+    let d = g.T.Types.types c.args.self.now.types.now in
+    let k = g.K.Known.known c.args.self.now.given.now in
+    let goal = c.args.self.now.goal.now in
+    let n = c.loop-depth.depth in
+    let last : most_acts ≡ n = omega arith in
+    let atoms = c.args.self.now.atoms.now in
+    let plain : Reached → Node = plain_node atoms in
+    let count : c.len-2.result ≡ length (map (plain_state atoms) c.loop-depth.seen.keys) = c.len-2.ensures.len ∙ sym (length-map c.loop-depth.seen.keys (plain_state atoms)) in
+    let is_ending = c.in_ok-answer-2.ensures ∙ (λ i. ending (option_map (λ (m : Node). m.path) (found d k goal (map plain (c.deref-2.ensures.value i)))) (map plain (c.deref-2.ensures.value i)) (count i) c.args.budget (last i)) in
+    searched_from d k c.args.budget (Spent most_acts) (λ most e.
+    ap (λ (m : ℕ). Spent m) last ∙ ap (λ (o : Option Answer). unwrap_or o (Spent n)) (sym c.in-None-2.is ∙ is_ending)
+    ∙ is_last d k goal c.requires.goal n (map plain c.loop-depth.level.items) (map (plain_state atoms) c.loop-depth.seen.keys) c.args.budget most c.loop-depth.invariant.here (c.loop-depth.invariant.left most e) (sym last ∙ sym e))

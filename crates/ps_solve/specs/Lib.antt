@@ -1,0 +1,9 @@
+pub mod Answers
+pub mod Endings
+pub mod Laws
+pub mod Nodes
+pub mod Orders
+pub mod Prepared
+pub mod Rows
+pub mod Sample
+pub mod States

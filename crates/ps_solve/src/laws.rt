@@ -1,0 +1,18 @@
+//! Laws of the answers. A call does nothing: its contract is the law.
+ghost use Rattle.ps_solve.specs.Laws.{LevelsGoOn, NoPlanIsNone};
+ghost use Rattle.ps_solve.specs.Sample.{AreSampleAnswers};
+
+/// A knowledge is in the next level exactly where one step by a possible act leads there from this level, and no fewer steps do.
+pub fn levels_go_on()
+    ensures { LevelsGoOn }
+{}
+
+/// Where it is answered that no plan is good, none is, however long, as long as no action and no instance stands twice.
+pub fn no_plan_is_none()
+    ensures { NoPlanIsNone }
+{}
+
+/// What the definitions answer of a robot and two rooms.
+pub fn sample_answers()
+    ensures { AreSampleAnswers }
+{}

@@ -1,0 +1,20 @@
+//! A solver that looks forward, level by level, for the least of the shortest good plans.
+#![tactic(auto)]
+
+mod atoms;
+mod forward;
+mod laws;
+mod light;
+mod nodes;
+mod prepared;
+mod rows;
+mod search;
+mod solver;
+mod steps;
+#[cfg(test)]
+mod tests;
+mod values;
+
+pub use forward::Forward;
+pub use laws::{levels_go_on, no_plan_is_none, sample_answers};
+pub use solver::Solver;

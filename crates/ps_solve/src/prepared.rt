@@ -1,0 +1,217 @@
+//! Ground actions, prepared for steps from row to row.
+ghost use Rattle.std.specs.Prelude.{◌≡◌, ◌&&◌, List, false, filter, filter_map, fold, not, option_to_list, true, None, IfOk, MatchOption};
+ghost use Rattle.std.specs.List.{list_any};
+ghost use Rattle.std.specs.Option.{option_map_or};
+ghost use Rattle.std.specs.BTreeSet.{insert_key};
+ghost use Rattle.ps_world.specs.CondViews.{cond_tree};
+ghost use Rattle.ps_world.specs.Facts.{fact_cmp};
+ghost use Rattle.ps_world.specs.Knowledge.{same_fact};
+ghost use Rattle.ps_world.specs.declared.domains.Domain.{Domain as DomainView};
+ghost use Rattle.ps_world.specs.declared.facts.Fact.{Fact as FactView};
+ghost use Rattle.ps_world.specs.declared.known.Knowledge.{Knowledge as KnowledgeView};
+ghost use Rattle.ps_action.specs.Effects.{added_by, deletes};
+ghost use Rattle.ps_action.specs.Truth.{all_true, is_true};
+ghost use Rattle.ps_solve.specs.States.{State, at, changed, stepped};
+ghost use Rattle.ps_solve.specs.Nodes.{moves};
+ghost use Rattle.ps_solve.specs.Rows.{AreAtoms, IsOver, plain_node};
+ghost use Rattle.ps_solve.specs.Prepared.{is_number, leaps, leapt, passes, turned, with_at, without_at};
+ghost use Rattle.ps_solve.specs.declared.nodes.Reached.{Reached as ReachedView};
+
+use super::atoms::Atoms;
+use ps_action::{Act, GroundAction};
+use ps_world::{Cond, Conds, Duplicate, Effect, Seq};
+use std::alloc::{AllocError, Global};
+
+/// Conditions: the places of the atoms that have to be known, and the other conditions.
+#[derive(Drop)]
+pub struct Test {
+    pub wanted: Vec<usize>,
+    pub others: Conds,
+}
+
+/// What a list of effects changes.
+#[derive(Drop)]
+pub enum Change {
+    /// The flags at the places that are cleared, and then at those that are set.
+    Flags {
+        cleared: Vec<usize>,
+        set: Vec<usize>,
+    },
+    /// The effects, some of which give numbers.
+    Effects(Seq<Effect>),
+}
+
+/// A prepared ground action.
+#[derive(Drop)]
+pub struct Prepared {
+    pub act: Act,
+    pub start: Test,
+    pub over: Test,
+    pub end: Test,
+    pub at_start: Change,
+    pub at_end: Change,
+}
+
+/// Puts a condition into a test, and answers whether it could: false only where the condition holds in no state over the atoms,
+/// since it says of a fact that is no atom that it is known. The only error is want of memory.
+fn take_in(alloc: Global, atoms: &Atoms, cond: &Cond, test: &mut Test) -> Result<bool, AllocError>
+    ensures taken { IfOk result (λ fits. fits ≡ true → (d : DomainView) (k : KnowledgeView) (s : State) → passes d k atoms.now test.new s ≡ (passes d k atoms.now test.old s && is_true d (at k s) (cond_tree cond.now))) }
+    ensures vain { IfOk result (λ fits. fits ≡ false → (d : DomainView) (k : KnowledgeView) (s : State) → IsOver atoms.now s → is_true d (at k s) (cond_tree cond.now) ≡ false) }
+{
+    match cond {
+        Cond::Holds(lifted) => match atoms.place_of(&lifted.ground()) {
+            Some(place) => {
+                test.wanted.push(place)?;
+                Ok(true)
+            }
+            None => Ok(false),
+        },
+        _ => {
+            test.others.push(cond.copy(alloc)?)?;
+            Ok(true)
+        }
+    }
+}
+
+/// The test of these conditions. None only where they hold in no state over the atoms. The only error is want of memory.
+fn test_of(alloc: Global, atoms: &Atoms, conds: &Conds) -> Result<Option<Test>, AllocError>
+    ensures { IfOk result (λ made. MatchOption made ((d : DomainView) (k : KnowledgeView) (s : State) → IsOver atoms.now s → all_true d (at k s) conds.now ≡ false) (λ test. (d : DomainView) (k : KnowledgeView) (s : State) → passes d k atoms.now test s ≡ all_true d (at k s) conds.now)) }
+{
+    let mut test = Test {
+        wanted: Vec::new(alloc),
+        others: Conds::new(alloc),
+    };
+    for cond in conds.as_slice() {
+        if !take_in(alloc, atoms, cond, &mut test)? {
+            return Ok(None);
+        }
+    }
+    Ok(Some(test))
+}
+
+/// Whether one of these effects gives a number.
+fn has_number(effects: &[Effect]) -> bool
+    ensures { result ≡ list_any is_number effects.now }
+{
+    for effect in effects {
+        if let Effect::Number(..) = effect {
+            return true;
+        }
+    }
+    false
+}
+
+/// The place of the atom that an effect deletes, if it deletes one.
+fn deleted(atoms: &Atoms, effect: &Effect) -> Option<usize>
+    ensures { (fs : List FactView) → AreAtoms atoms.now fs → option_map_or (without_at atoms.now fs) result fs ≡ filter (λ f. not (deletes f effect.now)) fs }
+{
+    match effect {
+        Effect::Delete(lifted) => atoms.place_of(&lifted.ground()),
+        Effect::Add(_) => None,
+        Effect::Number(..) => None,
+    }
+}
+
+/// The places of the atoms that these effects delete. The only error is want of memory.
+fn all_deleted(alloc: Global, atoms: &Atoms, effects: &[Effect]) -> Result<Vec<usize>, AllocError>
+    ensures { IfOk result (λ places. (fs : List FactView) → AreAtoms atoms.now fs → fold (without_at atoms.now) fs places.items ≡ filter (λ f. not (list_any (deletes f) effects.now)) fs) }
+{
+    let mut places = Vec::new(alloc);
+    for effect in effects {
+        if let Some(place) = deleted(atoms, effect) {
+            places.push(place)?;
+        }
+    }
+    Ok(places)
+}
+
+/// The place of the atom that an effect adds, if it adds one. An error only where it adds a fact that is no atom.
+fn added(atoms: &Atoms, effect: &Effect) -> Result<Option<usize>, AllocError>
+    ensures put { IfOk result (λ place. (fs : List FactView) → option_map_or (with_at atoms.now fs) place fs ≡ fold (insert_key fact_cmp) fs (option_to_list (added_by effect.now))) }
+    ensures atoms { IfOk result (λ place. AreAtoms atoms.now (option_to_list (added_by effect.now))) }
+{
+    match effect {
+        Effect::Add(lifted) => match atoms.place_of(&lifted.ground()) {
+            Some(place) => Ok(Some(place)),
+            None => Err(AllocError),
+        },
+        Effect::Delete(_) => Ok(None),
+        Effect::Number(..) => Ok(None),
+    }
+}
+
+/// The places of the atoms that these effects add. The only error is want of memory, as it always is where a fact to be added is no
+/// atom.
+fn all_added(alloc: Global, atoms: &Atoms, effects: &[Effect]) -> Result<Vec<usize>, AllocError>
+    ensures put { IfOk result (λ places. (fs : List FactView) → fold (with_at atoms.now) fs places.items ≡ fold (insert_key fact_cmp) fs (filter_map added_by effects.now)) }
+    ensures atoms { IfOk result (λ places. AreAtoms atoms.now (filter_map added_by effects.now)) }
+{
+    let mut places = Vec::new(alloc);
+    for effect in effects {
+        if let Some(place) = added(atoms, effect)? {
+            places.push(place)?;
+        }
+    }
+    Ok(places)
+}
+
+/// The change of a list of effects. The only error is want of memory, as it always is where a fact to be added is no atom.
+fn change_of(alloc: Global, atoms: &Atoms, effects: &Seq<Effect>) -> Result<Change, AllocError>
+    ensures same { IfOk result (λ change. (k : KnowledgeView) (s : State) → IsOver atoms.now s → turned k atoms.now change s ≡ changed k s effects.now) }
+    ensures atoms { IfOk result (λ change. AreAtoms atoms.now (filter_map added_by effects.now)) }
+{
+    let set = all_added(alloc, atoms, effects.as_slice())?;
+    if has_number(effects.as_slice()) {
+        return Ok(Change::Effects(effects.copy(alloc)?));
+    }
+    let cleared = all_deleted(alloc, atoms, effects.as_slice())?;
+    Ok(Change::Flags { cleared, set })
+}
+
+/// A ground action, prepared. None only where it leads nowhere from any state over the atoms. The only error is want of memory, as
+/// it always is where a fact to be added is no atom.
+fn prepare(
+    alloc: Global,
+    atoms: &Atoms,
+    action: &GroundAction,
+) -> Result<Option<Prepared>, AllocError>
+    ensures { IfOk result (λ made. MatchOption made ((d : DomainView) (k : KnowledgeView) (s : State) → IsOver atoms.now s → stepped d k s action.now ≡ None) (λ p. (p.act ≡ action.now.act) × ((d : DomainView) (k : KnowledgeView) (s : State) → IsOver atoms.now s → leapt d k atoms.now s p ≡ stepped d k s action.now))) }
+{
+    let Some(start) = test_of(alloc, atoms, &action.start)? else {
+        return Ok(None);
+    };
+    let at_start = change_of(alloc, atoms, &action.at_start)?;
+    let Some(over) = test_of(alloc, atoms, &action.over)? else {
+        return Ok(None);
+    };
+    let Some(end) = test_of(alloc, atoms, &action.end)? else {
+        return Ok(None);
+    };
+    let at_end = change_of(alloc, atoms, &action.at_end)?;
+    Ok(Some(Prepared {
+        act: action.act,
+        start,
+        over,
+        end,
+        at_start,
+        at_end,
+    }))
+}
+
+/// These ground actions, prepared, in order, without those that lead nowhere from any state over the atoms: they lead to the same
+/// nodes. The only error is want of memory, as it always is where a fact to be added is no atom.
+pub fn prepare_all(
+    alloc: Global,
+    atoms: &Atoms,
+    actions: &[GroundAction],
+) -> Result<Vec<Prepared>, AllocError>
+    ensures { IfOk result (λ all. (d : DomainView) (k : KnowledgeView) (r : ReachedView) → leaps d k atoms.now all.items (plain_node atoms.now r) ≡ moves d k actions.now (plain_node atoms.now r)) }
+{
+    let mut all = Vec::new(alloc);
+    for action in actions {
+        if let Some(one) = prepare(alloc, atoms, action)? {
+            all.push(one)?;
+        }
+    }
+    Ok(all)
+}

@@ -1,0 +1,284 @@
+//! Rows: states over the atoms of a search.
+ghost use Rattle.std.specs.Prelude.{◌≡◌, ◌++◌, [], false, true, not, filter, filter_map, fold, length, option_to_list, slice_index_or, slice_set, IfOk, OnOk};
+ghost use Rattle.std.specs.List.{list_all, list_any};
+ghost use Rattle.std.specs.BTreeSet.{insert_key};
+ghost use Rattle.ps_world.specs.Facts.{fact_cmp};
+ghost use Rattle.ps_world.specs.Knowledge.{same_fact};
+ghost use Rattle.ps_action.specs.Effects.{added_by, deletes};
+ghost use Rattle.ps_solve.specs.States.{made_state};
+ghost use Rattle.ps_solve.specs.Rows.{facts_of, flags_key, plain_state};
+ghost use Rattle.ps_solve.specs.Prepared.{known_at, with_at, without_at};
+
+use super::atoms::Atoms;
+use super::values::Values;
+use ps_world::{Effect, Fact, Num};
+use std::alloc::{AllocError, Global};
+use std::hash::{Hash, Hasher};
+
+/// A state over the atoms of a search: a flag for each atom, whether it is known, and the values of functions.
+#[derive(Drop)]
+pub struct Row {
+    pub flags: Vec<bool>,
+    pub values: Values,
+}
+
+impl PartialEq for Row {
+    ghost use Rattle.std.specs.Cmp.{partial_equiv_from_equiv};
+    ghost use Rattle.ps_solve.specs.Rows.{same_row, rows_equiv};
+
+    ghost eq = { same_row };
+
+    ghost laws = { partial_equiv_from_equiv rows_equiv };
+
+    fn eq(&self, other: &Self) -> bool {
+        self.flags == other.flags && self.values == other.values
+    }
+}
+
+impl Eq for Row {
+    ghost use Rattle.ps_solve.specs.Rows.{rows_equiv};
+
+    ghost laws = { rows_equiv };
+}
+
+impl Hash for Row {
+    ghost use Rattle.ps_solve.specs.Rows.{row_fed, rows_fed_alike};
+
+    ghost hash_input = { row_fed };
+
+    ghost respects_eq = { rows_fed_alike };
+
+    fn hash<H: Hasher>(&self, state: &mut H) {
+        key_of(self.flags.as_slice()).hash(state);
+        self.values.hash(state);
+    }
+}
+
+impl Row {
+    /// The row of these facts and values. The only error is want of memory, as it always is where they don't rise or a fact is no
+    /// atom.
+    pub fn of(
+        alloc: Global,
+        atoms: &Atoms,
+        facts: &[Fact],
+        values: &[(Fact, Num)],
+    ) -> Result<Row, AllocError>
+        ensures { IfOk result (λ row. (facts_of atoms.now row.flags.items ≡ facts.now) × (row.values ≡ values.now)) }
+    {
+        let flags = flags_of(alloc, atoms, facts)?;
+        let listed = list_of(alloc, atoms, &flags)?;
+        if listed.as_slice().cmp(facts).is_eq() {
+            Ok(Row {
+                flags,
+                values: Values::of(alloc, values)?,
+            })
+        } else {
+            Err(AllocError)
+        }
+    }
+
+    /// An equal row. The only error is want of memory.
+    pub fn copy(&self, alloc: Global) -> Result<Row, AllocError>
+        ensures flags { IfOk result (λ copied. copied.flags.items ≡ self.now.flags.items) }
+        ensures values { IfOk result (λ copied. copied.values ≡ self.now.values) }
+    {
+        Ok(Row {
+            flags: Vec::from_slice(alloc, self.flags.as_slice())?,
+            values: self.values.copy()?,
+        })
+    }
+
+    /// Makes the deletes of a list of effects, then its adds, and then gives the terms these values. The only error is want of
+    /// memory, as it always is where a fact to be added is no atom, and then the row may have changed.
+    pub fn put(
+        &mut self,
+        atoms: &Atoms,
+        effects: &[Effect],
+        ready: &[(Fact, Num)],
+    ) -> Result<(), AllocError>
+        ensures { OnOk result (plain_state atoms.now self.new ≡ made_state (plain_state atoms.now self.old) effects.now ready.now) }
+    {
+        delete_all(&mut self.flags, atoms, effects);
+        add_all(&mut self.flags, atoms, effects)?;
+        self.values.insert_all(ready)
+    }
+
+    /// Clears the flags at these places.
+    pub fn clear_all(&mut self, atoms: &Atoms, places: &[usize])
+        ensures { plain_state atoms.now self.new ≡ record { facts = fold (without_at atoms.now) (plain_state atoms.now self.old).facts places.now; values = self.old.values } }
+    {
+        for place in places {
+            clear_at(&mut self.flags, atoms, *place);
+        }
+    }
+
+    /// Sets the flags at these places. The only error is want of memory, as it always is where there is no flag, and then some of
+    /// the first may be set.
+    pub fn set_all(&mut self, atoms: &Atoms, places: &[usize]) -> Result<(), AllocError>
+        ensures { OnOk result (plain_state atoms.now self.new ≡ record { facts = fold (with_at atoms.now) (plain_state atoms.now self.old).facts places.now; values = self.old.values }) }
+    {
+        for place in places {
+            set_at(&mut self.flags, atoms, *place)?;
+        }
+        Ok(())
+    }
+}
+
+/// Whether the atom at a place is known in a row; false where there is none.
+fn is_known_at(atoms: &Atoms, row: &Row, place: usize) -> bool
+    ensures { result ≡ known_at atoms.now (plain_state atoms.now row.now) place }
+{
+    if place < atoms.as_slice().len() {
+        is_set(row.flags.as_slice(), place)
+    } else {
+        false
+    }
+}
+
+/// Whether the atoms at these places are known in a row.
+pub fn are_known(atoms: &Atoms, row: &Row, places: &[usize]) -> bool
+    ensures { result ≡ list_all (known_at atoms.now (plain_state atoms.now row.now)) places.now }
+{
+    for place in places {
+        if !is_known_at(atoms, row, *place) {
+            return false;
+        }
+    }
+    true
+}
+
+/// Flags for the atoms, where these facts are set. The only error is want of memory, as it always is where a fact is no atom.
+fn flags_of(alloc: Global, atoms: &Atoms, facts: &[Fact]) -> Result<Vec<bool>, AllocError> {
+    let mut flags = Vec::with_capacity(alloc, atoms.as_slice().len())?;
+    for _ in atoms.as_slice() {
+        flags.push(false)?;
+    }
+    for fact in facts {
+        learn(&mut flags, atoms, fact)?;
+    }
+    Ok(flags)
+}
+
+/// The atoms whose flags are set, in order. The only error is want of memory.
+fn list_of(alloc: Global, atoms: &Atoms, flags: &[bool]) -> Result<Vec<Fact>, AllocError>
+    ensures { IfOk result (λ v. v.items ≡ facts_of atoms.now flags.now) }
+{
+    let mut all = Vec::new(alloc);
+    for (place, atom) in atoms.as_slice().iter().enumerate() {
+        if is_set(flags, place) {
+            all.push(*atom)?;
+        }
+    }
+    Ok(all)
+}
+
+/// A number made of flags, for a hash: one write is much less work than one for each flag.
+fn key_of(flags: &[bool]) -> u64
+    ensures { result ≡ flags_key flags.now }
+{
+    let mut key: u64 = 0;
+    for flag in flags {
+        key = key.wrapping_mul(31).wrapping_add(*flag as u64);
+    }
+    key
+}
+
+/// Whether the flag at a place is set; false where there is none.
+pub fn is_set(flags: &[bool], place: usize) -> bool
+    ensures { result ≡ slice_index_or flags.now place false }
+{
+    match flags.get(place) {
+        Some(flag) => *flag,
+        None => false,
+    }
+}
+
+/// Clears the flag at a place, if there is one.
+fn clear_at(flags: &mut Vec<bool>, atoms: &Atoms, place: usize)
+    ensures { facts_of atoms.now flags.new.items ≡ without_at atoms.now (facts_of atoms.now flags.old.items) place }
+{
+    // The atoms say with their slice that they rise.
+    let _atoms = atoms.as_slice();
+    if place < flags.as_slice().len() {
+        flags[place] = false;
+    }
+}
+
+/// Sets the flag at a place. The only error is want of memory, as it always is where there is no flag.
+fn set_at(flags: &mut Vec<bool>, atoms: &Atoms, place: usize) -> Result<(), AllocError>
+    ensures { OnOk result (facts_of atoms.now flags.new.items ≡ with_at atoms.now (facts_of atoms.now flags.old.items) place) }
+{
+    let _atoms = atoms.as_slice();
+    if place < flags.as_slice().len() {
+        flags[place] = true;
+        Ok(())
+    } else {
+        Err(AllocError)
+    }
+}
+
+/// Clears the flag of a fact, if it is an atom.
+fn forget(flags: &mut Vec<bool>, atoms: &Atoms, fact: &Fact)
+    ensures { facts_of atoms.now flags.new.items ≡ filter (λ f. not (same_fact fact.now f)) (facts_of atoms.now flags.old.items) }
+{
+    if let Some(place) = atoms.place_of(fact) {
+        if place < flags.as_slice().len() {
+            flags[place] = false;
+        }
+    }
+}
+
+/// Sets the flag of a fact. The only error is want of memory, as it always is where the fact is no atom.
+fn learn(flags: &mut Vec<bool>, atoms: &Atoms, fact: &Fact) -> Result<(), AllocError>
+    ensures { OnOk result (facts_of atoms.now flags.new.items ≡ insert_key fact_cmp (facts_of atoms.now flags.old.items) fact.now) }
+{
+    match atoms.place_of(fact) {
+        Some(place) if place < flags.as_slice().len() => {
+            flags[place] = true;
+            Ok(())
+        }
+        _ => Err(AllocError),
+    }
+}
+
+/// Clears the flags of every fact that one of these effects deletes.
+fn delete_all(flags: &mut Vec<bool>, atoms: &Atoms, effects: &[Effect])
+    ensures { facts_of atoms.now flags.new.items ≡ filter (λ f. not (list_any (deletes f) effects.now)) (facts_of atoms.now flags.old.items) }
+{
+    for effect in effects {
+        delete(flags, atoms, effect);
+    }
+}
+
+/// Clears the flag of the fact that an effect deletes, if it deletes one.
+fn delete(flags: &mut Vec<bool>, atoms: &Atoms, effect: &Effect)
+    ensures { facts_of atoms.now flags.new.items ≡ filter (λ f. not (deletes f effect.now)) (facts_of atoms.now flags.old.items) }
+{
+    match effect {
+        Effect::Delete(lifted) => forget(flags, atoms, &lifted.ground()),
+        Effect::Add(_) => {}
+        Effect::Number(..) => {}
+    }
+}
+
+/// Sets the flags of every fact that one of these effects adds. The only error is want of memory, as it always is where such a
+/// fact is no atom, and then some of the first may be set.
+fn add_all(flags: &mut Vec<bool>, atoms: &Atoms, effects: &[Effect]) -> Result<(), AllocError>
+    ensures { OnOk result (facts_of atoms.now flags.new.items ≡ fold (insert_key fact_cmp) (facts_of atoms.now flags.old.items) (filter_map added_by effects.now)) }
+{
+    for effect in effects {
+        add(flags, atoms, effect)?;
+    }
+    Ok(())
+}
+
+/// Sets the flag of the fact that an effect adds, if it adds one. The only error is want of memory, as it always is where the fact
+/// is no atom.
+fn add(flags: &mut Vec<bool>, atoms: &Atoms, effect: &Effect) -> Result<(), AllocError>
+    ensures { OnOk result (facts_of atoms.now flags.new.items ≡ fold (insert_key fact_cmp) (facts_of atoms.now flags.old.items) (option_to_list (added_by effect.now))) }
+{
+    if let Effect::Add(lifted) = effect {
+        learn(flags, atoms, &lifted.ground())?;
+    }
+    Ok(())
+}

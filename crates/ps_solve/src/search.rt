@@ -1,0 +1,166 @@
+//! The search, level by level.
+ghost use Rattle.std.specs.Prelude.{◌≡◌, ◌≤◌, ◌∷◌, ◌++◌, ℕ, Some, [], find, filter_map, flat_map, length, map, option_map, IfOk, OnOk};
+ghost use Rattle.std.specs.Option.{option_copied};
+ghost use Rattle.ps_world.specs.CondViews.{cond_tree};
+ghost use Rattle.ps_action.specs.Truth.{is_true};
+ghost use Rattle.ps_solve.specs.Endings.{ending, searched};
+ghost use Rattle.ps_solve.specs.States.{at, state_of};
+ghost use Rattle.ps_solve.specs.Nodes.{firsts, grounds, met, moves};
+ghost use Rattle.ps_solve.specs.Prepared.{leaps};
+ghost use Rattle.ps_solve.specs.Rows.{AreWide, plain_node, plain_state};
+ghost use Rattle.ps_solve.specs.declared.nodes.Reached.{Reached as ReachedView};
+
+use super::atoms::Atoms;
+use super::nodes::{Reached, begin, discover};
+use super::prepared::Prepared;
+use super::rows::Row;
+use super::steps::{At, step};
+use indexmap::IndexSet;
+use ps_action::{Act, Answer, Known, Types, is_true};
+use ps_world::{Cond, Duplicate, Seq};
+use std::alloc::{AllocError, Global};
+
+/// The most acts of a plan.
+const MOST_ACTS: u32 = 256;
+
+/// What a search looks for, and by which ground actions.
+#[derive(Drop)]
+pub struct Search<'a, K: Known, T: Types> {
+    /// What is known at first.
+    pub given: &'a K,
+    pub types: &'a T,
+    pub goal: &'a Cond,
+    pub atoms: &'a Atoms,
+    pub actions: &'a [Prepared],
+}
+
+impl<'a, K: Known, T: Types> Search<'a, K, T> {
+    /// Whether a row meets the goal.
+    fn is_good(&self, row: &Row) -> bool
+        ensures { result ≡ is_true (T.types self.now.types.now) (at (K.known self.now.given.now) (plain_state self.now.atoms.now row.now)) (cond_tree self.now.goal.now) }
+    {
+        let here = At {
+            given: self.given,
+            atoms: self.atoms,
+            row,
+        };
+        is_true(&here, self.types, self.goal)
+    }
+
+    /// The path of the first of these nodes that meets the goal. None exactly where none does. The only error is want of memory.
+    fn first_good(&self, alloc: Global, level: &[Reached]) -> Result<Option<Seq<Act>>, AllocError>
+        ensures { IfOk result (λ path. path ≡ option_map (λ n. n.path) (find (λ n. is_true (T.types self.now.types.now) (at (K.known self.now.given.now) n.state) (cond_tree self.now.goal.now)) (map (plain_node self.now.atoms.now) level.now))) }
+    {
+        for node in level.iter() {
+            if self.is_good(&node.row) {
+                return Ok(Some(node.path.copy(alloc)?));
+            }
+        }
+        Ok(None)
+    }
+
+    /// Puts the row that a ground action leads to at the end, if the step doesn't fail and the row wasn't met. The only error is
+    /// want of memory.
+    fn follow(
+        &self,
+        alloc: Global,
+        node: &Reached,
+        action: &Prepared,
+        seen: &mut IndexSet<Row>,
+        next: &mut Vec<Reached>,
+    ) -> Result<(), AllocError>
+        requires wide { AreWide self.now.atoms.now seen.old.keys }
+        ensures nodes { OnOk result (map (plain_node self.now.atoms.now) next.new.items ≡ map (plain_node self.now.atoms.now) next.old.items ++ firsts (map (plain_state self.now.atoms.now) seen.old.keys) (leaps (T.types self.now.types.now) (K.known self.now.given.now) self.now.atoms.now (action.now ∷ []) (plain_node self.now.atoms.now node.now))) }
+        ensures seen { OnOk result (map (plain_state self.now.atoms.now) seen.new.keys ≡ met (map (plain_state self.now.atoms.now) seen.old.keys) (leaps (T.types self.now.types.now) (K.known self.now.given.now) self.now.atoms.now (action.now ∷ []) (plain_node self.now.atoms.now node.now))) }
+        ensures wide { OnOk result (AreWide self.now.atoms.now seen.new.keys) }
+    {
+        match step(alloc, self.given, self.types, self.atoms, &node.row, action)? {
+            Some(row) => discover(alloc, self.atoms, seen, next, row, &node.path, action.act),
+            None => Ok(()),
+        }
+    }
+
+    /// Puts the new rows that a node leads to at the end, in the order of the ground actions. The only error is want of
+    /// memory.
+    fn expand(
+        &self,
+        alloc: Global,
+        node: &Reached,
+        seen: &mut IndexSet<Row>,
+        next: &mut Vec<Reached>,
+    ) -> Result<(), AllocError>
+        requires wide { AreWide self.now.atoms.now seen.old.keys }
+        ensures nodes { OnOk result (map (plain_node self.now.atoms.now) next.new.items ≡ map (plain_node self.now.atoms.now) next.old.items ++ firsts (map (plain_state self.now.atoms.now) seen.old.keys) (leaps (T.types self.now.types.now) (K.known self.now.given.now) self.now.atoms.now self.now.actions.now (plain_node self.now.atoms.now node.now))) }
+        ensures seen { OnOk result (map (plain_state self.now.atoms.now) seen.new.keys ≡ met (map (plain_state self.now.atoms.now) seen.old.keys) (leaps (T.types self.now.types.now) (K.known self.now.given.now) self.now.atoms.now self.now.actions.now (plain_node self.now.atoms.now node.now))) }
+        ensures wide { OnOk result (AreWide self.now.atoms.now seen.new.keys) }
+    {
+        for action in self.actions {
+            self.follow(alloc, node, action, seen, next)?;
+        }
+        Ok(())
+    }
+
+    /// The new rows that a level leads to, in order. The only error is want of memory.
+    fn next_level(
+        &self,
+        alloc: Global,
+        level: &[Reached],
+        seen: &mut IndexSet<Row>,
+    ) -> Result<Vec<Reached>, AllocError>
+        requires wide { AreWide self.now.atoms.now seen.old.keys }
+        ensures nodes { IfOk result (λ next. map (plain_node self.now.atoms.now) next.items ≡ firsts (map (plain_state self.now.atoms.now) seen.old.keys) (flat_map (leaps (T.types self.now.types.now) (K.known self.now.given.now) self.now.atoms.now self.now.actions.now) (map (plain_node self.now.atoms.now) level.now))) }
+        ensures seen { OnOk result (map (plain_state self.now.atoms.now) seen.new.keys ≡ met (map (plain_state self.now.atoms.now) seen.old.keys) (flat_map (leaps (T.types self.now.types.now) (K.known self.now.given.now) self.now.atoms.now self.now.actions.now) (map (plain_node self.now.atoms.now) level.now))) }
+        ensures wide { OnOk result (AreWide self.now.atoms.now seen.new.keys) }
+    {
+        let mut next = Vec::new(alloc);
+        for node in level {
+            self.expand(alloc, node, seen, &mut next)?;
+        }
+        Ok(next)
+    }
+
+    /// The answer at a depth, if the search ends there: the first path to the goal; `NoPlan` where no node is left; `Spent` where as
+    /// many states are reached as the budget says. The only error is want of memory.
+    fn ending(
+        &self,
+        alloc: Global,
+        level: &[Reached],
+        reached: usize,
+        budget: u32,
+        depth: u32,
+    ) -> Result<Option<Answer>, AllocError>
+        ensures { IfOk result (λ answer. answer ≡ ending (option_map (λ n. n.path) (find (λ n. is_true (T.types self.now.types.now) (at (K.known self.now.given.now) n.state) (cond_tree self.now.goal.now)) (map (plain_node self.now.atoms.now) level.now))) (map (plain_node self.now.atoms.now) level.now) reached budget depth) }
+    {
+        if let Some(path) = self.first_good(alloc, level)? {
+            return Ok(Some(Answer::Plan(path)));
+        }
+        if level.is_empty() {
+            return Ok(Some(Answer::NoPlan));
+        }
+        if reached >= budget as usize {
+            return Ok(Some(Answer::Spent { depth }));
+        }
+        Ok(None)
+    }
+
+    /// The answer from a state on. The only error is want of memory.
+    pub fn answer(&self, alloc: Global, start: Row, budget: u32) -> Result<Answer, AllocError>
+        requires start { plain_state self.now.atoms.now start ≡ state_of (K.known self.now.given.now) }
+        requires goal { (K.known self.now.given.now).goal ≡ Some self.now.goal.now }
+        requires actions { (n : ReachedView) → leaps (T.types self.now.types.now) (K.known self.now.given.now) self.now.atoms.now self.now.actions.now (plain_node self.now.atoms.now n) ≡ moves (T.types self.now.types.now) (K.known self.now.given.now) (grounds (T.types self.now.types.now) (K.known self.now.given.now)) (plain_node self.now.atoms.now n) }
+        ensures { IfOk result (λ answer. answer ≡ searched (T.types self.now.types.now) (K.known self.now.given.now) budget) }
+    {
+        let mut seen = IndexSet::new(alloc);
+        let mut level = begin(alloc, self.atoms, &mut seen, start)?;
+        for depth in 0..MOST_ACTS {
+            match self.ending(alloc, &level, seen.len(), budget, depth)? {
+                Some(answer) => return Ok(answer),
+                None => level = self.next_level(alloc, &level, &mut seen)?,
+            }
+        }
+        match self.ending(alloc, &level, seen.len(), budget, MOST_ACTS)? {
+            Some(answer) => Ok(answer),
+            None => Ok(Answer::Spent { depth: MOST_ACTS }),
+        }
+    }
+}

@@ -1,0 +1,141 @@
+//! Steps from a state to the next.
+ghost use Rattle.std.specs.Prelude.{◌≡◌, Some, None, if◌then◌else◌, option_map, IfOk};
+ghost use Rattle.ps_solve.specs.States.{at, changed};
+ghost use Rattle.ps_solve.specs.Prepared.{landed, leapt, passes, turned};
+ghost use Rattle.ps_solve.specs.Rows.{plain_state};
+
+use super::atoms::Atoms;
+use super::prepared::{Change, Prepared, Test};
+use super::rows::{Row, are_known, is_set};
+use ps_action::{Known, Types, all_true, fault_of_effects, values_set};
+use ps_world::{Effect, Fact, Name, Num};
+use std::alloc::{AllocError, Global};
+
+/// What is known in a state. The instances, which no step changes, are those of what was known at first.
+#[derive(Drop)]
+pub struct At<'a, K: Known> {
+    pub given: &'a K,
+    pub atoms: &'a Atoms,
+    pub row: &'a Row,
+}
+
+impl<'a, K: Known> Known for At<'a, K> {
+    ghost use Rattle.ps_solve.specs.States.{at};
+    ghost use Rattle.ps_solve.specs.Rows.{plain_state};
+
+    ghost known = { λ a. at (K.known a.given.now) (plain_state a.atoms.now a.row.now) };
+
+    fn has(&self, fact: &Fact) -> bool {
+        match self.atoms.place_of(fact) {
+            Some(place) => is_set(self.row.flags.as_slice(), place),
+            None => false,
+        }
+    }
+
+    fn value(&self, term: &Fact) -> Option<Num> {
+        self.row.values.get(term)
+    }
+
+    fn kind_of(&self, name: Name) -> Option<Name> {
+        self.given.kind_of(name)
+    }
+}
+
+/// Makes a list of effects in a state, and answers whether it could: false where one has a fault. The only error is want of memory,
+/// and then the row may have changed.
+fn change<K: Known>(
+    alloc: Global,
+    given: &K,
+    atoms: &Atoms,
+    row: &mut Row,
+    effects: &[Effect],
+) -> Result<bool, AllocError>
+    ensures { IfOk result (λ made. (if made then Some (plain_state atoms.now row.new) else None) ≡ changed (K.known given.now) (plain_state atoms.now row.old) effects.now) }
+{
+    let here = At {
+        given,
+        atoms,
+        row: &*row,
+    };
+    if fault_of_effects(&here, effects).is_some() {
+        return Ok(false);
+    }
+    let ready = values_set(alloc, &here, effects)?;
+    row.put(atoms, effects, &ready)?;
+    Ok(true)
+}
+
+/// Whether a test holds in a row.
+fn passes<K: Known, T: Types>(given: &K, types: &T, atoms: &Atoms, row: &Row, test: &Test) -> bool
+    ensures { result ≡ passes (T.types types.now) (K.known given.now) atoms.now test.now (plain_state atoms.now row.now) }
+{
+    are_known(atoms, row, &test.wanted) && all_true(&At { given, atoms, row }, types, &test.others)
+}
+
+/// Makes a prepared change in a row, and answers whether it could: false where an effect has a fault. The only error is want of
+/// memory, as it always is where the row has no flag for an atom that is set, and then the row may have changed.
+fn turn<K: Known>(
+    alloc: Global,
+    given: &K,
+    atoms: &Atoms,
+    row: &mut Row,
+    by: &Change,
+) -> Result<bool, AllocError>
+    ensures { IfOk result (λ made. (if made then Some (plain_state atoms.now row.new) else None) ≡ turned (K.known given.now) atoms.now by.now (plain_state atoms.now row.old)) }
+{
+    match by {
+        Change::Flags { cleared, set } => {
+            row.clear_all(atoms, cleared);
+            row.set_all(atoms, set)?;
+            Ok(true)
+        }
+        Change::Effects(effects) => change(alloc, given, atoms, row, effects.as_slice()),
+    }
+}
+
+/// The row after the end of a prepared ground action, from the one after its start. None exactly where that fails. The only error is
+/// want of memory.
+fn end<K: Known, T: Types>(
+    alloc: Global,
+    given: &K,
+    types: &T,
+    atoms: &Atoms,
+    mut row: Row,
+    action: &Prepared,
+) -> Result<Option<Row>, AllocError>
+    ensures { IfOk result (λ next. option_map (plain_state atoms.now) next ≡ landed (T.types types.now) (K.known given.now) atoms.now action.now (plain_state atoms.now row)) }
+{
+    if !passes(given, types, atoms, &row, &action.over)
+        || !passes(given, types, atoms, &row, &action.end)
+    {
+        return Ok(None);
+    }
+    if turn(alloc, given, atoms, &mut row, &action.at_end)? {
+        Ok(Some(row))
+    } else {
+        Ok(None)
+    }
+}
+
+/// The row after a step of a prepared ground action. None exactly where a part of it fails: the start condition, a start effect, the
+/// over-all or the end condition after the start effects, an end effect. The only error is want of memory.
+pub fn step<K: Known, T: Types>(
+    alloc: Global,
+    given: &K,
+    types: &T,
+    atoms: &Atoms,
+    row: &Row,
+    action: &Prepared,
+) -> Result<Option<Row>, AllocError>
+    ensures { IfOk result (λ next. option_map (plain_state atoms.now) next ≡ leapt (T.types types.now) (K.known given.now) atoms.now (plain_state atoms.now row.now) action.now) }
+{
+    if !passes(given, types, atoms, row, &action.start) {
+        return Ok(None);
+    }
+    let mut during = row.copy(alloc)?;
+    if turn(alloc, given, atoms, &mut during, &action.at_start)? {
+        end(alloc, given, types, atoms, during, action)
+    } else {
+        Ok(None)
+    }
+}
