@@ -4,23 +4,19 @@ use Rattle.std.proofs.lemmas.Bool.Decides.{nat_tests}
 use Rattle.std.proofs.Common.{drop-cons}
 use Rattle.std.proofs.Math.Seq.{take-suc}
 use Rattle.std.proofs.lemmas.List.{map-append, take-append-drop}
-use Rattle.ps_world.specs.Names.{Table}
 use Rattle.ps_world.specs.Lines.{lines_of, same_text}
 use Rattle.ps_text.specs.Words.{pieces}
 use Rattle.ps_text.specs.declared.spans.Span.{Span}
 use Rattle.ps_text.proofs.Tables.{same_text-refl}
 use Rattle.ps_script.specs.Files.{after_run, file_in, is_run_plan, is_source}
-use Rattle.ps_script.specs.Lines.{IsPlain, IsRead, is_nothing}
-use Rattle.ps_script.specs.Lines.IsRead.{nothing, source, source_nothing, run_plan, run_nothing, without_class, without_number, without_form, without_shape, unbuilt, good}
-use Rattle.ps_script.specs.declared.reading.Read.{Read}
-use Rattle.ps_script.specs.declared.reading.Read.TheVariants as read
-use Rattle.plansys.specs.Flats.{Texts, Flat, IsKind, MayBe, and_then, flatten, longest_file, most_lines, lines_line, on_source, sourced, step, too_long_line, walk, with_file, with_line, with_plan_line, with_text_line, without}
+use Rattle.ps_script.specs.Lines.{is_nothing}
+use Rattle.plansys.specs.Flats.{Texts, Flat, MayBe, and_then, flatten, longest_file, most_lines, lines_line, on_source, sourced, step, too_long_line, walk, with_file, with_line, with_plan_line, with_text_line, without}
 use Rattle.plansys.specs.Flats.Flat.{lines, fault, missing}
 use Rattle.plansys.specs.Faults.{IsCut, IsFull, IsNotHad}
 use Rattle.plansys.specs.declared.reading.flatten.Flattened.{Flattened}
 use Rattle.plansys.specs.declared.reading.flatten.Flattened.TheVariants.{Plan, TooDeep}
-use Rattle.plansys.specs.declared.reading.flatten.Kind.{Kind}
-use Rattle.plansys.specs.declared.reading.flatten.Kind.TheVariants.{Nothing, Source, RunPlan, Command}
+use Rattle.ps_script.specs.Kinds.{IsKind}
+use Rattle.ps_script.specs.declared.kinds.Kind.TheVariants.{Source}
 use Rattle.plansys.specs.declared.faults.Fault.TheVariants.{Usage, NoDomain, TooLong, Lines, Unread}
 use Rattle.plansys.specs.declared.faults.Stop.{Stop}
 use Rattle.plansys.specs.declared.faults.Stop.TheVariants.{Due, Broken}
@@ -195,36 +191,6 @@ file_cut_in file use_of texts text before after (Broken Write) short e c = absur
 file_cut_in file use_of texts text before after (Broken OutOfMemory) short e c = tt
 
 -- ---- one line
-
--- what a line is, by what it is read as
-abbrev pub kind : Read → Kind
-kind read.Nothing = Nothing
-kind (read.Line line) = Command
-kind (read.Source file) = Source file
-kind (read.RunPlan file) = RunPlan file
-
-plain_is : (bytes : List ℕ) → IsPlain bytes → IsKind bytes Command
-plain_is bytes plain = (plain.something, inr (plain.no_source, inl plain.no_plan))
-
-pub is_kind : (t : Table) (bytes : List ℕ) (r : Read) (after : Table) → IsRead t bytes r after → IsKind bytes (kind r)
-is_kind t bytes r after h =
-    elim h as (λ r a i. IsKind bytes (kind r)) [
-      | nothing e ↦ e
-      | source file some is e ↦ (some, is, e)
-      | source_nothing some is e ↦ (some, inl (is, e))
-      | run_plan file some other is e ↦ (some, other, is, e)
-      | run_nothing some other is e ↦ (some, inr (other, inr e))
-      | without_class at plain f ↦ plain_is bytes plain
-      | without_number at plain f ↦ plain_is bytes plain
-      | without_form tokens plain are e ↦ plain_is bytes plain
-      | without_shape form tokens i plain are is f ↦ plain_is bytes plain
-      | unbuilt form tokens is e ↦ plain_is bytes is.plain
-      | good form tokens ls a ts command is words spelt e ↦ plain_is bytes is.plain
-    ]
-
--- what a line is, where it was told
-pub kind_is : (t : Table) (bytes : List ℕ) (r other : Read) (after : Table) → r ≡ other → IsRead t bytes r after → IsKind bytes (kind other)
-kind_is t bytes r other after e h = subst (λ (x : Read). IsKind bytes (kind x)) e (is_kind t bytes r after h)
 
 module _ (plans : Bool) (texts : Texts) (on : List ℕ → List Flattened → Flat) (bytes : List ℕ) (before : List Flattened) where
   pub step-source : (file : List ℕ) → IsKind bytes (Source file) → step plans texts on bytes before ≡ on file before

@@ -1,13 +1,11 @@
 -- A script with the lines of its files put in place of the lines that name them.
-use Rattle.std.specs.Prelude.{◌≡◌, ℕ, zero, suc, Bool, true, false, ◌&&◌, ◌==◌, ◌⊎◌, nat_lt, if◌then◌else◌, Option, Some, None, List, [], ◌∷◌, ◌++◌, codes, length}
+use Rattle.std.specs.Prelude.{◌≡◌, ℕ, zero, suc, Bool, false, ◌&&◌, ◌==◌, ◌⊎◌, nat_lt, if◌then◌else◌, Option, Some, None, List, [], ◌∷◌, ◌++◌, codes, length}
 use Rattle.ps_world.specs.Lines.{line_end, lines_of, same_text}
 use Rattle.ps_text.specs.Words.{reads_as, word_at, words}
 use Rattle.ps_script.specs.Files.{after_run, file_in, is_run_plan, is_source}
 use Rattle.ps_script.specs.Lines.{is_nothing}
 use Rattle.plansys.specs.declared.reading.flatten.Flattened.{Flattened}
 use Rattle.plansys.specs.declared.reading.flatten.Flattened.TheVariants.{Text, Plan, TooDeep}
-use Rattle.plansys.specs.declared.reading.flatten.Kind.{Kind}
-use Rattle.plansys.specs.declared.reading.flatten.Kind.TheVariants.{Nothing, Source, RunPlan, Command}
 
 -- the texts of files by their names, where they are told
 abbrev pub Texts : Type 0
@@ -75,15 +73,6 @@ with_plan_line texts bytes before None = with_text_line bytes before
 with_plan_line texts bytes before (Some file) =
     if nat_lt (length before) most_lines then with_file file (λ plan. lines (before ++ Plan bytes plan ∷ []) false) (texts file)
     else fault 3 lines_line
-
--- what a line of a file is
-abbrev pub IsKind : List ℕ → Kind → Type 0
-IsKind bytes Nothing = is_nothing bytes ≡ true
-IsKind bytes (Source file) = (is_nothing bytes ≡ false) × (is_source bytes ≡ true) × (file_in (after_run bytes) ≡ Some file)
-IsKind bytes (RunPlan file) = (is_nothing bytes ≡ false) × (is_source bytes ≡ false) × (is_run_plan bytes ≡ true) × (file_in (after_run (after_run bytes)) ≡ Some file)
-IsKind bytes Command =
-    (is_nothing bytes ≡ false) × (((is_source bytes ≡ true) × (file_in (after_run bytes) ≡ None))
-    ⊎ ((is_source bytes ≡ false) × ((is_run_plan bytes ≡ false) ⊎ (file_in (after_run (after_run bytes)) ≡ None))))
 
 -- one line of a file: nothing, a file's lines, a line that runs a plan where the files of plans are read, or any other command line
 abbrev pub step : Bool → Texts → (List ℕ → List Flattened → Flat) → List ℕ → List Flattened → Flat

@@ -5,6 +5,7 @@ mod commands;
 mod files;
 mod forms;
 mod goals;
+mod kinds;
 mod laws;
 mod reading;
 #[cfg(test)]
@@ -12,5 +13,6 @@ mod tests;
 
 pub use files::FileName;
 pub use forms::Form;
+pub use kinds::{Kind, kind_of};
 pub use laws::lines_are_read_as_one;
 pub use reading::{Read, read_line};

@@ -32,7 +32,7 @@ pub enum Read {
 }
 
 /// Whether a line is blank, or its first byte after blanks is `#` or `;`.
-fn is_nothing(bytes: &[u8]) -> bool
+pub fn is_nothing(bytes: &[u8]) -> bool
     ensures { result ≡ is_nothing bytes.now }
 {
     match trimmed(bytes) {

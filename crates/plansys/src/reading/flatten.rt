@@ -1,6 +1,6 @@
 //! A script with the lines of its files put in place of the lines that name them.
 ghost use Rattle.std.specs.Prelude.{◌≡◌, false, ◌≤◌, ◌<◌, ◌∷◌, [], ◌++◌, ℕ, Bool, Some, List, length, IfOk, IfErr, OnOk};
-ghost use Rattle.plansys.specs.Flats.{IsKind, MayBe, flatten, is_quit, most_lines, on_source, step, with_line, with_plan_line, with_text_line};
+ghost use Rattle.plansys.specs.Flats.{MayBe, flatten, is_quit, most_lines, on_source, step, with_line, with_plan_line, with_text_line};
 ghost use Rattle.plansys.specs.Flats.Flat.{lines};
 ghost use Rattle.plansys.specs.Faults.{IsCut, IsFull};
 ghost use Rattle.plansys.specs.Input.{script_in};
@@ -8,8 +8,8 @@ ghost use Rattle.plansys.specs.declared.reading.flatten.Flattened.TheVariants.{T
 
 use super::files::read_text;
 use crate::faults::{Fault, Stop};
-use ps_script::{FileName, Read, read_line};
-use ps_text::{Files, Names, Words, lines};
+use ps_script::{FileName, Kind, kind_of};
+use ps_text::{Files, Words, lines};
 use ps_world::Seq;
 use std::alloc::{AllocError, Global};
 
@@ -22,19 +22,6 @@ pub enum Flattened {
     Plan(Seq<u8>, Seq<u8>),
     /// A line that names a file where no more levels of files may be opened.
     TooDeep,
-}
-
-/// What a line of a file is.
-#[derive(Drop)]
-pub enum Kind {
-    /// It says nothing.
-    Nothing,
-    /// It names a file.
-    Source(FileName),
-    /// It runs the plan in a file.
-    RunPlan(FileName),
-    /// It is a command line.
-    Command,
 }
 
 /// The most command lines of a script with its files.
@@ -71,18 +58,6 @@ fn is_quit(alloc: Global, line: &[u8]) -> Result<bool, AllocError>
 {
     let words = Words::of(alloc, line)?;
     Ok(words.len() == 1 && words.reads(0, b"quit"))
-}
-
-/// What a line is. The table of names that reading it needs says nothing.
-fn kind_of(alloc: Global, names: &mut Names, line: &[u8]) -> Result<Kind, AllocError>
-    ensures { IfOk result (IsKind line.now) }
-{
-    match read_line(alloc, names, line)? {
-        Read::Nothing => Ok(Kind::Nothing),
-        Read::Source(file) => Ok(Kind::Source(file)),
-        Read::Line(_) => Ok(Kind::Command),
-        Read::RunPlan(file) => Ok(Kind::RunPlan(file)),
-    }
 }
 
 /// Puts a command line's bytes at the end of those before it. Answers whether it ends the script.
@@ -133,7 +108,6 @@ fn push_plan<F: Files>(
 fn take<F: Files>(
     alloc: Global,
     files: &mut F,
-    names: &mut Names,
     plans: bool,
     levels: u8,
     line: &[u8],
@@ -145,14 +119,14 @@ fn take<F: Files>(
     ensures same { (n : List ℕ) → F.text_of files.new n ≡ F.text_of files.old n }
     ensures later { F.faults files.old ≤ F.faults files.new }
 {
-    match kind_of(alloc, names, line)? {
+    match kind_of(alloc, line)? {
         Kind::Nothing => Ok(false),
         Kind::Source(file) => {
             if levels == 0 {
                 return push_too_deep(all);
             }
             let text = read_text(alloc, file.as_str(), files)?;
-            let ended = walk(alloc, files, names, plans, levels - 1, text.as_slice(), all)?;
+            let ended = walk(alloc, files, plans, levels - 1, text.as_slice(), all)?;
             Ok(ended)
         }
         Kind::RunPlan(file) if plans => push_plan(alloc, files, line, &file, all),
@@ -166,7 +140,6 @@ fn take<F: Files>(
 fn walk<F: Files>(
     alloc: Global,
     files: &mut F,
-    names: &mut Names,
     plans: bool,
     levels: u8,
     text: &[u8],
@@ -180,15 +153,7 @@ fn walk<F: Files>(
 {
     let spans = lines(alloc, text)?;
     for span in &spans {
-        let ended = take(
-            alloc,
-            files,
-            names,
-            plans,
-            levels,
-            &text[span.from..span.to],
-            all,
-        )?;
+        let ended = take(alloc, files, plans, levels, &text[span.from..span.to], all)?;
         if ended {
             return Ok(true);
         }
@@ -215,15 +180,6 @@ pub fn read_flat<F: Files>(
 {
     let text = read_text(alloc, file, files)?;
     let mut all = Vec::new(alloc);
-    let mut names = Names::new(alloc)?;
-    walk(
-        alloc,
-        files,
-        &mut names,
-        plans,
-        LEVELS,
-        text.as_slice(),
-        &mut all,
-    )?;
+    walk(alloc, files, plans, LEVELS, text.as_slice(), &mut all)?;
     Ok(all)
 }

@@ -1,6 +1,6 @@
 use Rattle.std.proofs.Common.{◌≡◌, ◌-◌, ◌∙◌, subst, arith}
 use Rattle.std.proofs.lemmas.Result.{err_from_is_err_and}
-use Rattle.plansys.specs.Flats.{IsKind}
+use Rattle.ps_script.specs.Kinds.{IsKind}
 use Rattle.plansys.specs.Flats.Flat.{lines}
 use Rattle.plansys.proofs.Flattening.{deep_step, deep_cut, file_unhad, file_step, file_cut_off, if_ok-map, if_err-map, text_next, text_ended, text_cut}
 use Rattle.plansys.proofs.reading.flatten.+flatten.Goals as goal
