@@ -1,22 +1,27 @@
 -- Why there is nothing to work on, or what there is.
-use Rattle.std.proofs.Common.{◌≡◌, ℕ, ◌<◌, ◌≤◌, Bool, true, false, if◌then◌else◌, nat_lt, Option, Some, None, Err, List, [], IfSome, codes, length, refl, sym, ◌∙◌, subst, inl, inr, arith}
-use Rattle.std.proofs.lemmas.Bool.{and_parts, or_parts, cases_Bool, false≢true}
+use Rattle.std.proofs.Common.{◌≡◌, ℕ, ◌<◌, ◌≤◌, Bool, true, false, if◌then◌else◌, nat_lt, ◌||◌, Option, Some, None, is_some, Err, List, [], IfSome, codes, length, refl, sym, ◌∙◌, subst, inl, inr, arith}
+use Rattle.std.proofs.lemmas.Bool.{or_parts, cases_Bool, false≢true}
 use Rattle.std.proofs.lemmas.Bool.Decides.{nat_tests}
 use Rattle.ps_world.specs.Names.{Table}
 use Rattle.ps_world.specs.Lines.{same_text}
 use Rattle.ps_world.specs.declared.domains.Domain.{Domain}
 use Rattle.ps_machine.specs.declared.inputs.Line.{Line}
+use Rattle.ps_machine.specs.declared.inputs.Input.{Input}
 use Rattle.ps_text.proofs.Tables.{same_text-refl, same_text-same}
 use Rattle.ps_pddl.specs.Reading.{IsRead}
 use Rattle.plansys.specs.DomainFaults.{cause_text}
 use Rattle.plansys.specs.Scripts.{IsScript}
 use Rattle.plansys.specs.Session.{input_with}
-use Rattle.plansys.specs.Input.{Outcome, IsDomain, IsNoDomain, IsInput, argument, is_session, is_check, is_validate, is_quiet, names_domain, domain_file, script_file, plan_file, first_names, script_in, with_text, with_script, with_plan, input_of, usage_line, domain_line}
+use Rattle.ps_words.specs.Words.{Request, asked_of}
+use Rattle.ps_words.specs.Words.Request.{a_session, a_check, a_validation}
+use Rattle.plansys.specs.Asked.{session_in, check_in, validation_in}
+use Rattle.plansys.specs.Input.{Outcome, IsDomain, IsNoDomain, IsInput, argument, is_quiet, domain_in, domain_file, first_names, script_in, with_text, with_script, with_plan, outcome_of, input_of, usage_line, domain_line}
+use Rattle.plansys.proofs.Asked.{is_session, is_check, is_validate, script_named, script_file, plan_named, plan_file, budget_told, budget_of, begins, begins-session, begins-check, begins-validate}
 use Rattle.plansys.specs.Flats.{Texts, Flat, MayBe, longest_file, lines_line, too_long_line, without}
 use Rattle.plansys.specs.Flats.Flat.{lines, fault as cut_off, missing}
 use Rattle.plansys.specs.declared.reading.flatten.Flattened.{Flattened}
 use Rattle.plansys.proofs.Flattening.{cut_earlier, on_source-narrow, same_texts}
-use Rattle.plansys.specs.Input.Outcome.{checked, validated, fault, untold}
+use Rattle.plansys.specs.Input.Outcome.{checked, validated, untold}
 use Rattle.plansys.specs.Headline.{IsFault, IsDue, IsUntold}
 use Rattle.plansys.specs.Headline.IsDue.{misused, no_domain, too_long, too_many, unread}
 use Rattle.plansys.specs.Faults.{IsCut, IsNotHad, IsJudged, HasNoInput, Gives, GivesDomain, GivesPlan}
@@ -26,19 +31,6 @@ use Rattle.plansys.specs.declared.faults.Stop.TheVariants.{Due, Broken}
 use Rattle.plansys.specs.declared.session.Broken.TheVariants.{Write, OutOfMemory}
 
 -- ---- words
-
--- the first word is this one
-abbrev pub begins : List (List ℕ) → List ℕ → Type 0
-begins ws word = same_text (argument ws 0) word ≡ true
-
-begins-session : (ws : List (List ℕ)) → is_session ws ≡ true → begins ws (codes "session")
-begins-session ws h = (and_parts _ _ (and_parts _ _ (and_parts _ _ (and_parts _ _ (and_parts _ _ h).0).0).0).0).1
-
-begins-check : (ws : List (List ℕ)) → is_check ws ≡ true → begins ws (codes "check")
-begins-check ws h = (and_parts _ _ (and_parts _ _ (and_parts _ _ h).0).0).1
-
-begins-validate : (ws : List (List ℕ)) → is_validate ws ≡ true → begins ws (codes "validate")
-begins-validate ws h = (and_parts _ _ (and_parts _ _ (and_parts _ _ (and_parts _ _ (and_parts _ _ (and_parts _ _ (and_parts _ _ h).0).0).0).0).0).0).1
 
 -- words that begin with one word are of no form that begins with another
 other_form : (ws : List (List ℕ)) (form : Bool) (word other : List ℕ) → (form ≡ true → begins ws other) → same_text word other ≡ false → begins ws word → form ≡ false
@@ -75,15 +67,22 @@ module _ (ws : List (List ℕ)) where
   no_validate-quiet : is_quiet ws ≡ false → is_validate ws ≡ false
   no_validate-quiet q = not_quiet (is_validate ws) (codes "validate") (begins-validate ws) (or_parts _ _ q).1
 
--- the words of a session, or those of a plan to be validated
+-- the words ask for a session, or for the validation of a plan
 abbrev pub names_script : Bool → List (List ℕ) → Bool
 names_script false ws = is_session ws
 names_script true ws = is_validate ws
 
--- what the script of such words gives with a domain's text
+-- the words ask for something, so that they name a domain's file
+abbrev names_domain : List (List ℕ) → Bool
+names_domain ws = is_session ws || (is_check ws || is_validate ws)
+
+-- what the script that is asked for gives with a domain's text
+abbrev flat_in : Bool → Option Request → Texts → Flat → List ℕ → Outcome
+flat_in false o texts flat domain = with_script (budget_told o) flat domain
+flat_in true o texts flat domain = with_plan (plan_named o) (texts (plan_named o)) flat domain
+
 abbrev pub with_flat : Bool → List (List ℕ) → Texts → Flat → List ℕ → Outcome
-with_flat false ws texts flat domain = with_script flat domain
-with_flat true ws texts flat domain = with_plan (plan_file ws) (texts (plan_file ws)) flat domain
+with_flat plans ws texts flat domain = flat_in plans (asked_of ws) texts flat domain
 
 names-script : (plans : Bool) (ws : List (List ℕ)) → names_script plans ws ≡ true → names_domain ws ≡ true
 names-script false ws h = rw h refl
@@ -91,6 +90,21 @@ names-script true ws h = rw (no_session-validate ws (begins-validate ws h), no_c
 
 names-check : (ws : List (List ℕ)) → is_check ws ≡ true → names_domain ws ≡ true
 names-check ws h = rw (no_session-check ws (begins-check ws h), h) refl
+
+-- the outcome of what is asked for, where that has a script
+abbrev asks_script : Bool → Option Request → Bool
+asks_script false o = is_some (session_in o)
+asks_script true o = is_some (validation_in o)
+
+script_outcome : (plans : Bool) (texts : Texts) (o : Option Request) → asks_script plans o ≡ true → outcome_of texts o ≡ with_text (domain_in o) (flat_in plans o texts (script_in plans (script_named o) texts)) (texts (domain_in o))
+script_outcome false texts None h = cc
+script_outcome true texts None h = cc
+script_outcome false texts (Some (a_session s)) h = refl
+script_outcome true texts (Some (a_session s)) h = cc
+script_outcome false texts (Some (a_check domain)) h = cc
+script_outcome true texts (Some (a_check domain)) h = cc
+script_outcome false texts (Some (a_validation domain script plan)) h = cc
+script_outcome true texts (Some (a_validation domain script plan)) h = refl
 
 -- the outcome of the words of a session, or of a plan to be validated
 abbrev of_script : Bool → List (List ℕ) → Texts → Outcome
@@ -102,19 +116,30 @@ of_check ws texts = with_text (domain_file ws) checked (texts (domain_file ws))
 
 input_of-script : (plans : Bool) (ws : List (List ℕ)) (texts : Texts) → names_script plans ws ≡ true → input_of ws texts ≡ of_script plans ws texts
 unfolding input_of
-input_of-script false ws texts h = rw h refl
-input_of-script true ws texts h = rw (no_session-validate ws (begins-validate ws h), no_check-validate ws (begins-validate ws h), h) refl
+input_of-script false ws texts h = script_outcome false texts (asked_of ws) h
+input_of-script true ws texts h = script_outcome true texts (asked_of ws) h
+
+check_outcome : (texts : Texts) (o : Option Request) → is_some (check_in o) ≡ true → outcome_of texts o ≡ with_text (domain_in o) checked (texts (domain_in o))
+check_outcome texts None h = cc
+check_outcome texts (Some (a_session s)) h = cc
+check_outcome texts (Some (a_check domain)) h = refl
+check_outcome texts (Some (a_validation domain script plan)) h = cc
 
 input_of-check : (ws : List (List ℕ)) (texts : Texts) → is_check ws ≡ true → input_of ws texts ≡ of_check ws texts
 unfolding input_of
-input_of-check ws texts h = rw (no_session-check ws (begins-check ws h), h) refl
+input_of-check ws texts h = check_outcome texts (asked_of ws) h
 
-input_of-misused : (ws : List (List ℕ)) (texts : Texts) → is_session ws ≡ false → is_check ws ≡ false → is_validate ws ≡ false → input_of ws texts ≡ fault 2 usage_line
-unfolding input_of
-input_of-misused ws texts s c v = rw (s, c, v) refl
+none_asked : (o : Option Request) → is_some (session_in o) ≡ false → is_some (check_in o) ≡ false → is_some (validation_in o) ≡ false → o ≡ None
+none_asked None s c v = refl
+none_asked (Some (a_session x)) s c v = cc
+none_asked (Some (a_check domain)) s c v = cc
+none_asked (Some (a_validation domain script plan)) s c v = cc
 
 misused_words : (ws : List (List ℕ)) (texts : Texts) (before now : ℕ) → is_session ws ≡ false → is_check ws ≡ false → is_validate ws ≡ false → IsDue (input_of ws texts) ws texts before now 2 usage_line
-misused_words ws texts before now s c v = misused (rw (input_of-misused ws texts s c v) (refl, refl))
+unfolding input_of
+misused_words ws texts before now s c v =
+    let none : asked_of ws ≡ None = none_asked (asked_of ws) s c v in
+    misused none (subst (λ (o : Option Request). IsFault (outcome_of texts o) 2 usage_line) (sym none) (refl, refl))
 
 -- the words aren't those of a session, of a check, or of a plan to be validated
 pub no_session : (ws : List (List ℕ)) (texts : Texts) (before now : ℕ) → is_quiet ws ≡ false → is_session ws ≡ false → IsDue (input_of ws texts) ws texts before now 2 usage_line
@@ -305,10 +330,11 @@ module _ (ws : List (List ℕ)) (texts : Texts) (domain : List ℕ) (short : len
           refused ws texts (input_of ws texts) domain before now stop e (λ line n. of_flat false ws texts domain h short e (λ o. IsFault o 3 line) (lines script ended) flat tt (refl, n)) j
 
       -- both are read
-      pub gives : (d : Domain) (t last : Table) (all : List Line) → is_session ws ≡ true → IsDomain domain d t → IsScript t script all last → Gives (input_of ws texts) (input_with d all) last
+      pub gives : (d : Domain) (t last : Table) (all : List Line) → is_session ws ≡ true → IsDomain domain d t → IsScript t script all last → Gives (input_of ws texts) (input_with d all (budget_of ws)) last
       gives d t last all h read are =
-          let is : IsInput domain script (input_with d all) last = record { between = t; read = read; lines = are } in
-          of_flat false ws texts domain h short e (λ o. Gives o (input_with d all) last) (lines script ended) flat tt is
+          let i : Input = input_with d all (budget_of ws) in
+          let is : IsInput (budget_of ws) domain script i last = record { between = t; read = read; lines = are; bounded = refl } in
+          of_flat false ws texts domain h short e (λ o. Gives o i last) (lines script ended) flat tt is
 
     module _ (flat : MayBe (script_in true (script_file ws) texts) (lines script ended)) (plan : List ℕ) (short_plan : length plan ≤ longest_file) (had : IfSome (texts (plan_file ws)) (λ t. plan ≡ t)) where
       -- what holds of all three texts holds of the outcome
@@ -321,7 +347,8 @@ module _ (ws : List (List ℕ)) (texts : Texts) (domain : List ℕ) (short : len
           refused ws texts (input_of ws texts) domain before now stop e (λ line n. of_validated (λ o. IsFault o 3 line) h tt (refl, n)) j
 
       -- all three are read
-      pub gives_plan : (d : Domain) (t last : Table) (all : List Line) → is_validate ws ≡ true → IsDomain domain d t → IsScript t script all last → GivesPlan (input_of ws texts) (input_with d all) last plan
-      gives_plan d t last all h read are =
-          let is : IsInput domain script (input_with d all) last = record { between = t; read = read; lines = are } in
-          of_validated (λ o. GivesPlan o (input_with d all) last plan) h tt (is, refl)
+      pub gives_plan : (d : Domain) (t last : Table) (all : List Line) (budget : ℕ) → is_validate ws ≡ true → IsDomain domain d t → IsScript t script all last → GivesPlan (input_of ws texts) (input_with d all budget) last plan
+      gives_plan d t last all budget h read are =
+          let i : Input = input_with d all budget in
+          let is : IsInput budget domain script i last = record { between = t; read = read; lines = are; bounded = refl } in
+          of_validated (λ o. GivesPlan o i last plan) h tt (is, refl)

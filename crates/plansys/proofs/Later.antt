@@ -71,6 +71,7 @@ module _ (m n : ℕ) (h : m ≤ n) where
   query-later query.ProblemPredicates p = p
   query-later query.ProblemFunctions p = p
   query-later query.ProblemGoal p = p
+  query-later query.Plan p = p
 
   pub line-later : (line : Line) → IsLineOf m line → IsLineOf n line
   line-later (Good (command.Edit edit)) p = edit-later edit p

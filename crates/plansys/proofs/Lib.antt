@@ -1,3 +1,4 @@
+pub mod Asked
 pub mod DueLines
 pub mod Edits
 pub mod Flattening
@@ -8,6 +9,7 @@ pub mod LinesNamed
 pub mod NameLines
 pub mod OneScript
 pub mod PlanNames
+pub mod Plans
 pub mod Replies
 pub mod ScriptLines
 pub mod Sessions

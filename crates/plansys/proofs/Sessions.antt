@@ -35,7 +35,7 @@ use Rattle.ps_machine.proofs.ReadBack.{AreEntriesIn-journal_text}
 use Rattle.ps_text.specs.Causes.{AppendsFront}
 use Rattle.plansys.specs.Steps.{by_terminal, edit_event, event_of, query_event}
 use Rattle.plansys.specs.Session.{IsDone, IsCut}
-use Rattle.plansys.proofs.Taken.{Appends-same, Appends-append, AppendsFront-append, AppendsFront-nil}
+use Rattle.plansys.proofs.Taken.{Appends-same, Appends-append, AppendsFront-all, AppendsFront-append, AppendsFront-nil}
 
 -- What a session has come to: a history of its first lines, what is known after it, whether a line was refused, and
 -- the text that was written since the start.
@@ -82,90 +82,104 @@ legal-edit i names es edit (Ok new) e h = rw (eq-eqb (answered es + 1) (answered
 legal-edit i names es edit (Err r) e h = rw (eq-eqb (answered es + 1) (answered es + 1) refl, h, e, same_text-self (refusal_text names (refusal.Edit r))) refl
 
 -- the event of a query, refused or not, is legal
-legal-query : (i : Input) (names : Table) (es : List Entry) (query : Query) (why : Option Refusal) → refusal_of_query i.domain query ≡ why → next_line i es ≡ Some (Good (command.Ask query)) → is_legal names i es (query_event (Terminal (answered es + 1)) query why) ≡ true
+legal-query : (i : Input) (names : Table) (es : List Entry) (query : Query) (why : Option Refusal) → refusal_of_query i.domain i.budget (know i es) query ≡ why → next_line i es ≡ Some (Good (command.Ask query)) → is_legal names i es (query_event (Terminal (answered es + 1)) query why) ≡ true
 legal-query i names es query None e h = rw (h, e, same_text-self (query_text names query)) refl
 legal-query i names es query (Some r) e h = rw (eq-eqb (answered es + 1) (answered es + 1) refl, h, e, same_text-self (refusal_text names r)) refl
 
 -- the event that answers the next line is legal
-legal-event_of : (i : Input) (names : Table) (es : List Entry) (line : Line) → next_line i es ≡ Some line → is_legal names i es (event_of i.domain (know i es) (answered es + 1) line) ≡ true
+legal-event_of : (i : Input) (names : Table) (es : List Entry) (line : Line) → next_line i es ≡ Some line → is_legal names i es (event_of i.domain i.budget (know i es) (answered es + 1) line) ≡ true
 legal-event_of i names es (Good (command.Edit edit)) h = legal-edit i names es edit (edited i.domain (know i es) edit) refl h
-legal-event_of i names es (Good (command.Ask query)) h = legal-query i names es query (refusal_of_query i.domain query) refl h
+legal-event_of i names es (Good (command.Ask query)) h = legal-query i names es query (refusal_of_query i.domain i.budget (know i es) query) refl h
 legal-event_of i names es (Good command.Quit) h = rw h refl
 legal-event_of i names es (Bad cause) h = rw (eq-eqb (answered es + 1) (answered es + 1) refl, h) (same_text-self (refusal_text names (refusal.Line cause)))
 
 -- it answers a line
-answers_line-event_of : (d : Domain) (k : Knowledge) (n : ℕ) (line : Line) → answers_line (event_of d k n line) ≡ true
-answers_line-event_of d k n (Good (command.Edit edit)) =
+answers_line-event_of : (d : Domain) (budget : ℕ) (k : Knowledge) (n : ℕ) (line : Line) → answers_line (event_of d budget k n line) ≡ true
+answers_line-event_of d budget k n (Good (command.Edit edit)) =
     elim (edited d k edit) as (λ o. answers_line (edit_event (Terminal n) edit o) ≡ true) [ Ok new ↦ refl | Err r ↦ refl ]
-answers_line-event_of d k n (Good (command.Ask query)) =
-    elim (refusal_of_query d query) as (λ o. answers_line (query_event (Terminal n) query o) ≡ true) [ None ↦ refl | Some r ↦ refl ]
-answers_line-event_of d k n (Good command.Quit) = refl
-answers_line-event_of d k n (Bad cause) = refl
+answers_line-event_of d budget k n (Good (command.Ask query)) =
+    elim (refusal_of_query d budget k query) as (λ o. answers_line (query_event (Terminal n) query o) ≡ true) [ None ↦ refl | Some r ↦ refl ]
+answers_line-event_of d budget k n (Good command.Quit) = refl
+answers_line-event_of d budget k n (Bad cause) = refl
 
 -- and it is the terminal's
-has_hand-event_of : (d : Domain) (k : Knowledge) (n : ℕ) (line : Line) → has_hand (event_of d k n line) 0 ≡ true
-has_hand-event_of d k n (Good (command.Edit edit)) =
+has_hand-event_of : (d : Domain) (budget : ℕ) (k : Knowledge) (n : ℕ) (line : Line) → has_hand (event_of d budget k n line) 0 ≡ true
+has_hand-event_of d budget k n (Good (command.Edit edit)) =
     elim (edited d k edit) as (λ o. has_hand (edit_event (Terminal n) edit o) 0 ≡ true) [ Ok new ↦ refl | Err r ↦ refl ]
-has_hand-event_of d k n (Good (command.Ask query)) =
-    elim (refusal_of_query d query) as (λ o. has_hand (query_event (Terminal n) query o) 0 ≡ true) [ None ↦ refl | Some r ↦ refl ]
-has_hand-event_of d k n (Good command.Quit) = refl
-has_hand-event_of d k n (Bad cause) = refl
+has_hand-event_of d budget k n (Good (command.Ask query)) =
+    elim (refusal_of_query d budget k query) as (λ o. has_hand (query_event (Terminal n) query o) 0 ≡ true) [ None ↦ refl | Some r ↦ refl ]
+has_hand-event_of d budget k n (Good command.Quit) = refl
+has_hand-event_of d budget k n (Bad cause) = refl
 
--- the entry that answers the line after these
-abbrev entry_for : Input → Knowledge → ℕ → Line → Entry
-entry_for i k count line = by_terminal (event_of i.domain k (count + 1) line)
+-- the line after these has this event
+abbrev pub IsNext : Input → Knowledge → ℕ → Event → Type 0
+IsNext i k count what = (line : Line) × (slice_get (due_lines i.lines) count ≡ Some line) × (what ≡ event_of i.domain i.budget k (count + 1) line)
 
 -- one more line has its entry
-history-more : (i : Input) (names : Table) (k : Knowledge) (es : List Entry) (count : ℕ) (line : Line) → IsHistory names i es → k ≡ know i es → answered es ≡ count → slice_get (due_lines i.lines) count ≡ Some line → IsHistory names i (es ++ entry_for i k count line ∷ [])
-history-more i names k es count line h known counted next =
-    rw (← counted, known) (block es (by_terminal (event_of i.domain (know i es) (answered es + 1) line)) h (legal-event_of i names es line (rw counted next)) (has_hand-event_of i.domain (know i es) (answered es + 1) line))
+history-more : (i : Input) (names : Table) (k : Knowledge) (es : List Entry) (count : ℕ) (what : Event) → IsHistory names i es → k ≡ know i es → answered es ≡ count → IsNext i k count what → IsHistory names i (es ++ by_terminal what ∷ [])
+history-more i names k es count what h known counted next =
+    let line = next.0 in
+    rw (next.2, ← counted, known) (block es (by_terminal (event_of i.domain i.budget (know i es) (answered es + 1) line)) h (legal-event_of i names es line (rw counted next.1)) (has_hand-event_of i.domain i.budget (know i es) (answered es + 1) line))
+
+-- it has an answer
+answers-next : (i : Input) (k : Knowledge) (count : ℕ) (what : Event) → IsNext i k count what → answers_line what ≡ true
+answers-next i k count what next = rw next.2 (answers_line-event_of i.domain i.budget k (count + 1) next.0)
+
+entry_text-after : (names : Table) (d : Domain) (budget : ℕ) (k : Knowledge) (what : Event) → entry_text names d budget (known_after d k what) (by_terminal what) ≡ entry_text names d budget k (by_terminal what)
+entry_text-after names d budget k (event.Edit by edit) = refl
+entry_text-after names d budget k (event.Refused by why) = refl
+entry_text-after names d budget k (event.Ask query) = refl
+entry_text-after names d budget k event.Quit = refl
+
+-- An entry's text tells what is known only of a query, which changes nothing, so that it is the same after its event: with it the
+-- journal's text goes on.
+journal_text-more : (i : Input) (names : Table) (k new : Knowledge) (es : List Entry) (what : Event) → k ≡ know i es → new ≡ known_after i.domain k what → journal_text names i es ++ entry_text names i.domain i.budget new (by_terminal what) ≡ journal_text names i (es ++ by_terminal what ∷ [])
+journal_text-more i names k new es what known after =
+    let same : new ≡ known_after i.domain (know i es) what = after ∙ ap (λ x. known_after i.domain x what) known in
+    let told = ap (λ x. entry_text names i.domain i.budget x (by_terminal what)) same ∙ entry_text-after names i.domain i.budget (know i es) what in
+    ap (λ t. journal_text names i es ++ t) told ∙ sym (journal_text-push names i es (by_terminal what))
 
 -- a line is taken: its entry is written
-pub takes_line : (i : Input) (names : Table) (k new : Knowledge) (refused : Bool) (count : ℕ) (line : Line) (start now last : Option (List ℕ))
+pub takes_line : (i : Input) (names : Table) (k new : Knowledge) (refused : Bool) (count : ℕ) (what : Event) (start now last : Option (List ℕ))
     → IsSoFar i names k refused count start now
-    → slice_get (due_lines i.lines) count ≡ Some line
-    → new ≡ known_after i.domain k (event_of i.domain k (count + 1) line)
-    → Appends now last (entry_text names i.domain k (entry_for i k count line))
-    → IsSoFar i names new (refused || is_refusal (event_of i.domain k (count + 1) line)) (count + 1) start last
-takes_line i names k new refused count line start now last s next known more =
-    let e = entry_for i k count line in
+    → IsNext i k count what
+    → new ≡ known_after i.domain k what
+    → Appends now last (entry_text names i.domain i.budget new (by_terminal what))
+    → IsSoFar i names new (refused || is_refusal what) (count + 1) start last
+takes_line i names k new refused count what start now last s next known more =
+    let e = by_terminal what in
     record {
       journal = s.journal ++ e ∷ [];
-      history = history-more i names k s.journal count line s.history s.known s.counted next;
-      known = known ∙ ap (λ x. known_after i.domain x e.what) s.known ∙ sym (know-push i s.journal e);
-      counted = answered-push s.journal e (answers_line-event_of i.domain k (count + 1) line) ∙ ap (λ n. n + 1) s.counted;
-      refusals = ap (λ b. b || is_refusal e.what) s.refusals ∙ sym (list_any-push (λ x. is_refusal x.what) s.journal e);
-      text = Appends-same start last (journal_text names i s.journal ++ entry_text names i.domain k e) (journal_text names i (s.journal ++ e ∷ []))
-          (ap (λ x. journal_text names i s.journal ++ entry_text names i.domain x e) s.known ∙ sym (journal_text-push names i s.journal e))
-          (Appends-append start now last (journal_text names i s.journal) (entry_text names i.domain k e) s.text more);
+      history = history-more i names k s.journal count what s.history s.known s.counted next;
+      known = known ∙ ap (λ x. known_after i.domain x what) s.known ∙ sym (know-push i s.journal e);
+      counted = answered-push s.journal e (answers-next i k count what next) ∙ ap (λ n. n + 1) s.counted;
+      refusals = ap (λ b. b || is_refusal what) s.refusals ∙ sym (list_any-push (λ x. is_refusal x.what) s.journal e);
+      text = Appends-same start last (journal_text names i s.journal ++ entry_text names i.domain i.budget new e) (journal_text names i (s.journal ++ e ∷ []))
+          (journal_text-more i names k new s.journal what s.known known)
+          (Appends-append start now last (journal_text names i s.journal) (entry_text names i.domain i.budget new e) s.text more);
     }
+
+-- a line isn't answered, for want of memory
+pub stops_line : (i : Input) (names : Table) (k : Knowledge) (refused : Bool) (count : ℕ) (start now : Option (List ℕ)) → IsSoFar i names k refused count start now → IsCut i names start now
+stops_line i names k refused count start now s =
+    record { journal = s.journal; history = s.history; text = AppendsFront-all start now (journal_text names i s.journal) s.text }
 
 -- the writing of a line's entry is broken off
-pub cuts_line : (i : Input) (names : Table) (k : Knowledge) (refused : Bool) (count : ℕ) (line : Line) (start now last : Option (List ℕ))
+pub cuts_line : (i : Input) (names : Table) (k new : Knowledge) (refused : Bool) (count : ℕ) (what : Event) (start now last : Option (List ℕ))
     → IsSoFar i names k refused count start now
-    → slice_get (due_lines i.lines) count ≡ Some line
-    → AppendsFront now last (entry_text names i.domain k (entry_for i k count line))
+    → IsNext i k count what
+    → new ≡ known_after i.domain k what
+    → AppendsFront now last (entry_text names i.domain i.budget new (by_terminal what))
     → IsCut i names start last
-cuts_line i names k refused count line start now last s next more =
-    let e = entry_for i k count line in
+cuts_line i names k new refused count what start now last s next known more =
+    let e = by_terminal what in
     record {
       journal = s.journal ++ e ∷ [];
-      history = history-more i names k s.journal count line s.history s.known s.counted next;
+      history = history-more i names k s.journal count what s.history s.known s.counted next;
       text = subst (AppendsFront start last)
-          (ap (λ x. journal_text names i s.journal ++ entry_text names i.domain x e) s.known ∙ sym (journal_text-push names i s.journal e))
-          (AppendsFront-append start now last (journal_text names i s.journal) (entry_text names i.domain k e) s.text more);
+          (journal_text-more i names k new s.journal what s.known known)
+          (AppendsFront-append start now last (journal_text names i s.journal) (entry_text names i.domain i.budget new e) s.text more);
     }
-
-entry_text-after : (names : Table) (d : Domain) (k : Knowledge) (what : Event) → entry_text names d (known_after d k what) (by_terminal what) ≡ entry_text names d k (by_terminal what)
-entry_text-after names d k (event.Edit by edit) = refl
-entry_text-after names d k (event.Refused by why) = refl
-entry_text-after names d k (event.Ask query) = refl
-entry_text-after names d k event.Quit = refl
-
--- an entry's text tells what is known only of a query, which changes nothing, so that it is the same after its event
-pub entry_text-line : (names : Table) (d : Domain) (k new : Knowledge) (what event : Event) → what ≡ event → new ≡ known_after d k what → entry_text names d new (by_terminal what) ≡ entry_text names d k (by_terminal event)
-entry_text-line names d k new what event e known =
-    ap (λ x. entry_text names d x (by_terminal what)) known ∙ entry_text-after names d k what ∙ ap (λ w. entry_text names d k (by_terminal w)) e
 
 -- nothing, or a front of the header, was written
 pub cut_before : (i : Input) (names : Table) (start now : Option (List ℕ)) → AppendsFront start now header → IsCut i names start now

@@ -1,6 +1,6 @@
 -- Bytes that a sink took, one piece after another.
 use Rattle.std.proofs.Common.{◌≡◌, ℕ, ◌+◌, List, [], ◌++◌, Option, Some, None, take, length, ap, sym, ◌∙◌, append_assoc, append-nil, subst}
-use Rattle.std.proofs.Math.Seq.{take-append-add}
+use Rattle.std.proofs.Math.Seq.{take-append-add, take-length}
 use Rattle.std.specs.Io.KnownBytes.{Appends}
 use Rattle.ps_text.specs.Causes.{AppendsFront}
 
@@ -28,3 +28,7 @@ AppendsFront-append a b c xs ys p q =
 -- nothing is a front of anything
 pub AppendsFront-nil : (t : Option (List ℕ)) (xs : List ℕ) → AppendsFront t t xs
 AppendsFront-nil t xs = (0, Appends-nil t)
+
+-- all of a text is a front of it
+pub AppendsFront-all : (a b : Option (List ℕ)) (xs : List ℕ) → Appends a b xs → AppendsFront a b xs
+AppendsFront-all a b xs h = (length xs, Appends-same a b xs (take (length xs) xs) (sym (take-length xs)) h)

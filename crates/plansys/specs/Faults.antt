@@ -88,7 +88,7 @@ HasNoInput outcome ws texts before now (Broken OutOfMemory) = Unit {0}
 
 -- the texts of a session are read as this input with this table, where they are told
 abbrev pub Gives : Outcome → Input → Table → Type 0
-Gives (given domain script) input table = IsInput domain script input table
+Gives (given budget domain script) input table = IsInput budget domain script input table
 Gives (checked domain) input table = ⊥
 Gives (validated domain script plan) input table = ⊥
 Gives (at_fault s l) input table = ⊥
@@ -96,7 +96,7 @@ Gives untold input table = Unit {0}
 
 -- the text of a check is read as this domain with this table, where it is told
 abbrev pub GivesDomain : Outcome → Domain → Table → Type 0
-GivesDomain (given domain script) d table = ⊥
+GivesDomain (given budget domain script) d table = ⊥
 GivesDomain (validated domain script plan) d table = ⊥
 GivesDomain (checked domain) d table = IsDomain domain d table
 GivesDomain (at_fault s l) d table = ⊥
@@ -104,9 +104,9 @@ GivesDomain untold d table = Unit {0}
 
 -- the texts that are to be validated are read as this input with this table, and as this text of a plan, where they are told
 abbrev pub GivesPlan : Outcome → Input → Table → List ℕ → Type 0
-GivesPlan (given domain script) input table plan = ⊥
+GivesPlan (given budget domain script) input table plan = ⊥
 GivesPlan (checked domain) input table plan = ⊥
-GivesPlan (validated domain script text) input table plan = IsInput domain script input table × (text ≡ plan)
+GivesPlan (validated domain script text) input table plan = IsInput input.budget domain script input table × (text ≡ plan)
 GivesPlan (at_fault s l) input table plan = ⊥
 GivesPlan untold input table plan = Unit {0}
 

@@ -1,11 +1,12 @@
 -- What a call of the program claims.
-use Rattle.std.specs.Prelude.{◌≡◌, ℕ, ◌<◌, ◌⊎◌, Option, Err, List, IfSome}
+use Rattle.std.specs.Prelude.{◌≡◌, ℕ, ◌<◌, ◌⊎◌, Option, None, Err, List, IfSome}
 use Rattle.std.specs.Io.KnownBytes.{Appends, Keeps}
 use Rattle.ps_text.specs.Causes.{Rose, AppendsFront}
 use Rattle.ps_world.specs.Names.{Table}
 use Rattle.ps_world.specs.DomainTexts.{domain_text}
 use Rattle.ps_world.specs.declared.domains.Domain.{Domain}
 use Rattle.ps_machine.specs.declared.inputs.Input.{Input}
+use Rattle.ps_words.specs.Words.{asked_of}
 use Rattle.ps_pddl.specs.Reading.{IsRead}
 use Rattle.ps_pddl.specs.declared.refusals.DomainRefusal.{DomainRefusal}
 use Rattle.plansys.specs.DomainFaults.{cause_text}
@@ -20,7 +21,7 @@ use Rattle.plansys.specs.Input.Outcome.{given, checked, validated, fault, untold
 
 -- the outcome is this fault, or a domain's text that is no domain; where the texts aren't told, nothing is claimed
 abbrev pub IsFault : Outcome → ℕ → List ℕ → Type 0
-IsFault (given domain script) status line = (3 ≡ status) × IsNoDomain domain line
+IsFault (given budget domain script) status line = (3 ≡ status) × IsNoDomain domain line
 IsFault (checked domain) status line = (3 ≡ status) × IsNoDomain domain line
 IsFault (validated domain script plan) status line = (3 ≡ status) × IsNoDomain domain line
 IsFault (fault s l) status line = (s ≡ status) × (l ≡ line)
@@ -34,17 +35,17 @@ IsPrinted domain old new = (d : Domain) × (names : Table) × IsDomain domain d 
 abbrev pub IsHalfPrinted : List ℕ → Option (List ℕ) → Option (List ℕ) → Type 0
 IsHalfPrinted domain old new = (d : Domain) × (names : Table) × IsDomain domain d names × AppendsFront old new (domain_text names d)
 
--- with the input that the texts are, what is wrong with the plan's text after the edits of the script, if something is, and the
--- table that it is told with
+-- with the input that the texts are, whatever its budget is, what is wrong with the plan's text after the edits of the script, if
+-- something is, and the table that it is told with
 abbrev pub WithVerdict : List ℕ → List Flattened → List ℕ → (Option Invalid × Table → Type 0) → Type 0
 WithVerdict domain script plan claim =
-    (i : Input) × (names : Table) × IsInput domain script i names × claim (verdict i.domain (known_after i.domain i.lines) names plan)
+    (i : Input) × (names : Table) × IsInput i.budget domain script i names × claim (verdict i.domain (known_after i.domain i.lines) names plan)
 
 -- The answers 0, 1 and 7: with the input that the texts are, what `out` took is a whole session of it, which ends with this
 -- status. A check answers 0 alone, and `out` took the canonical text of the domain. A plan that is validated is answered with 0
 -- exactly where nothing is wrong with it, and with 7 else, and `out` took the line that says so.
 abbrev pub IsAnswered : Outcome → Option (List ℕ) → Option (List ℕ) → ℕ → Type 0
-IsAnswered (given domain script) old new status = (i : Input) × (names : Table) × IsInput domain script i names × IsDone i names old new status
+IsAnswered (given budget domain script) old new status = (i : Input) × (names : Table) × IsInput budget domain script i names × IsDone i names old new status
 IsAnswered (checked domain) old new status = (status ≡ 0) × IsPrinted domain old new
 IsAnswered (validated domain script plan) old new status =
     WithVerdict domain script plan (λ v. (status ≡ verdict_status v.0) × Appends old new (verdict_line v.1 v.0))
@@ -54,7 +55,7 @@ IsAnswered untold old new status = Unit {0}
 -- The answers 5 and 6: what `out` took is nothing, or a front of the text of a history of the input that the texts are,
 -- or of the domain's canonical text, or of the line that a plan is answered with.
 abbrev pub IsFront : Outcome → Option (List ℕ) → Option (List ℕ) → Type 0
-IsFront (given domain script) old new = Keeps old new ⊎ ((i : Input) × (names : Table) × IsInput domain script i names × IsCut i names old new)
+IsFront (given budget domain script) old new = Keeps old new ⊎ ((i : Input) × (names : Table) × IsInput budget domain script i names × IsCut i names old new)
 IsFront (checked domain) old new = Keeps old new ⊎ IsHalfPrinted domain old new
 IsFront (validated domain script plan) old new =
     Keeps old new ⊎ WithVerdict domain script plan (λ v. AppendsFront old new (verdict_line v.1 v.0))
@@ -63,18 +64,18 @@ IsFront untold old new = Unit {0}
 
 -- no text is told that the outcome rests on first
 abbrev pub IsUntold : Outcome → Type 0
-IsUntold (given domain script) = ⊥
+IsUntold (given budget domain script) = ⊥
 IsUntold (checked domain) = ⊥
 IsUntold (validated domain script plan) = ⊥
 IsUntold (fault s l) = ⊥
 IsUntold untold = Unit {0}
 
 -- Why a call ends before its work, with the status and the line that are then due:
---   2 where the words aren't of a form;
+--   2 where the words aren't in the grammar;
 --   3 where the domain's text is no domain, a file is too long, or a script with its files has too many lines;
 --   4 where reading a file failed that the work comes to: without its text, nothing is at fault before a text that isn't told.
 pub data IsDue (outcome : Outcome) (ws : List (List ℕ)) (texts : List ℕ → Option (List ℕ)) (before now : ℕ) : ℕ → List ℕ → Type 0 where
-  misused : IsFault outcome 2 usage_line → IsDue outcome ws texts before now 2 usage_line
+  misused : asked_of ws ≡ None → IsFault outcome 2 usage_line → IsDue outcome ws texts before now 2 usage_line
   no_domain : (refusal : DomainRefusal) (after : Table) → IfSome (texts (domain_file ws)) (λ text. IsRead first_names text (Err refusal) after) → IsFault outcome 3 (domain_line (cause_text after refusal)) → IsDue outcome ws texts before now 3 (domain_line (cause_text after refusal))
   too_long : (file : List ℕ) → IsFault outcome 3 (too_long_line file) → IsDue outcome ws texts before now 3 (too_long_line file)
   too_many : IsFault outcome 3 lines_line → IsDue outcome ws texts before now 3 lines_line
@@ -86,8 +87,8 @@ Says old new line before now = Appends old new line ⊎ (AppendsFront old new li
 
 -- what the outcome leads to, where memory and the outside don't fail
 abbrev pub LeadsTo : Outcome → ℕ → Type 0
-LeadsTo (given domain script) status =
-    ((i : Input) × (names : Table) × IsInput domain script i names × (status < 2)) ⊎ ((line : List ℕ) × IsNoDomain domain line × (status ≡ 3))
+LeadsTo (given budget domain script) status =
+    ((i : Input) × (names : Table) × IsInput budget domain script i names × (status < 2)) ⊎ ((line : List ℕ) × IsNoDomain domain line × (status ≡ 3))
 LeadsTo (checked domain) status =
     ((d : Domain) × (names : Table) × IsDomain domain d names × (status ≡ 0)) ⊎ ((line : List ℕ) × IsNoDomain domain line × (status ≡ 3))
 LeadsTo (validated domain script plan) status =

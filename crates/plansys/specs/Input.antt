@@ -1,9 +1,11 @@
 -- The input of a call: what its words and the texts of its files say.
-use Rattle.std.specs.Prelude.{◌≡◌, ℕ, Bool, true, false, not, ◌&&◌, ◌||◌, ◌==◌, nat_lt, if◌then◌else◌, Option, Some, None, Ok, Err, List, [], ◌∷◌, ◌++◌, codes, length, slice_index_or}
+use Rattle.std.specs.Prelude.{◌≡◌, ℕ, Bool, true, false, ◌||◌, nat_lt, if◌then◌else◌, Option, Some, None, Ok, Err, List, [], ◌∷◌, ◌++◌, codes, length, slice_index_or}
 use Rattle.ps_world.specs.Names.{Table}
 use Rattle.ps_world.specs.Lines.{same_text, line_end}
 use Rattle.ps_world.specs.declared.domains.Domain.{Domain}
 use Rattle.ps_machine.specs.declared.inputs.Input.{Input}
+use Rattle.ps_words.specs.Words.{Request, asked_of}
+use Rattle.ps_words.specs.Words.Request.{a_session, a_check, a_validation}
 use Rattle.ps_pddl.specs.Reading.{IsRead}
 use Rattle.ps_pddl.specs.declared.refusals.DomainRefusal.{DomainRefusal}
 use Rattle.plansys.specs.DomainFaults.{cause_text}
@@ -18,44 +20,20 @@ use Rattle.plansys.specs.Scripts.{IsScript}
 abbrev pub argument : List (List ℕ) → ℕ → List ℕ
 argument ws i = slice_index_or ws i []
 
--- a value isn't empty and doesn't begin with `-`
-abbrev pub is_value : List ℕ → Bool
-is_value w = nat_lt 0 (length w) && not (slice_index_or w 0 0 == 45)
-
--- session --domain F --script F
-abbrev pub is_session : List (List ℕ) → Bool
-is_session ws =
-    length ws == 5 && same_text (argument ws 0) (codes "session") && same_text (argument ws 1) (codes "--domain") && is_value (argument ws 2) && same_text (argument ws 3) (codes "--script") && is_value (argument ws 4)
-
 -- whether the first word is that of a mode that always returns
 abbrev pub is_quiet : List (List ℕ) → Bool
 is_quiet ws = same_text (argument ws 0) (codes "check") || same_text (argument ws 0) (codes "validate")
 
--- check --domain F
-abbrev pub is_check : List (List ℕ) → Bool
-is_check ws =
-    length ws == 3 && same_text (argument ws 0) (codes "check") && same_text (argument ws 1) (codes "--domain") && is_value (argument ws 2)
-
--- validate --domain F --script F --plan F
-abbrev pub is_validate : List (List ℕ) → Bool
-is_validate ws =
-    length ws == 7 && same_text (argument ws 0) (codes "validate") && same_text (argument ws 1) (codes "--domain") && is_value (argument ws 2) && same_text (argument ws 3) (codes "--script") && is_value (argument ws 4) && same_text (argument ws 5) (codes "--plan") && is_value (argument ws 6)
-
--- the words are of a form, so that the third of them names a domain's file
-abbrev pub names_domain : List (List ℕ) → Bool
-names_domain ws = is_session ws || (is_check ws || is_validate ws)
+-- the file of the domain that is asked for
+abbrev pub domain_in : Option Request → List ℕ
+domain_in None = []
+domain_in (Some (a_session s)) = s.domain
+domain_in (Some (a_check domain)) = domain
+domain_in (Some (a_validation domain script plan)) = domain
 
 -- the name of the domain's file
 abbrev pub domain_file : List (List ℕ) → List ℕ
-domain_file ws = argument ws 2
-
--- the name of the script's file
-abbrev pub script_file : List (List ℕ) → List ℕ
-script_file ws = argument ws 4
-
--- the name of the plan's file
-abbrev pub plan_file : List (List ℕ) → List ℕ
-plan_file ws = argument ws 6
+domain_file ws = domain_in (asked_of ws)
 
 -- The lines for what is at fault.
 
@@ -81,11 +59,11 @@ out_of_memory_line = codes "plansys: out of memory" ++ line_end
 
 -- The input.
 
--- What a call is given: for a session the text of the domain and the command lines of the script with its files, for a check
--- the domain's text, for a plan to be validated both with the text of the plan, or what is at fault, with the status and the
--- line that say so. It isn't told where the files don't tell a text that matters.
+-- What a call is given: for a session the budget, the text of the domain and the command lines of the script with its files, for
+-- a check the domain's text, for a plan to be validated that text and those lines with the text of the plan, or what is at fault,
+-- with the status and the line that say so. It isn't told where the files don't tell a text that matters.
 pub data Outcome : Type 0 where
-  given : List ℕ → List Flattened → Outcome
+  given : ℕ → List ℕ → List Flattened → Outcome
   checked : List ℕ → Outcome
   validated : List ℕ → List Flattened → List ℕ → Outcome
   fault : ℕ → List ℕ → Outcome
@@ -100,11 +78,11 @@ with_text file use_of (Some text) = if nat_lt longest_file (length text) then fa
 abbrev pub script_in : Bool → List ℕ → Texts → Flat
 script_in plans file texts = on_source plans 5 texts file []
 
--- what a domain's text gives with a script
-abbrev pub with_script : Flat → List ℕ → Outcome
-with_script (lines all ended) domain = given domain all
-with_script (cut_off status line) domain = fault status line
-with_script missing domain = untold
+-- what a domain's text gives with a budget and a script
+abbrev pub with_script : ℕ → Flat → List ℕ → Outcome
+with_script budget (lines all ended) domain = given budget domain all
+with_script budget (cut_off status line) domain = fault status line
+with_script budget missing domain = untold
 
 -- what a domain's text gives with a script and the text of a plan
 abbrev pub with_plan : List ℕ → Option (List ℕ) → Flat → List ℕ → Outcome
@@ -112,14 +90,18 @@ with_plan file told (lines all ended) domain = with_text file (λ plan. validate
 with_plan file told (cut_off status line) domain = fault status line
 with_plan file told missing domain = untold
 
--- The texts that the words and the texts by file name give. The domain's file is read, then the script's, with the files that
--- it names where they stand, then the plan's. A session doesn't read the files of plans that its script names.
+-- What is asked for gives, with the texts by file name. The domain's file is read, then the script's, with the files that it
+-- names where they stand, then the plan's. A session doesn't read the files of plans that its script names.
+abbrev pub outcome_of : Texts → Option Request → Outcome
+outcome_of texts None = fault 2 usage_line
+outcome_of texts (Some (a_session s)) = with_text s.domain (with_script s.budget (script_in false s.script texts)) (texts s.domain)
+outcome_of texts (Some (a_check domain)) = with_text domain checked (texts domain)
+outcome_of texts (Some (a_validation domain script plan)) =
+    with_text domain (with_plan plan (texts plan) (script_in true script texts)) (texts domain)
+
+-- what the words and the texts by file name give
 unfoldable pub input_of : List (List ℕ) → Texts → Outcome
-input_of ws texts =
-    if is_session ws then with_text (domain_file ws) (with_script (script_in false (script_file ws) texts)) (texts (domain_file ws))
-    else (if is_check ws then with_text (domain_file ws) checked (texts (domain_file ws))
-    else (if is_validate ws then with_text (domain_file ws) (with_plan (plan_file ws) (texts (plan_file ws)) (script_in true (script_file ws) texts)) (texts (domain_file ws))
-    else fault 2 usage_line))
+input_of ws texts = outcome_of texts (asked_of ws)
 
 -- What the texts are read as. The domain's text is judged first. Names are numbered in the order in which the texts have
 -- them, the domain's first.
@@ -139,8 +121,10 @@ pub record IsNoDomain (text line : List ℕ) : Type 0 where
   pub read : IsRead first_names text (Err refusal) after
   pub told : domain_line (cause_text after refusal) ≡ line
 
--- the text of a domain and the command lines of a script are read as this input, with this table after them
-pub record IsInput (domain : List ℕ) (script : List Flattened) (i : Input) (names : Table) : Type 0 where
+-- The text of a domain and the command lines of a script are read as this input, with this table after them. A solver may look
+-- at as many knowledges as the budget says.
+pub record IsInput (budget : ℕ) (domain : List ℕ) (script : List Flattened) (i : Input) (names : Table) : Type 0 where
   pub between : Table
   pub read : IsDomain domain i.domain between
   pub lines : IsScript between script i.lines names
+  pub bounded : i.budget ≡ budget

@@ -1,3 +1,4 @@
+pub mod Asked
 pub mod DomainFaults
 pub mod Faults
 pub mod Flats

@@ -10,9 +10,9 @@ use Rattle.ps_machine.specs.declared.inputs.Input.{Input}
 use Rattle.ps_machine.specs.declared.journal.Entry.{Entry}
 use Rattle.ps_text.specs.Causes.{AppendsFront}
 
--- the input of a domain and its lines
-abbrev pub input_with : Domain → List Line → Input
-input_with d lines = record { domain = d; lines = lines }
+-- the input of a domain and its lines, with a budget
+abbrev pub input_with : Domain → List Line → ℕ → Input
+input_with d lines budget = record { domain = d; lines = lines; budget = budget }
 
 -- The bytes are those of a whole session of this input, which ends with this status: their entries, read from the
 -- bytes line by line, are a legal history in which each line of the terminal has its entry, by the terminal's hand;

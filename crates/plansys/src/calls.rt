@@ -1,11 +1,12 @@
 //! The top calls.
-ghost use Rattle.std.specs.Prelude.{◌≡◌, ◌≢◌, ◌<◌, ◌≤◌, ◌⊎◌, ℕ, List, codes, true, false, IfOk, IfErr, OnOk, OnErr};
+ghost use Rattle.std.specs.Prelude.{◌≡◌, ◌≢◌, ◌<◌, ◌≤◌, ◌⊎◌, ℕ, None, List, codes, true, false, IfOk, IfErr, OnOk, OnErr};
 ghost use Rattle.std.specs.Io.KnownBytes.{Appends, Keeps};
 ghost use Rattle.ps_world.specs.DomainTexts.{domain_text};
 ghost use Rattle.ps_world.specs.Lines.{same_text};
 ghost use Rattle.ps_text.specs.Causes.{HasCause, Rose, AppendsFront};
 ghost use Rattle.ps_text.specs.Names.{AreNames};
 ghost use Rattle.ps_validate.specs.Verdicts.{known_after, verdict};
+ghost use Rattle.ps_words.specs.Words.{asked_of};
 ghost use Rattle.plansys.specs.Input.{argument, input_of, is_quiet, cannot_write_line, out_of_memory_line};
 ghost use Rattle.plansys.specs.Headline.{IsAnswered, IsFront, IsEnded, IsHalfTold, Says, LeadsTo};
 ghost use Rattle.plansys.specs.Faults.{word_texts, fault_line, fault_status, IsStopped};
@@ -37,9 +38,13 @@ fn attempt<F: Files, O: Sink>(
     ensures stopped { IfErr result (IsStopped (input_of (word_texts words.now) (F.text_of files.old)) (word_texts words.now) (F.text_of files.old) (F.faults files.old) (F.faults files.new) (O.taken out.old) (O.taken out.new) (O.faults out.old) (O.faults out.new)) }
 {
     let mut names = Names::new(alloc)?;
-    let Input { domain, lines } = read_input(alloc, words, &mut names, files)?;
+    let Input {
+        domain,
+        lines,
+        budget,
+    } = read_input(alloc, words, &mut names, files)?;
     let expert = Expert::new(alloc, domain)?;
-    let status = run(alloc, &names, &expert, lines.as_slice(), out)?;
+    let status = run(alloc, &names, &expert, budget, lines.as_slice(), out)?;
     Ok(status)
 }
 
@@ -97,7 +102,7 @@ fn judge(
     requires { AreNames names.old }
     ensures { IfOk result (λ wrong. (wrong, names.new) ≡ verdict input.domain (known_after input.domain input.lines) names.old plan.now) }
 {
-    let Input { domain, lines } = input;
+    let Input { domain, lines, .. } = input;
     let expert = Expert::new(alloc, domain)?;
     let problem = known_after(alloc, &expert, lines.as_slice())?;
     verdict(alloc, names, &expert, &problem, plan)
@@ -175,7 +180,7 @@ fn last_words<E: Sink>(err: &mut E, line: &[u8])
 /// | Status | Where |
 /// |---|---|
 /// | 0 | the domain was written in its canonical text, or the plan is valid |
-/// | 2 | the words aren't `check --domain F` or `validate --domain F --script F --plan F` |
+/// | 2 | the words aren't in the grammar |
 /// | 3 | a file is too long, a script has too many lines, or the domain's text is no domain |
 /// | 4 | a file can't be read |
 /// | 5 | a write to `out` failed, or one to `err` of the line of status 2, 3 or 4 |
@@ -206,6 +211,9 @@ pub fn plansys_quiet<F: Files, O: Sink, E: Sink>(
     ensures unread { result ≡ 4 → IsEnded (input_of (word_texts words.now) (F.text_of files.old)) (word_texts words.now) (F.text_of files.old)
         (F.faults files.old) (F.faults files.new) 4 (O.taken out.old) (O.taken out.new) (E.taken err.old) (E.taken err.new) }
     ensures unread_failed { result ≡ 4 → Rose (F.faults files.old) (F.faults files.new) }
+
+    // Words that aren't in the grammar come to nothing else than 2, unless telling it failed or memory is wanting.
+    ensures words { asked_of (word_texts words.now) ≡ None → (result ≡ 2) ⊎ (result ≡ 5) ⊎ (result ≡ 6) }
 
     // A write failed: to `out`, which then has a front of the domain's text or of the plan's line, or to `err`, of the line of status 2, 3 or 4.
     ensures unwritten { result ≡ 5
@@ -249,7 +257,7 @@ pub fn plansys_quiet<F: Files, O: Sink, E: Sink>(
 /// |---|---|
 /// | 0 | the session was done, and no line was refused; the domain was written in its canonical text; the plan is valid |
 /// | 1 | the session was done, and a line was refused |
-/// | 2 | the words aren't `session --domain F --script F`, `check --domain F` or `validate --domain F --script F --plan F` |
+/// | 2 | the words aren't in the grammar: a mode and its options, as `ps_words` reads them |
 /// | 3 | a file is too long, a script has too many lines, or the domain's text is no domain |
 /// | 4 | a file can't be read |
 /// | 5 | a write to `out` failed, or one to `err` of the line of status 2, 3 or 4 |
@@ -280,6 +288,9 @@ pub fn plansys<F: Files, O: Sink, E: Sink>(
     ensures unread { result ≡ 4 → IsEnded (input_of (word_texts words.now) (F.text_of files.old)) (word_texts words.now) (F.text_of files.old)
         (F.faults files.old) (F.faults files.new) 4 (O.taken out.old) (O.taken out.new) (E.taken err.old) (E.taken err.new) }
     ensures unread_failed { result ≡ 4 → Rose (F.faults files.old) (F.faults files.new) }
+
+    // Words that aren't in the grammar come to nothing else than 2, unless telling it failed or memory is wanting.
+    ensures words { asked_of (word_texts words.now) ≡ None → (result ≡ 2) ⊎ (result ≡ 5) ⊎ (result ≡ 6) }
 
     // A write failed: to `out`, which then has a front of a history's text or the domain's, or to `err`, of the line of status 2, 3 or 4.
     ensures unwritten { result ≡ 5

@@ -6,19 +6,25 @@ ghost use Rattle.plansys.specs.Faults.{fault_line, fault_status};
 
 use super::session::Broken;
 use std::alloc::{AllocError, AllocFailed, Global};
+use thiserror::Error;
 
-/// What ends a call before its work.
-#[derive(Debug, Drop)]
+/// What ends a call before its work. No text that is printed rests on what the errors show.
+#[derive(Debug, Drop, Error)]
 pub enum Fault {
-    /// The words aren't of a form.
+    /// The words aren't in the grammar.
+    #[error("the words aren't in the grammar")]
     Usage,
     /// The domain's text is no domain, and these words say why.
+    #[error("the text is no domain")]
     NoDomain(Vec<u8>),
     /// A file is longer than 1,048,576 bytes.
+    #[error("a file is longer than 1,048,576 bytes")]
     TooLong(Vec<u8>),
     /// A script with its files has more than 10,000 command lines.
+    #[error("a script has more than 10,000 command lines")]
     Lines,
     /// A file can't be read.
+    #[error("a file can't be read")]
     Unread(Vec<u8>),
 }
 

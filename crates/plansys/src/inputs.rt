@@ -1,10 +1,12 @@
 //! The input of a call, from its words and its files.
-ghost use Rattle.std.specs.Prelude.{◌≡◌, ◌==◌, ◌&&◌, ◌<◌, ◌≤◌, ◌^◌, ℕ, List, codes, length, Ok, true, false, IfOk, IfErr, IfSome, OnOk, All};
+ghost use Rattle.std.specs.Prelude.{◌≡◌, ◌<◌, ◌≤◌, ◌^◌, ℕ, codes, length, true, false, option_map, IfOk, IfErr, OnOk, All};
 ghost use Rattle.ps_world.specs.Lines.{same_text};
 ghost use Rattle.ps_machine.specs.Tables.{IsLineOf};
 ghost use Rattle.ps_text.specs.Names.{AreNames};
 ghost use Rattle.ps_print.specs.CanonicalWords.{IsParamOf};
-ghost use Rattle.plansys.specs.Input.{IsDomain, argument, first_names, input_of, is_check, is_quiet, is_session, is_validate, is_value};
+ghost use Rattle.ps_words.specs.Words.{said, settings_said};
+ghost use Rattle.plansys.specs.Asked.{check_in, session_in, validation_in};
+ghost use Rattle.plansys.specs.Input.{IsDomain, argument, first_names, input_of, is_quiet};
 ghost use Rattle.plansys.specs.Faults.{word_texts, IsJudged, HasNoInput, Gives, GivesDomain, GivesPlan};
 
 use super::causes::cause_text;
@@ -13,20 +15,9 @@ use super::reading::{read_flat, read_script, read_text};
 use ps_machine::Input;
 use ps_pddl::read_domain;
 use ps_text::{Files, Names};
+use ps_words::{Asked, Settings, read_words};
 use ps_world::Domain;
 use std::alloc::Global;
-
-/// Whether the words are `session --domain F --script F`, where no F is empty or begins with `-`.
-fn is_session(words: &[String]) -> bool
-    ensures { result ≡ is_session (word_texts words.now) }
-{
-    words.len() == 5
-        && words[0].as_str() == "session"
-        && words[1].as_str() == "--domain"
-        && is_value(words[2].as_bytes())
-        && words[3].as_str() == "--script"
-        && is_value(words[4].as_bytes())
-}
 
 /// The word at a place, or nothing.
 fn argument(words: &[String], place: usize) -> &str
@@ -52,43 +43,39 @@ pub fn is_validation(words: &[String]) -> bool
     argument(words, 0) == "validate"
 }
 
-/// Whether the words are `check --domain F`, where F isn't empty and doesn't begin with `-`.
-fn is_check(words: &[String]) -> bool
-    ensures { result ≡ is_check (word_texts words.now) }
+/// The settings of the session that is asked for, if one is.
+fn session_in<'a>(asked: Option<Asked<'a>>) -> Option<Settings<'a>>
+    ensures { option_map settings_said result ≡ session_in (option_map said asked.entry) }
 {
-    words.len() == 3
-        && words[0].as_str() == "check"
-        && words[1].as_str() == "--domain"
-        && is_value(words[2].as_bytes())
+    match asked {
+        Some(Asked::Session(settings)) => Some(settings),
+        _ => None,
+    }
 }
 
-/// Whether the words are seven, of which the first are `validate --domain F`, where F isn't empty and doesn't begin with `-`.
-fn begins_validate(words: &[String]) -> bool
-    ensures { result ≡ (length words.now == 7 && same_text (argument (word_texts words.now) 0) (codes "validate") && same_text (argument (word_texts words.now) 1) (codes "--domain") && is_value (argument (word_texts words.now) 2)) }
+/// The file of the domain of the check that is asked for, if one is.
+fn check_in<'a>(asked: Option<Asked<'a>>) -> Option<&'a str>
+    ensures { option_map (λ file. file.now) result ≡ check_in (option_map said asked.entry) }
 {
-    words.len() == 7
-        && words[0].as_str() == "validate"
-        && words[1].as_str() == "--domain"
-        && is_value(words[2].as_bytes())
+    match asked {
+        Some(Asked::Check { domain }) => Some(domain),
+        _ => None,
+    }
 }
 
-/// Whether the words are `validate --domain F --script F --plan F`, where no F is empty or begins with `-`.
-fn is_validate(words: &[String]) -> bool
-    ensures { result ≡ is_validate (word_texts words.now) }
+/// The files of the domain, the script and the plan that is to be validated, if one is.
+fn validation_in<'a>(asked: Option<Asked<'a>>) -> Option<(&'a str, &'a str, &'a str)>
+    ensures { option_map (λ files. (files.0.now, files.1.now, files.2.now)) result ≡ validation_in (option_map said asked.entry) }
 {
-    begins_validate(words)
-        && argument(words, 3) == "--script"
-        && is_value(argument(words, 4).as_bytes())
-        && argument(words, 5) == "--plan"
-        && is_value(argument(words, 6).as_bytes())
-}
-
-fn is_value(word: &[u8]) -> bool
-    ensures { result ≡ is_value word.now }
-{
-    match word.first() {
-        Some(first) => *first != b'-',
-        None => false,
+    match asked {
+        Some(
+            Asked::Validate {
+                domain,
+                script,
+                plan,
+            },
+        ) => Some((domain, script, plan)),
+        _ => None,
     }
 }
 
@@ -119,10 +106,11 @@ pub fn read_checked<F: Files>(
     ensures ok { IfOk result (λ d. GivesDomain (input_of (word_texts words.now) (F.text_of files.old)) d names.new) }
     ensures cause { IfErr result (HasNoInput (input_of (word_texts words.now) (F.text_of files.old)) (word_texts words.now) (F.text_of files.old) (F.faults files.old) (F.faults files.new)) }
 {
-    if !is_check(words) {
+    let asked = read_words(alloc, words)?;
+    let Some(file) = check_in(asked) else {
         return Err(Stop::Due(Fault::Usage));
-    }
-    let text = read_text(alloc, argument(words, 2), files)?;
+    };
+    let text = read_text(alloc, file, files)?;
     let domain = judge_domain(alloc, names, text.as_slice())?;
     Ok(domain)
 }
@@ -139,20 +127,26 @@ pub fn read_input<F: Files>(
     requires not_quiet { is_quiet (word_texts words.now) ≡ false }
     ensures ok { IfOk result (λ i. Gives (input_of (word_texts words.now) (F.text_of files.old)) i names.new) }
     ensures few { IfOk result (λ i. length i.lines < 2 ^ 32) }
+    ensures budget { IfOk result (λ i. 1 ≤ i.budget) }
     ensures named { IfOk result (λ i. All (IsLineOf (length names.new)) i.lines) }
     ensures constants { IfOk result (λ i. All (IsParamOf (length names.new)) i.domain.constants) }
     ensures names { OnOk result (AreNames names.new) }
     ensures cause { IfErr result (HasNoInput (input_of (word_texts words.now) (F.text_of files.old)) (word_texts words.now) (F.text_of files.old) (F.faults files.old) (F.faults files.new)) }
     ensures later { F.faults files.old ≤ F.faults files.new }
 {
-    if !is_session(words) {
+    let asked = read_words(alloc, words)?;
+    let Some(settings) = session_in(asked) else {
         return Err(Stop::Due(Fault::Usage));
-    }
-    let domain_text = read_text(alloc, argument(words, 2), files)?;
-    let script = read_flat(alloc, false, argument(words, 4), files)?;
+    };
+    let domain_text = read_text(alloc, settings.domain, files)?;
+    let script = read_flat(alloc, false, settings.script, files)?;
     let domain = judge_domain(alloc, names, domain_text.as_slice())?;
     let lines = read_script(alloc, names, script.as_slice())?;
-    Ok(Input { domain, lines })
+    Ok(Input {
+        domain,
+        lines,
+        budget: settings.budget,
+    })
 }
 
 /// The input that a plan is to be validated on, and the text of the plan. Its names are put into the table, which has none yet but
@@ -170,13 +164,21 @@ pub fn read_validated<F: Files>(
     ensures cause { IfErr result (HasNoInput (input_of (word_texts words.now) (F.text_of files.old)) (word_texts words.now) (F.text_of files.old) (F.faults files.old) (F.faults files.new)) }
     ensures later { F.faults files.old ≤ F.faults files.new }
 {
-    if !is_validate(words) {
+    let asked = read_words(alloc, words)?;
+    let Some((domain_file, script_file, plan_file)) = validation_in(asked) else {
         return Err(Stop::Due(Fault::Usage));
-    }
-    let domain_text = read_text(alloc, argument(words, 2), files)?;
-    let script = read_flat(alloc, true, argument(words, 4), files)?;
-    let plan = read_text(alloc, argument(words, 6), files)?;
+    };
+    let domain_text = read_text(alloc, domain_file, files)?;
+    let script = read_flat(alloc, true, script_file, files)?;
+    let plan = read_text(alloc, plan_file, files)?;
     let domain = judge_domain(alloc, names, domain_text.as_slice())?;
     let lines = read_script(alloc, names, script.as_slice())?;
-    Ok((Input { domain, lines }, plan))
+    // No plan is searched for.
+    let budget = 0;
+    let input = Input {
+        domain,
+        lines,
+        budget,
+    };
+    Ok((input, plan))
 }

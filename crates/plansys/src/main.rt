@@ -15,28 +15,11 @@ mod texts;
 mod verdicts;
 
 use calls::plansys;
+use ps_words::{USAGE, VERSION};
 use real::{RealFiles, RealSink};
 use std::io::ErrorKind;
 use std::process::ExitCode;
 use std::{env, io};
-
-const HELP: &str = "\
-plansys session --domain FILE --script FILE
-    Does the lines of a script over a domain, and writes the journal. A line `source FILE` stands for the lines of that file,
-    on at most four levels, and `quit` ends the script.
-    plansys session --domain samples/rooms/domain.pddl --script samples/rooms/script
-plansys check --domain FILE
-    Reads a domain, and writes it in its canonical text.
-    plansys check --domain samples/rooms/domain.pddl
-plansys validate --domain FILE --script FILE --plan FILE
-    Does the edits of a script over a domain, and says whether the plan reaches the goal that they set: `valid`, or what is
-    wrong with it.
-    plansys validate --domain samples/rooms/domain.pddl --script samples/rooms/goal --plan samples/rooms/plan
-plansys --help
-plansys --version
-";
-
-const VERSION: &str = "plansys 0.1.0\n";
 
 /// The words after the program's name. Words of which one isn't UTF-8 are read as none, which is a faulty command line.
 fn words(rt: &HostRuntime) -> io::Result<Vec<String>> {
@@ -50,7 +33,7 @@ fn words(rt: &HostRuntime) -> io::Result<Vec<String>> {
 /// What the program says of itself, if it is asked.
 fn answer_of(words: &[String]) -> Option<&'static str> {
     match words {
-        [word] if word.as_str() == "--help" => Some(HELP),
+        [word] if word.as_str() == "--help" => Some(USAGE),
         [word] if word.as_str() == "--version" => Some(VERSION),
         _ => None,
     }

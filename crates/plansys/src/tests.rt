@@ -1,4 +1,5 @@
 //! Calls of the program over files and sinks in memory.
+mod plans;
 mod validations;
 
 use super::calls::plansys;
@@ -233,7 +234,7 @@ const BAD_LINES: [(&str, &str); 25] = [
     ("run plan p", "NotBuilt"),
     ("run", "NotBuilt"),
     ("run action (rest leia)", "NotBuilt"),
-    ("get plan", "NotBuilt"),
+    ("get plan x", "Shape 9"),
     ("get tree", "NotBuilt"),
     ("set goal", "Shape 8"),
 ];
@@ -350,7 +351,8 @@ fn faults(rt: HostRuntime) -> Result<(), Fail> {
         "",
         "session",
         "session --domain domain",
-        "session --script script --domain domain",
+        "session --script script --domain domain --workers 17",
+        "session --domain domain --script script --budget 1 --budget 1",
         "session --domain -d --script script",
         "session --domain domain --script script more",
         "check --domain domain --script script",

@@ -1,7 +1,8 @@
 //! The texts of the journal's entries.
-ghost use Rattle.std.specs.Prelude.{◌≡◌, ◌++◌, IfOk, OnOk};
+ghost use Rattle.std.specs.Prelude.{◌≡◌, ◌++◌, ℕ, IfOk, OnOk};
 ghost use Rattle.ps_machine.specs.Texts.{query_text, line_cause_text, refusal_text, by_text, event_text, entry_line};
 ghost use Rattle.ps_machine.specs.Journal.{entry_text};
+ghost use Rattle.plansys.specs.Steps.{told_steps};
 
 mod edits;
 mod facts;
@@ -14,26 +15,30 @@ pub use self::edits::push_arity;
 use self::edits::{push_edit, push_edit_refusal};
 pub use self::facts::{name_text, push_name_after, push_number, push_number_after};
 use self::replies::push_replies;
+use ps_action::PlanStep;
 use ps_domain::Expert;
 use ps_machine::{By, Entry, Event, LineCause, Query, Refusal};
 use ps_problem::Problem;
 use ps_text::Names;
 use std::alloc::{AllocError, Global};
 
-/// The text of an entry: its line, and the lines that answer a query. A name that the table hasn't is printed as nothing.
+/// The text of an entry: its line, and the lines that answer a query, with the steps of the plan that it tells, if it tells one. A
+/// name that the table hasn't is printed as nothing.
 pub fn entry_text(
     alloc: Global,
     names: &Names,
     expert: &Expert,
     problem: &Problem,
     entry: &Entry,
+    steps: &[PlanStep],
 ) -> Result<Vec<u8>, AllocError>
-    ensures { IfOk result (λ t. t.items ≡ entry_text names.now expert.now problem.now entry.now) }
+    ensures { IfOk result (λ t. (budget : ℕ) → steps.now ≡ told_steps expert.now budget problem.now entry.now.what
+        → t.items ≡ entry_text names.now expert.now budget problem.now entry.now) }
 {
     let mut text = Vec::new(alloc);
     push_entry_line(alloc, names, entry, &mut text)?;
     text.push(b'\n')?;
-    push_replies(alloc, names, expert, problem, &entry.what, &mut text)?;
+    push_replies(alloc, names, expert, problem, &entry.what, steps, &mut text)?;
     Ok(text)
 }
 
@@ -55,6 +60,7 @@ fn push_query(names: &Names, query: &Query, text: &mut Vec<u8>) -> Result<(), Al
         Query::ProblemPredicates => text.extend_from_slice(b"get problem predicates")?,
         Query::ProblemFunctions => text.extend_from_slice(b"get problem functions")?,
         Query::ProblemGoal => text.extend_from_slice(b"get problem goal")?,
+        Query::Plan => text.extend_from_slice(b"get plan")?,
     }
     Ok(())
 }
@@ -88,6 +94,10 @@ fn push_refusal(
         Refusal::Edit(refusal) => push_edit_refusal(alloc, names, refusal, text)?,
         Refusal::NoPredicate => text.extend_from_slice(b"NoPredicate")?,
         Refusal::NoAction => text.extend_from_slice(b"NoAction")?,
+        Refusal::NoGoal => text.extend_from_slice(b"NoGoal")?,
+        Refusal::NoPlan => text.extend_from_slice(b"NoPlan")?,
+        Refusal::Spent(depth) => push_number_after(alloc, b"Spent ", u64::from(*depth), text)?,
+        Refusal::TooMany => text.extend_from_slice(b"TooMany")?,
     }
     Ok(())
 }

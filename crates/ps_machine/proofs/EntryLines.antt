@@ -30,6 +30,7 @@ is_line-query names query.ProblemInstances h = refl
 is_line-query names query.ProblemPredicates h = refl
 is_line-query names query.ProblemFunctions h = refl
 is_line-query names query.ProblemGoal h = refl
+is_line-query names query.Plan h = refl
 
 is_line-cause : (cause : LineCause) → is_line (line_cause_text cause) ≡ true
 is_line-cause (line.Lex at) = is_line-decimal at
@@ -44,6 +45,10 @@ is_line-refusal names (refusal.Line cause) h = is_line-cause cause
 is_line-refusal names (refusal.Edit r) h = is_line-edit_refusal names r h
 is_line-refusal names refusal.NoPredicate h = refl
 is_line-refusal names refusal.NoAction h = refl
+is_line-refusal names refusal.NoGoal h = refl
+is_line-refusal names refusal.NoPlan h = refl
+is_line-refusal names (refusal.Spent depth) h = is_line-decimal depth
+is_line-refusal names refusal.TooMany h = refl
 
 is_line-by : (by : By) (rest : List ℕ) → is_line rest ≡ true → is_line (by_text by ++ rest) ≡ true
 is_line-by (Terminal n) rest h = is_line-append (decimal n) rest (is_line-decimal n) h

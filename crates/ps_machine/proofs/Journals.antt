@@ -27,17 +27,17 @@ know-push i es e = known_from-append i.domain _ es (e ∷ [])
 pub answered-push : (es : List Entry) (e : Entry) → answers_line e.what ≡ true → answered (es ++ e ∷ []) ≡ answered es + 1
 answered-push es e h = rw (fold-append, h) refl
 
-text_after-push : (names : Table) (i : Input) (before es : List Entry) (e : Entry) → text_after names i before (es ++ e ∷ []) ≡ text_after names i before es ++ entry_text names i.domain (know i (before ++ es)) e
+text_after-push : (names : Table) (i : Input) (before es : List Entry) (e : Entry) → text_after names i before (es ++ e ∷ []) ≡ text_after names i before es ++ entry_text names i.domain i.budget (know i (before ++ es)) e
 text_after-push names i before [] e = rw (append-nil, append-nil) refl
 text_after-push names i before (f ∷ fs) e =
     let more = text_after-push names i (before ++ f ∷ []) fs e in
     let same : (before ++ f ∷ []) ++ fs ≡ before ++ f ∷ fs = append_assoc before (f ∷ []) fs in
-    ap (λ text. entry_text names i.domain (know i before) f ++ text) (more ∙ ap (λ es. text_after names i (before ++ f ∷ []) fs ++ entry_text names i.domain (know i es) e) same)
-    ∙ sym (append_assoc (entry_text names i.domain (know i before) f) (text_after names i (before ++ f ∷ []) fs) (entry_text names i.domain (know i (before ++ f ∷ fs)) e))
+    ap (λ text. entry_text names i.domain i.budget (know i before) f ++ text) (more ∙ ap (λ es. text_after names i (before ++ f ∷ []) fs ++ entry_text names i.domain i.budget (know i es) e) same)
+    ∙ sym (append_assoc (entry_text names i.domain i.budget (know i before) f) (text_after names i (before ++ f ∷ []) fs) (entry_text names i.domain i.budget (know i (before ++ f ∷ fs)) e))
 
 -- the text of one more entry stands at the end
-pub journal_text-push : (names : Table) (i : Input) (es : List Entry) (e : Entry) → journal_text names i (es ++ e ∷ []) ≡ journal_text names i es ++ entry_text names i.domain (know i es) e
-journal_text-push names i es e = rw (text_after-push names i [] es e) (sym (append_assoc header (text_after names i [] es) (entry_text names i.domain (know i es) e)))
+pub journal_text-push : (names : Table) (i : Input) (es : List Entry) (e : Entry) → journal_text names i (es ++ e ∷ []) ≡ journal_text names i es ++ entry_text names i.domain i.budget (know i es) e
+journal_text-push names i es e = rw (text_after-push names i [] es e) (sym (append_assoc header (text_after names i [] es) (entry_text names i.domain i.budget (know i es) e)))
 
 has_hand-zero : (what : Event) (hand : ℕ) → IsTrue (has_hand what hand) → hand ≡ 0
 has_hand-zero (event.Edit (Terminal n) edit) hand h = eqb-true hand 0 h

@@ -13,10 +13,17 @@ use Rattle.ps_world.specs.Names.{Table, name_text}
 use Rattle.ps_world.specs.Lines.{lines_of, is_line}
 use Rattle.ps_world.specs.DomainTexts.{decl_text, action_lines}
 use Rattle.ps_world.specs.Knowledge.{predicate_of, action_of}
-use Rattle.ps_world.specs.Texts.{fact_text, value_text}
+use Rattle.ps_world.specs.Numbers.{number_text}
+use Rattle.ps_world.specs.Texts.{args_text, fact_text, value_text}
 use Rattle.ps_machine.specs.Texts.{event_text, entry_line}
+use Rattle.ps_action.specs.Plans.{timed}
+use Rattle.ps_action.specs.Search.{answer as answered_by}
+use Rattle.ps_action.specs.Texts.{step_line}
+use Rattle.ps_action.specs.declared.acts.PlanStep.{PlanStep}
+use Rattle.ps_action.specs.declared.answers.Answer.{Answer}
+use Rattle.ps_action.specs.declared.answers.Answer.TheVariants as answer
 use Rattle.ps_machine.specs.History.{know}
-use Rattle.ps_machine.specs.Journal.{in_order, instance_text, goal_line, answer_lines, reply_lines, reply_mark, reply_text, entry_text, text_after, journal_text, AreEntriesIn}
+use Rattle.ps_machine.specs.Journal.{in_order, instance_text, goal_line, plan_lines, answer_lines, reply_lines, reply_mark, reply_text, entry_text, text_after, journal_text, AreEntriesIn}
 use Rattle.ps_world.specs.Lines.{AreLines}
 use Rattle.ps_world.specs.declared.conditions.Cond.{Cond}
 use Rattle.ps_world.specs.declared.domains.Decl.{Decl}
@@ -30,7 +37,7 @@ use Rattle.ps_machine.specs.declared.journal.Event.{Event}
 use Rattle.ps_machine.specs.declared.journal.Event.TheVariants as event
 use Rattle.ps_machine.specs.declared.journal.Entry.{Entry}
 use Rattle.ps_world.proofs.Digits.{is_ink, is_inked, is_inked-decimal}
-use Rattle.ps_world.proofs.OneLine.{are_lines, are_lines-map, is_line-append, is_line-name, is_line-fact, is_line-value, is_line-goal, is_line-decl, are_lines-action, are_lines-domain}
+use Rattle.ps_world.proofs.OneLine.{are_lines, are_lines-map, is_line-append, is_line-name, is_line-fact, is_line-value, is_line-goal, is_line-number, is_line-args, is_line-decl, are_lines-action, are_lines-domain}
 use Rattle.ps_machine.proofs.EntryLines.{is_line-entry}
 
 both : (x y : Bool) → (x && y) ≡ true → (x ≡ true) × (y ≡ true)
@@ -76,28 +83,43 @@ are_lines-found_action : (names : Table) (found : Option ActionDef) → AreLines
 are_lines-found_action names None h = refl
 are_lines-found_action names (Some action) h = are_lines-action names action h
 
-are_lines-answer : (names : Table) (d : Domain) (k : Knowledge) (q : Query) → AreLines names → are_lines (answer_lines names d k q) ≡ true
-are_lines-answer names d k query.ModelTypes h = are_lines-map (λ p. name_text names p.name) d.types (λ p. is_line-name names p.name h)
-are_lines-answer names d k query.ModelPredicates h = are_lines-map (decl_text names) d.predicates (λ decl. is_line-decl names decl h)
-are_lines-answer names d k query.ModelFunctions h = are_lines-map (decl_text names) d.functions (λ decl. is_line-decl names decl h)
-are_lines-answer names d k query.ModelActions h = are_lines-map (λ a. name_text names a.name) d.actions (λ a. is_line-name names a.name h)
-are_lines-answer names d k (query.ModelPredicate n) h = are_lines-predicate names (predicate_of d n) h
-are_lines-answer names d k (query.ModelAction n) h = are_lines-found_action names (action_of d n) h
-are_lines-answer names d k query.Domain h = are_lines-domain names d h
-are_lines-answer names d k query.ProblemInstances h =
+is_line-step : (names : Table) (step : PlanStep) → AreLines names → is_line (step_line names step) ≡ true
+is_line-step names step h =
+    let last = codes ") [" ++ (number_text step.duration ++ codes "]") in
+    is_line-append (number_text step.time) (codes ": (" ++ (name_text names step.act.action ++ (args_text names step.act.args ++ last))) (is_line-number step.time)
+    (is_line-append (name_text names step.act.action) (args_text names step.act.args ++ last) (is_line-name names step.act.action h)
+    (is_line-append (args_text names step.act.args) last (is_line-args names step.act.args h)
+    (is_line-append (number_text step.duration) (codes "]") (is_line-number step.duration) refl)))
+
+are_lines-plan : (names : Table) (d : Domain) (k : Knowledge) (a : Answer) → AreLines names → are_lines (plan_lines names d k a) ≡ true
+are_lines-plan names d k (answer.Plan acts) h = are_lines-map (step_line names) (timed d k acts) (λ step. is_line-step names step h)
+are_lines-plan names d k answer.NoPlan h = refl
+are_lines-plan names d k (answer.Spent depth) h = refl
+are_lines-plan names d k answer.TooMany h = refl
+
+are_lines-answer : (names : Table) (d : Domain) (budget : ℕ) (k : Knowledge) (q : Query) → AreLines names → are_lines (answer_lines names d budget k q) ≡ true
+are_lines-answer names d budget k query.ModelTypes h = are_lines-map (λ p. name_text names p.name) d.types (λ p. is_line-name names p.name h)
+are_lines-answer names d budget k query.ModelPredicates h = are_lines-map (decl_text names) d.predicates (λ decl. is_line-decl names decl h)
+are_lines-answer names d budget k query.ModelFunctions h = are_lines-map (decl_text names) d.functions (λ decl. is_line-decl names decl h)
+are_lines-answer names d budget k query.ModelActions h = are_lines-map (λ a. name_text names a.name) d.actions (λ a. is_line-name names a.name h)
+are_lines-answer names d budget k (query.ModelPredicate n) h = are_lines-predicate names (predicate_of d n) h
+are_lines-answer names d budget k (query.ModelAction n) h = are_lines-found_action names (action_of d n) h
+are_lines-answer names d budget k query.Domain h = are_lines-domain names d h
+are_lines-answer names d budget k query.ProblemInstances h =
     are_lines-in_order (map (instance_text names) k.instances)
     (are_lines-map (instance_text names) k.instances (λ i. is_line-append (name_text names i.0) (codes " - " ++ name_text names i.1) (is_line-name names i.0 h) (is_line-name names i.1 h)))
-are_lines-answer names d k query.ProblemPredicates h =
+are_lines-answer names d budget k query.ProblemPredicates h =
     are_lines-in_order (map (fact_text names) k.facts) (are_lines-map (fact_text names) k.facts (λ f. is_line-fact names f h))
-are_lines-answer names d k query.ProblemFunctions h =
+are_lines-answer names d budget k query.ProblemFunctions h =
     are_lines-in_order (map (λ v. value_text names v.0 v.1) k.values) (are_lines-map (λ v. value_text names v.0 v.1) k.values (λ v. is_line-value names v.0 v.1 h))
-are_lines-answer names d k query.ProblemGoal h = are_lines-one (goal_line names k.goal) (is_line-goal_line names k.goal h)
+are_lines-answer names d budget k query.ProblemGoal h = are_lines-one (goal_line names k.goal) (is_line-goal_line names k.goal h)
+are_lines-answer names d budget k query.Plan h = are_lines-plan names d k (answered_by d k budget) h
 
-are_lines-replies : (names : Table) (d : Domain) (k : Knowledge) (e : Event) → AreLines names → are_lines (reply_lines names d k e) ≡ true
-are_lines-replies names d k (event.Edit by edit) h = refl
-are_lines-replies names d k (event.Refused by why) h = refl
-are_lines-replies names d k (event.Ask q) h = are_lines-answer names d k q h
-are_lines-replies names d k event.Quit h = refl
+are_lines-replies : (names : Table) (d : Domain) (budget : ℕ) (k : Knowledge) (e : Event) → AreLines names → are_lines (reply_lines names d budget k e) ≡ true
+are_lines-replies names d budget k (event.Edit by edit) h = refl
+are_lines-replies names d budget k (event.Refused by why) h = refl
+are_lines-replies names d budget k (event.Ask q) h = are_lines-answer names d budget k q h
+are_lines-replies names d budget k event.Quit h = refl
 
 -- Lines in a text.
 
@@ -128,17 +150,17 @@ kept-replies (l ∷ ls) rest h =
     let one : reply_text (l ∷ ls) ++ rest ≡ (32 ∷ 32 ∷ l) ++ 10 ∷ (reply_text ls ++ rest) = simp append_assoc in
     ap (λ text. kept (lines_of text)) one ∙ ap kept (lines_of-line (32 ∷ 32 ∷ l) (reply_text ls ++ rest) parts.0) ∙ kept-replies ls rest parts.1
 
-kept-entry : (names : Table) (d : Domain) (k : Knowledge) (e : Entry) (rest : List ℕ) → AreLines names → kept (lines_of (entry_text names d k e ++ rest)) ≡ entry_line names e ∷ kept (lines_of rest)
-kept-entry names d k e rest h =
-    let replies = reply_lines names d k e.what in
-    let one : entry_text names d k e ++ rest ≡ entry_line names e ++ 10 ∷ (reply_text replies ++ rest) = simp append_assoc in
+kept-entry : (names : Table) (d : Domain) (budget : ℕ) (k : Knowledge) (e : Entry) (rest : List ℕ) → AreLines names → kept (lines_of (entry_text names d budget k e ++ rest)) ≡ entry_line names e ∷ kept (lines_of rest)
+kept-entry names d budget k e rest h =
+    let replies = reply_lines names d budget k e.what in
+    let one : entry_text names d budget k e ++ rest ≡ entry_line names e ++ 10 ∷ (reply_text replies ++ rest) = simp append_assoc in
     rw (one, lines_of-line (entry_line names e) (reply_text replies ++ rest) (is_line-entry names e h), starts_with-inked (decimal e.hand) (codes " " ++ event_text names e.what) (is_inked-decimal e.hand))
-    (ap (λ more. entry_line names e ∷ more) (kept-replies replies rest (are_lines-replies names d k e.what h)))
+    (ap (λ more. entry_line names e ∷ more) (kept-replies replies rest (are_lines-replies names d budget k e.what h)))
 
 kept-text_after : (names : Table) (i : Input) (before es : List Entry) → AreLines names → kept (lines_of (text_after names i before es)) ≡ map (entry_line names) es
 kept-text_after names i before [] h = refl
 kept-text_after names i before (e ∷ es) h =
-    kept-entry names i.domain (know i before) e (text_after names i (before ++ e ∷ []) es) h
+    kept-entry names i.domain i.budget (know i before) e (text_after names i (before ++ e ∷ []) es) h
     ∙ ap (λ more. entry_line names e ∷ more) (kept-text_after names i (before ++ e ∷ []) es h)
 
 pub AreEntriesIn-journal_text : (names : Table) (i : Input) (es : List Entry) → AreLines names → AreEntriesIn names (journal_text names i es) es

@@ -11,6 +11,9 @@ use Rattle.ps_world.specs.declared.domains.Domain.{Domain}
 use Rattle.ps_world.specs.declared.known.Knowledge.{Knowledge}
 use Rattle.ps_world.specs.declared.edits.Edit.{Edit}
 use Rattle.ps_world.specs.declared.edits.EditRefusal.{EditRefusal}
+use Rattle.ps_action.specs.Search.{answer as answered_by}
+use Rattle.ps_action.specs.declared.answers.Answer.{Answer}
+use Rattle.ps_action.specs.declared.answers.Answer.TheVariants as answer
 use Rattle.ps_machine.specs.declared.inputs.Query.{Query}
 use Rattle.ps_machine.specs.declared.inputs.Query.TheVariants as query
 use Rattle.ps_machine.specs.declared.inputs.Command.TheVariants as command
@@ -71,18 +74,30 @@ abbrev pub edit_refusal : Result Knowledge EditRefusal → Option Refusal
 edit_refusal (Ok k) = None
 edit_refusal (Err r) = Some (refusal.Edit r)
 
--- why a query is refused, if it is: what it asks for isn't declared
-abbrev pub refusal_of_query : Domain → Query → Option Refusal
-refusal_of_query d (query.ModelPredicate n) = if is_none (predicate_of d n) then Some refusal.NoPredicate else None
-refusal_of_query d (query.ModelAction n) = if is_none (action_of d n) then Some refusal.NoAction else None
-refusal_of_query d q = None
+-- why an answer of a solver is no plan, if it is none
+abbrev pub unplanned : Answer → Option Refusal
+unplanned (answer.Plan acts) = None
+unplanned answer.NoPlan = Some refusal.NoPlan
+unplanned (answer.Spent depth) = Some (refusal.Spent depth)
+unplanned answer.TooMany = Some refusal.TooMany
+
+-- why there is no plan, if there is none: there is no goal, or the solver's answer is no plan
+abbrev pub refusal_of_plan : Domain → ℕ → Knowledge → Option Refusal
+refusal_of_plan d budget k = if is_none k.goal then Some refusal.NoGoal else unplanned (answered_by d k budget)
+
+-- why a query is refused, if it is: what it asks for isn't declared, or there is no plan
+abbrev pub refusal_of_query : Domain → ℕ → Knowledge → Query → Option Refusal
+refusal_of_query d budget k (query.ModelPredicate n) = if is_none (predicate_of d n) then Some refusal.NoPredicate else None
+refusal_of_query d budget k (query.ModelAction n) = if is_none (action_of d n) then Some refusal.NoAction else None
+refusal_of_query d budget k query.Plan = refusal_of_plan d budget k
+refusal_of_query d budget k q = None
 
 -- why the line is refused, if it is
-abbrev pub refusal_of : Domain → Knowledge → Line → Option Refusal
-refusal_of d k (Bad cause) = Some (refusal.Line cause)
-refusal_of d k (Good (command.Edit edit)) = edit_refusal (edited d k edit)
-refusal_of d k (Good (command.Ask q)) = refusal_of_query d q
-refusal_of d k (Good command.Quit) = None
+abbrev pub refusal_of : Domain → ℕ → Knowledge → Line → Option Refusal
+refusal_of d budget k (Bad cause) = Some (refusal.Line cause)
+refusal_of d budget k (Good (command.Edit edit)) = edit_refusal (edited d k edit)
+refusal_of d budget k (Good (command.Ask q)) = refusal_of_query d budget k q
+refusal_of d budget k (Good command.Quit) = None
 
 -- The line with number n, counted from 1, is the next one, and is this edit.
 abbrev pub is_edit : Table → Edit → Option Line → Bool
@@ -119,8 +134,8 @@ abbrev pub is_legal : Table → Input → List Entry → Event → Bool
 is_legal names i es (event.Edit (Terminal n) edit) =
     (n == answered es + 1) && (is_edit names edit (next_line i es) && is_ok (edited i.domain (know i es) edit))
 is_legal names i es (event.Refused (Terminal n) why) =
-    (n == answered es + 1) && is_cause names why (option_and_then (refusal_of i.domain (know i es)) (next_line i es))
-is_legal names i es (event.Ask q) = is_query names q (next_line i es) && is_none (refusal_of_query i.domain q)
+    (n == answered es + 1) && is_cause names why (option_and_then (refusal_of i.domain i.budget (know i es)) (next_line i es))
+is_legal names i es (event.Ask q) = is_query names q (next_line i es) && is_none (refusal_of_query i.domain i.budget (know i es) q)
 is_legal names i es event.Quit = is_quit (next_line i es)
 
 -- whether an event may have this hand: what the terminal does has hand 0

@@ -11,6 +11,11 @@ use Rattle.ps_world.specs.Knowledge.{action_of, predicate_of}
 use Rattle.ps_world.specs.Lines.{line_end, lines_of}
 use Rattle.ps_world.specs.Texts.{fact_text, goal_text, value_text}
 use Rattle.ps_machine.specs.Texts.{entry_line}
+use Rattle.ps_action.specs.Plans.{timed}
+use Rattle.ps_action.specs.Search.{answer as answered_by}
+use Rattle.ps_action.specs.Texts.{step_line}
+use Rattle.ps_action.specs.declared.answers.Answer.{Answer}
+use Rattle.ps_action.specs.declared.answers.Answer.TheVariants as answer
 use Rattle.ps_machine.specs.History.{know}
 use Rattle.ps_world.specs.declared.names.Name.{Name}
 use Rattle.ps_world.specs.declared.conditions.Cond.{Cond}
@@ -36,26 +41,32 @@ abbrev pub goal_line : Table → Option Cond → List ℕ
 goal_line names None = codes "none"
 goal_line names (Some goal) = goal_text names goal
 
+-- the lines of a plan with its times, or none
+abbrev pub plan_lines : Table → Domain → Knowledge → Answer → List (List ℕ)
+plan_lines names d k (answer.Plan acts) = map (step_line names) (timed d k acts)
+plan_lines names d k other = []
+
 -- the lines that answer a query; what is known is told in the order of the lines' bytes, what is declared in that of the domain
-abbrev pub answer_lines : Table → Domain → Knowledge → Query → List (List ℕ)
-answer_lines names d k query.ModelTypes = map (λ p. name_text names p.name) d.types
-answer_lines names d k query.ModelPredicates = map (decl_text names) d.predicates
-answer_lines names d k query.ModelFunctions = map (decl_text names) d.functions
-answer_lines names d k query.ModelActions = map (λ a. name_text names a.name) d.actions
-answer_lines names d k (query.ModelPredicate n) = option_map_or (λ decl. decl_text names decl ∷ []) (predicate_of d n) []
-answer_lines names d k (query.ModelAction n) = option_map_or (action_lines names) (action_of d n) []
-answer_lines names d k query.Domain = domain_lines names d
-answer_lines names d k query.ProblemInstances = in_order (map (instance_text names) k.instances)
-answer_lines names d k query.ProblemPredicates = in_order (map (fact_text names) k.facts)
-answer_lines names d k query.ProblemFunctions = in_order (map (λ v. value_text names v.0 v.1) k.values)
-answer_lines names d k query.ProblemGoal = goal_line names k.goal ∷ []
+abbrev pub answer_lines : Table → Domain → ℕ → Knowledge → Query → List (List ℕ)
+answer_lines names d budget k query.ModelTypes = map (λ p. name_text names p.name) d.types
+answer_lines names d budget k query.ModelPredicates = map (decl_text names) d.predicates
+answer_lines names d budget k query.ModelFunctions = map (decl_text names) d.functions
+answer_lines names d budget k query.ModelActions = map (λ a. name_text names a.name) d.actions
+answer_lines names d budget k (query.ModelPredicate n) = option_map_or (λ decl. decl_text names decl ∷ []) (predicate_of d n) []
+answer_lines names d budget k (query.ModelAction n) = option_map_or (action_lines names) (action_of d n) []
+answer_lines names d budget k query.Domain = domain_lines names d
+answer_lines names d budget k query.ProblemInstances = in_order (map (instance_text names) k.instances)
+answer_lines names d budget k query.ProblemPredicates = in_order (map (fact_text names) k.facts)
+answer_lines names d budget k query.ProblemFunctions = in_order (map (λ v. value_text names v.0 v.1) k.values)
+answer_lines names d budget k query.ProblemGoal = goal_line names k.goal ∷ []
+answer_lines names d budget k query.Plan = plan_lines names d k (answered_by d k budget)
 
 -- the reply lines of an event, where k is what is known before it; only a query has any
-abbrev pub reply_lines : Table → Domain → Knowledge → Event → List (List ℕ)
-reply_lines names d k (event.Edit by edit) = []
-reply_lines names d k (event.Refused by why) = []
-reply_lines names d k (event.Ask q) = answer_lines names d k q
-reply_lines names d k event.Quit = []
+abbrev pub reply_lines : Table → Domain → ℕ → Knowledge → Event → List (List ℕ)
+reply_lines names d budget k (event.Edit by edit) = []
+reply_lines names d budget k (event.Refused by why) = []
+reply_lines names d budget k (event.Ask q) = answer_lines names d budget k q
+reply_lines names d budget k event.Quit = []
 
 -- what stands before a reply line
 abbrev pub reply_mark : List ℕ
@@ -66,8 +77,8 @@ abbrev pub reply_text : List (List ℕ) → List ℕ
 reply_text lines = flat_map (λ line. reply_mark ++ (line ++ line_end)) lines
 
 -- an entry's line and its reply lines, where k is what is known before it
-abbrev pub entry_text : Table → Domain → Knowledge → Entry → List ℕ
-entry_text names d k e = entry_line names e ++ (line_end ++ reply_text (reply_lines names d k e.what))
+abbrev pub entry_text : Table → Domain → ℕ → Knowledge → Entry → List ℕ
+entry_text names d budget k e = entry_line names e ++ (line_end ++ reply_text (reply_lines names d budget k e.what))
 
 -- the first line of a journal
 abbrev pub header : List ℕ
@@ -76,7 +87,7 @@ header = codes "plansys-journal 1" ++ line_end
 -- the text of entries that follow those before
 abbrev pub text_after : Table → Input → List Entry → List Entry → List ℕ
 text_after names i before [] = []
-text_after names i before (e ∷ es) = entry_text names i.domain (know i before) e ++ text_after names i (before ++ e ∷ []) es
+text_after names i before (e ∷ es) = entry_text names i.domain i.budget (know i before) e ++ text_after names i (before ++ e ∷ []) es
 
 -- the text of a journal
 abbrev pub journal_text : Table → Input → List Entry → List ℕ

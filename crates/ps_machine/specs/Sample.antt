@@ -49,6 +49,7 @@ abbrev pub sample_input : Input
 sample_input = record {
   domain = sample_domain;
   lines = edit_line (AddInstance (name 4) (name 1)) ∷ edit_line (AddInstance (name 5) (name 2)) ∷ edit_line (robot_at 4 5) ∷ edit_line (robot_at 5 4) ∷ Good (command.Ask ProblemPredicates) ∷ [];
+  budget = 20000;
 }
 
 -- an entry of the terminal

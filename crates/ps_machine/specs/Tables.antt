@@ -30,6 +30,10 @@ IsRefusalOf count (refusal.Line cause) = Unit {0}
 IsRefusalOf count (refusal.Edit r) = IsEditRefusalOf count r
 IsRefusalOf count refusal.NoPredicate = Unit {0}
 IsRefusalOf count refusal.NoAction = Unit {0}
+IsRefusalOf count refusal.NoGoal = Unit {0}
+IsRefusalOf count refusal.NoPlan = Unit {0}
+IsRefusalOf count (refusal.Spent depth) = Unit {0}
+IsRefusalOf count refusal.TooMany = Unit {0}
 
 -- the names of an event are, and no want of memory stands in it
 abbrev pub IsEventOf : ℕ → Event → Type 0

@@ -28,6 +28,7 @@ query_text names query.ProblemInstances = codes "get problem instances"
 query_text names query.ProblemPredicates = codes "get problem predicates"
 query_text names query.ProblemFunctions = codes "get problem functions"
 query_text names query.ProblemGoal = codes "get problem goal"
+query_text names query.Plan = codes "get plan"
 
 -- the cause for which a line is no command
 abbrev pub line_cause_text : LineCause → List ℕ
@@ -44,6 +45,10 @@ refusal_text names (refusal.Line cause) = line_cause_text cause
 refusal_text names (refusal.Edit r) = edit_refusal_text names r
 refusal_text names refusal.NoPredicate = codes "NoPredicate"
 refusal_text names refusal.NoAction = codes "NoAction"
+refusal_text names refusal.NoGoal = codes "NoGoal"
+refusal_text names refusal.NoPlan = codes "NoPlan"
+refusal_text names (refusal.Spent depth) = codes "Spent " ++ decimal depth
+refusal_text names refusal.TooMany = codes "TooMany"
 
 -- whose edit it is
 abbrev pub by_text : By → List ℕ

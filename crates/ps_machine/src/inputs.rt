@@ -44,6 +44,8 @@ pub enum Query {
     ProblemFunctions,
     /// The goal.
     ProblemGoal,
+    /// A plan that reaches the goal.
+    Plan,
 }
 
 /// What a line of the terminal says.
@@ -87,6 +89,8 @@ pub struct Input {
     pub domain: Domain,
     /// The command lines of the script, in order. What stands after a `quit` counts for nothing.
     pub lines: Seq<Line>,
+    /// How many knowledges a solver may look at before it gives up.
+    pub budget: u32,
 }
 
 impl Duplicate for Input {
@@ -94,6 +98,7 @@ impl Duplicate for Input {
         Ok(Input {
             domain: self.domain.copy(alloc)?,
             lines: self.lines.copy(alloc)?,
+            budget: self.budget,
         })
     }
 }

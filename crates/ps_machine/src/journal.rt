@@ -19,6 +19,14 @@ pub enum Refusal {
     NoPredicate,
     /// The action asked for isn't declared.
     NoAction,
+    /// There is no goal to plan for.
+    NoGoal,
+    /// No plan is good.
+    NoPlan,
+    /// No plan of at most this many acts is good, and no longer one was looked for.
+    Spent(u32),
+    /// There are too many ground actions.
+    TooMany,
 }
 
 /// What happened.

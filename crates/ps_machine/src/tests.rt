@@ -68,8 +68,12 @@ fn is_copied<T: Duplicate + PartialEq>(alloc: Global, value: &T) -> Result<bool,
 fn copies_an_input(rt: HostRuntime) -> Result<(), Fail> {
     let alloc = rt.alloc();
     let lines = Seq::of(script(alloc)?);
-    let domain = domain(alloc)?;
-    assert!(rt; is_copied(alloc, &Input { domain, lines })?);
+    let input = Input {
+        domain: domain(alloc)?,
+        lines,
+        budget: 20_000,
+    };
+    assert!(rt; is_copied(alloc, &input)?);
     Ok(())
 }
 

@@ -65,7 +65,6 @@ data Worded (table : Table) (bytes : List ℕ) : Read → Table → Type 0 where
 
 -- a form that isn't built has no command
 no_command : (f : Form) (ts : Nesteds) → is_built f ≡ false → command_of f ts ≡ None
-no_command form.Plan ts e = refl
 no_command form.Tree ts e = refl
 no_command form.Run ts e = refl
 no_command form.RunAction ts e = refl

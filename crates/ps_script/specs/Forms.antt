@@ -7,7 +7,7 @@ use Rattle.ps_shape.specs.declared.symbols.Symbol.{Symbol}
 use Rattle.ps_shape.specs.declared.symbols.Symbol.TheVariants.{The, AnyName, InGoal}
 use Rattle.ps_shape.specs.declared.symbols.GoalPart.TheVariants as goal
 use Rattle.ps_script.specs.declared.forms.Form.{Form}
-use Rattle.ps_script.specs.declared.forms.Form.TheVariants.{SetInstance, SetPredicate, SetFunction, SetGoal, RemoveInstance, RemovePredicate, RemoveFunction, RemoveGoal, ModelTypes, ModelPredicates, ModelFunctions, ModelActions, ModelPredicate, ModelAction, Domain, ProblemInstances, ProblemPredicates, ProblemFunctions, ProblemGoal, Quit, Plan, Tree, Run, RunAction}
+use Rattle.ps_script.specs.declared.forms.Form.TheVariants.{SetInstance, SetPredicate, SetFunction, SetGoal, RemoveInstance, RemovePredicate, RemoveFunction, RemoveGoal, ModelTypes, ModelPredicates, ModelFunctions, ModelActions, ModelPredicate, ModelAction, Domain, ProblemInstances, ProblemPredicates, ProblemFunctions, ProblemGoal, Plan, Quit, Tree, Run, RunAction}
 
 -- the forms of three words
 abbrev pub three_words : List (List (List ℕ) × Form)
@@ -59,8 +59,8 @@ start_of RemoveGoal = AnyName ∷ AnyName ∷ []
 start_of ModelPredicate = AnyName ∷ AnyName ∷ AnyName ∷ AnyName ∷ []
 start_of ModelAction = AnyName ∷ AnyName ∷ AnyName ∷ AnyName ∷ []
 start_of Domain = AnyName ∷ AnyName ∷ []
-start_of Quit = AnyName ∷ []
 start_of Plan = AnyName ∷ AnyName ∷ []
+start_of Quit = AnyName ∷ []
 start_of Tree = AnyName ∷ AnyName ∷ []
 start_of Run = AnyName ∷ []
 start_of RunAction = AnyName ∷ AnyName ∷ InGoal goal.Atom ∷ []
@@ -68,7 +68,6 @@ start_of _ = AnyName ∷ AnyName ∷ AnyName ∷ []
 
 -- whether this program has the form yet
 abbrev pub is_built : Form → Bool
-is_built Plan = false
 is_built Tree = false
 is_built Run = false
 is_built RunAction = false

@@ -69,7 +69,8 @@ pub fn command_of(alloc: Global, form: Form, trees: &[Tree]) -> Result<Option<Co
         Form::ProblemPredicates => Command::Ask(Query::ProblemPredicates),
         Form::ProblemFunctions => Command::Ask(Query::ProblemFunctions),
         Form::ProblemGoal => Command::Ask(Query::ProblemGoal),
+        Form::Plan => Command::Ask(Query::Plan),
         Form::Quit => Command::Quit,
-        Form::Plan | Form::Tree | Form::Run | Form::RunAction => return Ok(None),
+        Form::Tree | Form::Run | Form::RunAction => return Ok(None),
     }))
 }

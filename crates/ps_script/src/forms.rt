@@ -48,10 +48,10 @@ pub enum Form {
     ProblemFunctions,
     /// `get problem goal`
     ProblemGoal,
-    /// `quit`
-    Quit,
     /// `get plan`
     Plan,
+    /// `quit`
+    Quit,
     /// `get tree`
     Tree,
     /// `run`
@@ -163,7 +163,7 @@ impl Form {
     pub fn is_built(self) -> bool
         ensures { result ≡ is_built self }
     {
-        !matches!(self, Form::Plan | Form::Tree | Form::Run | Form::RunAction)
+        !matches!(self, Form::Tree | Form::Run | Form::RunAction)
     }
 
     /// The place of the first word of a line of this form that doesn't fit, or of the line's end where more is wanted.

@@ -118,6 +118,7 @@ fn bad_lines(rt: HostRuntime) -> Result<(), Fail> {
         (b"a;b".as_slice(), LineCause::Command),
         (b"run foo".as_slice(), LineCause::Shape { at: 4 }),
         (b"quit now".as_slice(), LineCause::Shape { at: 5 }),
+        (b"get plan x".as_slice(), LineCause::Shape { at: 9 }),
         (b"set instance leia".as_slice(), LineCause::Shape { at: 17 }),
         (
             b"set instance leia (".as_slice(),
@@ -142,7 +143,6 @@ fn bad_lines(rt: HostRuntime) -> Result<(), Fail> {
         (b"set goal (or (a))".as_slice(), LineCause::Shape { at: 10 }),
         (b"set goal (when a)".as_slice(), LineCause::Shape { at: 10 }),
         (b"run".as_slice(), LineCause::NotBuilt),
-        (b"get plan".as_slice(), LineCause::NotBuilt),
         (b"get tree".as_slice(), LineCause::NotBuilt),
         (b"run action (load c1)".as_slice(), LineCause::NotBuilt),
     ] {
@@ -253,6 +253,8 @@ fn questions(rt: HostRuntime) -> Result<(), Fail> {
             13,
         ),
         (b"get problem goal".as_slice(), Query::ProblemGoal, 14),
+        (b"get plan".as_slice(), Query::Plan, 15),
+        (b" GET Plan ;x".as_slice(), Query::Plan, 15),
     ] {
         let same = reads(alloc, &mut names, text, Command::Ask(query))?;
         assert!(rt; same, "{text:?}");

@@ -21,7 +21,7 @@ struct Log {
 impl Grows for Log {
     ghost history = { λ log. map (λ hand. record { hand = hand; what = Quit }) log.hands.items };
 
-    ghost input = { λ log. record { domain = record { name = record { 0 = 1 }; types = []; constants = []; predicates = []; functions = []; actions = [] }; lines = [] } };
+    ghost input = { λ log. record { domain = record { name = record { 0 = 1 }; types = []; constants = []; predicates = []; functions = []; actions = [] }; lines = []; budget = 0 } };
 }
 
 impl Log {

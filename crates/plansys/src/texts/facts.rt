@@ -1,10 +1,12 @@
-//! The texts of names, facts, values and goals.
+//! The texts of names, facts, values, goals and steps.
 ghost use Rattle.std.specs.Prelude.{◌≡◌, ◌++◌, OnOk};
 ghost use Rattle.std.specs.Fmt.{decimal};
 ghost use Rattle.ps_world.specs.Names.{name_text};
 ghost use Rattle.ps_world.specs.Numbers.{number_text};
+ghost use Rattle.ps_action.specs.Texts.{step_line};
 ghost use Rattle.ps_world.specs.Texts.{args_text, fact_text, value_text, goal_text};
 
+use ps_action::PlanStep;
 use ps_print::push_condition;
 use ps_text::{NUMBER_BYTES, Names, print_number};
 use ps_world::{Cond, Fact, Name, Num};
@@ -171,5 +173,18 @@ pub fn push_goal_after(
 {
     text.extend_from_slice(words)?;
     push_condition(text, names, &[], goal)?;
+    Ok(())
+}
+
+/// Adds a step of a plan.
+pub fn push_step(names: &Names, step: &PlanStep, text: &mut Vec<u8>) -> Result<(), AllocError>
+    ensures { OnOk result (text.new.items ≡ text.old.items ++ step_line names.now step.now) }
+{
+    push_decimals(step.time, text)?;
+    push_name_after(names, b": (", step.act.action, text)?;
+    push_args(names, step.act.args.as_slice(), text)?;
+    text.extend_from_slice(b") [")?;
+    push_decimals(step.duration, text)?;
+    text.push(b']')?;
     Ok(())
 }

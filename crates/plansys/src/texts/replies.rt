@@ -1,13 +1,16 @@
 //! The lines that answer queries.
-ghost use Rattle.std.specs.Prelude.{◌≡◌, ◌∷◌, [], ◌++◌, map, OnOk};
+ghost use Rattle.std.specs.Prelude.{◌≡◌, ◌∷◌, [], ◌++◌, ℕ, map, OnOk};
 ghost use Rattle.std.specs.Option.{option_copied, option_map_or};
 ghost use Rattle.ps_world.specs.Lines.{line_end, lines_of};
 ghost use Rattle.ps_world.specs.Names.{name_text};
 ghost use Rattle.ps_world.specs.DomainTexts.{action_lines, decl_text, domain_lines};
+ghost use Rattle.ps_action.specs.Texts.{step_line};
 ghost use Rattle.ps_machine.specs.Journal.{answer_lines, reply_lines, reply_mark, reply_text};
+ghost use Rattle.plansys.specs.Steps.{asked_steps, told_steps};
 
-use super::facts::name_text;
+use super::facts::{name_text, push_step};
 use super::known::{push_facts, push_goal, push_instances, push_values};
+use ps_action::PlanStep;
 use ps_domain::Expert;
 use ps_machine::{Event, Query};
 use ps_print::{print_domain, push_action, push_decl};
@@ -16,33 +19,37 @@ use ps_text::{Names, lines};
 use ps_world::{ActionDef, Decl, Domain, Param};
 use std::alloc::{AllocError, Global};
 
-/// Adds the reply lines of an event. Only a query has any.
+/// Adds the reply lines of an event, with the steps of the plan that it tells, if it tells one. Only a query has any.
 pub fn push_replies(
     alloc: Global,
     names: &Names,
     expert: &Expert,
     problem: &Problem,
     event: &Event,
+    steps: &[PlanStep],
     text: &mut Vec<u8>,
 ) -> Result<(), AllocError>
-    ensures { OnOk result (text.new.items ≡ text.old.items ++ reply_text (reply_lines names.now expert.now problem.now event.now)) }
+    ensures { (budget : ℕ) → steps.now ≡ told_steps expert.now budget problem.now event.now
+        → OnOk result (text.new.items ≡ text.old.items ++ reply_text (reply_lines names.now expert.now budget problem.now event.now)) }
 {
     match event {
-        Event::Ask(query) => push_answer(alloc, names, expert, problem, query, text),
+        Event::Ask(query) => push_answer(alloc, names, expert, problem, query, steps, text),
         Event::Edit { .. } | Event::Refused { .. } | Event::Quit => Ok(()),
     }
 }
 
-/// Adds the lines that answer a query.
+/// Adds the lines that answer a query, with the steps of the plan that it asks for, if it asks for one.
 fn push_answer(
     alloc: Global,
     names: &Names,
     expert: &Expert,
     problem: &Problem,
     query: &Query,
+    steps: &[PlanStep],
     text: &mut Vec<u8>,
 ) -> Result<(), AllocError>
-    ensures { OnOk result (text.new.items ≡ text.old.items ++ reply_text (answer_lines names.now expert.now problem.now query.now)) }
+    ensures { (budget : ℕ) → steps.now ≡ asked_steps expert.now budget problem.now query.now
+        → OnOk result (text.new.items ≡ text.old.items ++ reply_text (answer_lines names.now expert.now budget problem.now query.now)) }
 {
     let domain = expert.domain();
     match query {
@@ -57,6 +64,7 @@ fn push_answer(
         Query::ProblemPredicates => push_facts(alloc, names, problem, text),
         Query::ProblemFunctions => push_values(alloc, names, problem, text),
         Query::ProblemGoal => push_goal(alloc, names, problem.goal(), text),
+        Query::Plan => push_steps(names, steps, text),
     }
 }
 
@@ -110,6 +118,26 @@ fn push_decls(names: &Names, decls: &[Decl], text: &mut Vec<u8>) -> Result<(), A
 {
     for decl in decls {
         push_decl_reply(names, decl, text)?;
+    }
+    Ok(())
+}
+
+/// Adds a step of a plan as a reply.
+fn push_step_reply(names: &Names, step: &PlanStep, text: &mut Vec<u8>) -> Result<(), AllocError>
+    ensures { OnOk result (text.new.items ≡ text.old.items ++ (reply_mark ++ (step_line names.now step.now ++ line_end))) }
+{
+    text.extend_from_slice(b"  ")?;
+    push_step(names, step, text)?;
+    text.push(b'\n')?;
+    Ok(())
+}
+
+/// Adds the steps of a plan, each as a reply.
+fn push_steps(names: &Names, steps: &[PlanStep], text: &mut Vec<u8>) -> Result<(), AllocError>
+    ensures { OnOk result (text.new.items ≡ text.old.items ++ reply_text (map (step_line names.now) steps.now)) }
+{
+    for step in steps {
+        push_step_reply(names, step, text)?;
     }
     Ok(())
 }

@@ -1,5 +1,6 @@
 //! The texts of hand-made entries over a small domain.
 use super::entry_text;
+use ps_action::{Act, PlanStep};
 use ps_domain::Expert;
 use ps_machine::{By, Entry, Event, LineCause, Query, Refusal};
 use ps_pddl::read_domain;
@@ -103,7 +104,7 @@ const EDIT_TEXTS: [&str; 8] = [
     "remove instance leia",
 ];
 
-const REFUSALS: [(Refusal, &str); 20] = [
+const REFUSALS: [(Refusal, &str); 24] = [
     (Refusal::Line(LineCause::Lex { at: 4 }), "Lex 4"),
     (Refusal::Line(LineCause::Number { at: 26 }), "Number 26"),
     (Refusal::Line(LineCause::Command), "Command"),
@@ -133,6 +134,10 @@ const REFUSALS: [(Refusal, &str); 20] = [
     (Refusal::Edit(EditRefusal::NoGoal), "NoGoal"),
     (Refusal::NoPredicate, "NoPredicate"),
     (Refusal::NoAction, "NoAction"),
+    (Refusal::NoGoal, "NoGoal"),
+    (Refusal::NoPlan, "NoPlan"),
+    (Refusal::Spent(256), "Spent 256"),
+    (Refusal::TooMany, "TooMany"),
 ];
 
 /// What is asked with the reply lines, after the edits that add.
@@ -229,6 +234,7 @@ fn expect(
         session.expert,
         problem,
         &entry,
+        &[],
     )?;
     assert_eq!(rt; text.as_slice(), want.as_bytes(), "{want}");
     Ok(())
@@ -285,13 +291,52 @@ fn refuse(rt: &impl Abort, session: &Session, problem: &Problem) -> Result<(), A
     Ok(())
 }
 
+/// Asserts the text of the entry that tells a plan of two steps.
+fn plan(rt: &impl Abort, session: &Session, problem: &Problem) -> Result<(), Fail> {
+    let act = Act {
+        action: REST,
+        args: Args::of(&[LEIA]).ok_or("too many arguments")?,
+    };
+    let alone = Act {
+        action: REST,
+        args: Args::of(&[]).ok_or("too many arguments")?,
+    };
+    let steps = [
+        PlanStep {
+            time: number(0)?,
+            act,
+            duration: number(1000)?,
+        },
+        PlanStep {
+            time: number(1001)?,
+            act: alone,
+            duration: number(12500)?,
+        },
+    ];
+    let entry = Entry {
+        hand: 0,
+        what: Event::Ask(Query::Plan),
+    };
+    let text = entry_text(
+        session.alloc,
+        session.names,
+        session.expert,
+        problem,
+        &entry,
+        &steps,
+    )?;
+    let want = b"0 ask get plan\n  0.000: (rest leia) [1.000]\n  1.001: (rest) [12.500]\n";
+    assert_eq!(rt; text.as_slice(), want.as_slice());
+    Ok(())
+}
+
 /// Asserts the texts of all kinds of entries.
 fn tell(
     rt: &impl Abort,
     session: &Session,
     problem: &mut Problem,
     edits: &[Edit],
-) -> Result<(), AllocError> {
+) -> Result<(), Fail> {
     let (adding, removing) = edits.split_at(edits.len() / 2);
     let (added, removed) = EDIT_TEXTS.split_at(4);
     refuse(rt, session, problem)?;
@@ -299,10 +344,11 @@ fn tell(
     make(rt, session, problem, adding, added)?;
     ask(rt, session, problem, &ANSWERS)?;
     make(rt, session, problem, removing, removed)?;
-    ask(rt, session, problem, &LAST_ANSWERS)
+    ask(rt, session, problem, &LAST_ANSWERS)?;
+    plan(rt, session, problem)
 }
 
-fn tell_over(rt: &impl Abort, session: &Session, edits: &[Edit]) -> Result<(), AllocError> {
+fn tell_over(rt: &impl Abort, session: &Session, edits: &[Edit]) -> Result<(), Fail> {
     let mut problem = Problem::new(session.alloc, session.expert)?;
     tell(rt, session, &mut problem, edits)
 }

@@ -3,4 +3,4 @@ use Rattle.plansys.proofs.Sessions.{IsRunning}
 use Rattle.plansys.proofs.session.run.Given as goal
 
 abbrev pub invariant-loop-i : goal.invariant-loop-i
-invariant-loop-i g l = IsRunning (input_with l.expert l.lines) l.names l.problem l.refused l.i (g.O.Sink.taken l.fn.out) (g.O.Sink.taken l.out) (g.O.Sink.faults l.fn.out) (g.O.Sink.faults l.out)
+invariant-loop-i g l = IsRunning (input_with l.expert l.lines l.budget) l.names l.problem l.refused l.i (g.O.Sink.taken l.fn.out) (g.O.Sink.taken l.out) (g.O.Sink.faults l.fn.out) (g.O.Sink.faults l.out)
