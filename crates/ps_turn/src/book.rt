@@ -3,11 +3,11 @@ ghost use Rattle.std.specs.Prelude.{◌≡◌, true, false, MatchResult};
 ghost use Rattle.ps_turn.specs.Books.{Took, now_at, IsFree};
 ghost use Rattle.ps_turn.specs.Hands.{of_hand, IsBeginning, GoesOnBy};
 
-use crate::grows::Grows;
 use crate::rule::{Founding, Give, Take, Turns};
 use crate::seat::Seat;
 use crate::view::View;
 use atomic_table::Table;
+use ps_machine::Grows;
 use std::alloc::Global;
 use std::hint;
 use std::marker::Model;

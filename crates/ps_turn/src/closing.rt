@@ -8,11 +8,11 @@ ghost use Rattle.ps_turn.specs.Seats.{place_note, IsKeeper, Tells};
 ghost use Rattle.ps_turn.specs.Turns.{with_note};
 
 use crate::book::TurnBook;
-use crate::grows::Grows;
 use crate::rule::Gather;
 use crate::seat::Seat;
 use crate::view::View;
 use atomic_table::Seat as Token;
+use ps_machine::Grows;
 
 impl<V: Grows> TurnBook<V> {
     /// Closes the book, and gives the value back, which has the book's input. Its history begins with the opening history, and each

@@ -9,7 +9,6 @@
 
 mod book;
 mod closing;
-mod grows;
 mod opening;
 mod rule;
 mod seat;
@@ -18,6 +17,5 @@ mod tests;
 mod view;
 
 pub use book::TurnBook;
-pub use grows::Grows;
 pub use opening::NotOpened;
 pub use seat::Seat;

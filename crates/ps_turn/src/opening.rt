@@ -6,11 +6,11 @@ ghost use Rattle.ps_turn.specs.Seats.{founded_on};
 ghost use Rattle.ps_turn.specs.Turns.{dealing};
 
 use crate::book::TurnBook;
-use crate::grows::Grows;
 use crate::rule::{Begin, Deal, Founding, Give};
 use crate::seat::Seat;
 use crate::view::View;
 use atomic_table::{Seat as Token, Table};
+use ps_machine::Grows;
 use std::alloc::Global;
 use std::sync::atomic::AtomicU32;
 use std::sync::atomic::Ordering::SeqCst;

@@ -3,9 +3,9 @@ ghost use Rattle.ps_turn.specs.Rule.{Rule};
 ghost use Rattle.ps_turn.specs.Turns.{opener, dealer, newcomer, noting, spent, Begins, Gives, Takes};
 ghost use Rattle.std.specs.Prelude.{◌≡◌};
 
-use crate::grows::Grows;
 use crate::view::View;
 use atomic_table::{Join, Play, Split, TableRule};
+use ps_machine::Grows;
 use std::snapshot::Snapshot;
 
 /// What a table is founded on: how many seats it has, and, for the proofs alone, the first value.

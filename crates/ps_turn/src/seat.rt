@@ -1,10 +1,10 @@
 //! Seats.
 ghost use Rattle.std.specs.Prelude.{◌≡◌};
 
-use crate::grows::Grows;
 use crate::rule::Founding;
 use crate::view::View;
 use atomic_table::Seat as Token;
+use ps_machine::Grows;
 use std::marker::Model;
 
 /// A seat at a book. Contracts see it as its book, its hand, the history that it last saw, the entries of its hand there, and

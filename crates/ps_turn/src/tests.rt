@@ -5,7 +5,8 @@ ghost use Rattle.ps_machine.specs.declared.journal.Event.TheVariants.{Quit};
 ghost use Rattle.ps_turn.specs.Books.{IsFree};
 ghost use Rattle.ps_turn.specs.Hands.{GoesOnBy};
 
-use super::{Grows, Seat, TurnBook};
+use super::{Seat, TurnBook};
+use ps_machine::Grows;
 use std::alloc::Global;
 use std::sync::Wait;
 use std::test::Fail;
