@@ -4,4 +4,5 @@ pub mod Keeps
 pub mod Lists
 pub mod Places
 pub mod Returns
+pub mod Sends
 pub mod Tokens

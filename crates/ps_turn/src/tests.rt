@@ -1,40 +1,65 @@
 //! Threads take turns at a list of entries.
-ghost use Rattle.std.specs.Prelude.{◌≡◌, ℕ, ◌<◌, ◌≤◌, false, [], map, length, slice_index_or};
+ghost use Rattle.std.specs.Prelude.{◌≡◌, ℕ, ◌<◌, ◌≤◌, false, length, slice_index_or};
 ghost use Rattle.std.specs.List.{All};
-ghost use Rattle.ps_machine.specs.declared.journal.Event.TheVariants.{Quit};
 ghost use Rattle.ps_turn.specs.Books.{IsFree};
 ghost use Rattle.ps_turn.specs.Hands.{GoesOnBy};
 
 use super::{Seat, TurnBook};
-use ps_machine::Grows;
+use ps_machine::{Entry, Event, Grows, Input};
+use ps_world::{Domain, Name, Seq};
 use std::alloc::Global;
 use std::sync::Wait;
 use std::test::Fail;
 use std::thread;
 use std::thread::Threads;
 
-/// A list of `quit` entries, kept as their hands.
+/// Entries, and the input that they are of.
 #[derive(Drop)]
 struct Log {
-    hands: Vec<u8>,
+    entries: Vec<Entry>,
+    input: Input,
 }
 
 impl Grows for Log {
-    ghost history = { λ log. map (λ hand. record { hand = hand; what = Quit }) log.hands.items };
+    ghost history = { λ log. log.entries.items };
 
-    ghost input = { λ log. record { domain = record { name = record { 0 = 1 }; types = []; constants = []; predicates = []; functions = []; actions = [] }; lines = []; budget = 0 } };
+    ghost input = { λ log. log.input };
 }
 
 impl Log {
-    /// Adds an entry of this hand, if there is memory.
+    /// No entries, of a domain that declares nothing.
+    fn new(alloc: Global) -> Log {
+        let domain = Domain {
+            name: Name(1),
+            types: Seq::new(alloc),
+            constants: Seq::new(alloc),
+            predicates: Seq::new(alloc),
+            functions: Seq::new(alloc),
+            actions: Seq::new(alloc),
+        };
+        Log {
+            entries: Vec::new(alloc),
+            input: Input {
+                domain,
+                lines: Seq::new(alloc),
+                budget: 0,
+            },
+        }
+    }
+
+    /// Adds a `quit` entry of this hand, if there is memory.
     fn add_quit(&mut self, hand: u8)
-        ensures { GoesOnBy hand (map (λ h. record { hand = h; what = Quit }) self.old.hands.items) (map (λ h. record { hand = h; what = Quit }) self.new.hands.items) }
+        ensures of_input { self.new.input ≡ self.old.input }
+        ensures grows { GoesOnBy hand self.old.entries.items self.new.entries.items }
     {
-        let _ = self.hands.push(hand);
+        let _ = self.entries.push(Entry {
+            hand,
+            what: Event::Quit,
+        });
     }
 
     fn count_of(&self, hand: u8) -> usize {
-        self.hands.iter().filter(|h| **h == hand).count()
+        self.entries.iter().filter(|e| e.hand == hand).count()
     }
 }
 
@@ -82,10 +107,7 @@ fn closed_after<R: Threads + Wait + Sync>(
 ) -> Result<Log, &'static str>
     requires { (1 ≤ count) × (count ≤ 16) }
 {
-    let empty = Log {
-        hands: Vec::new(alloc),
-    };
-    let opened = TurnBook::open(alloc, empty, count);
+    let opened = TurnBook::open(alloc, Log::new(alloc), count);
     let Ok((book, mut seats)) = opened else {
         return Err("no memory");
     };
@@ -96,7 +118,7 @@ fn closed_after<R: Threads + Wait + Sync>(
 #[test]
 fn two_seats_take_turns(rt: HostRuntime) -> Result<(), Fail> {
     let log = closed_after(&rt, rt.alloc(), 2, 100)?;
-    assert_eq!(rt; log.hands.len(), 200);
+    assert_eq!(rt; log.entries.len(), 200);
     assert_eq!(rt; log.count_of(1), 100);
     assert_eq!(rt; log.count_of(2), 100);
     Ok(())
@@ -105,7 +127,7 @@ fn two_seats_take_turns(rt: HostRuntime) -> Result<(), Fail> {
 #[test]
 fn sixteen_seats_take_turns(rt: HostRuntime) -> Result<(), Fail> {
     let log = closed_after(&rt, rt.alloc(), 16, 20)?;
-    assert_eq!(rt; log.hands.len(), 320);
+    assert_eq!(rt; log.entries.len(), 320);
     for hand in 1..=16 {
         assert_eq!(rt; log.count_of(hand), 20);
     }
