@@ -58,10 +58,10 @@ firsts-append seen (x ∷ xs) ys =
 
 -- ---- what is met
 
-met_stays : (s t : State) (seen : List State) → is_met seen s ≡ true → is_met (with_state seen t) s ≡ true
+pub met_stays : (s t : State) (seen : List State) → is_met seen s ≡ true → is_met (with_state seen t) s ≡ true
 met_stays s t seen e = met_more s t seen ∙ or_second (same_state s t) (is_met seen s) e
 
-met_now : (t : State) (seen : List State) → is_met (with_state seen t) t ≡ true
+pub met_now : (t : State) (seen : List State) → is_met (with_state seen t) t ≡ true
 met_now t seen = met_more t t seen ∙ or_first (same_state t t) (is_met seen t) (state_itself t)
 
 -- what was met is met afterwards
@@ -124,7 +124,7 @@ module _ (f : Node → List Node) (succs : State → List State) (next_states : 
   all_next_met : (n : Node) (seen : List State) → AllMet (met seen (f n)) (succs n.state)
   all_next_met n seen = let P : List State → Type 0 = AllMet (met seen (f n)) in subst P (next_states n) (all_met seen (f n))
 
-  lead_more : (c : Node) (old new : List State) → LeadInto succs old new → LeadInto succs (with_state old c.state) (met new (f c))
+  pub lead_more : (c : Node) (old new : List State) → LeadInto succs old new → LeadInto succs (with_state old c.state) (met new (f c))
   lead_more c old new h s e =
       elim (or_cases (same_state s c.state) (is_met old s) (sym (met_more s c.state old) ∙ e)) [
         | inl here ↦ let P : State → Type 0 = λ t. AllMet (met new (f c)) (succs t) in subst P (sym (state_same s c.state here)) (all_next_met c new)

@@ -58,7 +58,7 @@ goes_first f (g ∷ gs) h = rw h.0 refl
 
 -- ---- what flags stand for
 
-below_facts : (f : Fact) (atoms : List Fact) (flags : List Bool) → IsBelow f atoms → IsBelow f (facts_of atoms flags)
+pub below_facts : (f : Fact) (atoms : List Fact) (flags : List Bool) → IsBelow f atoms → IsBelow f (facts_of atoms flags)
 below_facts f [] flags h = tt
 below_facts f (a ∷ atoms) [] h = tt
 below_facts f (a ∷ atoms) (true ∷ flags) h = (h.0, below_facts f atoms flags h.1)

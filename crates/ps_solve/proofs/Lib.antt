@@ -1,9 +1,11 @@
+pub mod Bits
 pub mod Courses
 pub mod Depths
 pub mod Expanding
 pub mod Firsts
 pub mod FlagRows
 pub mod Gathering
+pub mod Leading
 pub mod LevelLaw
 pub mod Levels
 pub mod Lists
@@ -14,5 +16,7 @@ pub mod Removed
 pub mod SameRows
 pub mod SameStates
 pub mod Settled
+pub mod Sparing
 pub mod Stepping
+pub mod Trading
 pub mod Whole

@@ -8,7 +8,6 @@ use Rattle.std.specs.Result.{result_ok}
 use Rattle.std.proofs.lemmas.Cmp.{eq_by_cmp_equiv}
 use Rattle.std.proofs.lemmas.List.{append_assoc}
 use Rattle.std.proofs.lemmas.List.Elements.{filter_map-append}
-use Rattle.std.proofs.lemmas.List.Folds.{list_all-append}
 use Rattle.ps_world.specs.Facts.{fact_cmp}
 use Rattle.ps_world.specs.Knowledge.{same_fact}
 use Rattle.ps_world.specs.CondViews.{cond_tree}
@@ -28,6 +27,7 @@ use Rattle.ps_action.proofs.Keys.{any-insert_key}
 use Rattle.ps_solve.specs.Orders.{facts_total}
 use Rattle.ps_solve.specs.States.{State, at, changed, ended, state_of, stepped, where_so}
 use Rattle.ps_solve.specs.Nodes.{Node, move, moves}
+use Rattle.ps_solve.specs.Apart.{HaveFootprints, HasFootprint}
 use Rattle.ps_solve.specs.Prepared.{is_number, known_at, landed, leap, leaps, leapt, passes, turned, with_at, without_at}
 use Rattle.ps_solve.specs.Rows.{AreAtoms, IsOver, plain_state}
 use Rattle.ps_solve.specs.declared.prepared.Prepared.{Prepared}
@@ -137,10 +137,6 @@ module _ (d : Domain) (k : Knowledge) (atoms : List Fact) (g : GroundAction) whe
   abbrev pub AreVain : List CondTree → Type 0
   AreVain cs = (s : State) → IsOver atoms s → all_true d (at k s) cs ≡ false
 
-  -- a start that fails
-  pub no_start : AreVain g.start → (s : State) → IsOver atoms s → stepped d k s g ≡ None
-  no_start v s o = ap (λ b. option_and_then (ended d k g) (where_so b (changed k s g.at_start))) (v s o)
-
   no_end : ((t : State) → IsOver atoms t → ended d k g t ≡ None) → AddAtoms atoms g.at_start → (s : State) → IsOver atoms s → stepped d k s g ≡ None
   no_end h a s o =
       goes_alike k atoms (all_true d (at k s) g.start) s g.at_start (ended d k g) (λ t. None) o a h
@@ -167,27 +163,11 @@ and_last : (a b c : Bool) → (a && (b && c)) ≡ ((a && b) && c)
 and_last true b c = refl
 and_last false b c = refl
 
-and_swap : (a b c : Bool) → ((a && c) && b) ≡ ((a && b) && c)
-and_swap true true c = and_true c
-  where
-    and_true : (c : Bool) → (c && true) ≡ c
-    and_true true = refl
-    and_true false = refl
-and_swap true false true = refl
-and_swap true false false = refl
-and_swap false b c = refl
-
 pub true_last : (a : Bool) → (a && true) ≡ a
 true_last true = refl
 true_last false = refl
 
 module _ (d : Domain) (k : Knowledge) (atoms : List Fact) (s : State) where
-  -- one more place
-  pub more_wanted : (wanted : List ℕ) (others : List CondTree) (i : ℕ) (f : Fact) → slice_get atoms i ≡ Some f → (list_all (known_at atoms s) (wanted ++ i ∷ []) && all_true d (at k s) others) ≡ ((list_all (known_at atoms s) wanted && all_true d (at k s) others) && list_any (same_fact f) s.facts)
-  more_wanted wanted others i f e =
-      ap (λ b. b && all_true d (at k s) others) (list_all-append (known_at atoms s) wanted (i ∷ []) ∙ ap (λ b. list_all (known_at atoms s) wanted && b) (true_last (known_at atoms s i) ∙ ap (λ o. option_map_or (λ g. list_any (same_fact g) s.facts) o false) e))
-      ∙ and_swap (list_all (known_at atoms s) wanted) (all_true d (at k s) others) (list_any (same_fact f) s.facts)
-
   -- one more of the other conditions
   pub more_others : (wanted : List ℕ) (others : List CondTree) (c : CondTree) → (list_all (known_at atoms s) wanted && all_true d (at k s) (others ++ c ∷ [])) ≡ ((list_all (known_at atoms s) wanted && all_true d (at k s) others) && is_true d (at k s) c)
   more_others wanted others c =
@@ -279,3 +259,8 @@ module _ (d : Domain) (k : Knowledge) (atoms : List Fact) (n : Node) where
   idle_more all i a found split e =
       ap (λ (o : Option State). leaps d k atoms found n ++ cons_option (option_map (λ s. let m : Node = record { state = s; path = n.path ++ a.act ∷ [] } in m) o) (moves d k (drop (i + 1) all) n)) (sym e)
       ∙ ap (λ l. leaps d k atoms found n ++ moves d k l n) (sym split)
+
+-- one more that is kept with what it reads and changes
+pub footprints_more : (ps : List Prepared) (p : Prepared) → HaveFootprints ps → HasFootprint p → HaveFootprints (ps ++ p ∷ [])
+footprints_more [] p all one = (one, tt)
+footprints_more (q ∷ ps) p all one = (all.0, footprints_more ps p all.1 one)

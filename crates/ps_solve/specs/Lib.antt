@@ -1,6 +1,8 @@
 pub mod Answers
+pub mod Apart
 pub mod Endings
 pub mod Laws
+pub mod Leads
 pub mod Nodes
 pub mod Orders
 pub mod Prepared

@@ -1,5 +1,5 @@
 -- What prepared ground actions mean: their places are those of atoms.
-use Rattle.std.specs.Prelude.{◌≡◌, ℕ, Bool, true, false, not, ◌&&◌, Option, Some, option_map, option_and_then, List, [], ◌∷◌, ◌++◌, filter, filter_map, fold, slice_get}
+use Rattle.std.specs.Prelude.{ℕ, Bool, true, false, not, ◌&&◌, Option, Some, option_map, option_and_then, List, [], ◌∷◌, ◌++◌, filter, filter_map, fold, slice_get}
 use Rattle.std.specs.List.{list_all, list_any}
 use Rattle.std.specs.Option.{option_map_or}
 use Rattle.std.specs.BTreeSet.{insert_key}

@@ -28,7 +28,7 @@ plain_state atoms r = record { facts = facts_of atoms r.flags.items; values = r.
 
 -- the node of a row that was reached
 abbrev pub plain_node : List Fact → Reached → Node
-plain_node atoms r = record { state = plain_state atoms r.row; path = r.path }
+plain_node atoms r = record { state = plain_state atoms r.row; path = r.path.items }
 
 -- whether two rows are the same
 abbrev pub same_row : Row → Row → Bool

@@ -2,6 +2,7 @@
 #![tactic(auto)]
 
 mod atoms;
+mod footprints;
 mod forward;
 mod laws;
 mod light;

@@ -1,35 +1,38 @@
 //! Nodes of the search: rows, and how they are reached.
 ghost use Rattle.std.specs.Prelude.{◌≡◌, [], ◌∷◌, ◌++◌, map, IfOk, OnOk};
-ghost use Rattle.ps_solve.specs.Nodes.{firsts, met};
-ghost use Rattle.ps_solve.specs.Rows.{AreWide, plain_node, plain_state};
+ghost use Rattle.ps_solve.specs.Nodes.{met};
+ghost use Rattle.ps_solve.specs.Rows.{AreWide, plain_state};
+ghost use Rattle.ps_solve.specs.Leads.{first_leads, plain_lead};
 
 use super::atoms::Atoms;
 use super::rows::Row;
 use indexmap::IndexSet;
 use ps_action::Act;
-use ps_world::{Duplicate, Seq};
 use std::alloc::{AllocError, Global};
 
-/// A row that was reached, with the acts that lead to it.
+/// A row that was reached, with the acts that lead to it, and the place of the ground action that led to it last; at first that is
+/// past all ground actions.
 #[derive(Drop)]
 pub struct Reached {
     pub row: Row,
-    pub path: Seq<Act>,
+    pub path: Vec<Act>,
+    pub by: usize,
 }
 
-/// Puts a row at the end, with the acts before it and the one that leads to it, unless it was met. The only error is want of
-/// memory, as it always is where the row doesn't have a flag for each atom.
+/// Puts a row at the end, with the acts before it, and the one that leads to it and its place, unless it was met. The only error is
+/// want of memory, as it always is where the row doesn't have a flag for each atom.
 pub fn discover(
     alloc: Global,
     atoms: &Atoms,
     seen: &mut IndexSet<Row>,
     next: &mut Vec<Reached>,
     row: Row,
-    before: &Seq<Act>,
+    before: &[Act],
     act: Act,
+    by: usize,
 ) -> Result<(), AllocError>
     requires wide { AreWide atoms.now seen.old.keys }
-    ensures nodes { OnOk result (map (plain_node atoms.now) next.new.items ≡ map (plain_node atoms.now) next.old.items ++ firsts (map (plain_state atoms.now) seen.old.keys) (record { state = plain_state atoms.now row; path = before.now ++ act ∷ [] } ∷ [])) }
+    ensures leads { OnOk result (map (plain_lead atoms.now) next.new.items ≡ map (plain_lead atoms.now) next.old.items ++ first_leads (map (plain_state atoms.now) seen.old.keys) (record { node = record { state = plain_state atoms.now row; path = before.now ++ act ∷ [] }; by = by } ∷ [])) }
     ensures seen { OnOk result (map (plain_state atoms.now) seen.new.keys ≡ met (map (plain_state atoms.now) seen.old.keys) (record { state = plain_state atoms.now row; path = before.now ++ act ∷ [] } ∷ [])) }
     ensures wide { OnOk result (AreWide atoms.now seen.new.keys) }
 {
@@ -37,24 +40,26 @@ pub fn discover(
         return Err(AllocError);
     }
     if !seen.contains(&row) {
-        let mut path = before.copy(alloc)?;
+        let mut path = Vec::with_capacity(alloc, before.len() + 1)?;
+        path.extend_from_slice(before)?;
         path.push(act)?;
         seen.insert(row.copy(alloc)?)?;
-        next.push(Reached { row, path })?;
+        next.push(Reached { row, path, by })?;
     }
     Ok(())
 }
 
-/// Puts in the row that a search begins with, and gives its level. The only error is want of memory, as it always is where the row
-/// doesn't have a flag for each atom.
+/// Puts in the row that a search begins with, as if the ground action at this place had led to it, and gives its level. The only error
+/// is want of memory, as it always is where the row doesn't have a flag for each atom.
 pub fn begin(
     alloc: Global,
     atoms: &Atoms,
     seen: &mut IndexSet<Row>,
     row: Row,
+    by: usize,
 ) -> Result<Vec<Reached>, AllocError>
     requires empty { seen.old.keys ≡ [] }
-    ensures nodes { IfOk result (λ level. map (plain_node atoms.now) level.items ≡ record { state = plain_state atoms.now row; path = [] } ∷ []) }
+    ensures leads { IfOk result (λ level. map (plain_lead atoms.now) level.items ≡ record { node = record { state = plain_state atoms.now row; path = [] }; by = by } ∷ []) }
     ensures seen { OnOk result (map (plain_state atoms.now) seen.new.keys ≡ plain_state atoms.now row ∷ []) }
     ensures wide { OnOk result (AreWide atoms.now seen.new.keys) }
 {
@@ -66,7 +71,8 @@ pub fn begin(
     let mut level = Vec::new(alloc);
     level.push(Reached {
         row,
-        path: Seq::new(alloc),
+        path: Vec::new(alloc),
+        by,
     })?;
     Ok(level)
 }

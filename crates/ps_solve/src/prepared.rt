@@ -1,5 +1,5 @@
 //! Ground actions, prepared for steps from row to row.
-ghost use Rattle.std.specs.Prelude.{◌≡◌, ◌&&◌, List, false, filter, filter_map, fold, not, option_to_list, true, None, IfOk, MatchOption};
+ghost use Rattle.std.specs.Prelude.{◌≡◌, ◌&&◌, List, false, filter, filter_map, fold, not, option_to_list, true, None, IfOk, IfSome, MatchOption};
 ghost use Rattle.std.specs.List.{list_any};
 ghost use Rattle.std.specs.Option.{option_map_or};
 ghost use Rattle.std.specs.BTreeSet.{insert_key};
@@ -15,9 +15,11 @@ ghost use Rattle.ps_solve.specs.States.{State, at, changed, stepped};
 ghost use Rattle.ps_solve.specs.Nodes.{moves};
 ghost use Rattle.ps_solve.specs.Rows.{AreAtoms, IsOver, plain_node};
 ghost use Rattle.ps_solve.specs.Prepared.{is_number, leaps, leapt, passes, turned, with_at, without_at};
+ghost use Rattle.ps_solve.specs.Apart.{HaveFootprints, HasFootprint};
 ghost use Rattle.ps_solve.specs.declared.nodes.Reached.{Reached as ReachedView};
 
 use super::atoms::Atoms;
+use super::footprints::Footprint;
 use ps_action::{Act, GroundAction};
 use ps_world::{Cond, Conds, Duplicate, Effect, Seq};
 use std::alloc::{AllocError, Global};
@@ -50,6 +52,8 @@ pub struct Prepared {
     pub end: Test,
     pub at_start: Change,
     pub at_end: Change,
+    /// What it reads and changes.
+    pub footprint: Footprint,
 }
 
 /// Puts a condition into a test, and answers whether it could: false only where the condition holds in no state over the atoms,
@@ -175,7 +179,8 @@ fn prepare(
     atoms: &Atoms,
     action: &GroundAction,
 ) -> Result<Option<Prepared>, AllocError>
-    ensures { IfOk result (λ made. MatchOption made ((d : DomainView) (k : KnowledgeView) (s : State) → IsOver atoms.now s → stepped d k s action.now ≡ None) (λ p. (p.act ≡ action.now.act) × ((d : DomainView) (k : KnowledgeView) (s : State) → IsOver atoms.now s → leapt d k atoms.now s p ≡ stepped d k s action.now))) }
+    ensures same { IfOk result (λ made. MatchOption made ((d : DomainView) (k : KnowledgeView) (s : State) → IsOver atoms.now s → stepped d k s action.now ≡ None) (λ p. (p.act ≡ action.now.act) × ((d : DomainView) (k : KnowledgeView) (s : State) → IsOver atoms.now s → leapt d k atoms.now s p ≡ stepped d k s action.now))) }
+    ensures footprints { IfOk result (λ made. IfSome made HasFootprint) }
 {
     let Some(start) = test_of(alloc, atoms, &action.start)? else {
         return Ok(None);
@@ -188,6 +193,7 @@ fn prepare(
         return Ok(None);
     };
     let at_end = change_of(alloc, atoms, &action.at_end)?;
+    let footprint = Footprint::of(&start, &over, &end, &at_start, &at_end);
     Ok(Some(Prepared {
         act: action.act,
         start,
@@ -195,6 +201,7 @@ fn prepare(
         end,
         at_start,
         at_end,
+        footprint,
     }))
 }
 
@@ -205,7 +212,8 @@ pub fn prepare_all(
     atoms: &Atoms,
     actions: &[GroundAction],
 ) -> Result<Vec<Prepared>, AllocError>
-    ensures { IfOk result (λ all. (d : DomainView) (k : KnowledgeView) (r : ReachedView) → leaps d k atoms.now all.items (plain_node atoms.now r) ≡ moves d k actions.now (plain_node atoms.now r)) }
+    ensures same { IfOk result (λ all. (d : DomainView) (k : KnowledgeView) (r : ReachedView) → leaps d k atoms.now all.items (plain_node atoms.now r) ≡ moves d k actions.now (plain_node atoms.now r)) }
+    ensures footprints { IfOk result (λ all. HaveFootprints all.items) }
 {
     let mut all = Vec::new(alloc);
     for action in actions {

@@ -5,7 +5,9 @@ ghost use Rattle.ps_world.specs.CondViews.{cond_tree};
 ghost use Rattle.ps_action.specs.Truth.{is_true};
 ghost use Rattle.ps_solve.specs.Endings.{ending, searched};
 ghost use Rattle.ps_solve.specs.States.{at, state_of};
-ghost use Rattle.ps_solve.specs.Nodes.{firsts, grounds, met, moves};
+ghost use Rattle.ps_solve.specs.Nodes.{grounds, met, moves};
+ghost use Rattle.ps_solve.specs.Apart.{HaveFootprints, is_spared};
+ghost use Rattle.ps_solve.specs.Leads.{AreSpared, IsSpared, first_leads, leads_from, plain_lead};
 ghost use Rattle.ps_solve.specs.Prepared.{leaps};
 ghost use Rattle.ps_solve.specs.Rows.{AreWide, plain_node, plain_state};
 ghost use Rattle.ps_solve.specs.declared.nodes.Reached.{Reached as ReachedView};
@@ -17,7 +19,7 @@ use super::rows::Row;
 use super::steps::{At, step};
 use indexmap::IndexSet;
 use ps_action::{Act, Answer, Known, Types, is_true};
-use ps_world::{Cond, Duplicate, Seq};
+use ps_world::{Cond, Seq};
 use std::alloc::{AllocError, Global};
 
 /// The most acts of a plan.
@@ -53,7 +55,7 @@ impl<'a, K: Known, T: Types> Search<'a, K, T> {
     {
         for node in level.iter() {
             if self.is_good(&node.row) {
-                return Ok(Some(node.path.copy(alloc)?));
+                return Ok(Some(Seq::of(Vec::from_slice(alloc, &node.path)?)));
             }
         }
         Ok(None)
@@ -65,23 +67,40 @@ impl<'a, K: Known, T: Types> Search<'a, K, T> {
         &self,
         alloc: Global,
         node: &Reached,
+        place: usize,
         action: &Prepared,
         seen: &mut IndexSet<Row>,
         next: &mut Vec<Reached>,
     ) -> Result<(), AllocError>
         requires wide { AreWide self.now.atoms.now seen.old.keys }
-        ensures nodes { OnOk result (map (plain_node self.now.atoms.now) next.new.items ≡ map (plain_node self.now.atoms.now) next.old.items ++ firsts (map (plain_state self.now.atoms.now) seen.old.keys) (leaps (T.types self.now.types.now) (K.known self.now.given.now) self.now.atoms.now (action.now ∷ []) (plain_node self.now.atoms.now node.now))) }
+        ensures leads { OnOk result (map (plain_lead self.now.atoms.now) next.new.items ≡ map (plain_lead self.now.atoms.now) next.old.items ++ first_leads (map (plain_state self.now.atoms.now) seen.old.keys) (leads_from (T.types self.now.types.now) (K.known self.now.given.now) self.now.atoms.now place (action.now ∷ []) (plain_node self.now.atoms.now node.now))) }
         ensures seen { OnOk result (map (plain_state self.now.atoms.now) seen.new.keys ≡ met (map (plain_state self.now.atoms.now) seen.old.keys) (leaps (T.types self.now.types.now) (K.known self.now.given.now) self.now.atoms.now (action.now ∷ []) (plain_node self.now.atoms.now node.now))) }
         ensures wide { OnOk result (AreWide self.now.atoms.now seen.new.keys) }
     {
         match step(alloc, self.given, self.types, self.atoms, &node.row, action)? {
-            Some(row) => discover(alloc, self.atoms, seen, next, row, &node.path, action.act),
+            Some(row) => discover(
+                alloc, self.atoms, seen, next, row, &node.path, action.act, place,
+            ),
             None => Ok(()),
         }
     }
 
-    /// Puts the new rows that a node leads to at the end, in the order of the ground actions. The only error is want of
-    /// memory.
+    /// Whether a ground action, which stands at this place, needs not be tried where the one at another place led last: it stands
+    /// before that one, and they are apart, so that what it leads to was met by the other order.
+    fn is_spared(&self, by: usize, place: usize, action: &Prepared) -> bool
+        ensures { result ≡ is_spared self.now.actions.now by place action.now }
+    {
+        if place >= by {
+            return false;
+        }
+        match self.actions.get(by) {
+            Some(last) => last.footprint.is_apart(&action.footprint),
+            None => false,
+        }
+    }
+
+    /// Puts the new rows that a node leads to at the end, in the order of the ground actions, of which those that are spared lead to
+    /// nothing new. The only error is want of memory.
     fn expand(
         &self,
         alloc: Global,
@@ -90,12 +109,15 @@ impl<'a, K: Known, T: Types> Search<'a, K, T> {
         next: &mut Vec<Reached>,
     ) -> Result<(), AllocError>
         requires wide { AreWide self.now.atoms.now seen.old.keys }
-        ensures nodes { OnOk result (map (plain_node self.now.atoms.now) next.new.items ≡ map (plain_node self.now.atoms.now) next.old.items ++ firsts (map (plain_state self.now.atoms.now) seen.old.keys) (leaps (T.types self.now.types.now) (K.known self.now.given.now) self.now.atoms.now self.now.actions.now (plain_node self.now.atoms.now node.now))) }
+        requires spared { IsSpared (T.types self.now.types.now) (K.known self.now.given.now) self.now.atoms.now self.now.actions.now (map (plain_state self.now.atoms.now) seen.old.keys) (plain_lead self.now.atoms.now node.now) }
+        ensures leads { OnOk result (map (plain_lead self.now.atoms.now) next.new.items ≡ map (plain_lead self.now.atoms.now) next.old.items ++ first_leads (map (plain_state self.now.atoms.now) seen.old.keys) (leads_from (T.types self.now.types.now) (K.known self.now.given.now) self.now.atoms.now 0 self.now.actions.now (plain_node self.now.atoms.now node.now))) }
         ensures seen { OnOk result (map (plain_state self.now.atoms.now) seen.new.keys ≡ met (map (plain_state self.now.atoms.now) seen.old.keys) (leaps (T.types self.now.types.now) (K.known self.now.given.now) self.now.atoms.now self.now.actions.now (plain_node self.now.atoms.now node.now))) }
         ensures wide { OnOk result (AreWide self.now.atoms.now seen.new.keys) }
     {
-        for action in self.actions {
-            self.follow(alloc, node, action, seen, next)?;
+        for (place, action) in self.actions.iter().enumerate() {
+            if !self.is_spared(node.by, place, action) {
+                self.follow(alloc, node, place, action, seen, next)?;
+            }
         }
         Ok(())
     }
@@ -108,7 +130,8 @@ impl<'a, K: Known, T: Types> Search<'a, K, T> {
         seen: &mut IndexSet<Row>,
     ) -> Result<Vec<Reached>, AllocError>
         requires wide { AreWide self.now.atoms.now seen.old.keys }
-        ensures nodes { IfOk result (λ next. map (plain_node self.now.atoms.now) next.items ≡ firsts (map (plain_state self.now.atoms.now) seen.old.keys) (flat_map (leaps (T.types self.now.types.now) (K.known self.now.given.now) self.now.atoms.now self.now.actions.now) (map (plain_node self.now.atoms.now) level.now))) }
+        requires spared { AreSpared (T.types self.now.types.now) (K.known self.now.given.now) self.now.atoms.now self.now.actions.now (map (plain_state self.now.atoms.now) seen.old.keys) (map (plain_lead self.now.atoms.now) level.now) }
+        ensures leads { IfOk result (λ next. map (plain_lead self.now.atoms.now) next.items ≡ first_leads (map (plain_state self.now.atoms.now) seen.old.keys) (flat_map (leads_from (T.types self.now.types.now) (K.known self.now.given.now) self.now.atoms.now 0 self.now.actions.now) (map (plain_node self.now.atoms.now) level.now))) }
         ensures seen { OnOk result (map (plain_state self.now.atoms.now) seen.new.keys ≡ met (map (plain_state self.now.atoms.now) seen.old.keys) (flat_map (leaps (T.types self.now.types.now) (K.known self.now.given.now) self.now.atoms.now self.now.actions.now) (map (plain_node self.now.atoms.now) level.now))) }
         ensures wide { OnOk result (AreWide self.now.atoms.now seen.new.keys) }
     {
@@ -147,11 +170,14 @@ impl<'a, K: Known, T: Types> Search<'a, K, T> {
     pub fn answer(&self, alloc: Global, start: Row, budget: u32) -> Result<Answer, AllocError>
         requires start { plain_state self.now.atoms.now start ≡ state_of (K.known self.now.given.now) }
         requires goal { (K.known self.now.given.now).goal ≡ Some self.now.goal.now }
+        requires footprints { HaveFootprints self.now.actions.now }
         requires actions { (n : ReachedView) → leaps (T.types self.now.types.now) (K.known self.now.given.now) self.now.atoms.now self.now.actions.now (plain_node self.now.atoms.now n) ≡ moves (T.types self.now.types.now) (K.known self.now.given.now) (grounds (T.types self.now.types.now) (K.known self.now.given.now)) (plain_node self.now.atoms.now n) }
         ensures { IfOk result (λ answer. answer ≡ searched (T.types self.now.types.now) (K.known self.now.given.now) budget) }
     {
+        // The atoms say with their slice that they rise.
+        let _atoms = self.atoms.as_slice();
         let mut seen = IndexSet::new(alloc);
-        let mut level = begin(alloc, self.atoms, &mut seen, start)?;
+        let mut level = begin(alloc, self.atoms, &mut seen, start, self.actions.len())?;
         for depth in 0..MOST_ACTS {
             match self.ending(alloc, &level, seen.len(), budget, depth)? {
                 Some(answer) => return Ok(answer),

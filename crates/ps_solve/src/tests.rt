@@ -5,7 +5,7 @@ use ps_domain::Expert;
 use ps_problem::Problem;
 use ps_world::{
     ActionDef, Args, Cond, Conds, Decl, Domain, Edit, Effect, Expr, Fact, Lifted, Name, Num, NumOp,
-    Param, Seq, Term, Terms,
+    Param, Rel, Seq, Term, Terms,
 };
 use std::alloc::{AllocError, Global};
 use std::process::Abort;
@@ -353,6 +353,73 @@ fn moves_a_fleet_two_spots_on(rt: HostRuntime) -> Result<(), Fail> {
     let goal = all_at(alloc, &CARTS, 2)?;
     let answer = answer_on(alloc, &CARTS, &RING, goal, 1000)?;
     let want = ride(alloc, &CARTS, &[1, 2])?;
+    expect(&rt, &answer, &want);
+    Ok(())
+}
+
+const TWO: [Name; 2] = [Name(20), Name(21)];
+
+/// Ways to the third spot by the fourth and then the second, so that the moves aren't in the order of the acts.
+const ROUND: [[usize; 2]; 3] = [[0, 3], [3, 1], [1, 2]];
+
+#[test]
+fn moves_against_the_order_of_acts(rt: HostRuntime) -> Result<(), Fail> {
+    let alloc = rt.alloc();
+    let goal = all_at(alloc, &TWO, 2)?;
+    let answer = answer_on(alloc, &TWO, &ROUND, goal, 1000)?;
+    let want = ride(alloc, &TWO, &[3, 1, 2])?;
+    expect(&rt, &answer, &want);
+    Ok(())
+}
+
+/// That the level of a cart is at least so many thousandths.
+fn has_level(cart: Name, milli: i64) -> Result<Cond, Fail> {
+    let level = Expr::Fun(lifted(LEVEL, &[Term::Const(cart)])?);
+    Ok(Cond::Cmp(Rel::Ge, level, Expr::Num(number(milli)?)))
+}
+
+/// Gives a cart a level of so many thousandths.
+fn set_level(expert: &Expert, problem: &mut Problem, cart: Name, milli: i64) -> Result<(), Fail> {
+    let setting = Edit::SetValue(fact(LEVEL, &[cart])?, number(milli)?);
+    edit(expert, problem, &setting)
+}
+
+/// A cart that is charged from nothing.
+fn uncharged(alloc: Global, expert: &Expert) -> Result<Problem, Fail> {
+    let mut made = problem(alloc, expert, &[ONE], &SPOTS, &[])?;
+    set_level(expert, &mut made, ONE, 0)?;
+    Ok(made)
+}
+
+fn answer_from_nothing(alloc: Global, goal: Cond) -> Result<Answer, Fail> {
+    let expert = expert(alloc)?;
+    let mut problem = uncharged(alloc, &expert)?;
+    answer(alloc, &expert, &mut problem, goal, 1000)
+}
+
+/// The act that charges a cart, so many times.
+fn charged(alloc: Global, cart: Name, times: usize) -> Result<Answer, Fail> {
+    let mut acts = Vec::new(alloc);
+    for _ in 0..times {
+        let act = charge(cart)?;
+        acts.push(act)?;
+    }
+    plan(alloc, acts.as_slice())
+}
+
+fn charge(cart: Name) -> Result<Act, Fail> {
+    Ok(Act {
+        action: CHARGE,
+        args: Args::of(&[cart]).ok_or("too many arguments")?,
+    })
+}
+
+#[test]
+fn charges_until_the_level_is_there(rt: HostRuntime) -> Result<(), Fail> {
+    let alloc = rt.alloc();
+    let goal = has_level(ONE, 3000)?;
+    let answer = answer_from_nothing(alloc, goal)?;
+    let want = charged(alloc, ONE, 3)?;
     expect(&rt, &answer, &want);
     Ok(())
 }

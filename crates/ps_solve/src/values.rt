@@ -93,8 +93,12 @@ impl PartialEq for Values {
 
     ghost laws = { partial_equiv_from_equiv (eq_by_cmp_equiv values_total) };
 
+    // Mostly there are no values, and then nothing is walked.
     fn eq(&self, other: &Self) -> bool {
-        self.all.cmp(&other.all).is_eq()
+        if self.all.len() != other.all.len() {
+            return false;
+        }
+        self.all.is_empty() || self.all.cmp(&other.all).is_eq()
     }
 }
 
@@ -114,8 +118,12 @@ impl Hash for Values {
 
     ghost respects_eq = { values_fed_alike };
 
-    // The terms are mostly the same from state to state, so that the numbers alone tell states apart.
+    // The terms are mostly the same from state to state, so that the numbers alone tell states apart. Mostly there are none, and then
+    // nothing is walked.
     fn hash<H: Hasher>(&self, state: &mut H) {
+        if self.all.is_empty() {
+            return;
+        }
         for (_, number) in &self.all {
             number.milli().hash(state);
         }

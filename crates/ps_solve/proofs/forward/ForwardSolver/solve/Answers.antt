@@ -35,6 +35,6 @@ answer-requires-clause-actions c =
     let all : c.deref-3.result.now ≡ all_ground d k.instances = c.deref-3.ensures.value ∙ c.in-Ok.ensures.ok.0 ∙ ap (all_ground d) first in
     λ n.
     let here = plain_node c.in_ok-atoms.atoms n in
-    ap (λ (l : List Prepared). leaps d k c.in_ok-atoms.atoms l here) c.deref-7.ensures.value ∙ c.in_ok-actions.ensures d k n
+    ap (λ (l : List Prepared). leaps d k c.in_ok-atoms.atoms l here) c.deref-7.ensures.value ∙ c.in_ok-actions.ensures.same d k n
     ∙ ap (λ (l : List GroundAction). moves d k l here) c.deref-6.ensures.value ∙ c.in_ok-light.ensures here
     ∙ (λ i. moves d k (filter_map (λ act. result_ok (ground_act d (same i) act)) (map (λ (g : GroundAction). g.act) (all i))) here)

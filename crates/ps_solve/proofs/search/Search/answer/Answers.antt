@@ -1,25 +1,39 @@
-use Rattle.std.proofs.Common.{◌≡◌, ◌<◌, ◌-◌, ℕ, Option, option_map, unwrap_or, length, map, ap, sym, ◌∙◌, arith}
+use Rattle.std.proofs.Common.{◌≡◌, ◌<◌, ◌-◌, ◌∷◌, [], ℕ, List, Option, option_map, unwrap_or, flat_map, length, map, refl, ap, sym, ◌∙◌, subst, arith, inl}
 use Rattle.std.proofs.lemmas.List.{length-map}
 use Rattle.ps_action.specs.Plans.{most_acts}
 use Rattle.ps_action.specs.Search.{answer_from}
 use Rattle.ps_action.specs.declared.answers.Answer.{Answer}
 use Rattle.ps_action.specs.declared.answers.Answer.TheVariants.{Spent}
 use Rattle.ps_solve.specs.Endings.{ending}
+use Rattle.ps_solve.specs.Leads.{AreSpared, Lead, first_leads, leads_from, plain_lead}
 use Rattle.ps_solve.specs.Prepared.{leaps}
 use Rattle.ps_solve.specs.Rows.{plain_node, plain_state}
 use Rattle.ps_solve.specs.declared.nodes.Reached.{Reached}
 use Rattle.ps_solve.proofs.Depths.{begins_at, deepens_by, goes_on, is_last, none_found, searched_from, stops}
+use Rattle.ps_solve.proofs.Leading.{nodes_led, plain_nodes}
 use Rattle.ps_solve.proofs.Levels.{found}
+use Rattle.ps_solve.proofs.Sparing.{IsClosed, closes_on, root_spared, spared_on}
+use Rattle.ps_solve.specs.States.{State}
 use Rattle.ps_solve.proofs.search.Search.answer.Goals as goal
-use Rattle.ps_solve.specs.Nodes.{Node}
+use Rattle.ps_solve.specs.Nodes.{Node, firsts, met}
 
 pub loop-depth-init : goal.loop-depth-init
 loop-depth-init g c =
     let d = g.T.Types.types c.args.self.now.types.now in
     let k = g.K.Known.known c.args.self.now.given.now in
     let atoms = c.args.self.now.atoms.now in
+    let ps = c.args.self.now.actions.now in
+    let start = plain_state atoms c.args.start in
+    let level = c.in_ok-level.level.items in
+    let seen = map (plain_state atoms) c.begin.new.seen.keys in
+    let root : Node = record { state = start; path = [] } in
+    let is_level : map (plain_node atoms) level ≡ root ∷ [] = plain_nodes d k atoms level ∙ ap (map (λ (l : Lead). l.node)) c.in_ok-level.ensures.leads in
+    let P : List State → List Node → Type 0 = IsClosed d k atoms ps in
+    let Q : List State → List Lead → Type 0 = AreSpared d k atoms ps in
     record {
-      here = begins_at d k c.args.self.now.goal.now (plain_state atoms c.args.start) (map (plain_node atoms) c.in_ok-level.level.items) (map (plain_state atoms) c.begin.new.seen.keys) c.requires.start c.in_ok-level.ensures.nodes c.in_ok-level.ensures.seen;
+      here = begins_at d k c.args.self.now.goal.now start (map (plain_node atoms) level) seen c.requires.start is_level c.in_ok-level.ensures.seen;
+      closed = subst (λ ns. P seen ns) (sym is_level) (subst (λ ss. P ss (root ∷ [])) (sym c.in_ok-level.ensures.seen) (λ s e. inl e));
+      spared = subst (λ ls. Q seen ls) (sym c.in_ok-level.ensures.leads) (root_spared d k atoms ps seen root (length ps) refl);
       wide = c.in_ok-level.ensures.wide;
       left = λ most e.
           let whole : most - 0 ≡ most = omega arith in
@@ -53,8 +67,18 @@ loop-depth-preserved g c =
     let count : c.len.result ≡ length (map (plain_state atoms) rows) = c.len.ensures.len ∙ sym (length-map rows (plain_state atoms)) in
     let is_ending = c.in_ok-answer.ensures ∙ (λ i. ending (option_map (λ (m : Node). m.path) (found d k goal (map plain (c.deref.ensures.value i)))) (map plain (c.deref.ensures.value i)) (count i) c.args.budget n) in
     let none = sym is_ending ∙ c.in-None.is in
+    let ps = c.args.self.now.actions.now in
+    let next = c.in_ok-level-in-None.level.items in
+    let seen = map (plain_state atoms) rows in
+    let later = map (plain_state atoms) c.next_level.new.seen.keys in
+    let is_next : map (plain_lead atoms) next ≡ first_leads seen (flat_map (leads_from d k atoms 0 ps) (map plain ns)) = c.in_ok-level-in-None.ensures.leads ∙ ap (λ (l : List Reached). first_leads seen (flat_map (leads_from d k atoms 0 ps) (map plain l))) c.deref-in-None.ensures.value in
+    let is_later : later ≡ met seen (flat_map (leaps d k atoms ps) (map plain ns)) = c.in_ok-level-in-None.ensures.seen ∙ ap (λ (l : List Reached). met seen (flat_map (leaps d k atoms ps) (map plain l))) c.deref-in-None.ensures.value in
+    let are_next = nodes_led d k atoms next ps (map plain ns) seen is_next in
+    let P : List State → List Node → Type 0 = IsClosed d k atoms ps in
     record {
-      here = deepens_by d k goal Reached plain (leaps d k atoms c.args.self.now.actions.now) c.requires.actions n ns c.deref-in-None.result.now (map plain c.in_ok-level-in-None.level.items) (map (plain_state atoms) rows) (map (plain_state atoms) c.next_level.new.seen.keys) c.loop-depth.invariant.here (none_found (found d k goal (map plain ns)) (map plain ns) (length (map (plain_state atoms) rows)) c.args.budget n none) c.deref-in-None.ensures.value c.in_ok-level-in-None.ensures.nodes c.in_ok-level-in-None.ensures.seen;
+      closed = subst (λ ms. P later ms) (sym are_next) (subst (λ ss. P ss (firsts seen (flat_map (leaps d k atoms ps) (map plain ns)))) (sym is_later) (closes_on d k atoms ps (map plain ns) seen c.loop-depth.invariant.closed));
+      spared = spared_on d k atoms ps c.as_slice-atoms.ensures.rise c.requires.footprints ns next seen later c.loop-depth.invariant.closed is_next is_later;
+      here = deepens_by d k goal Reached plain (leaps d k atoms ps) c.requires.actions n ns ns (map plain next) seen later c.loop-depth.invariant.here (none_found (found d k goal (map plain ns)) (map plain ns) (length seen) c.args.budget n none) refl are_next is_later;
       wide = c.in_ok-level-in-None.ensures.wide;
       left = λ most e.
           let below : n < most = omega arith in

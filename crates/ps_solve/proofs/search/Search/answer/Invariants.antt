@@ -1,17 +1,24 @@
 use Rattle.std.proofs.Common.{◌≡◌, ℕ, ◌-◌, map}
 use Rattle.ps_action.specs.Plans.{most_acts}
 use Rattle.ps_action.specs.Search.{answer_from}
+use Rattle.ps_solve.specs.Leads.{AreSpared, plain_lead}
 use Rattle.ps_solve.specs.Rows.{AreWide, plain_node, plain_state}
 use Rattle.ps_solve.proofs.Depths.{IsAtDepth}
+use Rattle.ps_solve.proofs.Sparing.{IsClosed}
 use Rattle.ps_solve.proofs.search.Search.answer.Given as goal
 
--- the search is at this depth, and its answer from here on is the answer
+-- The search is at this depth, and its answer from here on is the answer. What earlier states lead to was met, and so was what is
+-- spared.
 abbrev pub invariant-loop-depth : goal.invariant-loop-depth
 invariant-loop-depth g l =
+    let atoms = l.self.atoms.now in
+    let ps = l.self.actions.now in
     let d = g.T.Types.types l.self.types.now in
     let k = g.K.Known.known l.self.given.now in
     record {
-      here : IsAtDepth d k l.self.goal.now l.depth (map (plain_node l.self.atoms.now) l.level.items) (map (plain_state l.self.atoms.now) l.seen.keys);
-      wide : AreWide l.self.atoms.now l.seen.keys;
+      here : IsAtDepth d k l.self.goal.now l.depth (map (plain_node atoms) l.level.items) (map (plain_state atoms) l.seen.keys);
+      closed : IsClosed d k atoms ps (map (plain_state atoms) l.seen.keys) (map (plain_node atoms) l.level.items);
+      spared : AreSpared d k atoms ps (map (plain_state atoms) l.seen.keys) (map (plain_lead atoms) l.level.items);
+      wide : AreWide atoms l.seen.keys;
       left : (most : ℕ) → most ≡ most_acts → answer_from d k l.budget (most - l.depth) l.depth ≡ answer_from d k l.budget most 0;
     }

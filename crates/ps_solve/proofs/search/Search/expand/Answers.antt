@@ -1,51 +1,57 @@
-use Rattle.std.proofs.Common.{◌≡◌, ◌+◌, ◌++◌, ◌∷◌, [], List, drop, flat_map, map, ap, sym, ◌∙◌, arith}
-use Rattle.std.proofs.lemmas.List.{append-nil, drop_all, drop_more}
+use Rattle.std.proofs.Common.{◌≡◌, ◌+◌, ◌++◌, ◌∷◌, [], true, Some, List, drop, map, ap, sym, ◌∙◌, subst, arith}
+use Rattle.std.specs.Prelude.{slice_get}
+use Rattle.std.proofs.lemmas.List.{drop_more}
+use Rattle.std.proofs.lemmas.Option.{slice_get-get_or}
+use Rattle.ps_solve.specs.Apart.{is_spared}
+use Rattle.ps_solve.specs.Leads.{IsSpared, first_leads, leads_from, plain_lead}
+use Rattle.ps_solve.specs.Nodes.{met}
+use Rattle.ps_solve.specs.Prepared.{leaps}
+use Rattle.ps_solve.specs.Rows.{AreWide, plain_node, plain_state}
+use Rattle.ps_solve.specs.States.{State}
 use Rattle.ps_solve.specs.declared.prepared.Prepared.{Prepared}
-use Rattle.ps_solve.specs.Nodes.{Node, firsts, met}
-use Rattle.ps_solve.specs.Prepared.{leap, leaps}
-use Rattle.ps_solve.specs.Rows.{plain_node, plain_state}
-use Rattle.ps_solve.proofs.Expanding.{given_each, more_nodes, more_seen}
+use Rattle.ps_solve.specs.declared.rows.Row.{Row}
+use Rattle.ps_solve.proofs.Leading.{followed, followed_met, left_out, left_out_met, still_spared}
 use Rattle.ps_solve.proofs.search.Search.expand.Goals as goal
+use Rattle.ps_solve.proofs.search.Search.expand.Goals.{then-not-is_spared+in_ok-follow, else-not-is_spared}
 
-pub loop-action-preserved : goal.loop-action-preserved
-loop-action-preserved g c =
-    let by : Prepared → List Node = λ a. leaps (g.T.Types.types c.args.self.now.types.now) (g.K.Known.known c.args.self.now.given.now) c.args.self.now.atoms.now (a ∷ []) (plain_node c.args.self.now.atoms.now c.args.node.now) in
-    let gs = c.args.self.now.actions.now in
-    let i = c.loop-action.action-index in
+pub loop-place-preserved : goal.loop-place-preserved
+loop-place-preserved g c =
+    let d = g.T.Types.types c.args.self.now.types.now in
+    let k = g.K.Known.known c.args.self.now.given.now in
+    let atoms = c.args.self.now.atoms.now in
+    let ps = c.args.self.now.actions.now in
+    let n = plain_node atoms c.args.node.now in
+    let lead = plain_lead atoms c.args.node.now in
+    let i = c.loop-place.place in
     let a = c.action-item.result in
-    let split : drop i gs ≡ a ∷ drop (i + 1) gs = drop_more gs i a (omega arith) ∙ ap (λ (x : Prepared). x ∷ drop (i + 1) gs) (sym c.action-item.is) in
-    let atoms = c.args.self.now.atoms.now in
-    let seen = map (plain_state atoms) c.loop-action.seen.keys in
-    let later = map (plain_state atoms) c.follow.new.seen.keys in
-    let is_later = c.in_ok-follow.ensures.seen in
-    record {
-      nodes = more_nodes by gs i a split seen later is_later (map (plain_node atoms) c.loop-action.next.items) (map (plain_node atoms) c.follow.new.next.items) c.in_ok-follow.ensures.nodes ∙ c.loop-action.invariant.nodes;
-      seen = more_seen by gs i a split seen later is_later ∙ c.loop-action.invariant.seen;
-      wide = c.in_ok-follow.ensures.wide;
-    }
-
-pub returns-clause-nodes : goal.returns-clause-nodes
-returns-clause-nodes g c =
-    let d = g.T.Types.types c.args.self.now.types.now in
-    let k = g.K.Known.known c.args.self.now.given.now in
-    let by : Prepared → List Node = λ a. leaps d k c.args.self.now.atoms.now (a ∷ []) (plain_node c.args.self.now.atoms.now c.args.node.now) in
-    let gs = c.args.self.now.actions.now in
-    let i = c.loop-action.action-index in
-    let gone : drop i gs ≡ [] = drop_all i gs (omega arith) in
-    let atoms = c.args.self.now.atoms.now in
-    sym (append-nil (map (plain_node atoms) c.loop-action.next.items))
-    ∙ (λ j. map (plain_node atoms) c.loop-action.next.items ++ firsts (map (plain_state atoms) c.loop-action.seen.keys) (flat_map by (sym gone j)))
-    ∙ c.loop-action.invariant.nodes
-    ∙ ap (λ (l : List Node). map (plain_node atoms) c.args.next.now.items ++ firsts (map (plain_state atoms) c.args.seen.now.keys) l) (given_each (leap d k atoms (plain_node atoms c.args.node.now)) gs)
-
-pub returns-clause-seen : goal.returns-clause-seen
-returns-clause-seen g c =
-    let d = g.T.Types.types c.args.self.now.types.now in
-    let k = g.K.Known.known c.args.self.now.given.now in
-    let by : Prepared → List Node = λ a. leaps d k c.args.self.now.atoms.now (a ∷ []) (plain_node c.args.self.now.atoms.now c.args.node.now) in
-    let gs = c.args.self.now.actions.now in
-    let i = c.loop-action.action-index in
-    let gone : drop i gs ≡ [] = drop_all i gs (omega arith) in
-    let atoms = c.args.self.now.atoms.now in
-    (λ j. met (map (plain_state atoms) c.loop-action.seen.keys) (flat_map by (sym gone j))) ∙ c.loop-action.invariant.seen
-    ∙ ap (met (map (plain_state atoms) c.args.seen.now.keys)) (given_each (leap d k atoms (plain_node atoms c.args.node.now)) gs)
+    let split : drop i ps ≡ a ∷ drop (i + 1) ps = drop_more ps i a (omega arith) ∙ ap (λ (x : Prepared). x ∷ drop (i + 1) ps) (sym c.action-item.is) in
+    let old = map (plain_lead atoms) c.loop-place.next.items in
+    let seen = map (plain_state atoms) c.loop-place.seen.keys in
+    let rest = leads_from d k atoms (i + 1) (drop (i + 1) ps) n in
+    elim c.if-not-is_spared.branch [
+      | then-not-is_spared+in_ok-follow w ↦
+          let later = map (plain_state atoms) w.follow.new.seen.keys in
+          let is_later : later ≡ met seen (leaps d k atoms (a ∷ []) n) = w.in_ok-follow.ensures.seen in
+          let P : List State → Type 0 = λ states. IsSpared d k atoms ps states lead in
+          let W : List Row → Type 0 = λ rows. AreWide atoms rows in
+          let rows : c.if-not-is_spared.seen.keys ≡ w.follow.new.seen.keys = ap (λ s. s.keys) w.seen-is in
+          record {
+            leads = (λ j. map (plain_lead atoms) (w.next-is j).items ++ first_leads (map (plain_state atoms) (rows j)) rest) ∙ followed d k atoms ps i a split n seen old (map (plain_lead atoms) w.follow.new.next.items) later is_later w.in_ok-follow.ensures.leads ∙ c.loop-place.invariant.leads;
+            seen = ap (λ l. met (map (plain_state atoms) l) (leaps d k atoms (drop (i + 1) ps) n)) rows ∙ followed_met d k atoms ps i a split n seen later is_later ∙ c.loop-place.invariant.seen;
+            spared = subst P (sym (ap (map (plain_state atoms)) rows ∙ is_later)) (still_spared d k atoms ps seen lead (leaps d k atoms (a ∷ []) n) c.loop-place.invariant.spared);
+            wide = subst W (sym rows) w.in_ok-follow.ensures.wide;
+          }
+      | else-not-is_spared w ↦
+          let P : List State → Type 0 = λ states. IsSpared d k atoms ps states lead in
+          let W : List Row → Type 0 = λ rows. AreWide atoms rows in
+          let rows : c.if-not-is_spared.seen.keys ≡ c.loop-place.seen.keys = ap (λ s. s.keys) w.seen-is in
+          let at : slice_get ps i ≡ Some a = slice_get-get_or ps i a (omega arith) ∙ ap (λ (x : Prepared). Some x) (sym c.action-item.is) in
+          let is_so : is_spared ps lead.by i a ≡ true = sym c.is_spared.ensures ∙ cc (w.if-not-is_spared.false) in
+          let was_met = λ (t : State). c.loop-place.invariant.spared i a t at is_so in
+          record {
+            leads = (λ j. map (plain_lead atoms) (w.next-is j).items ++ first_leads (map (plain_state atoms) (rows j)) rest) ∙ ap (λ l. old ++ l) (left_out d k atoms ps i a split n seen was_met) ∙ c.loop-place.invariant.leads;
+            seen = ap (λ l. met (map (plain_state atoms) l) (leaps d k atoms (drop (i + 1) ps) n)) rows ∙ left_out_met d k atoms ps i a split n seen was_met ∙ c.loop-place.invariant.seen;
+            spared = subst P (sym (ap (map (plain_state atoms)) rows)) c.loop-place.invariant.spared;
+            wide = subst W (sym rows) c.loop-place.invariant.wide;
+          }
+    ]

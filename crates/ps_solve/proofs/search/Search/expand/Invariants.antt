@@ -1,17 +1,21 @@
-use Rattle.std.proofs.Common.{◌≡◌, ◌++◌, ◌∷◌, [], List, drop, flat_map, map}
-use Rattle.ps_solve.specs.declared.prepared.Prepared.{Prepared}
-use Rattle.ps_solve.specs.Nodes.{Node, firsts, met}
+use Rattle.std.proofs.Common.{◌≡◌, ◌++◌, drop, map}
+use Rattle.ps_solve.specs.Leads.{IsSpared, first_leads, leads_from, plain_lead}
+use Rattle.ps_solve.specs.Nodes.{met}
 use Rattle.ps_solve.specs.Prepared.{leaps}
 use Rattle.ps_solve.specs.Rows.{AreWide, plain_node, plain_state}
 use Rattle.ps_solve.proofs.search.Search.expand.Given as goal
 
 -- what was found, with what the actions that are left lead to, is what all lead to
-abbrev pub invariant-loop-action : goal.invariant-loop-action
-invariant-loop-action g l =
+abbrev pub invariant-loop-place : goal.invariant-loop-place
+invariant-loop-place g l =
+    let d = g.T.Types.types l.self.types.now in
+    let k = g.K.Known.known l.self.given.now in
     let atoms = l.self.atoms.now in
-    let by : Prepared → List Node = λ a. leaps (g.T.Types.types l.self.types.now) (g.K.Known.known l.self.given.now) l.self.atoms.now (a ∷ []) (plain_node atoms l.node) in
+    let ps = l.self.actions.now in
+    let n = plain_node atoms l.node in
     record {
-      nodes : map (plain_node atoms) l.next.items ++ firsts (map (plain_state atoms) l.seen.keys) (flat_map by (drop l.action-index l.action-items)) ≡ map (plain_node atoms) l.initial.next.items ++ firsts (map (plain_state atoms) l.initial.seen.keys) (flat_map by l.action-items);
-      seen : met (map (plain_state atoms) l.seen.keys) (flat_map by (drop l.action-index l.action-items)) ≡ met (map (plain_state atoms) l.initial.seen.keys) (flat_map by l.action-items);
+      leads : map (plain_lead atoms) l.next.items ++ first_leads (map (plain_state atoms) l.seen.keys) (leads_from d k atoms l.place (drop l.place ps) n) ≡ map (plain_lead atoms) l.initial.next.items ++ first_leads (map (plain_state atoms) l.initial.seen.keys) (leads_from d k atoms 0 ps n);
+      seen : met (map (plain_state atoms) l.seen.keys) (leaps d k atoms (drop l.place ps) n) ≡ met (map (plain_state atoms) l.initial.seen.keys) (leaps d k atoms ps n);
+      spared : IsSpared d k atoms ps (map (plain_state atoms) l.seen.keys) (plain_lead atoms l.node);
       wide : AreWide atoms l.seen.keys;
     }

@@ -1,46 +1,58 @@
-use Rattle.std.proofs.Common.{◌≡◌, ◌+◌, ◌++◌, ◌∷◌, [], List, drop, flat_map, map, ap, sym, ◌∙◌, arith}
+use Rattle.std.proofs.Common.{◌≡◌, ◌+◌, ◌++◌, ◌∷◌, [], List, drop, flat_map, map, ap, sym, ◌∙◌, subst, arith}
 use Rattle.std.proofs.lemmas.List.{append-nil, drop_all, drop_more}
 use Rattle.std.proofs.lemmas.List.Folds.{flat_map-map}
-use Rattle.ps_solve.specs.Nodes.{Node, firsts, met}
+use Rattle.ps_solve.specs.Leads.{AreSpared, Lead, first_leads, leads_from, plain_lead}
+use Rattle.ps_solve.specs.Nodes.{Node, met}
 use Rattle.ps_solve.specs.Prepared.{leaps}
 use Rattle.ps_solve.specs.Rows.{plain_node, plain_state}
+use Rattle.ps_solve.specs.States.{State}
 use Rattle.ps_solve.specs.declared.nodes.Reached.{Reached}
-use Rattle.ps_solve.proofs.Expanding.{more_nodes, more_seen}
+use Rattle.ps_solve.proofs.Expanding.{more_seen}
+use Rattle.ps_solve.proofs.Leading.{leads_are, more_leads}
 use Rattle.ps_solve.proofs.search.Search.next_level.Goals as goal
 
 pub loop-node-preserved : goal.loop-node-preserved
 loop-node-preserved g c =
+    let d = g.T.Types.types c.args.self.now.types.now in
+    let k = g.K.Known.known c.args.self.now.given.now in
     let atoms = c.args.self.now.atoms.now in
-    let from : Reached → List Node = λ r. leaps (g.T.Types.types c.args.self.now.types.now) (g.K.Known.known c.args.self.now.given.now) c.args.self.now.atoms.now c.args.self.now.actions.now (plain_node atoms r) in
+    let ps = c.args.self.now.actions.now in
+    let from : Reached → List Lead = λ r. leads_from d k atoms 0 ps (plain_node atoms r) in
+    let led : Reached → List Node = λ r. leaps d k atoms ps (plain_node atoms r) in
     let ns = c.args.level.now in
     let i = c.loop-node.node-index in
     let n = c.node-item.result in
     let split : drop i ns ≡ n ∷ drop (i + 1) ns = drop_more ns i n (omega arith) ∙ ap (λ (x : Reached). x ∷ drop (i + 1) ns) (sym c.node-item.is) in
     let seen = map (plain_state atoms) c.loop-node.seen.keys in
     let later = map (plain_state atoms) c.expand.new.seen.keys in
-    let is_later = c.in_ok-expand.ensures.seen in
+    let is_later : later ≡ met seen (led n) = c.in_ok-expand.ensures.seen in
+    let P : List Reached → Type 0 = λ rs. AreSpared d k atoms ps seen (map (plain_lead atoms) rs) in
+    let Q : List State → Type 0 = λ ss. AreSpared d k atoms ps ss (map (plain_lead atoms) (drop (i + 1) ns)) in
     record {
-      nodes = more_nodes from ns i n split seen later is_later (map (plain_node atoms) c.loop-node.next.items) (map (plain_node atoms) c.expand.new.next.items) c.in_ok-expand.ensures.nodes ∙ c.loop-node.invariant.nodes;
-      seen = more_seen from ns i n split seen later is_later ∙ c.loop-node.invariant.seen;
+      leads = more_leads d k atoms from ns i n split seen later (is_later ∙ ap (met seen) (sym (leads_are d k atoms 0 ps (plain_node atoms n)))) (map (plain_lead atoms) c.loop-node.next.items) (map (plain_lead atoms) c.expand.new.next.items) c.in_ok-expand.ensures.leads ∙ c.loop-node.invariant.leads;
+      seen = more_seen led ns i n split seen later is_later ∙ c.loop-node.invariant.seen;
+      spared = subst Q (sym is_later) (subst P split c.loop-node.invariant.spared).1;
       wide = c.in_ok-expand.ensures.wide;
     }
 
-pub returns-clause-nodes : goal.returns-clause-nodes
-returns-clause-nodes g c =
+pub returns-clause-leads : goal.returns-clause-leads
+returns-clause-leads g c =
+    let d = g.T.Types.types c.args.self.now.types.now in
+    let k = g.K.Known.known c.args.self.now.given.now in
     let atoms = c.args.self.now.atoms.now in
-    let moved : Node → List Node = leaps (g.T.Types.types c.args.self.now.types.now) (g.K.Known.known c.args.self.now.given.now) c.args.self.now.atoms.now c.args.self.now.actions.now in
-    let from : Reached → List Node = λ r. moved (plain_node atoms r) in
+    let leads : Node → List Lead = leads_from d k atoms 0 c.args.self.now.actions.now in
+    let from : Reached → List Lead = λ r. leads (plain_node atoms r) in
     let ns = c.args.level.now in
     let gone : drop c.loop-node.node-index ns ≡ [] = drop_all c.loop-node.node-index ns (omega arith) in
-    sym (append-nil (map (plain_node atoms) c.loop-node.next.items))
-    ∙ (λ j. map (plain_node atoms) c.loop-node.next.items ++ firsts (map (plain_state atoms) c.loop-node.seen.keys) (flat_map from (sym gone j)))
-    ∙ c.loop-node.invariant.nodes
-    ∙ ap (firsts (map (plain_state atoms) c.args.seen.now.keys)) (sym (flat_map-map moved (plain_node atoms) ns))
+    sym (append-nil (map (plain_lead atoms) c.loop-node.next.items))
+    ∙ (λ j. map (plain_lead atoms) c.loop-node.next.items ++ first_leads (map (plain_state atoms) c.loop-node.seen.keys) (flat_map from (sym gone j)))
+    ∙ c.loop-node.invariant.leads
+    ∙ ap (first_leads (map (plain_state atoms) c.args.seen.now.keys)) (sym (flat_map-map leads (plain_node atoms) ns))
 
 pub returns-clause-seen : goal.returns-clause-seen
 returns-clause-seen g c =
     let atoms = c.args.self.now.atoms.now in
-    let moved : Node → List Node = leaps (g.T.Types.types c.args.self.now.types.now) (g.K.Known.known c.args.self.now.given.now) c.args.self.now.atoms.now c.args.self.now.actions.now in
+    let moved : Node → List Node = leaps (g.T.Types.types c.args.self.now.types.now) (g.K.Known.known c.args.self.now.given.now) atoms c.args.self.now.actions.now in
     let from : Reached → List Node = λ r. moved (plain_node atoms r) in
     let ns = c.args.level.now in
     let gone : drop c.loop-node.node-index ns ≡ [] = drop_all c.loop-node.node-index ns (omega arith) in

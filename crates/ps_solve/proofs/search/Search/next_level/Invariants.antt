@@ -1,5 +1,6 @@
 use Rattle.std.proofs.Common.{◌≡◌, ◌++◌, List, drop, flat_map, map}
-use Rattle.ps_solve.specs.Nodes.{Node, firsts, met}
+use Rattle.ps_solve.specs.Leads.{AreSpared, Lead, first_leads, leads_from, plain_lead}
+use Rattle.ps_solve.specs.Nodes.{Node, met}
 use Rattle.ps_solve.specs.Prepared.{leaps}
 use Rattle.ps_solve.specs.Rows.{AreWide, plain_node, plain_state}
 use Rattle.ps_solve.specs.declared.nodes.Reached.{Reached}
@@ -8,10 +9,15 @@ use Rattle.ps_solve.proofs.search.Search.next_level.Given as goal
 -- what was found, with what the nodes that are left lead to, is what all lead to
 abbrev pub invariant-loop-node : goal.invariant-loop-node
 invariant-loop-node g l =
+    let d = g.T.Types.types l.self.types.now in
+    let k = g.K.Known.known l.self.given.now in
     let atoms = l.self.atoms.now in
-    let from : Reached → List Node = λ r. leaps (g.T.Types.types l.self.types.now) (g.K.Known.known l.self.given.now) l.self.atoms.now l.self.actions.now (plain_node atoms r) in
+    let ps = l.self.actions.now in
+    let from : Reached → List Lead = λ r. leads_from d k atoms 0 ps (plain_node atoms r) in
+    let led : Reached → List Node = λ r. leaps d k atoms ps (plain_node atoms r) in
     record {
-      nodes : map (plain_node atoms) l.next.items ++ firsts (map (plain_state atoms) l.seen.keys) (flat_map from (drop l.node-index l.level)) ≡ firsts (map (plain_state atoms) l.initial.seen.keys) (flat_map from l.level);
-      seen : met (map (plain_state atoms) l.seen.keys) (flat_map from (drop l.node-index l.level)) ≡ met (map (plain_state atoms) l.initial.seen.keys) (flat_map from l.level);
+      leads : map (plain_lead atoms) l.next.items ++ first_leads (map (plain_state atoms) l.seen.keys) (flat_map from (drop l.node-index l.level)) ≡ first_leads (map (plain_state atoms) l.initial.seen.keys) (flat_map from l.level);
+      seen : met (map (plain_state atoms) l.seen.keys) (flat_map led (drop l.node-index l.level)) ≡ met (map (plain_state atoms) l.initial.seen.keys) (flat_map led l.level);
+      spared : AreSpared d k atoms ps (map (plain_state atoms) l.seen.keys) (map (plain_lead atoms) (drop l.node-index l.level));
       wide : AreWide atoms l.seen.keys;
     }
