@@ -1,0 +1,9 @@
+pub mod Acting
+pub mod Alike
+pub mod Alone
+pub mod Commuting
+pub mod Judged
+pub mod Listed
+pub mod Steps
+pub mod Tables
+pub mod Things

@@ -1,0 +1,19 @@
+//! Laws of orders. A call does nothing: its contract is the law.
+ghost use Rattle.ps_orders.specs.Orders.{AnyOrder};
+ghost use Rattle.ps_orders.specs.Standing.{OrdersStand};
+
+/// What tells of things, so that two of it may be the same at a thing.
+pub trait Knowing<X> {
+    /// Two are the same at a thing.
+    ghost same: { Self → Self → X → Type 0 };
+}
+
+/// From where a plan is good, each order of starts and ends that its arcs allow goes well, and comes to what the plan comes to.
+pub fn any_order<K: Knowing<X>, X>()
+    ensures { AnyOrder K X K.same }
+{}
+
+/// The orders are the lists in which each start and each end stands once, and none before one that has to stand before it.
+pub fn orders_stand()
+    ensures { OrdersStand }
+{}
