@@ -1,0 +1,4 @@
+mod Lists
+mod Parallel
+mod Roots
+mod Texts

@@ -1,0 +1,145 @@
+//! The tree of a plan.
+ghost use Rattle.std.specs.Prelude.{◌≡◌, ◌<◌, [], ◌∷◌, length, map, replicate, IfOk};
+ghost use Rattle.std.specs.List.{list_all, range_with_len};
+ghost use Rattle.ps_tree.specs.Trees.{in_parallel, is_ready, is_success, root_status, sequence_status, state_at, tree_text, wait_status, waits_at, waits_of};
+
+use super::status::{
+    ActState, Status, is_success, is_waiting, sequence_status, state_at, wait_status,
+};
+use super::text::{push_line, push_sequences};
+use super::waits::{Waits, waits_at, waits_of};
+use ps_arcs::Arcs;
+use std::alloc::{AllocError, Global};
+use std::marker::Model;
+
+/// The states of acts, which contracts see as a list. Nothing here takes memory.
+pub trait ActView {
+    ghost use Rattle.std.specs.Prelude.{List};
+    ghost use Rattle.ps_tree.specs.declared.status.ActState.{ActState};
+
+    ghost states: { Self → List ActState };
+
+    /// The state of an act.
+    fn state(&self, act: u32) -> ActState
+        requires { act < length (states self.now) }
+        ensures { result ≡ state_at (states self.now) act };
+}
+
+/// The behaviour tree of a plan. Its root has a sequence for each act, with a leaf for each act that the act waits for and a leaf
+/// for the act. Contracts see what each act waits for, and the states of the acts.
+#[derive(Drop)]
+pub struct Tree {
+    acts: u32,
+    waits: Vec<Waits>,
+    states: Vec<ActState>,
+}
+
+impl Model for Tree {
+    ghost use Rattle.std.specs.Prelude.{◌≡◌, length};
+    ghost use Rattle.ps_tree.specs.Trees.{TreeView};
+
+    ghost Value = { TreeView };
+
+    ghost view = { λ t. record { waits = t.waits.items; states = t.states.items } };
+
+    ghost invariant = { λ t. (length t.waits.items ≡ t.acts) × (length t.states.items ≡ t.acts) };
+}
+
+impl Tree {
+    /// The tree of these arcs, in which each act waits. The only error is want of memory.
+    pub fn build(alloc: Global, arcs: &Arcs) -> Result<Tree, AllocError>
+        ensures waits { IfOk result (λ tree. tree.waits ≡ waits_of arcs.now) }
+        ensures states { IfOk result (λ tree. tree.states ≡ replicate arcs.now.acts ActState.Waiting) }
+    {
+        let acts = arcs.acts();
+        let waits = waits_of(alloc, arcs)?;
+        let states = vec![in alloc; ActState::Waiting; acts as usize]?;
+        Ok(Tree {
+            acts,
+            waits,
+            states,
+        })
+    }
+
+    /// Takes over the states of the acts, and answers the status of the root. It takes no memory.
+    pub fn tick(&mut self, view: &dyn ActView) -> Status
+        requires { length (states view.now) ≡ length self.old.waits }
+        ensures states { self.new.states ≡ states view.now }
+        ensures waits { self.new.waits ≡ self.old.waits }
+        ensures status { result ≡ root_status self.new }
+    {
+        take_states(self.acts, self.states.as_mut_slice(), view);
+        root_status(self.acts, self.states.as_slice(), self.waits.as_slice())
+    }
+
+    /// Whether by the states of the last tick an act may begin: it waits, and each act that it waits for is done.
+    pub fn ready(&self, act: u32) -> bool
+        requires { act < length self.now.waits }
+        ensures { result ≡ is_ready self.now act }
+    {
+        let states = self.states.as_slice();
+        let waits = waits_at(self.waits.as_slice(), act);
+        are_done(states, waits) && is_waiting(state_at(states, act))
+    }
+
+    /// The lines of all nodes, by the states of the last tick. The only error is want of memory.
+    pub fn text(&self, alloc: Global) -> Result<Vec<u8>, AllocError>
+        ensures { IfOk result (λ text. text.items ≡ tree_text self.now) }
+    {
+        let states = self.states.as_slice();
+        let waits = self.waits.as_slice();
+        let mut text = Vec::new(alloc);
+        push_line(
+            b"parallel",
+            root_status(self.acts, states, waits),
+            &mut text,
+        )?;
+        push_sequences(alloc, states, waits, self.acts, &mut text)?;
+        Ok(text)
+    }
+}
+
+/// Writes the states of so many acts, which are all.
+fn take_states(acts: u32, all: &mut [ActState], view: &dyn ActView)
+    requires room { length all.old ≡ acts }
+    requires seen { length (states view.now) ≡ acts }
+    ensures { all.new ≡ states view.now }
+{
+    for act in 0..acts {
+        all[act as usize] = view.state(act);
+    }
+}
+
+/// Whether each of these acts is done.
+fn are_done(states: &[ActState], waits: &[u32]) -> bool
+    ensures { result ≡ list_all (λ i. is_success (wait_status (state_at states.now i))) waits.now }
+{
+    for wait in waits {
+        if !is_success(wait_status(state_at(states, *wait))) {
+            return false;
+        }
+    }
+    true
+}
+
+/// The status of two children in parallel.
+fn joined(one: Status, other: Status) -> Status
+    ensures { result ≡ in_parallel (one ∷ other ∷ []) }
+{
+    match (one, other) {
+        (Status::Failure, _) | (_, Status::Failure) => Status::Failure,
+        (Status::Success, Status::Success) => Status::Success,
+        _ => Status::Running,
+    }
+}
+
+/// The status of the root over the sequences of so many acts.
+fn root_status(acts: u32, states: &[ActState], all: &[Waits]) -> Status
+    ensures { result ≡ in_parallel (map (λ j. sequence_status states.now (waits_at all.now j) j) (range_with_len 0 acts)) }
+{
+    let mut status = Status::Success;
+    for act in 0..acts {
+        status = joined(status, sequence_status(states, waits_at(all, act), act));
+    }
+    status
+}
