@@ -5,7 +5,7 @@ use Rattle.std.proofs.lemmas.List.{append-nil, append_assoc}
 use Rattle.std.proofs.lemmas.List.Concat.{flat_map-append}
 use Rattle.ps_tree.specs.declared.status.ActState.{ActState}
 use Rattle.ps_tree.specs.Trees.{Node, act_node, line, wait_node}
-use Rattle.ps_tree.proofs.Lists.{flat_map-range_more}
+use Rattle.ps_arcs.proofs.Ranges.{flat_map-range_more}
 
 -- after its first line a sequence has those of the waits and that of the act
 pub sequence_lines : (old first : List ℕ) (states : List ActState) (ws : List ℕ) (j : ℕ) → ((old ++ first) ++ flat_map line (map (wait_node states) ws)) ++ line (act_node states j) ≡ old ++ (first ++ flat_map line (map (wait_node states) ws ++ act_node states j ∷ []))
