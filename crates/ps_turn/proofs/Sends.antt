@@ -1,5 +1,5 @@
 -- An entry and an input may go to another thread, and threads may share them: a search for that from their types alone stops at its
--- limits, so that each type that holds rings of types has its own.
+-- limits, so each type within them that holds others has lemmas of its own.
 use denote.Param.Send.{IsSend, IsSync, sendable}
 use Rattle.std.proofs.Crossing.{crosses}
 use Rattle.ps_world.specs.contracts.expressions.Expr as Expr
