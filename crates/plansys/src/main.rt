@@ -9,8 +9,6 @@ mod laws;
 mod reading;
 mod real;
 mod session;
-#[cfg(test)]
-mod tests;
 mod texts;
 mod verdicts;
 

@@ -8,8 +8,6 @@ mod edits;
 mod facts;
 mod known;
 mod replies;
-#[cfg(test)]
-mod tests;
 
 pub use self::edits::push_arity;
 use self::edits::{push_edit, push_edit_refusal};

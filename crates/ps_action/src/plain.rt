@@ -89,5 +89,3 @@ fn copied_goal(alloc: Global, goal: &Option<Cond>) -> Result<Option<Cond>, Alloc
     }
 }
 
-#[cfg(test)]
-mod tests;

@@ -98,5 +98,3 @@ pub fn duration_of<K: Known>(known: &K, expr: &Expr) -> Num
     }
 }
 
-#[cfg(test)]
-mod tests;

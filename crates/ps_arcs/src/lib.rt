@@ -11,5 +11,3 @@ pub use laws::{
     judged_is_good, judged_is_grounded, no_arc_leaves_alone, orders_go_well,
 };
 
-#[cfg(test)]
-mod tests;

@@ -110,5 +110,3 @@ impl Expert {
     }
 }
 
-#[cfg(test)]
-mod tests;

@@ -10,8 +10,6 @@ mod laws;
 mod listing;
 mod putting;
 mod refusals;
-#[cfg(test)]
-mod samples;
 
 pub use counting::MOST_GROUND;
 pub use declared::Declared;

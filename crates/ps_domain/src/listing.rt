@@ -166,5 +166,3 @@ impl Expert {
     }
 }
 
-#[cfg(test)]
-mod tests;

@@ -9,5 +9,3 @@ pub use evaluation::{apply, defined, duration, holds, holds_all};
 pub use laws::truth_reads_what_is_named;
 pub use touched::{Touched, changed_by, edited_by, reads};
 
-#[cfg(test)]
-mod tests;

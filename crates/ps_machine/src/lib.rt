@@ -5,8 +5,6 @@ mod grows;
 mod inputs;
 mod journal;
 mod laws;
-#[cfg(test)]
-mod tests;
 
 pub use grows::Grows;
 pub use inputs::{Command, Input, Line, LineCause, Query};

@@ -5,8 +5,6 @@ mod laws;
 mod meaning;
 mod reading;
 mod refusals;
-#[cfg(test)]
-mod tests;
 
 pub use laws::{
     canonical_texts_are_read, domains_are_well_formed, meanings_have_own_faults, readings_are_one,

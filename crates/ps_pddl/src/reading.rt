@@ -78,39 +78,3 @@ fn place(bytes: &[u8], words: &[Lexeme], i: usize) -> usize
         None => bytes.len(),
     }
 }
-
-#[cfg(test)]
-mod tests {
-    use super::*;
-    use ps_shape::Form;
-    use std::test::Fail;
-
-    #[test]
-    fn faults_have_bytes(rt: HostRuntime) -> Result<(), Fail> {
-        for (text, refusal) in [
-            (b"(define _)".as_slice(), DomainRefusal::Lex { at: 8 }),
-            (b"(define 1.)".as_slice(), DomainRefusal::Lex { at: 8 }),
-            (b"".as_slice(), DomainRefusal::Unexpected { at: 0 }),
-            (
-                b"(define (domain d)".as_slice(),
-                DomainRefusal::Unexpected { at: 18 },
-            ),
-            (
-                b"(define (domain d)) ; d\n  d".as_slice(),
-                DomainRefusal::Unexpected { at: 26 },
-            ),
-            (
-                b"(define (Problem p))".as_slice(),
-                DomainRefusal::Unsupported {
-                    at: 9,
-                    what: Form::Problem,
-                },
-            ),
-        ] {
-            let mut names = Names::new(rt.alloc())?;
-            let found = read_domain(rt.alloc(), &mut names, text).err();
-            assert_eq!(rt; found, Some(refusal), "{text:?}");
-        }
-        Ok(())
-    }
-}

@@ -149,5 +149,3 @@ pub fn check_plan(
     }
 }
 
-#[cfg(test)]
-mod tests;

@@ -11,8 +11,6 @@ mod printing;
 mod reading;
 mod refusals;
 mod steps;
-#[cfg(test)]
-mod tests;
 mod timing;
 
 pub use faults::MOST_STEPS;

@@ -9,8 +9,6 @@ mod effects;
 mod expressions;
 mod laws;
 mod terms;
-#[cfg(test)]
-mod tests;
 
 pub use actions::push_action;
 pub use conditions::push_condition;

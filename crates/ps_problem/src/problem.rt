@@ -110,5 +110,3 @@ impl Problem {
     }
 }
 
-#[cfg(test)]
-mod tests;

@@ -8,8 +8,6 @@ mod goals;
 mod kinds;
 mod laws;
 mod reading;
-#[cfg(test)]
-mod tests;
 
 pub use files::FileName;
 pub use forms::Form;

@@ -12,8 +12,6 @@ mod rows;
 mod search;
 mod solver;
 mod steps;
-#[cfg(test)]
-mod tests;
 mod values;
 
 pub use forward::Forward;

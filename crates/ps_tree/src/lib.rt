@@ -11,5 +11,3 @@ pub use laws::{all_done_is_success, one_done_has_three_lines, unharmed_is_no_fai
 pub use status::{ActState, Status};
 pub use tree::{ActView, Tree};
 
-#[cfg(test)]
-mod tests;

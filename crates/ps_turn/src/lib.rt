@@ -12,8 +12,6 @@ mod closing;
 mod opening;
 mod rule;
 mod seat;
-#[cfg(test)]
-mod tests;
 mod view;
 
 pub use book::TurnBook;

@@ -5,8 +5,6 @@ mod asked;
 mod commands;
 mod form;
 mod numbers;
-#[cfg(test)]
-mod tests;
 mod usage;
 
 pub use asked::{Asked, Settings, read_words};

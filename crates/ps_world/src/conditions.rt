@@ -317,38 +317,3 @@ impl Eq for Conds {
 
     ghost laws = { is_same_equiv conds_code };
 }
-
-#[cfg(test)]
-mod tests {
-    use super::*;
-    use crate::{BoxedExpr, Num, Op, Terms};
-    use std::test::Fail;
-
-    /// That the fact with this head is not known, and its function compares so with 1 + 1.
-    fn nested(alloc: Global, head: u64, rel: Rel) -> Result<Cond, Fail> {
-        let terms = Terms::of(&[Term::Var(0), Term::Const(Name(7))]).ok_or("two terms")?;
-        let lifted = Lifted {
-            head: Name(head),
-            terms,
-        };
-        let one = Num::new(1000).ok_or("one")?;
-        let unlike = Cond::Not(BoxedCond::new(alloc, Cond::Holds(lifted))?);
-        let left = BoxedExpr::new(alloc, Expr::Num(one))?;
-        let right = BoxedExpr::new(alloc, Expr::Num(one))?;
-        let sum = Expr::Bin(Op::Add, left, right);
-        let compared = Cond::Cmp(rel, Expr::Fun(lifted), sum);
-        Ok(Cond::And(Conds::of(vec![in alloc; unlike, compared]?)))
-    }
-
-    #[test]
-    fn copies_and_compares(rt: HostRuntime) -> Result<(), Fail> {
-        let alloc = rt.alloc();
-        let cond = nested(alloc, 3, Rel::Lt)?;
-        let copied = cond.copy(alloc)?;
-        assert!(rt; copied == cond);
-        for (head, rel) in [(3, Rel::Gt), (4, Rel::Lt)] {
-            assert!(rt; nested(alloc, head, rel)? != cond);
-        }
-        Ok(())
-    }
-}

@@ -254,5 +254,3 @@ fn remove_goal(alloc: Global, domain: &Domain, known: &Knowledge) -> Result<Know
     Ok(new)
 }
 
-#[cfg(test)]
-mod tests;
