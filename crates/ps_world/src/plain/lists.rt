@@ -1,5 +1,5 @@
 //! What stands in the lists of what is known, and those lists with one item more or fewer.
-ghost use Rattle.std.specs.Prelude.{◌≡◌, filter, is_some, not, IfOk};
+ghost use Rattle.std.specs.Prelude.{◌≡◌, ◌∷◌, ◌++◌, filter, is_some, not, IfOk};
 ghost use Rattle.std.specs.List.{list_any};
 ghost use Rattle.std.specs.Map.{lookup};
 ghost use Rattle.std.specs.BTreeMap.{insert_entry};
@@ -43,6 +43,15 @@ pub fn has_value(values: &[(Fact, Num)], fact: Fact) -> bool
     false
 }
 
+/// These items, and after them one more and the rest.
+fn followed_by<T: Copy>(mut all: Vec<T>, item: T, rest: &[T]) -> Result<Vec<T>, AllocError>
+    ensures { IfOk result (λ v. v.items ≡ all.items ++ item ∷ rest.now) }
+{
+    all.push(item)?;
+    all.extend_from_slice(rest)?;
+    Ok(all)
+}
+
 /// The facts with one more at its place, unless it is there.
 pub fn with_item(alloc: Global, facts: &[Fact], fact: Fact) -> Result<Vec<Fact>, AllocError>
     ensures { IfOk result (λ v. v.items ≡ insert_key fact_cmp facts.now fact) }
@@ -50,20 +59,12 @@ pub fn with_item(alloc: Global, facts: &[Fact], fact: Fact) -> Result<Vec<Fact>,
     let mut all = Vec::new(alloc);
     for (i, there) in facts.iter().enumerate() {
         match fact.cmp(there) {
-            Ordering::Less => {
-                all.push(fact)?;
-                all.extend_from_slice(&facts[i..])?;
-                return Ok(all);
-            }
-            Ordering::Equal => {
-                all.extend_from_slice(&facts[i..])?;
-                return Ok(all);
-            }
+            Ordering::Less => return followed_by(all, fact, &facts[i..]),
+            Ordering::Equal => return followed_by(all, *there, &facts[i + 1..]),
             Ordering::Greater => all.push(*there)?,
         }
     }
-    all.push(fact)?;
-    Ok(all)
+    followed_by(all, fact, &[])
 }
 
 /// The instances with one more at its place, or with its type where it is there.
@@ -78,21 +79,12 @@ pub fn with_entry(
     let mut all = Vec::new(alloc);
     for (i, there) in instances.iter().enumerate() {
         match name.cmp(&there.0) {
-            Ordering::Less => {
-                all.push((name, kind))?;
-                all.extend_from_slice(&instances[i..])?;
-                return Ok(all);
-            }
-            Ordering::Equal => {
-                all.push((there.0, kind))?;
-                all.extend_from_slice(&instances[i + 1..])?;
-                return Ok(all);
-            }
+            Ordering::Less => return followed_by(all, (name, kind), &instances[i..]),
+            Ordering::Equal => return followed_by(all, (there.0, kind), &instances[i + 1..]),
             Ordering::Greater => all.push(*there)?,
         }
     }
-    all.push((name, kind))?;
-    Ok(all)
+    followed_by(all, (name, kind), &[])
 }
 
 /// The values with one more at its place, or with this number where the function has a value there.
@@ -107,21 +99,12 @@ pub fn with_number(
     let mut all = Vec::new(alloc);
     for (i, there) in values.iter().enumerate() {
         match fact.cmp(&there.0) {
-            Ordering::Less => {
-                all.push((fact, number))?;
-                all.extend_from_slice(&values[i..])?;
-                return Ok(all);
-            }
-            Ordering::Equal => {
-                all.push((there.0, number))?;
-                all.extend_from_slice(&values[i + 1..])?;
-                return Ok(all);
-            }
+            Ordering::Less => return followed_by(all, (fact, number), &values[i..]),
+            Ordering::Equal => return followed_by(all, (there.0, number), &values[i + 1..]),
             Ordering::Greater => all.push(*there)?,
         }
     }
-    all.push((fact, number))?;
-    Ok(all)
+    followed_by(all, (fact, number), &[])
 }
 
 /// The instances but this one.
