@@ -1,4 +1,7 @@
 //! What is known in a session.
+ghost use Rattle.std.specs.Prelude.{◌≡◌, IfOk};
+ghost use Rattle.std.specs.Option.{option_copied};
+
 use super::conditions::Cond;
 use super::facts::Fact;
 use super::lists::{Duplicate, Seq};
@@ -31,16 +34,35 @@ impl Duplicate for (Fact, Num) {
     }
 }
 
-impl Duplicate for Knowledge {
-    fn copy(&self, alloc: Global) -> Result<Self, AllocError> {
+fn copy_goal(alloc: Global, goal: Option<&Cond>) -> Result<Option<Cond>, AllocError>
+    ensures { IfOk result (λ copied. copied ≡ option_copied goal.entry) }
+{
+    match goal {
+        None => Ok(None),
+        Some(goal) => Ok(Some(goal.copy(alloc)?)),
+    }
+}
+
+impl Knowledge {
+    /// What is known, with another goal or none. The only error is want of memory.
+    pub(crate) fn with_goal(
+        &self,
+        alloc: Global,
+        goal: Option<&Cond>,
+    ) -> Result<Knowledge, AllocError>
+        ensures { IfOk result (λ new. new ≡ record self.now { goal = option_copied goal.entry }) }
+    {
         Ok(Knowledge {
             instances: self.instances.copy(alloc)?,
             facts: self.facts.copy(alloc)?,
             values: self.values.copy(alloc)?,
-            goal: match &self.goal {
-                None => None,
-                Some(goal) => Some(goal.copy(alloc)?),
-            },
+            goal: copy_goal(alloc, goal)?,
         })
+    }
+}
+
+impl Duplicate for Knowledge {
+    fn copy(&self, alloc: Global) -> Result<Self, AllocError> {
+        self.with_goal(alloc, self.goal.as_ref())
     }
 }

@@ -235,10 +235,7 @@ fn set_goal(
     if let Some(fault) = goal_fault(domain, known, goal) {
         return Err(fault);
     }
-    let goal = goal.copy(alloc)?;
-    let mut new = known.copy(alloc)?;
-    new.goal = Some(goal);
-    Ok(new)
+    Ok(known.with_goal(alloc, Some(goal))?)
 }
 
 fn remove_goal(alloc: Global, domain: &Domain, known: &Knowledge) -> Result<Knowledge, EditRefusal>
@@ -249,8 +246,6 @@ fn remove_goal(alloc: Global, domain: &Domain, known: &Knowledge) -> Result<Know
     if known.goal.is_none() {
         return Err(EditRefusal::NoGoal);
     }
-    let mut new = known.copy(alloc)?;
-    new.goal = None;
-    Ok(new)
+    Ok(known.with_goal(alloc, None)?)
 }
 
