@@ -95,7 +95,8 @@ fn lower_case(alloc: Global, text: &[u8]) -> Result<Vec<u8>, AllocError>
 /// The names, each with the number of its place. Texts that differ only in the case of letters are one name, and `object` is 0.
 #[derive(Drop)]
 pub struct Names {
-    texts: IndexSet<Vec<u8>>,
+    /// In one box, so that whoever owns a table owns one part.
+    texts: Box<IndexSet<Vec<u8>>>,
 }
 
 impl Model for Names {
@@ -105,9 +106,9 @@ impl Model for Names {
 
     ghost Value = { Table };
 
-    ghost view = { λ s. map (λ v. v.items) s.texts.keys };
+    ghost view = { λ s. map (λ v. v.items) s.texts.value.keys };
 
-    ghost invariant = { λ s. AreNames (map (λ v. v.items) s.texts.keys) };
+    ghost invariant = { λ s. AreNames (map (λ v. v.items) s.texts.value.keys) };
 }
 
 impl Names {
@@ -117,7 +118,9 @@ impl Names {
     {
         let mut texts = IndexSet::new(alloc);
         texts.insert_full(Vec::from_slice(alloc, b"object")?)?;
-        Ok(Names { texts })
+        Ok(Names {
+            texts: Box::new(alloc, texts)?,
+        })
     }
 
     /// The name with this text, put at the end of the table if it is new. A refusal changes nothing.

@@ -1,4 +1,4 @@
-use Rattle.std.proofs.Common.{◌∙◌, [], ap, rules}
+use Rattle.std.proofs.Common.{◌∙◌, [], ap, map, rules}
 use Rattle.ps_text.specs.Names.{folded, interned, place_of}
 use Rattle.ps_text.proofs.Folds.{IsNameText-folded}
 use Rattle.ps_text.proofs.Tables.{AreNames-interned, interned-view, place_of-view}
@@ -7,16 +7,19 @@ use Rattle.ps_text.proofs.table.Names.intern.Goals as goal
 pub returns-clause-ok : goal.returns-clause-ok
 returns-clause-ok c =
     c.in_ok-place.ensures.index
-    ∙ place_of-view (λ v. v.items) c.self.inside.texts.keys [] c.in_ok-folded.folded (folded c.args.text.now) c.in_ok-folded.ensures
+    ∙ place_of-view (λ v. v.items) c.deref_mut.result.now.keys [] c.in_ok-folded.folded (folded c.args.text.now) c.in_ok-folded.ensures
+    ∙ ap (λ s. place_of (map (λ v. v.items) s.keys) (folded c.args.text.now)) c.deref_mut.ensures.value
     ∙ ap (λ t. place_of t (folded c.args.text.now)) c.self.view_is
 
 pub returns-clause-table : goal.returns-clause-table
 returns-clause-table c =
-    interned-view (λ v. v.items) c.self.inside.texts.keys c.insert_full.new.self.keys c.in_ok-folded.folded (folded c.args.text.now) c.in_ok-folded.ensures c.in_ok-place.ensures.keys
+    interned-view (λ v. v.items) c.deref_mut.result.now.keys c.insert_full.new.self.keys c.in_ok-folded.folded (folded c.args.text.now) c.in_ok-folded.ensures c.in_ok-place.ensures.keys
+    ∙ ap (λ s. interned (map (λ v. v.items) s.keys) (folded c.args.text.now)) c.deref_mut.ensures.value
     ∙ ap (λ t. interned t (folded c.args.text.now)) c.self.view_is
 
 pub invariant_of-self-2 : goal.invariant_of-self-2
 invariant_of-self-2 c =
     let text = folded c.args.text.now in
-    let table = interned-view (λ v. v.items) c.self.inside.texts.keys c.insert_full.new.self.keys c.in_ok-folded.folded text c.in_ok-folded.ensures c.in_ok-place.ensures.keys in
+    let table = interned-view (λ v. v.items) c.deref_mut.result.now.keys c.insert_full.new.self.keys c.in_ok-folded.folded text c.in_ok-folded.ensures c.in_ok-place.ensures.keys
+        ∙ ap (λ s. interned (map (λ v. v.items) s.keys) text) c.deref_mut.ensures.value in
     rw table (AreNames-interned _ text c.self.invariant (IsNameText-folded c.args.text.now (search rules)))
