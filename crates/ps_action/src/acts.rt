@@ -1,5 +1,5 @@
 //! Acts, ground actions and the steps of plans.
-use ps_world::{Args, Conds, Duplicate, Effect, Expr, Name, Num, Seq};
+use ps_world::{Args, Conditions, Conds, Duplicate, Effect, Effects, Expr, Name, Num, Seq};
 use std::alloc::{AllocError, Global};
 
 /// An action and its arguments.
@@ -33,14 +33,16 @@ pub struct GroundAction {
 
 impl Duplicate for GroundAction {
     fn copy(&self, alloc: Global) -> Result<Self, AllocError> {
+        let effects = Effects::copied(alloc, &self.at_start, &self.at_end)?;
+        let conditions = Conditions::copied(alloc, &self.start, &self.over, &self.end)?;
         Ok(GroundAction {
             act: self.act,
             duration: self.duration.copy(alloc)?,
-            start: self.start.copy(alloc)?,
-            over: self.over.copy(alloc)?,
-            end: self.end.copy(alloc)?,
-            at_start: self.at_start.copy(alloc)?,
-            at_end: self.at_end.copy(alloc)?,
+            start: conditions.start,
+            over: conditions.over,
+            end: conditions.end,
+            at_start: effects.at_start,
+            at_end: effects.at_end,
         })
     }
 }

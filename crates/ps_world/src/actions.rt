@@ -56,39 +56,52 @@ pub struct ActionDef {
 
 /// The conditions of an action.
 #[derive(Drop)]
-struct Conditions {
-    start: Conds,
-    over: Conds,
-    end: Conds,
+pub struct Conditions {
+    pub start: Conds,
+    pub over: Conds,
+    pub end: Conds,
 }
 
 /// The effects of an action.
 #[derive(Drop)]
-struct Effects {
-    at_start: Seq<Effect>,
-    at_end: Seq<Effect>,
+pub struct Effects {
+    pub at_start: Seq<Effect>,
+    pub at_end: Seq<Effect>,
 }
 
-impl ActionDef {
-    fn copy_conditions(&self, alloc: Global) -> Result<Conditions, AllocError>
-        ensures start { IfOk result (λ c. c.start ≡ self.now.start) }
-        ensures over { IfOk result (λ c. c.over ≡ self.now.over) }
-        ensures end { IfOk result (λ c. c.end ≡ self.now.end) }
+impl Conditions {
+    /// Copies of these conditions. The only error is want of memory.
+    pub fn copied(
+        alloc: Global,
+        start: &Conds,
+        over: &Conds,
+        end: &Conds,
+    ) -> Result<Conditions, AllocError>
+        ensures start { IfOk result (λ c. c.start ≡ start.now) }
+        ensures over { IfOk result (λ c. c.over ≡ over.now) }
+        ensures end { IfOk result (λ c. c.end ≡ end.now) }
     {
         Ok(Conditions {
-            start: self.start.copy(alloc)?,
-            over: self.over.copy(alloc)?,
-            end: self.end.copy(alloc)?,
+            start: start.copy(alloc)?,
+            over: over.copy(alloc)?,
+            end: end.copy(alloc)?,
         })
     }
+}
 
-    fn copy_effects(&self, alloc: Global) -> Result<Effects, AllocError>
-        ensures at_start { IfOk result (λ e. e.at_start ≡ self.now.at_start) }
-        ensures at_end { IfOk result (λ e. e.at_end ≡ self.now.at_end) }
+impl Effects {
+    /// Copies of these effects. The only error is want of memory.
+    pub fn copied(
+        alloc: Global,
+        at_start: &Seq<Effect>,
+        at_end: &Seq<Effect>,
+    ) -> Result<Effects, AllocError>
+        ensures at_start { IfOk result (λ e. e.at_start ≡ at_start.now) }
+        ensures at_end { IfOk result (λ e. e.at_end ≡ at_end.now) }
     {
         Ok(Effects {
-            at_start: self.at_start.copy(alloc)?,
-            at_end: self.at_end.copy(alloc)?,
+            at_start: at_start.copy(alloc)?,
+            at_end: at_end.copy(alloc)?,
         })
     }
 }
@@ -96,8 +109,8 @@ impl ActionDef {
 impl Duplicate for ActionDef {
     fn copy(&self, alloc: Global) -> Result<Self, AllocError> {
         let params = self.params.copy(alloc)?;
-        let effects = self.copy_effects(alloc)?;
-        let conditions = self.copy_conditions(alloc)?;
+        let effects = Effects::copied(alloc, &self.at_start, &self.at_end)?;
+        let conditions = Conditions::copied(alloc, &self.start, &self.over, &self.end)?;
         Ok(ActionDef {
             name: self.name,
             params,

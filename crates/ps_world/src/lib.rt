@@ -15,7 +15,7 @@ mod numbers;
 mod plain;
 mod schemas;
 
-pub use actions::{ActionDef, Effect, NumOp};
+pub use actions::{ActionDef, Conditions, Effect, Effects, NumOp};
 pub use conditions::{BoxedCond, Cond, Conds, Rel};
 pub use domains::{Decl, Domain, Param};
 pub use edits::{Edit, EditRefusal};
@@ -25,5 +25,5 @@ pub use known::{Knowledge, MOST_INSTANCES};
 pub use lists::{Duplicate, Seq};
 pub use names::{Args, MOST_ARGUMENTS, Name};
 pub use numbers::{MOST_THOUSANDTHS, Num};
-pub use plain::edit_plain;
+pub use plain::{edit_plain, with_fact, with_number};
 pub use schemas::{Lifted, Term, Terms};

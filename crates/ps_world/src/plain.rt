@@ -8,10 +8,12 @@ ghost use Rattle.ps_world.specs.declared.edits.EditRefusal.TheVariants.{OutOfMem
 mod faults;
 mod lists;
 
+pub use self::lists::{with_fact, with_number};
+
 use self::faults::{fact_fault, goal_fault, value_fault};
 use self::lists::{
     facts_but, facts_not_naming, has_value, instances_but, is_known, kind_among, values_but,
-    values_not_naming, with_entry, with_item, with_number,
+    values_not_naming, with_entry,
 };
 use super::conditions::Cond;
 use super::domains::Domain;
@@ -152,7 +154,7 @@ fn add_fact(
     if let Some(fault) = fact_fault(domain, known, &fact) {
         return Err(fault);
     }
-    let facts = with_item(alloc, known.facts.as_slice(), fact)?;
+    let facts = with_fact(alloc, known.facts.as_slice(), fact)?;
     let mut new = known.copy(alloc)?;
     new.facts = Seq::of(facts);
     Ok(new)

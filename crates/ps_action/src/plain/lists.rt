@@ -1,14 +1,12 @@
 //! The lists of what is known, with the changes of effects.
 ghost use Rattle.std.specs.Prelude.{◌≡◌, filter, filter_map, fold, not, IfOk};
 ghost use Rattle.std.specs.List.{list_any};
-ghost use Rattle.std.specs.BTreeMap.{insert_entry};
 ghost use Rattle.std.specs.BTreeSet.{insert_key};
 ghost use Rattle.ps_world.specs.Facts.{fact_cmp};
 ghost use Rattle.ps_action.specs.Effects.{added_by, deletes, with_value};
 
-use ps_world::{Effect, Fact, Num};
+use ps_world::{Effect, Fact, Num, with_fact, with_number};
 use std::alloc::{AllocError, Global};
-use std::cmp::Ordering;
 
 /// Whether an effect deletes this fact.
 fn deletes(fact: &Fact, effect: &Effect) -> bool
@@ -44,29 +42,6 @@ pub fn facts_kept(
     Ok(kept)
 }
 
-/// The facts with one more at its place, unless it is there.
-fn with_fact(alloc: Global, facts: &[Fact], fact: Fact) -> Result<Vec<Fact>, AllocError>
-    ensures { IfOk result (λ v. v.items ≡ insert_key fact_cmp facts.now fact) }
-{
-    let mut all = Vec::new(alloc);
-    for (i, there) in facts.iter().enumerate() {
-        match fact.cmp(there) {
-            Ordering::Less => {
-                all.push(fact)?;
-                all.extend_from_slice(&facts[i..])?;
-                return Ok(all);
-            }
-            Ordering::Equal => {
-                all.extend_from_slice(&facts[i..])?;
-                return Ok(all);
-            }
-            Ordering::Greater => all.push(*there)?,
-        }
-    }
-    all.push(fact)?;
-    Ok(all)
-}
-
 /// The fact that an effect adds, if it adds one.
 fn added_by(effect: &Effect) -> Option<Fact>
     ensures { result ≡ added_by effect.now }
@@ -91,35 +66,6 @@ pub fn facts_added(
             all = with_fact(alloc, all.as_slice(), fact)?;
         }
     }
-    Ok(all)
-}
-
-/// The values with one more at its place, or with this number where the function has a value there.
-fn with_number(
-    alloc: Global,
-    values: &[(Fact, Num)],
-    fact: Fact,
-    number: Num,
-) -> Result<Vec<(Fact, Num)>, AllocError>
-    ensures { IfOk result (λ v. v.items ≡ insert_entry fact_cmp values.now fact number) }
-{
-    let mut all = Vec::new(alloc);
-    for (i, there) in values.iter().enumerate() {
-        match fact.cmp(&there.0) {
-            Ordering::Less => {
-                all.push((fact, number))?;
-                all.extend_from_slice(&values[i..])?;
-                return Ok(all);
-            }
-            Ordering::Equal => {
-                all.push((there.0, number))?;
-                all.extend_from_slice(&values[i + 1..])?;
-                return Ok(all);
-            }
-            Ordering::Greater => all.push(*there)?,
-        }
-    }
-    all.push((fact, number))?;
     Ok(all)
 }
 

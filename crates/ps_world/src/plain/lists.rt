@@ -52,8 +52,8 @@ fn followed_by<T: Copy>(mut all: Vec<T>, item: T, rest: &[T]) -> Result<Vec<T>, 
     Ok(all)
 }
 
-/// The facts with one more at its place, unless it is there.
-pub fn with_item(alloc: Global, facts: &[Fact], fact: Fact) -> Result<Vec<Fact>, AllocError>
+/// The facts, which rise, with one more at its place, unless it is there. The only error is want of memory.
+pub fn with_fact(alloc: Global, facts: &[Fact], fact: Fact) -> Result<Vec<Fact>, AllocError>
     ensures { IfOk result (λ v. v.items ≡ insert_key fact_cmp facts.now fact) }
 {
     let mut all = Vec::new(alloc);
@@ -87,7 +87,8 @@ pub fn with_entry(
     followed_by(all, (name, kind), &[])
 }
 
-/// The values with one more at its place, or with this number where the function has a value there.
+/// The values, which rise, with one more at its place, or with this number where the function has a value there. The only
+/// error is want of memory.
 pub fn with_number(
     alloc: Global,
     values: &[(Fact, Num)],
