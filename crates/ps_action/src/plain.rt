@@ -88,4 +88,3 @@ fn copied_goal(alloc: Global, goal: &Option<Cond>) -> Result<Option<Cond>, Alloc
         Some(goal) => Ok(Some(goal.copy(alloc)?)),
     }
 }
-

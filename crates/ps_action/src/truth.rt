@@ -77,4 +77,3 @@ pub fn all_true<K: Known, T: Types>(known: &K, types: &T, conds: &Conds) -> bool
     }
     true
 }
-

@@ -97,4 +97,3 @@ pub fn duration_of<K: Known>(known: &K, expr: &Expr) -> Num
         _ => Num::ZERO,
     }
 }
-

@@ -8,9 +8,8 @@ ghost use Rattle.ps_world.specs.declared.edits.EditRefusal.TheVariants.{OutOfMem
 mod faults;
 mod lists;
 
-pub use self::lists::{with_fact, with_number};
-
 use self::faults::{fact_fault, goal_fault, value_fault};
+pub use self::lists::{with_fact, with_number};
 use self::lists::{
     facts_but, facts_not_naming, has_value, instances_but, is_known, kind_among, values_but,
     values_not_naming, with_entry,
@@ -250,4 +249,3 @@ fn remove_goal(alloc: Global, domain: &Domain, known: &Knowledge) -> Result<Know
     }
     Ok(known.with_goal(alloc, None)?)
 }
-

@@ -21,5 +21,5 @@ pub invariant_of-self-2 : goal.invariant_of-self-2
 invariant_of-self-2 c =
     let text = folded c.args.text.now in
     let table = interned-view (λ v. v.items) c.deref_mut.result.now.keys c.insert_full.new.self.keys c.in_ok-folded.folded text c.in_ok-folded.ensures c.in_ok-place.ensures.keys
-        ∙ ap (λ s. interned (map (λ v. v.items) s.keys) text) c.deref_mut.ensures.value in
+    ∙ ap (λ s. interned (map (λ v. v.items) s.keys) text) c.deref_mut.ensures.value in
     rw table (AreNames-interned _ text c.self.invariant (IsNameText-folded c.args.text.now (search rules)))
