@@ -12,7 +12,8 @@ use std::marker::Model;
 /// The domain expert, which answers what its domain declares. Contracts see it as its domain.
 #[derive(Drop)]
 pub struct Expert {
-    declared: Declared,
+    /// In one box, so that whoever owns an expert owns one part.
+    declared: Box<Declared>,
 }
 
 impl Model for Expert {
@@ -23,7 +24,7 @@ impl Model for Expert {
 
     ghost coded = { the_row.coded };
 
-    ghost view = { λ e. e.declared };
+    ghost view = { λ e. e.declared.value };
 }
 
 impl Expert {
@@ -32,7 +33,9 @@ impl Expert {
         ensures { IfOk result (λ e. e ≡ domain) }
     {
         let declared = Declared::of(alloc, domain)?;
-        Ok(Expert { declared })
+        Ok(Expert {
+            declared: Box::new(alloc, declared)?,
+        })
     }
 
     /// The domain.
