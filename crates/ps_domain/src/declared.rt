@@ -2,6 +2,7 @@
 ghost use Rattle.std.specs.Prelude.{◌≡◌, [], IfOk, OnOk, OnErr};
 ghost use Rattle.std.specs.Option.{option_copied};
 ghost use Rattle.ps_world.specs.Knowledge.{is_type, parent_of, is_below, predicate_of, function_of, action_of, constant_of};
+ghost use Rattle.ps_domain.specs.Places.{IsIndexed};
 
 use super::index::Index;
 use ps_world::{ActionDef, Decl, Domain, Name, Param, Seq};
@@ -33,6 +34,35 @@ impl Model for Declared {
     ghost invariant = { λ d. IsIndexed d.domain d.types d.constants d.predicates d.functions d.actions };
 }
 
+/// The index of each list of a domain.
+#[derive(Drop)]
+struct Indexes {
+    types: Index,
+    constants: Index,
+    predicates: Index,
+    functions: Index,
+    actions: Index,
+}
+
+impl Indexes {
+    fn of(alloc: Global, domain: &Domain) -> Result<Indexes, AllocError>
+        ensures { IfOk result (λ i. IsIndexed domain.now i.types i.constants i.predicates i.functions i.actions) }
+    {
+        let types = Index::of(alloc, domain.types.as_slice())?;
+        let constants = Index::of(alloc, domain.constants.as_slice())?;
+        let predicates = Index::of(alloc, domain.predicates.as_slice())?;
+        let functions = Index::of(alloc, domain.functions.as_slice())?;
+        let actions = Index::of(alloc, domain.actions.as_slice())?;
+        Ok(Indexes {
+            types,
+            constants,
+            predicates,
+            functions,
+            actions,
+        })
+    }
+}
+
 impl Declared {
     /// The domain of this name that declares nothing. It takes no memory.
     pub fn bare(alloc: Global, name: Name) -> Declared
@@ -59,18 +89,14 @@ impl Declared {
     pub fn of(alloc: Global, domain: Domain) -> Result<Declared, AllocError>
         ensures { IfOk result (λ d. d ≡ domain) }
     {
-        let types = Index::of(alloc, domain.types.as_slice())?;
-        let constants = Index::of(alloc, domain.constants.as_slice())?;
-        let predicates = Index::of(alloc, domain.predicates.as_slice())?;
-        let functions = Index::of(alloc, domain.functions.as_slice())?;
-        let actions = Index::of(alloc, domain.actions.as_slice())?;
+        let indexes = Indexes::of(alloc, &domain)?;
         Ok(Declared {
             domain,
-            types,
-            constants,
-            predicates,
-            functions,
-            actions,
+            types: indexes.types,
+            constants: indexes.constants,
+            predicates: indexes.predicates,
+            functions: indexes.functions,
+            actions: indexes.actions,
         })
     }
 

@@ -1,15 +1,15 @@
 //! Ground actions: an act's action with the arguments of the act put in.
-ghost use Rattle.std.specs.Prelude.{◌≡◌, length, Ok, IfOk, IfErr, IsOk};
+ghost use Rattle.std.specs.Prelude.{◌≡◌, length, map, Ok, IfOk, IfErr, IsOk};
 ghost use Rattle.std.specs.Map.{lookup};
 ghost use Rattle.ps_world.specs.Names.{same_name};
-ghost use Rattle.ps_action.specs.Grounding.{ground_act, grounded, unfit, first_unfit};
+ghost use Rattle.ps_action.specs.Grounding.{ground_act, grounded, unfit, first_unfit, put_effect, put_list};
 ghost use Rattle.ps_action.specs.Refusals.{RefusesGround};
 ghost use Rattle.ps_action.specs.declared.refusals.GroundRefusal.TheVariants.{OutOfMemory};
 
 use super::expert::Expert;
 use super::putting::{put_effects, put_expr, put_list};
 use ps_action::{Act, GroundAction, GroundRefusal};
-use ps_world::{ActionDef, Name, Param};
+use ps_world::{ActionDef, Conditions, Effects, Name, Param};
 use std::alloc::{AllocError, Global};
 
 /// The type of an instance among these. None exactly where the name is none of them.
@@ -61,21 +61,50 @@ fn first_unfit(
     None
 }
 
+fn put_conditions(
+    alloc: Global,
+    args: &[Name],
+    action: &ActionDef,
+) -> Result<Conditions, AllocError>
+    requires { length action.now.params ≡ length args.now }
+    ensures start { IfOk result (λ c. c.start ≡ put_list action.now.params args.now action.now.start) }
+    ensures over { IfOk result (λ c. c.over ≡ put_list action.now.params args.now action.now.over) }
+    ensures end { IfOk result (λ c. c.end ≡ put_list action.now.params args.now action.now.end) }
+{
+    let params = action.params.as_slice();
+    Ok(Conditions {
+        start: put_list(alloc, params, args, &action.start)?,
+        over: put_list(alloc, params, args, &action.over)?,
+        end: put_list(alloc, params, args, &action.end)?,
+    })
+}
+
+fn put_all_effects(alloc: Global, args: &[Name], action: &ActionDef) -> Result<Effects, AllocError>
+    ensures at_start { IfOk result (λ e. e.at_start ≡ map (put_effect args.now) action.now.at_start) }
+    ensures at_end { IfOk result (λ e. e.at_end ≡ map (put_effect args.now) action.now.at_end) }
+{
+    Ok(Effects {
+        at_start: put_effects(alloc, args, action.at_start.as_slice())?,
+        at_end: put_effects(alloc, args, action.at_end.as_slice())?,
+    })
+}
+
 /// The ground action of an act of this action. The only error is want of memory.
 pub fn grounded(alloc: Global, action: &ActionDef, act: &Act) -> Result<GroundAction, AllocError>
     requires { length action.now.params ≡ length act.now.args }
     ensures { IfOk result (λ g. g ≡ grounded action.now act.now) }
 {
-    let params = action.params.as_slice();
     let args = act.args.as_slice();
+    let effects = put_all_effects(alloc, args, action)?;
+    let conditions = put_conditions(alloc, args, action)?;
     Ok(GroundAction {
         act: *act,
         duration: put_expr(alloc, args, &action.duration)?,
-        start: put_list(alloc, params, args, &action.start)?,
-        over: put_list(alloc, params, args, &action.over)?,
-        end: put_list(alloc, params, args, &action.end)?,
-        at_start: put_effects(alloc, args, action.at_start.as_slice())?,
-        at_end: put_effects(alloc, args, action.at_end.as_slice())?,
+        start: conditions.start,
+        over: conditions.over,
+        end: conditions.end,
+        at_start: effects.at_start,
+        at_end: effects.at_end,
     })
 }
 
@@ -109,4 +138,3 @@ impl Expert {
         Ok(grounded(alloc, action, act)?)
     }
 }
-

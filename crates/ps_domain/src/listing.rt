@@ -165,4 +165,3 @@ impl Expert {
         Ok(all_ground(alloc, self, instances)?)
     }
 }
-
