@@ -64,17 +64,22 @@ impl Problem {
     pub fn copy(&self) -> Result<Problem, AllocError>
         ensures { IfOk result (λ p. p ≡ self.now) }
     {
-        let goal = match &self.goal {
-            None => None,
-            Some(goal) => Some(goal.copy(self.alloc)?),
-        };
         Ok(Problem {
             alloc: self.alloc,
             instances: self.instances.clone()?,
             facts: self.facts.copy()?,
             values: self.values.copy()?,
-            goal,
+            goal: self.copied_goal()?,
         })
+    }
+
+    fn copied_goal(&self) -> Result<Option<Cond>, AllocError>
+        ensures { IfOk result (λ goal. goal ≡ self.now.goal) }
+    {
+        match &self.goal {
+            None => Ok(None),
+            Some(goal) => Ok(Some(goal.copy(self.alloc)?)),
+        }
     }
 
     /// Makes an edit, and answers whether anything changed. After a refusal nothing has changed.
@@ -109,4 +114,3 @@ impl Problem {
         }
     }
 }
-
