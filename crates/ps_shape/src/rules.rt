@@ -3,6 +3,8 @@ ghost use Rattle.std.specs.Prelude.{◌≡◌, ◌≤◌, ◌+◌, Some, None, I
 ghost use Rattle.ps_shape.specs.Symbols.{weight, level, symbols};
 ghost use Rattle.ps_shape.specs.Rules.{step, text_rule, section_rule, list_rule, action_rule, condition_rule, condition_head_rule, effect_rule, effect_head_rule, value_rule, goal_rule, goal_head_rule, goal_value_rule, operand_rule, name_rule, once};
 ghost use Rattle.ps_shape.specs.declared.symbols.Symbol.TheVariants.{InText, InList, InAction, InCondition, InEffect, InValue, InGoal};
+ghost use Rattle.ps_shape.specs.declared.symbols.ListPart.TheVariants as list;
+ghost use Rattle.ps_shape.specs.declared.symbols.ValuePart.TheVariants as value;
 
 use super::marks::Mark;
 use super::symbols::Symbol::{
@@ -107,36 +109,112 @@ fn list_rule(part: ListPart, mark: Mark) -> Option<Then>
     ensures rule { option_map symbols result ≡ list_rule part mark }
     ensures few { IfSome result (λ next. level (symbols next) ≤ weight (InList part) + 1) }
 {
-    let again = InList(part);
-    let names = InList(ListPart::NameRun);
-    let variables = InList(ListPart::Variables);
-    let functions = InList(ListPart::FunctionRun);
-    let kind = InList(ListPart::TypeName);
-    match (part, mark) {
-        (ListPart::Keywords, Mark::Close) => Some(Nothing),
-        (ListPart::Keywords, _) => at(mark.is_keyword(), One(again)),
-        (ListPart::Names | ListPart::NameRun, Mark::Close) => Some(Nothing),
-        (ListPart::NameRun, Mark::Minus) => Some(Two(kind, InList(ListPart::Names))),
-        (ListPart::Names, _) => at(mark.is_name(), One(names)),
-        (ListPart::NameRun, _) => at(mark.is_name(), One(names)),
-        (ListPart::Variables | ListPart::VariableRun, Mark::Close) => Some(Nothing),
-        (ListPart::Variables, Mark::Variable) => Some(One(InList(ListPart::VariableRun))),
-        (ListPart::VariableRun, Mark::Variable) => Some(One(again)),
-        (ListPart::VariableRun, Mark::Minus) => Some(Two(kind, variables)),
-        (ListPart::TypeName, _) => at(mark.is_name(), Nothing),
-        (ListPart::Predicates, Mark::Close) => Some(Nothing),
-        (ListPart::Predicates, Mark::Open) => {
-            Some(Three(InList(ListPart::PredicateHead), variables, again))
-        }
-        (ListPart::PredicateHead, _) => at(mark.is_predicate_name(), Nothing),
-        (ListPart::Functions | ListPart::FunctionRun, Mark::Close) => Some(Nothing),
-        (ListPart::Functions, Mark::Open) => Some(Three(AnyName, variables, functions)),
-        (ListPart::FunctionRun, Mark::Open) => Some(Three(AnyName, variables, functions)),
-        (ListPart::FunctionRun, Mark::Minus) => {
-            Some(Two(InList(ListPart::FunctionType), InList(ListPart::Functions)))
-        }
-        (ListPart::FunctionType, Mark::NumberWord) => Some(Nothing),
+    match part {
+        ListPart::Keywords => keywords_rule(mark),
+        ListPart::Names => names_rule(mark),
+        ListPart::NameRun => name_run_rule(mark),
+        ListPart::Variables => variables_rule(mark),
+        ListPart::VariableRun => variable_run_rule(mark),
+        ListPart::TypeName => at(mark.is_name(), Nothing),
+        ListPart::Predicates => predicates_rule(mark),
+        ListPart::PredicateHead => at(mark.is_predicate_name(), Nothing),
+        ListPart::Functions => functions_rule(mark),
+        ListPart::FunctionRun => function_run_rule(mark),
+        ListPart::FunctionType => at(mark == Mark::NumberWord, Nothing),
+    }
+}
+
+fn keywords_rule(mark: Mark) -> Option<Then>
+    ensures rule { option_map symbols result ≡ list_rule list.Keywords mark }
+    ensures few { IfSome result (λ next. level (symbols next) ≤ 2) }
+{
+    match mark {
+        Mark::Close => Some(Nothing),
+        _ => at(mark.is_keyword(), One(InList(ListPart::Keywords))),
+    }
+}
+
+fn names_rule(mark: Mark) -> Option<Then>
+    ensures rule { option_map symbols result ≡ list_rule list.Names mark }
+    ensures few { IfSome result (λ next. level (symbols next) ≤ 2) }
+{
+    match mark {
+        Mark::Close => Some(Nothing),
+        _ => at(mark.is_name(), One(InList(ListPart::NameRun))),
+    }
+}
+
+fn name_run_rule(mark: Mark) -> Option<Then>
+    ensures rule { option_map symbols result ≡ list_rule list.NameRun mark }
+    ensures few { IfSome result (λ next. level (symbols next) ≤ 2) }
+{
+    match mark {
+        Mark::Close => Some(Nothing),
+        Mark::Minus => Some(Two(InList(ListPart::TypeName), InList(ListPart::Names))),
+        _ => at(mark.is_name(), One(InList(ListPart::NameRun))),
+    }
+}
+
+fn variables_rule(mark: Mark) -> Option<Then>
+    ensures rule { option_map symbols result ≡ list_rule list.Variables mark }
+    ensures few { IfSome result (λ next. level (symbols next) ≤ 2) }
+{
+    match mark {
+        Mark::Close => Some(Nothing),
+        Mark::Variable => Some(One(InList(ListPart::VariableRun))),
         _ => None,
+    }
+}
+
+fn variable_run_rule(mark: Mark) -> Option<Then>
+    ensures rule { option_map symbols result ≡ list_rule list.VariableRun mark }
+    ensures few { IfSome result (λ next. level (symbols next) ≤ 2) }
+{
+    match mark {
+        Mark::Close => Some(Nothing),
+        Mark::Variable => Some(One(InList(ListPart::VariableRun))),
+        Mark::Minus => Some(Two(InList(ListPart::TypeName), InList(ListPart::Variables))),
+        _ => None,
+    }
+}
+
+fn predicates_rule(mark: Mark) -> Option<Then>
+    ensures rule { option_map symbols result ≡ list_rule list.Predicates mark }
+    ensures few { IfSome result (λ next. level (symbols next) ≤ 2) }
+{
+    match mark {
+        Mark::Close => Some(Nothing),
+        Mark::Open => Some(Three(
+            InList(ListPart::PredicateHead),
+            InList(ListPart::Variables),
+            InList(ListPart::Predicates),
+        )),
+        _ => None,
+    }
+}
+
+fn functions_rule(mark: Mark) -> Option<Then>
+    ensures rule { option_map symbols result ≡ list_rule list.Functions mark }
+    ensures few { IfSome result (λ next. level (symbols next) ≤ 2) }
+{
+    match mark {
+        Mark::Close => Some(Nothing),
+        Mark::Open => Some(Three(
+            AnyName,
+            InList(ListPart::Variables),
+            InList(ListPart::FunctionRun),
+        )),
+        _ => None,
+    }
+}
+
+fn function_run_rule(mark: Mark) -> Option<Then>
+    ensures rule { option_map symbols result ≡ list_rule list.FunctionRun mark }
+    ensures few { IfSome result (λ next. level (symbols next) ≤ 2) }
+{
+    match mark {
+        Mark::Minus => Some(Two(InList(ListPart::FunctionType), InList(ListPart::Functions))),
+        _ => functions_rule(mark),
     }
 }
 
@@ -269,28 +347,70 @@ fn value_rule(part: ValuePart, mark: Mark) -> Option<Then>
     ensures rule { option_map symbols result ≡ value_rule part mark }
     ensures few { IfSome result (λ next. level (symbols next) ≤ weight (InValue part) + 1) }
 {
-    let value = InValue(ValuePart::Value);
-    let head = InValue(ValuePart::Head);
-    let terms = One(InValue(ValuePart::Terms));
-    let end = The(Mark::Close);
-    match (part, mark) {
-        (ValuePart::Atom, Mark::Open) => Some(Two(AnyName, InValue(ValuePart::Terms))),
-        (ValuePart::Terms, Mark::Close) => Some(Nothing),
-        (ValuePart::Terms, Mark::Variable) => Some(terms),
-        (ValuePart::Terms, _) => at(mark.is_name(), terms),
-        (ValuePart::Value, Mark::Number | Mark::Variable) => Some(Nothing),
-        (ValuePart::Value, Mark::Open) => Some(One(head)),
-        (ValuePart::Value, _) => at(mark.is_name(), Nothing),
-        (ValuePart::Head, Mark::Minus) => Some(Two(value, InValue(ValuePart::ValueOrEnd))),
-        (ValuePart::Head, Mark::Plus | Mark::Times | Mark::Divide) => {
-            Some(Three(value, value, end))
-        }
-        (ValuePart::Head, _) => at(mark.is_name(), terms),
-        (ValuePart::ValueOrEnd, Mark::Close) => Some(Nothing),
-        (ValuePart::ValueOrEnd, Mark::Number | Mark::Variable) => Some(One(end)),
-        (ValuePart::ValueOrEnd, Mark::Open) => Some(Two(head, end)),
-        (ValuePart::ValueOrEnd, _) => at(mark.is_name(), One(end)),
+    match part {
+        ValuePart::Atom => atom_rule(mark),
+        ValuePart::Terms => terms_rule(mark),
+        ValuePart::Value => whole_value_rule(mark),
+        ValuePart::Head => value_head_rule(mark),
+        ValuePart::ValueOrEnd => value_or_end_rule(mark),
+    }
+}
+
+fn atom_rule(mark: Mark) -> Option<Then>
+    ensures rule { option_map symbols result ≡ value_rule value.Atom mark }
+    ensures few { IfSome result (λ next. level (symbols next) ≤ 1) }
+{
+    match mark {
+        Mark::Open => Some(Two(AnyName, InValue(ValuePart::Terms))),
         _ => None,
+    }
+}
+
+fn terms_rule(mark: Mark) -> Option<Then>
+    ensures rule { option_map symbols result ≡ value_rule value.Terms mark }
+    ensures few { IfSome result (λ next. level (symbols next) ≤ 2) }
+{
+    let terms = One(InValue(ValuePart::Terms));
+    match mark {
+        Mark::Close => Some(Nothing),
+        Mark::Variable => Some(terms),
+        _ => at(mark.is_name(), terms),
+    }
+}
+
+fn whole_value_rule(mark: Mark) -> Option<Then>
+    ensures rule { option_map symbols result ≡ value_rule value.Value mark }
+    ensures few { IfSome result (λ next. level (symbols next) ≤ 1) }
+{
+    match mark {
+        Mark::Number | Mark::Variable => Some(Nothing),
+        Mark::Open => Some(One(InValue(ValuePart::Head))),
+        _ => at(mark.is_name(), Nothing),
+    }
+}
+
+fn value_head_rule(mark: Mark) -> Option<Then>
+    ensures rule { option_map symbols result ≡ value_rule value.Head mark }
+    ensures few { IfSome result (λ next. level (symbols next) ≤ 2) }
+{
+    let value = InValue(ValuePart::Value);
+    match mark {
+        Mark::Minus => Some(Two(value, InValue(ValuePart::ValueOrEnd))),
+        Mark::Plus | Mark::Times | Mark::Divide => Some(Three(value, value, The(Mark::Close))),
+        _ => at(mark.is_name(), One(InValue(ValuePart::Terms))),
+    }
+}
+
+fn value_or_end_rule(mark: Mark) -> Option<Then>
+    ensures rule { option_map symbols result ≡ value_rule value.ValueOrEnd mark }
+    ensures few { IfSome result (λ next. level (symbols next) ≤ 2) }
+{
+    let end = The(Mark::Close);
+    match mark {
+        Mark::Close => Some(Nothing),
+        Mark::Number | Mark::Variable => Some(One(end)),
+        Mark::Open => Some(Two(InValue(ValuePart::Head), end)),
+        _ => at(mark.is_name(), One(end)),
     }
 }
 
