@@ -1,4 +1,3 @@
-pub mod Builds
 pub mod Choices
 pub mod Ranges
 pub mod Takes

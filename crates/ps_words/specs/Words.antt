@@ -171,6 +171,12 @@ unfoldable pub validate_app : App
 validate_app = command_of (codes "validate") (
     option_rule (codes "domain") true ∷ option_rule (codes "script") true ∷ option_rule (codes "plan") true ∷ [])
 
+-- the command of a mode
+abbrev pub mode_app : Mode → App
+mode_app mode.Session = session_app
+mode_app mode.Check = check_app
+mode_app mode.Validate = validate_app
+
 -- what the words give for each option, where there is no fault in them
 abbrev pub unless_faulty : Kinds → List Row → Option (List Row)
 unless_faulty [] rows = Some rows
@@ -261,6 +267,12 @@ abbrev pub mode_of : Text → Option Mode
 mode_of word = if same_text word (codes "session") then Some mode.Session
     else (if same_text word (codes "check") then Some mode.Check
     else (if same_text word (codes "validate") then Some mode.Validate else None))
+
+-- what the words ask for in a mode, by what they give for the options of its command
+abbrev pub asked_from : Mode → List Row → Option Request
+asked_from mode.Session rows = session_of rows
+asked_from mode.Check rows = Some (check_of rows)
+asked_from mode.Validate rows = Some (validation_of rows)
 
 -- what the words ask for in a mode, where its command takes them
 abbrev pub asked_in : Mode → List Text → Option Request

@@ -2,12 +2,9 @@
 ghost use Rattle.std.specs.Prelude.{◌≡◌, IfOk, IfSome, option_map};
 ghost use Rattle.clap.specs.Matches.{found_of};
 ghost use Rattle.clap.specs.Walk.{rows_of};
-ghost use Rattle.ps_words.specs.Words.{word_texts, said, session_of, asked_in, asked_of, IsInRange};
+ghost use Rattle.ps_words.specs.Words.{word_texts, said, session_of, asked_from, asked_in, asked_of, IsInRange};
 
-use super::commands::{
-    Mode, check_command, is_set, mode_of, session_command, taken, text_of, validate_command,
-    value_of,
-};
+use super::commands::{Mode, is_set, mode_command, mode_of, taken, text_of, value_of};
 use super::form::is_well_formed;
 use super::numbers::number_or;
 use clap::ArgMatches;
@@ -65,42 +62,20 @@ fn session_of<'a>(matches: &ArgMatches<'a>) -> Option<Asked<'a>>
     }))
 }
 
-/// What the words ask for where their mode is that of a session.
-fn session_asked<'a>(alloc: Global, words: &'a [String]) -> Result<Option<Asked<'a>>, AllocError>
-    ensures { IfOk result (λ a. option_map said a ≡ asked_in Mode.Session (word_texts words.now)) }
+/// What the words ask for in a mode, by what they give for the options of its command.
+fn asked_from<'a>(mode: Mode, matches: &ArgMatches<'a>) -> Option<Asked<'a>>
+    ensures { option_map said result ≡ asked_from mode (rows_of (found_of matches.now)) }
 {
-    let command = session_command(alloc)?;
-    match taken(command, words)? {
-        Some(matches) => Ok(session_of(&matches)),
-        None => Ok(None),
-    }
-}
-
-/// What the words ask for where their mode is that of a check.
-fn check_asked<'a>(alloc: Global, words: &'a [String]) -> Result<Option<Asked<'a>>, AllocError>
-    ensures { IfOk result (λ a. option_map said a ≡ asked_in Mode.Check (word_texts words.now)) }
-{
-    let command = check_command(alloc)?;
-    match taken(command, words)? {
-        Some(matches) => Ok(Some(Asked::Check {
-            domain: text_of(&matches, "domain"),
-        })),
-        None => Ok(None),
-    }
-}
-
-/// What the words ask for where their mode is that of a validation.
-fn validation_asked<'a>(alloc: Global, words: &'a [String]) -> Result<Option<Asked<'a>>, AllocError>
-    ensures { IfOk result (λ a. option_map said a ≡ asked_in Mode.Validate (word_texts words.now)) }
-{
-    let command = validate_command(alloc)?;
-    match taken(command, words)? {
-        Some(matches) => Ok(Some(Asked::Validate {
-            domain: text_of(&matches, "domain"),
-            script: text_of(&matches, "script"),
-            plan: text_of(&matches, "plan"),
-        })),
-        None => Ok(None),
+    match mode {
+        Mode::Session => session_of(matches),
+        Mode::Check => Some(Asked::Check {
+            domain: text_of(matches, "domain"),
+        }),
+        Mode::Validate => Some(Asked::Validate {
+            domain: text_of(matches, "domain"),
+            script: text_of(matches, "script"),
+            plan: text_of(matches, "plan"),
+        }),
     }
 }
 
@@ -112,10 +87,10 @@ fn asked_in<'a>(
 ) -> Result<Option<Asked<'a>>, AllocError>
     ensures { IfOk result (λ a. option_map said a ≡ asked_in mode (word_texts words.now)) }
 {
-    match mode {
-        Mode::Session => session_asked(alloc, words),
-        Mode::Check => check_asked(alloc, words),
-        Mode::Validate => validation_asked(alloc, words),
+    let command = mode_command(alloc, mode)?;
+    match taken(command, words)? {
+        Some(matches) => Ok(asked_from(mode, &matches)),
+        None => Ok(None),
     }
 }
 

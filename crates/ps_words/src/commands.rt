@@ -2,9 +2,9 @@
 ghost use Rattle.std.specs.Prelude.{◌≡◌, IfOk, option_map, true, []};
 ghost use Rattle.clap.specs.Faults.{is_simple_and_free};
 ghost use Rattle.clap.specs.Matches.{found_of};
-ghost use Rattle.clap.specs.Simple.{app_of, with_rule};
+ghost use Rattle.clap.specs.Simple.{App, app_of, with_rule};
 ghost use Rattle.clap.specs.Walk.{first_of, rows_of};
-ghost use Rattle.ps_words.specs.Words.{word_texts, command_of, option_rule, flag_rule, session_app, check_app, validate_app, rows_read, text_in, is_set_in, mode_of};
+ghost use Rattle.ps_words.specs.Words.{word_texts, command_of, option_rule, flag_rule, session_app, check_app, validate_app, mode_app, rows_read, text_in, is_set_in, mode_of};
 
 use clap::error::ErrorKind;
 use clap::{Arg, ArgAction, ArgMatches, Command};
@@ -42,15 +42,16 @@ fn bare_command<'a>(alloc: Global, name: &'a str) -> Command<'a>
         .disable_version_flag(true)
 }
 
-/// The command with an option `--id` more, which has one value.
+/// The command, if it could be made so far, with an option `--id` more, which has one value.
 fn with_option<'a>(
     alloc: Global,
-    command: Command<'a>,
+    command: Result<Command<'a>, AllocError>,
     id: &'a str,
     required: bool,
 ) -> Result<Command<'a>, AllocError>
-    ensures { IfOk result (λ c. app_of c ≡ with_rule (app_of command.entry) (option_rule id.now required)) }
+    ensures { (app : App) → IfOk command.entry (λ c. app_of c ≡ app) → IfOk result (λ c. app_of c ≡ with_rule app (option_rule id.now required)) }
 {
+    let command = command?;
     let option = Arg::new(alloc, id)
         .long(id)
         .action(ArgAction::Set)
@@ -58,47 +59,59 @@ fn with_option<'a>(
     command.arg(option)
 }
 
-/// The command with an option `--id` more, which has no value.
+/// The command, if it could be made so far, with an option `--id` more, which has no value.
 fn with_flag<'a>(
     alloc: Global,
-    command: Command<'a>,
+    command: Result<Command<'a>, AllocError>,
     id: &'a str,
 ) -> Result<Command<'a>, AllocError>
-    ensures { IfOk result (λ c. app_of c ≡ with_rule (app_of command.entry) (flag_rule id.now)) }
+    ensures { (app : App) → IfOk command.entry (λ c. app_of c ≡ app) → IfOk result (λ c. app_of c ≡ with_rule app (flag_rule id.now)) }
 {
+    let command = command?;
     let flag = Arg::new(alloc, id).long(id).action(ArgAction::SetTrue);
     command.arg(flag)
 }
 
 /// The command of a session.
-pub fn session_command<'a>(alloc: Global) -> Result<Command<'a>, AllocError>
+fn session_command<'a>(alloc: Global) -> Result<Command<'a>, AllocError>
     ensures { IfOk result (λ c. app_of c ≡ session_app) }
 {
-    let command = bare_command(alloc, "session");
-    let command = with_option(alloc, command, "domain", true)?;
-    let command = with_option(alloc, command, "script", true)?;
-    let command = with_option(alloc, command, "workers", false)?;
-    let command = with_option(alloc, command, "budget", false)?;
-    let command = with_option(alloc, command, "replans", false)?;
+    let command = Ok(bare_command(alloc, "session"));
+    let command = with_option(alloc, command, "domain", true);
+    let command = with_option(alloc, command, "script", true);
+    let command = with_option(alloc, command, "workers", false);
+    let command = with_option(alloc, command, "budget", false);
+    let command = with_option(alloc, command, "replans", false);
     with_flag(alloc, command, "ordered")
 }
 
 /// The command of a check.
-pub fn check_command<'a>(alloc: Global) -> Result<Command<'a>, AllocError>
+fn check_command<'a>(alloc: Global) -> Result<Command<'a>, AllocError>
     ensures { IfOk result (λ c. app_of c ≡ check_app) }
 {
-    let command = bare_command(alloc, "check");
+    let command = Ok(bare_command(alloc, "check"));
     with_option(alloc, command, "domain", true)
 }
 
 /// The command of a validation.
-pub fn validate_command<'a>(alloc: Global) -> Result<Command<'a>, AllocError>
+fn validate_command<'a>(alloc: Global) -> Result<Command<'a>, AllocError>
     ensures { IfOk result (λ c. app_of c ≡ validate_app) }
 {
-    let command = bare_command(alloc, "validate");
-    let command = with_option(alloc, command, "domain", true)?;
-    let command = with_option(alloc, command, "script", true)?;
+    let command = Ok(bare_command(alloc, "validate"));
+    let command = with_option(alloc, command, "domain", true);
+    let command = with_option(alloc, command, "script", true);
     with_option(alloc, command, "plan", true)
+}
+
+/// The command of a mode.
+pub fn mode_command<'a>(alloc: Global, mode: Mode) -> Result<Command<'a>, AllocError>
+    ensures { IfOk result (λ c. app_of c ≡ mode_app mode) }
+{
+    match mode {
+        Mode::Session => session_command(alloc),
+        Mode::Check => check_command(alloc),
+        Mode::Validate => validate_command(alloc),
+    }
 }
 
 /// What the words, of which the first is the mode, give for the options of a command, or nothing where the command doesn't take

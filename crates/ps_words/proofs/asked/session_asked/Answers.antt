@@ -1,7 +1,0 @@
-use Rattle.std.proofs.Common.{◌∙◌, ap}
-use Rattle.clap.specs.Faults.{is_simple_and_free}
-use Rattle.ps_words.proofs.Takes.{session_simple}
-use Rattle.ps_words.proofs.asked.session_asked.Goals as goal
-
-pub taken-requires : goal.taken-requires
-taken-requires c = ap is_simple_and_free c.in_ok-command.ensures ∙ session_simple
