@@ -1,7 +1,7 @@
 //! Judging a plan, one action after another.
-ghost use Rattle.std.specs.Prelude.{◌≡◌, ◌≤◌, length, Ok, IfOk, IfErr, OnOk, IsOk};
+ghost use Rattle.std.specs.Prelude.{◌≡◌, ◌≤◌, length, Some, Ok, IfOk, IfErr, OnOk, IsOk};
 ghost use Rattle.ps_action.specs.Grounding.{ground_act};
-ghost use Rattle.ps_action.specs.Plans.{after_steps, judged, most_acts, step, step_of};
+ghost use Rattle.ps_action.specs.Plans.{after_steps, judged, judged_by, most_acts, step, step_of};
 ghost use Rattle.ps_action.specs.Refusals.{RefusesGround, RefusesPlan};
 ghost use Rattle.ps_plan.specs.Judging.{end_fault, ground_fault, start_fault};
 
@@ -9,6 +9,7 @@ use ps_action::{Act, EffectRefusal, GroundAction, GroundRefusal, PlanRefusal};
 use ps_domain::Expert;
 use ps_eval::{apply, holds, holds_all};
 use ps_problem::Problem;
+use ps_world::Cond;
 use std::alloc::Global;
 
 /// Why the act of a step isn't grounded, as a fault of the plan.
@@ -120,6 +121,26 @@ fn take_steps(
     Ok(())
 }
 
+/// Makes the steps of a plan, and looks at the goal after the last. After a refusal the problem may have changed.
+fn reach(
+    alloc: Global,
+    expert: &Expert,
+    problem: &mut Problem,
+    goal: &Cond,
+    acts: &[Act],
+) -> Result<(), PlanRefusal>
+    requires { length acts.now ≤ most_acts }
+    ensures ok { OnOk result (judged_by expert.now problem.old (Some goal.now) acts.now ≡ Ok problem.new) }
+    ensures cause { IfErr result (λ r. RefusesPlan r (judged_by expert.now problem.old (Some goal.now) acts.now)) }
+{
+    take_steps(alloc, expert, problem, acts)?;
+    if holds(problem, expert, goal) {
+        Ok(())
+    } else {
+        Err(PlanRefusal::GoalFalse)
+    }
+}
+
 /// Judges a plan of at most 256 acts: each step is taken after the one before it, and the goal has to hold after the last.
 ///
 /// The first fault in this order: `NoGoal`; for each step `Ground` where its act can't be grounded, `StartFalse`, `StartEffect`,
@@ -139,13 +160,7 @@ pub fn check_plan(
         None => Err(PlanRefusal::NoGoal),
         Some(goal) => {
             let mut last = problem.copy()?;
-            take_steps(alloc, expert, &mut last, acts)?;
-            if holds(&last, expert, goal) {
-                Ok(())
-            } else {
-                Err(PlanRefusal::GoalFalse)
-            }
+            reach(alloc, expert, &mut last, goal, acts)
         }
     }
 }
-

@@ -97,6 +97,21 @@ fn push_steps(
     Ok(())
 }
 
+/// The steps of acts from the time 0 on, as far as no step fails. The only error is want of memory.
+fn steps_of(
+    alloc: Global,
+    expert: &Expert,
+    problem: &mut Problem,
+    acts: &[Act],
+) -> Result<Vec<PlanStep>, AllocError>
+    ensures steps { IfOk result (λ v. v.items ≡ timed expert.now problem.old acts.now) }
+    ensures in_range { IfOk result (λ v. All IsInRange v.items) }
+{
+    let mut steps = Vec::new(alloc);
+    push_steps(alloc, expert, problem, acts, &mut steps)?;
+    Ok(steps)
+}
+
 /// The steps of a good plan: the first has the time 0, and each other one the time of the one before it, plus that one's duration,
 /// plus a thousandth, but the greatest number where that is passed. A step's duration is what its action's says before the step.
 /// Where a step fails, what comes after it is left out. The only error is want of memory.
@@ -110,7 +125,5 @@ pub fn timed(
     ensures in_range { IfOk result (λ v. All IsInRange v.items) }
 {
     let mut last = problem.copy()?;
-    let mut steps = Vec::new(alloc);
-    push_steps(alloc, expert, &mut last, acts, &mut steps)?;
-    Ok(steps)
+    steps_of(alloc, expert, &mut last, acts)
 }
