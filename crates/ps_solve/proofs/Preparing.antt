@@ -28,7 +28,7 @@ use Rattle.ps_solve.specs.Orders.{facts_total}
 use Rattle.ps_solve.specs.States.{State, at, changed, ended, state_of, stepped, where_so}
 use Rattle.ps_solve.specs.Nodes.{Node, move, moves}
 use Rattle.ps_solve.specs.Apart.{HaveFootprints, HasFootprint}
-use Rattle.ps_solve.specs.Prepared.{is_number, known_at, landed, leap, leaps, leapt, passes, turned, with_at, without_at}
+use Rattle.ps_solve.specs.Prepared.{IsBareTest, is_number, known_at, landed, leap, leaps, leapt, passes, turned, with_at, without_at}
 use Rattle.ps_solve.specs.Rows.{AreAtoms, IsOver, plain_state}
 use Rattle.ps_solve.specs.declared.prepared.Prepared.{Prepared}
 use Rattle.ps_solve.specs.declared.prepared.Test.{Test}
@@ -173,6 +173,11 @@ module _ (d : Domain) (k : Knowledge) (atoms : List Fact) (s : State) where
   more_others wanted others c =
       ap (λ b. list_all (known_at atoms s) wanted && b) (both_true d (at k s) others (c ∷ []) ∙ ap (λ b. all_true d (at k s) others && b) (true_last (is_true d (at k s) c)))
       ∙ and_last (list_all (known_at atoms s) wanted) (all_true d (at k s) others) (is_true d (at k s) c)
+
+  -- what is taken into a test of no conditions is what is tested
+  pub bare_passes : (old new : Test) (b : Bool) → IsBareTest old → passes d k atoms new s ≡ (passes d k atoms old s && b) → passes d k atoms new s ≡ b
+  bare_passes old new b bare e =
+      e ∙ (λ i. (list_all (known_at atoms s) (bare.wanted i) && all_true d (at k s) (bare.others i)) && b)
 
   -- what is left is tested after what was taken in
   pub tested_more : (cs : List Cond) (i : ℕ) (c : Cond) (old new : Test) → drop i cs ≡ c ∷ drop (i + 1) cs → passes d k atoms new s ≡ (passes d k atoms old s && is_true d (at k s) (cond_tree c)) → (passes d k atoms new s && all_true d (at k s) (map cond_tree (drop (i + 1) cs))) ≡ (passes d k atoms old s && all_true d (at k s) (map cond_tree (drop i cs)))

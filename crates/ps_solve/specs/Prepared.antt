@@ -1,5 +1,5 @@
 -- What prepared ground actions mean: their places are those of atoms.
-use Rattle.std.specs.Prelude.{ℕ, Bool, true, false, not, ◌&&◌, Option, Some, option_map, option_and_then, List, [], ◌∷◌, ◌++◌, filter, filter_map, fold, slice_get}
+use Rattle.std.specs.Prelude.{◌≡◌, ℕ, Bool, true, false, not, ◌&&◌, Option, Some, option_map, option_and_then, List, [], ◌∷◌, ◌++◌, filter, filter_map, fold, slice_get}
 use Rattle.std.specs.List.{list_all, list_any}
 use Rattle.std.specs.Option.{option_map_or}
 use Rattle.std.specs.BTreeSet.{insert_key}
@@ -25,6 +25,17 @@ known_at atoms s i = option_map_or (λ f. list_any (same_fact f) s.facts) (slice
 -- whether prepared conditions hold
 abbrev pub passes : Domain → Knowledge → List Fact → Test → State → Bool
 passes d k atoms t s = list_all (known_at atoms s) t.wanted.items && all_true d (at k s) t.others
+
+-- a test of no conditions
+pub record IsBareTest (t : Test) : Type 0 where
+  pub wanted : t.wanted.items ≡ []
+  pub others : t.others ≡ []
+
+-- prepared with no conditions
+pub record IsBare (p : Prepared) : Type 0 where
+  pub start : IsBareTest p.start
+  pub over : IsBareTest p.over
+  pub end : IsBareTest p.end
 
 -- facts without the atom at a place
 abbrev pub without_at : List Fact → List Fact → ℕ → List Fact

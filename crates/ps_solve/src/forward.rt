@@ -1,22 +1,26 @@
 //! The solver that looks forward.
-ghost use Rattle.std.specs.Prelude.{◌≡◌, ◌++◌, filter_map, map, option_to_list, IfOk, OnOk};
+ghost use Rattle.std.specs.Prelude.{◌≡◌, ◌++◌, Some, filter_map, map, option_to_list, IfOk, OnOk};
 ghost use Rattle.std.specs.Result.{result_ok};
-ghost use Rattle.ps_action.specs.Grounding.{ground_act};
+ghost use Rattle.ps_action.specs.Grounding.{all_ground, ground_act};
+ghost use Rattle.ps_action.specs.Search.{answer};
+ghost use Rattle.ps_solve.specs.Apart.{HaveFootprints};
+ghost use Rattle.ps_solve.specs.Endings.{searched};
 ghost use Rattle.ps_solve.specs.States.{state_of};
-ghost use Rattle.ps_solve.specs.Nodes.{Node, moves};
+ghost use Rattle.ps_solve.specs.Nodes.{Node, grounds, moves};
+ghost use Rattle.ps_solve.specs.Prepared.{leaps};
 ghost use Rattle.ps_solve.specs.Rows.{plain_node, plain_state};
 ghost use Rattle.ps_solve.specs.declared.nodes.Reached.{Reached as ReachedView};
 
 use super::atoms::Atoms;
-use super::light::lightened;
-use super::prepared::prepare_all;
+use super::light::lighten;
+use super::prepared::{Prepared, prepare_all};
 use super::rows::Row;
 use super::search::Search;
 use super::solver::Solver;
 use ps_action::{Act, Answer, GroundAction, GroundRefusal};
 use ps_domain::{Expert, GroundAllRefusal};
 use ps_problem::Problem;
-use ps_world::Name;
+use ps_world::{Cond, Name};
 use std::alloc::{AllocError, Global};
 
 /// A solver that looks at all that one step leads to, then at all that two steps lead to, and so on, in the order of the acts, and at
@@ -44,8 +48,9 @@ fn push_ground(
     ensures { OnOk result ((n : Node) → moves expert.now problem.now found.new.items n ≡ moves expert.now problem.now found.old.items n ++ moves expert.now problem.now (option_to_list (result_ok (ground_act expert.now instances.now act.now))) n) }
 {
     match expert.ground(alloc, instances, act) {
-        Ok(action) => {
-            found.push(lightened(alloc, problem, expert, &action)?)?;
+        Ok(mut action) => {
+            lighten(alloc, problem, expert, &mut action)?;
+            found.push(action)?;
             Ok(())
         }
         Err(GroundRefusal::OutOfMemory) => Err(AllocError),
@@ -80,6 +85,100 @@ fn start_of(alloc: Global, atoms: &Atoms, problem: &Problem) -> Result<Row, Allo
     Row::of(alloc, atoms, &facts, &values)
 }
 
+/// What is asked of the solver. Each of its calls owns one thing that the search needs, and hands on references.
+#[derive(Clone, Copy)]
+struct Question<'a> {
+    expert: &'a Expert,
+    problem: &'a Problem,
+    goal: &'a Cond,
+    budget: u32,
+}
+
+impl<'a> Question<'a> {
+    /// The answer, from the problem's instances. The only error is want of memory.
+    fn answer(&self, alloc: Global, instances: &[(Name, Name)]) -> Result<Answer, AllocError>
+        requires goal { self.now.problem.now.goal ≡ Some self.now.goal.now }
+        requires instances { instances.now ≡ self.now.problem.now.instances }
+        ensures { IfOk result (λ a. a ≡ answer self.now.expert.now self.now.problem.now self.now.budget) }
+    {
+        match self.expert.ground_all(alloc, instances) {
+            Ok(all) => self.answer_by(alloc, instances, &all),
+            Err(GroundAllRefusal::TooMany) => Ok(Answer::TooMany),
+            Err(GroundAllRefusal::OutOfMemory) => Err(AllocError),
+        }
+    }
+
+    /// The answer, from all ground actions. The only error is want of memory.
+    fn answer_by(
+        &self,
+        alloc: Global,
+        instances: &[(Name, Name)],
+        all: &[GroundAction],
+    ) -> Result<Answer, AllocError>
+        requires goal { self.now.problem.now.goal ≡ Some self.now.goal.now }
+        requires instances { instances.now ≡ self.now.problem.now.instances }
+        requires all { all.now ≡ all_ground self.now.expert.now instances.now }
+        ensures { IfOk result (λ a. a ≡ searched self.now.expert.now self.now.problem.now self.now.budget) }
+    {
+        let light = grounds(alloc, self.expert, self.problem, instances, all)?;
+        self.answer_over(alloc, &light)
+    }
+
+    /// The answer, from ground actions that lead to the same nodes as all of them. The only error is want of memory.
+    fn answer_over(&self, alloc: Global, light: &[GroundAction]) -> Result<Answer, AllocError>
+        requires goal { self.now.problem.now.goal ≡ Some self.now.goal.now }
+        requires moves { (n : Node) → moves self.now.expert.now self.now.problem.now light.now n ≡ moves self.now.expert.now self.now.problem.now (grounds self.now.expert.now self.now.problem.now) n }
+        ensures { IfOk result (λ a. a ≡ searched self.now.expert.now self.now.problem.now self.now.budget) }
+    {
+        let atoms = atoms_of(alloc, self.problem, light)?;
+        self.answer_with(alloc, &atoms, light)
+    }
+
+    /// The answer, from these atoms and ground actions. The only error is want of memory.
+    fn answer_with(
+        &self,
+        alloc: Global,
+        atoms: &Atoms,
+        light: &[GroundAction],
+    ) -> Result<Answer, AllocError>
+        requires goal { self.now.problem.now.goal ≡ Some self.now.goal.now }
+        requires moves { (n : Node) → moves self.now.expert.now self.now.problem.now light.now n ≡ moves self.now.expert.now self.now.problem.now (grounds self.now.expert.now self.now.problem.now) n }
+        ensures { IfOk result (λ a. a ≡ searched self.now.expert.now self.now.problem.now self.now.budget) }
+    {
+        let actions = prepare_all(alloc, atoms, light)?;
+        self.search(alloc, atoms, &actions)
+    }
+
+    /// The answer of a search over these atoms by these prepared ground actions. The only error is want of memory.
+    fn search(
+        &self,
+        alloc: Global,
+        atoms: &Atoms,
+        actions: &[Prepared],
+    ) -> Result<Answer, AllocError>
+        requires goal { self.now.problem.now.goal ≡ Some self.now.goal.now }
+        requires footprints { HaveFootprints actions.now }
+        requires actions { (n : ReachedView) → leaps self.now.expert.now self.now.problem.now atoms.now actions.now (plain_node atoms.now n) ≡ moves self.now.expert.now self.now.problem.now (grounds self.now.expert.now self.now.problem.now) (plain_node atoms.now n) }
+        ensures { IfOk result (λ a. a ≡ searched self.now.expert.now self.now.problem.now self.now.budget) }
+    {
+        let start = start_of(alloc, atoms, self.problem)?;
+        let search = Search {
+            given: self.problem,
+            types: self.expert,
+            goal: self.goal,
+            atoms,
+            actions,
+        };
+        search.answer(alloc, start, self.budget)
+    }
+}
+
+/// The atoms of a search by these ground actions from what is known. The only error is want of memory.
+fn atoms_of(alloc: Global, problem: &Problem, light: &[GroundAction]) -> Result<Atoms, AllocError> {
+    let facts = problem.facts()?;
+    Atoms::of(alloc, &facts, light)
+}
+
 impl Solver for Forward {
     ghost use Rattle.ps_action.specs.Search.{answer};
     ghost use Rattle.ps_solve.specs.Answers.{answer_fits};
@@ -96,25 +195,14 @@ impl Solver for Forward {
         let Some(goal) = problem.goal() else {
             unreachable!()
         };
-        let instances = problem.instances()?;
-        let all = match expert.ground_all(alloc, &instances) {
-            Ok(all) => all,
-            Err(GroundAllRefusal::TooMany) => return Ok(Answer::TooMany),
-            Err(GroundAllRefusal::OutOfMemory) => return Err(AllocError),
-        };
-        let light = grounds(alloc, expert, problem, &instances, &all)?;
-        let facts = problem.facts()?;
-        let atoms = Atoms::of(alloc, &facts, &light)?;
-        let actions = prepare_all(alloc, &atoms, &light)?;
-        let start = start_of(alloc, &atoms, problem)?;
-        let search = Search {
-            given: problem,
-            types: expert,
+        let question = Question {
+            expert,
+            problem,
             goal,
-            atoms: &atoms,
-            actions: &actions,
+            budget,
         };
-        search.answer(alloc, start, budget)
+        let instances = problem.instances()?;
+        question.answer(alloc, &instances)
     }
 
     ghost fits = { λ s d k budget. answer_fits d k budget };

@@ -1,5 +1,5 @@
 //! Ground actions without the conditions that hold in every state.
-ghost use Rattle.std.specs.Prelude.{◌≡◌, true, IfOk};
+ghost use Rattle.std.specs.Prelude.{◌≡◌, true, IfOk, OnOk};
 ghost use Rattle.ps_world.specs.CondViews.{cond_tree};
 ghost use Rattle.ps_action.specs.Truth.{all_true, is_true};
 ghost use Rattle.ps_solve.specs.States.{State, at};
@@ -37,28 +37,31 @@ fn lighter<K: Known, T: Types>(
     Ok(light)
 }
 
-/// A ground action without the conditions that hold in every state, which leads to the same nodes. The only error is want of memory.
-pub fn lightened<K: Known, T: Types>(
+/// Takes those that hold in every state out of conditions. The only error is want of memory.
+fn lighten_conds<K: Known, T: Types>(
     alloc: Global,
     given: &K,
     types: &T,
-    action: &GroundAction,
-) -> Result<GroundAction, AllocError>
-    ensures { IfOk result (λ light. (n : Node) → move (T.types types.now) (K.known given.now) n light ≡ move (T.types types.now) (K.known given.now) n action.now) }
+    conds: &mut Conds,
+) -> Result<(), AllocError>
+    ensures { OnOk result ((s : State) → all_true (T.types types.now) (at (K.known given.now) s) conds.new ≡ all_true (T.types types.now) (at (K.known given.now) s) conds.old) }
 {
-    let duration = action.duration.copy(alloc)?;
-    let start = lighter(alloc, given, types, &action.start)?;
-    let over = lighter(alloc, given, types, &action.over)?;
-    let end = lighter(alloc, given, types, &action.end)?;
-    let at_start = action.at_start.copy(alloc)?;
-    let at_end = action.at_end.copy(alloc)?;
-    Ok(GroundAction {
-        act: action.act,
-        duration,
-        start,
-        over,
-        end,
-        at_start,
-        at_end,
-    })
+    *conds = lighter(alloc, given, types, conds)?;
+    Ok(())
+}
+
+/// Takes the conditions that hold in every state out of a ground action, so that it leads to the same nodes. The only error is want
+/// of memory.
+pub fn lighten<K: Known, T: Types>(
+    alloc: Global,
+    given: &K,
+    types: &T,
+    action: &mut GroundAction,
+) -> Result<(), AllocError>
+    ensures { OnOk result ((n : Node) → move (T.types types.now) (K.known given.now) n action.new ≡ move (T.types types.now) (K.known given.now) n action.old) }
+{
+    lighten_conds(alloc, given, types, &mut action.start)?;
+    lighten_conds(alloc, given, types, &mut action.over)?;
+    lighten_conds(alloc, given, types, &mut action.end)?;
+    Ok(())
 }

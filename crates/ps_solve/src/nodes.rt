@@ -1,7 +1,9 @@
 //! Nodes of the search: rows, and how they are reached.
-ghost use Rattle.std.specs.Prelude.{◌≡◌, [], ◌∷◌, ◌++◌, map, IfOk, OnOk};
+ghost use Rattle.std.specs.Prelude.{◌≡◌, List, [], ◌∷◌, ◌++◌, false, length, map, IfOk, OnOk};
+ghost use Rattle.std.specs.List.{list_any};
+ghost use Rattle.ps_world.specs.declared.facts.Fact.{Fact as FactView};
 ghost use Rattle.ps_solve.specs.Nodes.{met};
-ghost use Rattle.ps_solve.specs.Rows.{AreWide, plain_state};
+ghost use Rattle.ps_solve.specs.Rows.{AreWide, plain_state, same_row};
 ghost use Rattle.ps_solve.specs.Leads.{first_leads, plain_lead};
 
 use super::atoms::Atoms;
@@ -17,6 +19,27 @@ pub struct Reached {
     pub row: Row,
     pub path: Vec<Act>,
     pub by: usize,
+}
+
+/// The acts before, and one more. The only error is want of memory.
+fn path_to(alloc: Global, before: &[Act], act: Act) -> Result<Vec<Act>, AllocError>
+    ensures { IfOk result (λ path. path.items ≡ before.now ++ act ∷ []) }
+{
+    let mut path = Vec::with_capacity(alloc, before.len() + 1)?;
+    path.extend_from_slice(before)?;
+    path.push(act)?;
+    Ok(path)
+}
+
+/// Puts a row that wasn't met among those that were. The only error is want of memory.
+fn remember(alloc: Global, seen: &mut IndexSet<Row>, row: &Row) -> Result<(), AllocError>
+    requires { list_any (same_row row.now) seen.old.keys ≡ false }
+    ensures seen { OnOk result ((atoms : List FactView) → map (plain_state atoms) seen.new.keys ≡ map (plain_state atoms) seen.old.keys ++ plain_state atoms row.now ∷ []) }
+    ensures wide { OnOk result ((atoms : List FactView) → AreWide atoms seen.old.keys → length row.now.flags.items ≡ length atoms → AreWide atoms seen.new.keys) }
+{
+    let copied = row.copy(alloc)?;
+    seen.insert(copied)?;
+    Ok(())
 }
 
 /// Puts a row at the end, with the acts before it, and the one that leads to it and its place, unless it was met. The only error is
@@ -40,10 +63,8 @@ pub fn discover(
         return Err(AllocError);
     }
     if !seen.contains(&row) {
-        let mut path = Vec::with_capacity(alloc, before.len() + 1)?;
-        path.extend_from_slice(before)?;
-        path.push(act)?;
-        seen.insert(row.copy(alloc)?)?;
+        remember(alloc, seen, &row)?;
+        let path = path_to(alloc, before, act)?;
         next.push(Reached { row, path, by })?;
     }
     Ok(())

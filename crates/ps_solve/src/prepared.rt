@@ -14,7 +14,7 @@ ghost use Rattle.ps_action.specs.Truth.{all_true, is_true};
 ghost use Rattle.ps_solve.specs.States.{State, at, changed, stepped};
 ghost use Rattle.ps_solve.specs.Nodes.{moves};
 ghost use Rattle.ps_solve.specs.Rows.{AreAtoms, IsOver, plain_node};
-ghost use Rattle.ps_solve.specs.Prepared.{is_number, leaps, leapt, passes, turned, with_at, without_at};
+ghost use Rattle.ps_solve.specs.Prepared.{IsBare, IsBareTest, is_number, leaps, leapt, passes, turned, with_at, without_at};
 ghost use Rattle.ps_solve.specs.Apart.{HaveFootprints, HasFootprint};
 ghost use Rattle.ps_solve.specs.declared.nodes.Reached.{Reached as ReachedView};
 
@@ -56,6 +56,40 @@ pub struct Prepared {
     pub footprint: Footprint,
 }
 
+impl Test {
+    /// The test of no conditions.
+    fn bare(alloc: Global) -> Test
+        ensures { IsBareTest result }
+    {
+        Test {
+            wanted: Vec::new(alloc),
+            others: Conds::new(alloc),
+        }
+    }
+}
+
+impl Prepared {
+    /// What is prepared of a ground action with no conditions and no effects.
+    fn bare(alloc: Global, act: Act) -> Prepared
+        ensures act { result.act ≡ act }
+        ensures tests { IsBare result }
+    {
+        Prepared {
+            act,
+            start: Test::bare(alloc),
+            over: Test::bare(alloc),
+            end: Test::bare(alloc),
+            at_start: Change::Effects(Seq::new(alloc)),
+            at_end: Change::Effects(Seq::new(alloc)),
+            footprint: Footprint {
+                plain: false,
+                changed: 0,
+                touched: 0,
+            },
+        }
+    }
+}
+
 /// Puts a condition into a test, and answers whether it could: false only where the condition holds in no state over the atoms,
 /// since it says of a fact that is no atom that it is known. The only error is want of memory.
 fn take_in(alloc: Global, atoms: &Atoms, cond: &Cond, test: &mut Test) -> Result<bool, AllocError>
@@ -77,20 +111,23 @@ fn take_in(alloc: Global, atoms: &Atoms, cond: &Cond, test: &mut Test) -> Result
     }
 }
 
-/// The test of these conditions. None only where they hold in no state over the atoms. The only error is want of memory.
-fn test_of(alloc: Global, atoms: &Atoms, conds: &Conds) -> Result<Option<Test>, AllocError>
-    ensures { IfOk result (λ made. MatchOption made ((d : DomainView) (k : KnowledgeView) (s : State) → IsOver atoms.now s → all_true d (at k s) conds.now ≡ false) (λ test. (d : DomainView) (k : KnowledgeView) (s : State) → passes d k atoms.now test s ≡ all_true d (at k s) conds.now)) }
+/// Puts conditions into a test, and answers whether it could: false only where they hold in no state over the atoms. The only error
+/// is want of memory.
+fn take_all(
+    alloc: Global,
+    atoms: &Atoms,
+    conds: &Conds,
+    test: &mut Test,
+) -> Result<bool, AllocError>
+    ensures taken { IfOk result (λ fits. fits ≡ true → (d : DomainView) (k : KnowledgeView) (s : State) → passes d k atoms.now test.new s ≡ (passes d k atoms.now test.old s && all_true d (at k s) conds.now)) }
+    ensures vain { IfOk result (λ fits. fits ≡ false → (d : DomainView) (k : KnowledgeView) (s : State) → IsOver atoms.now s → all_true d (at k s) conds.now ≡ false) }
 {
-    let mut test = Test {
-        wanted: Vec::new(alloc),
-        others: Conds::new(alloc),
-    };
     for cond in conds.as_slice() {
-        if !take_in(alloc, atoms, cond, &mut test)? {
-            return Ok(None);
+        if !take_in(alloc, atoms, cond, test)? {
+            return Ok(false);
         }
     }
-    Ok(Some(test))
+    Ok(true)
 }
 
 /// Whether one of these effects gives a number.
@@ -172,6 +209,41 @@ fn change_of(alloc: Global, atoms: &Atoms, effects: &Seq<Effect>) -> Result<Chan
     Ok(Change::Flags { cleared, set })
 }
 
+/// Prepares a ground action into a bare one, and answers whether it could: false only where it leads nowhere from any state over the
+/// atoms. The only error is want of memory, as it always is where a fact to be added is no atom.
+fn fill(
+    alloc: Global,
+    atoms: &Atoms,
+    action: &GroundAction,
+    made: &mut Prepared,
+) -> Result<bool, AllocError>
+    requires { IsBare made.old }
+    ensures act { made.new.act ≡ made.old.act }
+    ensures same { IfOk result (λ fits. fits ≡ true → (d : DomainView) (k : KnowledgeView) (s : State) → IsOver atoms.now s → leapt d k atoms.now s made.new ≡ stepped d k s action.now) }
+    ensures vain { IfOk result (λ fits. fits ≡ false → (d : DomainView) (k : KnowledgeView) (s : State) → IsOver atoms.now s → stepped d k s action.now ≡ None) }
+    ensures footprint { IfOk result (λ fits. fits ≡ true → HasFootprint made.new) }
+{
+    if !take_all(alloc, atoms, &action.start, &mut made.start)? {
+        return Ok(false);
+    }
+    made.at_start = change_of(alloc, atoms, &action.at_start)?;
+    if !take_all(alloc, atoms, &action.over, &mut made.over)? {
+        return Ok(false);
+    }
+    if !take_all(alloc, atoms, &action.end, &mut made.end)? {
+        return Ok(false);
+    }
+    made.at_end = change_of(alloc, atoms, &action.at_end)?;
+    made.footprint = Footprint::of(
+        &made.start,
+        &made.over,
+        &made.end,
+        &made.at_start,
+        &made.at_end,
+    );
+    Ok(true)
+}
+
 /// A ground action, prepared. None only where it leads nowhere from any state over the atoms. The only error is want of memory, as
 /// it always is where a fact to be added is no atom.
 fn prepare(
@@ -182,27 +254,12 @@ fn prepare(
     ensures same { IfOk result (λ made. MatchOption made ((d : DomainView) (k : KnowledgeView) (s : State) → IsOver atoms.now s → stepped d k s action.now ≡ None) (λ p. (p.act ≡ action.now.act) × ((d : DomainView) (k : KnowledgeView) (s : State) → IsOver atoms.now s → leapt d k atoms.now s p ≡ stepped d k s action.now))) }
     ensures footprints { IfOk result (λ made. IfSome made HasFootprint) }
 {
-    let Some(start) = test_of(alloc, atoms, &action.start)? else {
-        return Ok(None);
-    };
-    let at_start = change_of(alloc, atoms, &action.at_start)?;
-    let Some(over) = test_of(alloc, atoms, &action.over)? else {
-        return Ok(None);
-    };
-    let Some(end) = test_of(alloc, atoms, &action.end)? else {
-        return Ok(None);
-    };
-    let at_end = change_of(alloc, atoms, &action.at_end)?;
-    let footprint = Footprint::of(&start, &over, &end, &at_start, &at_end);
-    Ok(Some(Prepared {
-        act: action.act,
-        start,
-        over,
-        end,
-        at_start,
-        at_end,
-        footprint,
-    }))
+    let mut made = Prepared::bare(alloc, action.act);
+    if fill(alloc, atoms, action, &mut made)? {
+        Ok(Some(made))
+    } else {
+        Ok(None)
+    }
 }
 
 /// These ground actions, prepared, in order, without those that lead nowhere from any state over the atoms: they lead to the same

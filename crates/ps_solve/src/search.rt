@@ -5,7 +5,7 @@ ghost use Rattle.ps_world.specs.CondViews.{cond_tree};
 ghost use Rattle.ps_action.specs.Truth.{is_true};
 ghost use Rattle.ps_solve.specs.Endings.{ending, searched};
 ghost use Rattle.ps_solve.specs.States.{at, state_of};
-ghost use Rattle.ps_solve.specs.Nodes.{grounds, met, moves};
+ghost use Rattle.ps_solve.specs.Nodes.{grounds, met, moves, root};
 ghost use Rattle.ps_solve.specs.Apart.{HaveFootprints, is_spared};
 ghost use Rattle.ps_solve.specs.Leads.{AreSpared, IsSpared, first_leads, leads_from, plain_lead};
 ghost use Rattle.ps_solve.specs.Prepared.{leaps};
@@ -166,6 +166,36 @@ impl<'a, K: Known, T: Types> Search<'a, K, T> {
         Ok(None)
     }
 
+    /// The answer, where the level and the states that were met are those of the start. The only error is want of memory.
+    fn answer_from(
+        &self,
+        alloc: Global,
+        level: &mut Vec<Reached>,
+        seen: &mut IndexSet<Row>,
+        budget: u32,
+    ) -> Result<Answer, AllocError>
+        requires goal { (K.known self.now.given.now).goal ≡ Some self.now.goal.now }
+        requires footprints { HaveFootprints self.now.actions.now }
+        requires actions { (n : ReachedView) → leaps (T.types self.now.types.now) (K.known self.now.given.now) self.now.atoms.now self.now.actions.now (plain_node self.now.atoms.now n) ≡ moves (T.types self.now.types.now) (K.known self.now.given.now) (grounds (T.types self.now.types.now) (K.known self.now.given.now)) (plain_node self.now.atoms.now n) }
+        requires leads { map (plain_lead self.now.atoms.now) level.old.items ≡ record { node = root (K.known self.now.given.now); by = length self.now.actions.now } ∷ [] }
+        requires seen { map (plain_state self.now.atoms.now) seen.old.keys ≡ state_of (K.known self.now.given.now) ∷ [] }
+        requires wide { AreWide self.now.atoms.now seen.old.keys }
+        ensures { IfOk result (λ answer. answer ≡ searched (T.types self.now.types.now) (K.known self.now.given.now) budget) }
+    {
+        // The atoms say with their slice that they rise.
+        let _atoms = self.atoms.as_slice();
+        for depth in 0..MOST_ACTS {
+            if let Some(answer) = self.ending(alloc, level, seen.len(), budget, depth)? {
+                return Ok(answer);
+            }
+            *level = self.next_level(alloc, level, seen)?;
+        }
+        match self.ending(alloc, level, seen.len(), budget, MOST_ACTS)? {
+            Some(answer) => Ok(answer),
+            None => Ok(Answer::Spent { depth: MOST_ACTS }),
+        }
+    }
+
     /// The answer from a state on. The only error is want of memory.
     pub fn answer(&self, alloc: Global, start: Row, budget: u32) -> Result<Answer, AllocError>
         requires start { plain_state self.now.atoms.now start ≡ state_of (K.known self.now.given.now) }
@@ -174,19 +204,8 @@ impl<'a, K: Known, T: Types> Search<'a, K, T> {
         requires actions { (n : ReachedView) → leaps (T.types self.now.types.now) (K.known self.now.given.now) self.now.atoms.now self.now.actions.now (plain_node self.now.atoms.now n) ≡ moves (T.types self.now.types.now) (K.known self.now.given.now) (grounds (T.types self.now.types.now) (K.known self.now.given.now)) (plain_node self.now.atoms.now n) }
         ensures { IfOk result (λ answer. answer ≡ searched (T.types self.now.types.now) (K.known self.now.given.now) budget) }
     {
-        // The atoms say with their slice that they rise.
-        let _atoms = self.atoms.as_slice();
         let mut seen = IndexSet::new(alloc);
         let mut level = begin(alloc, self.atoms, &mut seen, start, self.actions.len())?;
-        for depth in 0..MOST_ACTS {
-            match self.ending(alloc, &level, seen.len(), budget, depth)? {
-                Some(answer) => return Ok(answer),
-                None => level = self.next_level(alloc, &level, &mut seen)?,
-            }
-        }
-        match self.ending(alloc, &level, seen.len(), budget, MOST_ACTS)? {
-            Some(answer) => Ok(answer),
-            None => Ok(Answer::Spent { depth: MOST_ACTS }),
-        }
+        self.answer_from(alloc, &mut level, &mut seen, budget)
     }
 }

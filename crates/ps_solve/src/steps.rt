@@ -1,5 +1,5 @@
 //! Steps from a state to the next.
-ghost use Rattle.std.specs.Prelude.{◌≡◌, Some, None, if◌then◌else◌, option_map, IfOk};
+ghost use Rattle.std.specs.Prelude.{◌≡◌, Some, None, if◌then◌else◌, option_and_then, option_map, IfOk};
 ghost use Rattle.ps_solve.specs.States.{at, changed};
 ghost use Rattle.ps_solve.specs.Prepared.{landed, leapt, passes, turned};
 ghost use Rattle.ps_solve.specs.Rows.{plain_state};
@@ -93,27 +93,42 @@ fn turn<K: Known>(
     }
 }
 
-/// The row after the end of a prepared ground action, from the one after its start. None exactly where that fails. The only error is
-/// want of memory.
+/// Makes the end of a prepared ground action in the row after its start, and answers whether it could. The only error is want of
+/// memory, and then the row may have changed.
 fn end<K: Known, T: Types>(
     alloc: Global,
     given: &K,
     types: &T,
     atoms: &Atoms,
-    mut row: Row,
+    row: &mut Row,
     action: &Prepared,
-) -> Result<Option<Row>, AllocError>
-    ensures { IfOk result (λ next. option_map (plain_state atoms.now) next ≡ landed (T.types types.now) (K.known given.now) atoms.now action.now (plain_state atoms.now row)) }
+) -> Result<bool, AllocError>
+    ensures { IfOk result (λ made. (if made then Some (plain_state atoms.now row.new) else None) ≡ landed (T.types types.now) (K.known given.now) atoms.now action.now (plain_state atoms.now row.old)) }
 {
-    if !passes(given, types, atoms, &row, &action.over)
-        || !passes(given, types, atoms, &row, &action.end)
+    if !passes(given, types, atoms, row, &action.over)
+        || !passes(given, types, atoms, row, &action.end)
     {
-        return Ok(None);
+        return Ok(false);
     }
-    if turn(alloc, given, atoms, &mut row, &action.at_end)? {
-        Ok(Some(row))
+    turn(alloc, given, atoms, row, &action.at_end)
+}
+
+/// Makes a step of a prepared ground action in a row where it may start, and answers whether it could. The only error is want of
+/// memory, and then the row may have changed.
+fn go_on<K: Known, T: Types>(
+    alloc: Global,
+    given: &K,
+    types: &T,
+    atoms: &Atoms,
+    row: &mut Row,
+    action: &Prepared,
+) -> Result<bool, AllocError>
+    ensures { IfOk result (λ made. (if made then Some (plain_state atoms.now row.new) else None) ≡ option_and_then (landed (T.types types.now) (K.known given.now) atoms.now action.now) (turned (K.known given.now) atoms.now action.now.at_start (plain_state atoms.now row.old))) }
+{
+    if turn(alloc, given, atoms, row, &action.at_start)? {
+        end(alloc, given, types, atoms, row, action)
     } else {
-        Ok(None)
+        Ok(false)
     }
 }
 
@@ -132,9 +147,9 @@ pub fn step<K: Known, T: Types>(
     if !passes(given, types, atoms, row, &action.start) {
         return Ok(None);
     }
-    let mut during = row.copy(alloc)?;
-    if turn(alloc, given, atoms, &mut during, &action.at_start)? {
-        end(alloc, given, types, atoms, during, action)
+    let mut next = row.copy(alloc)?;
+    if go_on(alloc, given, types, atoms, &mut next, action)? {
+        Ok(Some(next))
     } else {
         Ok(None)
     }

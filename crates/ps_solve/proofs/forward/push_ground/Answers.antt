@@ -11,8 +11,7 @@ returns-in_ok-push-in-Ok c =
     let d = c.args.expert.now in
     let k = c.args.problem.now in
     let found = c.args.found.now.items in
-    let light = c.in_ok-lightened-in-Ok.field-0 in
     λ n.
     ap (λ (l : List GroundAction). moves d k l n) c.in_ok-push-in-Ok.ensures.items
-    ∙ one_more d k n found light c.in-Ok.action (c.in_ok-lightened-in-Ok.ensures n)
+    ∙ one_more d k n found c.lighten.new.action c.in-Ok.action (c.in_ok-lighten-in-Ok.ensures n)
     ∙ ap (λ (r : Result GroundAction GroundRefusal). moves d k found n ++ moves d k (option_to_list (result_ok r)) n) (sym c.in-Ok.ensures.ok)

@@ -1,32 +1,38 @@
-use Rattle.std.proofs.Common.{refl}
+use Rattle.std.proofs.Common.{ap}
+use Rattle.std.specs.Prelude.{option_and_then}
+use Rattle.ps_solve.specs.States.{changed, ended, where_so}
 use Rattle.ps_solve.specs.declared.prepared.Prepared.{Prepared}
-use Rattle.ps_solve.proofs.Preparing.{leads_alike, no_last, no_over}
-use Rattle.ps_solve.proofs.prepared.prepare.Goals as goal
+use Rattle.ps_solve.proofs.Preparing.{bare_passes, leads_alike, no_last, no_over}
+use Rattle.ps_solve.proofs.prepared.fill.Goals as goal
 
-pub returns-in_default-2-clause-same : goal.returns-in_default-2-clause-same
-returns-in_default-2-clause-same c =
-    let vain = rw c.in_default-2.is at c.in_ok-over.ensures in
-    λ d k s o. no_over d k c.args.atoms.now c.args.action.now (vain d k) c.in_ok-at_start.ensures.atoms s o
+pub returns-then-not-branch-clause-vain : goal.returns-then-not-branch-clause-vain
+returns-then-not-branch-clause-vain c =
+    let g = c.args.action.now in
+    λ no d k s o. ap (λ b. option_and_then (ended d k g) (where_so b (changed k s g.at_start))) (c.in_ok-take_all.ensures.vain c.if-not-branch.true d k s o)
 
-pub returns-in_default-3-clause-same : goal.returns-in_default-3-clause-same
-returns-in_default-3-clause-same c =
-    let vain = rw c.in_default-3.is at c.in_ok-end.ensures in
-    λ d k s o. no_last d k c.args.atoms.now c.args.action.now (vain d k) c.in_ok-at_start.ensures.atoms s o
+pub returns-then-not-branch-2-clause-vain : goal.returns-then-not-branch-2-clause-vain
+returns-then-not-branch-2-clause-vain c =
+    λ no d k s o. no_over d k c.args.atoms.now c.args.action.now (c.in_ok-take_all-2.ensures.vain c.if-not-branch-2.true d k) c.in_ok-made.ensures.atoms s o
+
+pub returns-then-not-branch-3-clause-vain : goal.returns-then-not-branch-3-clause-vain
+returns-then-not-branch-3-clause-vain c =
+    λ no d k s o. no_last d k c.args.atoms.now c.args.action.now (c.in_ok-take_all-3.ensures.vain c.if-not-branch-3.true d k) c.in_ok-made.ensures.atoms s o
 
 pub returns-clause-same : goal.returns-clause-same
 returns-clause-same c =
-    let start = rw c.in-Some.is at c.in_ok-start.ensures in
-    let over = rw c.in-Some-2.is at c.in_ok-over.ensures in
-    let end = rw c.in-Some-3.is at c.in_ok-end.ensures in
+    let atoms = c.args.atoms.now in
     let p : Prepared = record {
-      act = c.args.action.now.act;
-      start = c.in-Some.start;
-      over = c.in-Some-2.over;
-      end = c.in-Some-3.end;
-      at_start = c.in_ok-at_start.at_start;
-      at_end = c.in_ok-at_end.at_end;
-      footprint = c.of-footprint.result;
-    } in (
-      refl,
-      λ d k s o. leads_alike d k c.args.atoms.now c.args.action.now p (start d k) (over d k) (end d k) (c.in_ok-at_start.ensures.same k) (c.in_ok-at_end.ensures.same k) c.in_ok-at_start.ensures.atoms s o,
-    )
+      act = c.args.made.now.act;
+      start = c.take_all.new.test;
+      over = c.take_all-2.new.test;
+      end = c.take_all-3.new.test;
+      at_start = c.in_ok-made.field-0;
+      at_end = c.in_ok-made-2.field-0;
+      footprint = c.of-made.result;
+    } in
+    λ yes d k s o.
+    leads_alike d k atoms c.args.action.now p
+    (λ t. bare_passes d k atoms t c.args.made.now.start c.take_all.new.test _ c.requires.start (c.in_ok-take_all.ensures.taken c.if-not-branch.false d k t))
+    (λ t. bare_passes d k atoms t c.args.made.now.over c.take_all-2.new.test _ c.requires.over (c.in_ok-take_all-2.ensures.taken c.if-not-branch-2.false d k t))
+    (λ t. bare_passes d k atoms t c.args.made.now.end c.take_all-3.new.test _ c.requires.end (c.in_ok-take_all-3.ensures.taken c.if-not-branch-3.false d k t))
+    (c.in_ok-made.ensures.same k) (c.in_ok-made-2.ensures.same k) c.in_ok-made.ensures.atoms s o

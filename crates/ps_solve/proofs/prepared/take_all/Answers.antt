@@ -7,7 +7,7 @@ use Rattle.ps_action.specs.Truth.{all_true}
 use Rattle.ps_solve.specs.States.{at}
 use Rattle.ps_solve.specs.Prepared.{passes}
 use Rattle.ps_solve.proofs.Preparing.{one_false, tested_more, true_last}
-use Rattle.ps_solve.proofs.prepared.test_of.Goals as goal
+use Rattle.ps_solve.proofs.prepared.take_all.Goals as goal
 
 pub loop-cond-preserved : goal.loop-cond-preserved
 loop-cond-preserved c =
@@ -23,16 +23,22 @@ returns-then-not-branch c =
     let i = c.loop-cond.cond-index in
     let x = c.cond-item.result in
     let split : drop i items ≡ x ∷ drop (i + 1) items = drop_more items i x (omega arith) ∙ ap (λ (y : Cond). y ∷ drop (i + 1) items) (sym c.cond-item.is) in
-    λ d k s o.
-    ap (λ (l : List CondTree). all_true d (at k s) l) (sym c.as_slice-cond-items.ensures)
-    ∙ one_false d (at k s) i items (drop (i + 1) items) x split (c.in_ok-take_in.ensures.vain c.if-not-branch.true d k s o)
+    record {
+      taken = λ yes. absurd (cc);
+      vain = λ no d k s o.
+          ap (λ (l : List CondTree). all_true d (at k s) l) (sym c.as_slice-cond-items.ensures)
+          ∙ one_false d (at k s) i items (drop (i + 1) items) x split (c.in_ok-take_in.ensures.vain c.if-not-branch.true d k s o);
+    }
 
 pub returns : goal.returns
 returns c =
     let items = c.as_slice-cond-items.result.now in
     let i = c.loop-cond.cond-index in
     let gone : drop i items ≡ [] = drop_all i items (omega arith) in
-    λ d k s.
-    sym (true_last (passes d k c.args.atoms.now c.loop-cond.test s))
-    ∙ ap (λ (l : List Cond). passes d k c.args.atoms.now c.loop-cond.test s && all_true d (at k s) (map cond_tree l)) (sym gone)
-    ∙ c.loop-cond.invariant d k s
+    record {
+      taken = λ yes d k s.
+          sym (true_last (passes d k c.args.atoms.now c.loop-cond.test s))
+          ∙ ap (λ (l : List Cond). passes d k c.args.atoms.now c.loop-cond.test s && all_true d (at k s) (map cond_tree l)) (sym gone)
+          ∙ c.loop-cond.invariant d k s;
+      vain = λ no. absurd (cc);
+    }

@@ -13,9 +13,9 @@ use Rattle.ps_solve.proofs.Depths.{begins_at, deepens_by, goes_on, is_last, none
 use Rattle.ps_solve.proofs.Leading.{nodes_led, plain_nodes}
 use Rattle.ps_solve.proofs.Levels.{found}
 use Rattle.ps_solve.proofs.Sparing.{IsClosed, closes_on, root_spared, spared_on}
-use Rattle.ps_solve.specs.States.{State}
-use Rattle.ps_solve.proofs.search.Search.answer.Goals as goal
-use Rattle.ps_solve.specs.Nodes.{Node, firsts, met}
+use Rattle.ps_solve.specs.States.{State, state_of}
+use Rattle.ps_solve.proofs.search.Search.answer_from.Goals as goal
+use Rattle.ps_solve.specs.Nodes.{Node, firsts, met, root}
 
 pub loop-depth-init : goal.loop-depth-init
 loop-depth-init g c =
@@ -23,18 +23,16 @@ loop-depth-init g c =
     let k = g.K.Known.known c.args.self.now.given.now in
     let atoms = c.args.self.now.atoms.now in
     let ps = c.args.self.now.actions.now in
-    let start = plain_state atoms c.args.start in
-    let level = c.in_ok-level.level.items in
-    let seen = map (plain_state atoms) c.begin.new.seen.keys in
-    let root : Node = record { state = start; path = [] } in
-    let is_level : map (plain_node atoms) level ≡ root ∷ [] = plain_nodes d k atoms level ∙ ap (map (λ (l : Lead). l.node)) c.in_ok-level.ensures.leads in
+    let level = c.args.level.now.items in
+    let seen = map (plain_state atoms) c.args.seen.now.keys in
+    let is_level : map (plain_node atoms) level ≡ root k ∷ [] = plain_nodes d k atoms level ∙ ap (map (λ (l : Lead). l.node)) c.requires.leads in
     let P : List State → List Node → Type 0 = IsClosed d k atoms ps in
     let Q : List State → List Lead → Type 0 = AreSpared d k atoms ps in
     record {
-      here = begins_at d k c.args.self.now.goal.now start (map (plain_node atoms) level) seen c.requires.start is_level c.in_ok-level.ensures.seen;
-      closed = subst (λ ns. P seen ns) (sym is_level) (subst (λ ss. P ss (root ∷ [])) (sym c.in_ok-level.ensures.seen) (λ s e. inl e));
-      spared = subst (λ ls. Q seen ls) (sym c.in_ok-level.ensures.leads) (root_spared d k atoms ps seen root (length ps) refl);
-      wide = c.in_ok-level.ensures.wide;
+      here = begins_at d k c.args.self.now.goal.now (state_of k) (map (plain_node atoms) level) seen refl is_level c.requires.seen;
+      closed = subst (λ ns. P seen ns) (sym is_level) (subst (λ ss. P ss (root k ∷ [])) (sym c.requires.seen) (λ s e. inl e));
+      spared = subst (λ ls. Q seen ls) (sym c.requires.leads) (root_spared d k atoms ps seen (root k) (length ps) refl);
+      wide = c.requires.wide;
       left = λ most e.
           let whole : most - 0 ≡ most = omega arith in
           ap (λ (m : ℕ). answer_from d k c.args.budget m 0) whole;
@@ -66,20 +64,20 @@ loop-depth-preserved g c =
     let plain : Reached → Node = plain_node atoms in
     let count : c.len.result ≡ length (map (plain_state atoms) rows) = c.len.ensures.len ∙ sym (length-map rows (plain_state atoms)) in
     let is_ending = c.in_ok-answer.ensures ∙ (λ i. ending (option_map (λ (m : Node). m.path) (found d k goal (map plain (c.deref.ensures.value i)))) (map plain (c.deref.ensures.value i)) (count i) c.args.budget n) in
-    let none = sym is_ending ∙ c.in-None.is in
+    let none = sym is_ending ∙ c.in_default.is in
     let ps = c.args.self.now.actions.now in
-    let next = c.in_ok-level-in-None.level.items in
+    let next = c.in_ok-level.field-0.items in
     let seen = map (plain_state atoms) rows in
     let later = map (plain_state atoms) c.next_level.new.seen.keys in
-    let is_next : map (plain_lead atoms) next ≡ first_leads seen (flat_map (leads_from d k atoms 0 ps) (map plain ns)) = c.in_ok-level-in-None.ensures.leads ∙ ap (λ (l : List Reached). first_leads seen (flat_map (leads_from d k atoms 0 ps) (map plain l))) c.deref-in-None.ensures.value in
-    let is_later : later ≡ met seen (flat_map (leaps d k atoms ps) (map plain ns)) = c.in_ok-level-in-None.ensures.seen ∙ ap (λ (l : List Reached). met seen (flat_map (leaps d k atoms ps) (map plain l))) c.deref-in-None.ensures.value in
+    let is_next : map (plain_lead atoms) next ≡ first_leads seen (flat_map (leads_from d k atoms 0 ps) (map plain ns)) = c.in_ok-level.ensures.leads ∙ ap (λ (l : List Reached). first_leads seen (flat_map (leads_from d k atoms 0 ps) (map plain l))) c.deref-in-loop-depth.ensures.value in
+    let is_later : later ≡ met seen (flat_map (leaps d k atoms ps) (map plain ns)) = c.in_ok-level.ensures.seen ∙ ap (λ (l : List Reached). met seen (flat_map (leaps d k atoms ps) (map plain l))) c.deref-in-loop-depth.ensures.value in
     let are_next = nodes_led d k atoms next ps (map plain ns) seen is_next in
     let P : List State → List Node → Type 0 = IsClosed d k atoms ps in
     record {
       closed = subst (λ ms. P later ms) (sym are_next) (subst (λ ss. P ss (firsts seen (flat_map (leaps d k atoms ps) (map plain ns)))) (sym is_later) (closes_on d k atoms ps (map plain ns) seen c.loop-depth.invariant.closed));
       spared = spared_on d k atoms ps c.as_slice-atoms.ensures.rise c.requires.footprints ns next seen later c.loop-depth.invariant.closed is_next is_later;
       here = deepens_by d k goal Reached plain (leaps d k atoms ps) c.requires.actions n ns ns (map plain next) seen later c.loop-depth.invariant.here (none_found (found d k goal (map plain ns)) (map plain ns) (length seen) c.args.budget n none) refl are_next is_later;
-      wide = c.in_ok-level-in-None.ensures.wide;
+      wide = c.in_ok-level.ensures.wide;
       left = λ most e.
           let below : n < most = omega arith in
           goes_on d k goal c.requires.goal n (map plain ns) (map (plain_state atoms) rows) c.args.budget most c.loop-depth.invariant.here (c.loop-depth.invariant.left most e) below none;
@@ -100,8 +98,8 @@ returns-in-Some-2 g c =
     ap (λ (o : Option Answer). unwrap_or o (Spent n)) (sym c.in-Some-2.is ∙ is_ending)
     ∙ is_last d k goal c.requires.goal n (map plain c.loop-depth.level.items) (map (plain_state atoms) c.loop-depth.seen.keys) c.args.budget most c.loop-depth.invariant.here (c.loop-depth.invariant.left most e) (sym last ∙ sym e))
 
-pub returns : goal.returns
-returns g c =
+pub returns-in-None : goal.returns-in-None
+returns-in-None g c =
     let d = g.T.Types.types c.args.self.now.types.now in
     let k = g.K.Known.known c.args.self.now.given.now in
     let goal = c.args.self.now.goal.now in
@@ -112,5 +110,5 @@ returns g c =
     let count : c.len-2.result ≡ length (map (plain_state atoms) c.loop-depth.seen.keys) = c.len-2.ensures.len ∙ sym (length-map c.loop-depth.seen.keys (plain_state atoms)) in
     let is_ending = c.in_ok-answer-2.ensures ∙ (λ i. ending (option_map (λ (m : Node). m.path) (found d k goal (map plain (c.deref-2.ensures.value i)))) (map plain (c.deref-2.ensures.value i)) (count i) c.args.budget (last i)) in
     searched_from d k c.args.budget (Spent most_acts) (λ most e.
-    ap (λ (m : ℕ). Spent m) last ∙ ap (λ (o : Option Answer). unwrap_or o (Spent n)) (sym c.in-None-2.is ∙ is_ending)
+    ap (λ (m : ℕ). Spent m) last ∙ ap (λ (o : Option Answer). unwrap_or o (Spent n)) (sym c.in-None.is ∙ is_ending)
     ∙ is_last d k goal c.requires.goal n (map plain c.loop-depth.level.items) (map (plain_state atoms) c.loop-depth.seen.keys) c.args.budget most c.loop-depth.invariant.here (c.loop-depth.invariant.left most e) (sym last ∙ sym e))

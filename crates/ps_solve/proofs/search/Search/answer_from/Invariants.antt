@@ -5,7 +5,7 @@ use Rattle.ps_solve.specs.Leads.{AreSpared, plain_lead}
 use Rattle.ps_solve.specs.Rows.{AreWide, plain_node, plain_state}
 use Rattle.ps_solve.proofs.Depths.{IsAtDepth}
 use Rattle.ps_solve.proofs.Sparing.{IsClosed}
-use Rattle.ps_solve.proofs.search.Search.answer.Given as goal
+use Rattle.ps_solve.proofs.search.Search.answer_from.Given as goal
 
 -- The search is at this depth, and its answer from here on is the answer. What earlier states lead to was met, and so was what is
 -- spared.
