@@ -1,5 +1,5 @@
 //! The forms of a line.
-ghost use Rattle.std.specs.Prelude.{◌≡◌, ◌∷◌, [], Ok, IfOk, IfSome};
+ghost use Rattle.std.specs.Prelude.{◌≡◌, ◌∷◌, [], Ok, drop, IfOk, IfSome};
 ghost use Rattle.ps_shape.specs.Shape.{Derives, IsFirstFaultFrom, IsShallowFrom};
 ghost use Rattle.ps_script.specs.Forms.{begins, form_in, form_of, is_built, one_word, start_of, three_words, two_words};
 
@@ -90,7 +90,16 @@ fn form_of_three(words: &Words) -> Option<Form>
         Some(Form::ModelPredicate)
     } else if begin_with_three(words, b"get", b"model", b"action") {
         Some(Form::ModelAction)
-    } else if begin_with_three(words, b"get", b"problem", b"instances") {
+    } else {
+        form_of_problem(words)
+    }
+}
+
+/// The form of three words that begin with `get problem`.
+fn form_of_problem(words: &Words) -> Option<Form>
+    ensures { result ≡ form_in (drop 6 three_words) words.now }
+{
+    if begin_with_three(words, b"get", b"problem", b"instances") {
         Some(Form::ProblemInstances)
     } else if begin_with_three(words, b"get", b"problem", b"predicates") {
         Some(Form::ProblemPredicates)
@@ -115,7 +124,16 @@ fn form_of_two(words: &Words) -> Option<Form>
         Some(Form::SetFunction)
     } else if begin_with_two(words, b"set", b"goal") {
         Some(Form::SetGoal)
-    } else if begin_with_two(words, b"remove", b"instance") {
+    } else {
+        form_of_later_two(words)
+    }
+}
+
+/// The form of two words that don't begin with `set`.
+fn form_of_later_two(words: &Words) -> Option<Form>
+    ensures { result ≡ form_in (drop 4 two_words) words.now }
+{
+    if begin_with_two(words, b"remove", b"instance") {
         Some(Form::RemoveInstance)
     } else if begin_with_two(words, b"remove", b"predicate") {
         Some(Form::RemovePredicate)
@@ -123,7 +141,16 @@ fn form_of_two(words: &Words) -> Option<Form>
         Some(Form::RemoveFunction)
     } else if begin_with_two(words, b"remove", b"goal") {
         Some(Form::RemoveGoal)
-    } else if begin_with_two(words, b"get", b"domain") {
+    } else {
+        form_of_last_two(words)
+    }
+}
+
+/// The form of two words that begin with neither `set` nor `remove`.
+fn form_of_last_two(words: &Words) -> Option<Form>
+    ensures { result ≡ form_in (drop 8 two_words) words.now }
+{
+    if begin_with_two(words, b"get", b"domain") {
         Some(Form::Domain)
     } else if begin_with_two(words, b"get", b"plan") {
         Some(Form::Plan)
