@@ -1,18 +1,9 @@
 //! plansys: a planning system for teams of robots.
 #![tactic(auto)]
 
-mod calls;
-mod causes;
-mod faults;
-mod inputs;
-mod laws;
-mod reading;
 mod real;
-mod session;
-mod texts;
-mod verdicts;
 
-use calls::plansys;
+use ps_calls::plansys;
 use ps_words::{USAGE, VERSION};
 use real::{RealFiles, RealSink};
 use std::io::ErrorKind;

@@ -1,7 +1,0 @@
-use Rattle.plansys.proofs.Sessions.{on_err}
-use Rattle.plansys.proofs.Taken.{AppendsFront-nil}
-use Rattle.plansys.proofs.session.write_answered.Goals as goal
-
--- the text wasn't made, so nothing was written
-pub returns-in_err-text-clause-cut : goal.returns-in_err-text-clause-cut
-returns-in_err-text-clause-cut g c = on_err c.from_residual.result (λ budget told. AppendsFront-nil (g.O.Sink.taken c.args.out.now) _)

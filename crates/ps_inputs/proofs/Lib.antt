@@ -1,0 +1,9 @@
+pub mod Asked
+pub mod Flattening
+pub mod Given
+pub mod Later
+pub mod LinesNamed
+pub mod OneScript
+pub mod PlanNames
+pub mod ScriptLines
+pub mod TableNames

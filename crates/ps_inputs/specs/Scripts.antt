@@ -1,0 +1,42 @@
+-- The lines of a script.
+use Rattle.std.specs.Prelude.{◌≡◌, ℕ, Option, Some, None, List, [], ◌∷◌, ◌++◌}
+use Rattle.ps_world.specs.Names.{Table}
+use Rattle.ps_machine.specs.declared.inputs.LineCause.TheVariants.{Nest, NotBuilt}
+use Rattle.ps_machine.specs.declared.inputs.Line.{Line}
+use Rattle.ps_machine.specs.declared.inputs.Line.TheVariants.{Bad}
+use Rattle.ps_plan.specs.PlanText.{plan_fault, planned, said_by}
+use Rattle.ps_plan.specs.declared.refusals.PlanTextRefusal.{PlanTextRefusal}
+use Rattle.ps_script.specs.Lines.{IsRead}
+use Rattle.ps_script.specs.declared.reading.Read.{Read}
+use Rattle.ps_script.specs.declared.reading.Read.TheVariants as read
+use Rattle.ps_inputs.specs.declared.reading.flatten.Flattened.{Flattened}
+use Rattle.ps_inputs.specs.declared.reading.flatten.Flattened.TheVariants.{Text, Plan, TooDeep}
+
+-- The lines that a line gives, by what it is read as: none where it says nothing. Plans aren't run, and the lines of other
+-- files stand in place of those that name them, so that a line that names a file is a bad line.
+abbrev pub given_by : Read → List Line
+given_by read.Nothing = []
+given_by (read.Line line) = line ∷ []
+given_by (read.Source file) = Bad NotBuilt ∷ []
+given_by (read.RunPlan file) = Bad NotBuilt ∷ []
+
+-- the table after the text of a plan, which gives no names where it has a fault
+abbrev pub unless_faulty : Table → List ℕ → Option PlanTextRefusal → Table
+unless_faulty table text (Some fault) = table
+unless_faulty table text None = (planned table [] (said_by text)).1
+
+abbrev pub table_after_plan : Table → List ℕ → Table
+table_after_plan table text = unless_faulty table text (plan_fault text)
+
+-- What a command line adds to those before it, with a table before it and the table after it. The text of a plan's file stands
+-- after the words of its line.
+abbrev pub Adds : Table → Flattened → List Line → Table → Type 0
+Adds table (Text bytes) new after = (r : Read) × IsRead table bytes r after × (new ≡ given_by r)
+Adds table (Plan bytes text) new after = (r : Read) × (between : Table) × IsRead table bytes r between × (new ≡ given_by r) × (after ≡ table_after_plan between text)
+Adds table TooDeep new after = (new ≡ Bad Nest ∷ []) × (after ≡ table)
+
+-- These command lines, read one after another, are these lines of the terminal: the first is read with the first table, each
+-- other one with the table after the line before it, and the last table is that after the last line.
+pub data IsScript (first : Table) : List Flattened → List Line → Table → Type 0 where
+  nothing : IsScript first [] [] first
+  one_more : (before : List Flattened) (lines : List Line) (table : Table) (one : Flattened) (new : List Line) (after : Table) → IsScript first before lines table → Adds table one new after → IsScript first (before ++ one ∷ []) (lines ++ new) after

@@ -1,0 +1,150 @@
+//! What ends a call before its work, or breaks it off.
+ghost use Rattle.std.specs.Prelude.{◌≡◌, IfOk};
+ghost use Rattle.ps_inputs.specs.Input.{domain_line, cannot_read_line};
+ghost use Rattle.ps_inputs.specs.Flats.{too_long_line};
+ghost use Rattle.ps_inputs.specs.Faults.{fault_line, fault_status};
+
+use ps_journal::Broken;
+use std::alloc::{AllocError, AllocFailed, Global};
+use thiserror::Error;
+
+/// What ends a call before its work. No text that is printed rests on what the errors show.
+#[derive(Debug, Drop, Error)]
+pub enum Fault {
+    /// The words aren't in the grammar.
+    #[error("the words aren't in the grammar")]
+    Usage,
+    /// The domain's text is no domain, and these words say why.
+    #[error("the text is no domain")]
+    NoDomain(Vec<u8>),
+    /// A file is longer than 1,048,576 bytes.
+    #[error("a file is longer than 1,048,576 bytes")]
+    TooLong(Vec<u8>),
+    /// A script with its files has more than 10,000 command lines.
+    #[error("a script has more than 10,000 command lines")]
+    Lines,
+    /// A file can't be read.
+    #[error("a file can't be read")]
+    Unread(Vec<u8>),
+}
+
+impl Fault {
+    /// The status of the call.
+    pub fn status(&self) -> u8
+        ensures { result ≡ fault_status self.now }
+    {
+        match self {
+            Fault::Usage => 2,
+            Fault::NoDomain(_) => 3,
+            Fault::TooLong(_) => 3,
+            Fault::Lines => 3,
+            Fault::Unread(_) => 4,
+        }
+    }
+}
+
+/// Why the work isn't begun, or isn't done.
+#[derive(Debug, Drop)]
+pub enum Stop {
+    /// The work isn't begun.
+    Due(Fault),
+    /// The work was broken off, or memory is wanting before it.
+    Broken(Broken),
+}
+
+impl From<Fault> for Stop {
+    ghost use Rattle.ps_inputs.specs.declared.faults.Stop.TheVariants.{Due};
+
+    ghost from_gives = { λ fault stop. stop ≡ Due fault };
+
+    fn from(fault: Fault) -> Stop {
+        Stop::Due(fault)
+    }
+}
+
+impl From<Broken> for Stop {
+    ghost use Rattle.ps_inputs.specs.declared.faults.Stop.TheVariants.{Broken};
+
+    ghost from_gives = { λ broken stop. stop ≡ Broken broken };
+
+    fn from(broken: Broken) -> Stop {
+        Stop::Broken(broken)
+    }
+}
+
+impl From<AllocError> for Stop {
+    ghost use Rattle.ps_inputs.specs.declared.faults.Stop.TheVariants.{Broken};
+    ghost use Rattle.ps_journal.specs.declared.broken.Broken.TheVariants.{OutOfMemory};
+
+    ghost from_gives = { λ _ stop. stop ≡ Broken OutOfMemory };
+
+    fn from(_error: AllocError) -> Stop {
+        Stop::Broken(Broken::OutOfMemory)
+    }
+}
+
+impl<T: Drop> From<AllocFailed<T>> for Stop {
+    ghost use Rattle.ps_inputs.specs.declared.faults.Stop.TheVariants.{Broken};
+    ghost use Rattle.ps_journal.specs.declared.broken.Broken.TheVariants.{OutOfMemory};
+
+    ghost from_gives = { λ _ stop. stop ≡ Broken OutOfMemory };
+
+    fn from(_error: AllocFailed<T>) -> Stop {
+        Stop::Broken(Broken::OutOfMemory)
+    }
+}
+
+/// The line that says what is at fault.
+pub fn fault_line(alloc: Global, fault: &Fault) -> Result<Vec<u8>, AllocError>
+    ensures { IfOk result (λ line. line.items ≡ fault_line fault.now) }
+{
+    match fault {
+        Fault::Usage => {
+            let line = Vec::from_slice(alloc, b"plansys: usage\n")?;
+            Ok(line)
+        }
+        Fault::NoDomain(cause) => {
+            let line = domain_line(alloc, cause.as_slice())?;
+            Ok(line)
+        }
+        Fault::TooLong(file) => {
+            let line = too_long_line(alloc, file.as_slice())?;
+            Ok(line)
+        }
+        Fault::Lines => {
+            let line = Vec::from_slice(alloc, b"plansys: script: Lines\n")?;
+            Ok(line)
+        }
+        Fault::Unread(file) => {
+            let line = cannot_read_line(alloc, file.as_slice())?;
+            Ok(line)
+        }
+    }
+}
+
+fn domain_line(alloc: Global, cause: &[u8]) -> Result<Vec<u8>, AllocError>
+    ensures { IfOk result (λ line. line.items ≡ domain_line cause.now) }
+{
+    let mut line = Vec::from_slice(alloc, b"plansys: domain: ")?;
+    line.extend_from_slice(cause)?;
+    line.push(b'\n')?;
+    Ok(line)
+}
+
+fn too_long_line(alloc: Global, file: &[u8]) -> Result<Vec<u8>, AllocError>
+    ensures { IfOk result (λ line. line.items ≡ too_long_line file.now) }
+{
+    let mut line = Vec::from_slice(alloc, b"plansys: ")?;
+    line.extend_from_slice(file)?;
+    line.extend_from_slice(b": TooLong\n")?;
+    Ok(line)
+}
+
+fn cannot_read_line(alloc: Global, file: &[u8]) -> Result<Vec<u8>, AllocError>
+    ensures { IfOk result (λ line. line.items ≡ cannot_read_line file.now) }
+{
+    let mut line = Vec::from_slice(alloc, b"plansys: cannot read ")?;
+    line.extend_from_slice(file)?;
+    line.push(b'\n')?;
+    Ok(line)
+}

@@ -1,0 +1,2 @@
+pub mod NameLines
+pub mod Replies

@@ -1,0 +1,4 @@
+pub mod DueLines
+pub mod Edits
+pub mod Sessions
+pub mod Taken

@@ -1,0 +1,216 @@
+-- A session, line by line.
+use Rattle.std.proofs.Common.{◌≡◌, ℕ, ◌+◌, ◌≤◌, Bool, true, false, ◌||◌, if◌then◌else◌, Option, Some, None, Result, Ok, Err, List, [], ◌∷◌, ◌++◌, OnErr, length, slice_get, refl, ap, sym, ◌∙◌, subst}
+use Rattle.std.specs.List.{list_any}
+use mir.Val.{bool_byte}
+use Rattle.std.specs.Io.KnownBytes.{Appends}
+use Rattle.std.proofs.lemmas.List.Folds.{list_any-append}
+use Rattle.std.proofs.lemmas.Bool.{eq-eqb}
+use Rattle.ps_world.specs.Names.{Table}
+use Rattle.ps_world.specs.Knowledge.{edited, opening}
+use Rattle.ps_world.specs.Texts.{edit_text}
+use Rattle.ps_machine.specs.Texts.{query_text, refusal_text}
+use Rattle.ps_world.specs.Lines.{same_text}
+use Rattle.ps_machine.specs.History.{known_after, know, answers_line, answered, due_lines, next_line, refusal_of_query, is_legal, has_hand, IsHistory, is_refusal}
+use Rattle.ps_machine.specs.History.IsHistory.{nothing, block}
+use Rattle.ps_machine.specs.Journal.{entry_text, journal_text, header}
+use Rattle.ps_world.specs.Tables.{IsKnownOf}
+use Rattle.ps_world.specs.Lines.{AreLines}
+use Rattle.ps_world.specs.declared.domains.Domain.{Domain}
+use Rattle.ps_world.specs.declared.known.Knowledge.{Knowledge}
+use Rattle.ps_world.specs.declared.edits.Edit.{Edit}
+use Rattle.ps_world.specs.declared.edits.EditRefusal.{EditRefusal}
+use Rattle.ps_machine.specs.declared.inputs.Query.{Query}
+use Rattle.ps_machine.specs.declared.inputs.Command.TheVariants as command
+use Rattle.ps_machine.specs.declared.inputs.Line.{Line}
+use Rattle.ps_machine.specs.declared.inputs.Line.TheVariants.{Good, Bad}
+use Rattle.ps_machine.specs.declared.inputs.Input.{Input}
+use Rattle.ps_machine.specs.declared.journal.By.TheVariants.{Terminal}
+use Rattle.ps_machine.specs.declared.journal.Refusal.{Refusal}
+use Rattle.ps_machine.specs.declared.journal.Refusal.TheVariants as refusal
+use Rattle.ps_machine.specs.declared.journal.Event.{Event}
+use Rattle.ps_machine.specs.declared.journal.Event.TheVariants as event
+use Rattle.ps_machine.specs.declared.journal.Entry.{Entry}
+use Rattle.ps_machine.proofs.Journals.{know-push, answered-push, journal_text-push, hands-history}
+use Rattle.ps_machine.proofs.ReadBack.{AreEntriesIn-journal_text}
+use Rattle.ps_text.specs.Causes.{AppendsFront}
+use Rattle.ps_session.specs.Events.{by_terminal, edit_event, event_of, query_event}
+use Rattle.ps_session.specs.Session.{IsDone, IsCut}
+use Rattle.ps_session.proofs.Taken.{Appends-same, Appends-append, AppendsFront-all, AppendsFront-append, AppendsFront-nil}
+
+-- What a session has come to: a history of its first lines, what is known after it, whether a line was refused, and
+-- the text that was written since the start.
+pub record IsSoFar (i : Input) (names : Table) (k : Knowledge) (refused : Bool) (count : ℕ) (start now : Option (List ℕ)) : Type 0 where
+  pub journal : List Entry
+  pub history : IsHistory names i journal
+  pub known : k ≡ know i journal
+  pub counted : answered journal ≡ count
+  pub refusals : refused ≡ list_any (λ e. is_refusal e.what) journal
+  pub text : Appends start now (journal_text names i journal)
+
+-- one more element to ask
+list_any-push : {X : Type 0} (p : X → Bool) (xs : List X) (x : X) → list_any p (xs ++ x ∷ []) ≡ (list_any p xs || p x)
+list_any-push p xs x = list_any-append p xs (x ∷ []) ∙ ap (λ b. list_any p xs || b) (or_false (p x)) where
+  or_false : (b : Bool) → (b || false) ≡ b
+  or_false true = refl
+  or_false false = refl
+
+-- What a session's loop keeps.
+pub record IsRunning (i : Input) (names : Table) (k : Knowledge) (refused : Bool) (count : ℕ) (start now : Option (List ℕ)) (before faults : ℕ) : Type 0 where
+  pub so_far : IsSoFar i names k refused count start now
+  pub known : IsKnownOf (length names) k
+  pub later : before ≤ faults
+
+-- the header is written
+pub begins : (i : Input) (names : Table) (start now : Option (List ℕ)) → Appends start now header → IsSoFar i names (opening i.domain) false 0 start now
+begins i names start now h = record {
+  journal = [];
+  history = nothing;
+  known = refl;
+  counted = refl;
+  refusals = refl;
+  text = h;
+}
+
+-- a text is the same as itself
+same_text-self : (xs : List ℕ) → same_text xs xs ≡ true
+same_text-self [] = refl
+same_text-self (x ∷ xs) = rw (eq-eqb x x refl, same_text-self xs) refl
+
+-- the event of an edit with its outcome is legal
+legal-edit : (i : Input) (names : Table) (es : List Entry) (edit : Edit) (o : Result Knowledge EditRefusal) → edited i.domain (know i es) edit ≡ o → next_line i es ≡ Some (Good (command.Edit edit)) → is_legal names i es (edit_event (Terminal (answered es + 1)) edit o) ≡ true
+legal-edit i names es edit (Ok new) e h = rw (eq-eqb (answered es + 1) (answered es + 1) refl, h, e, same_text-self (edit_text names edit)) refl
+legal-edit i names es edit (Err r) e h = rw (eq-eqb (answered es + 1) (answered es + 1) refl, h, e, same_text-self (refusal_text names (refusal.Edit r))) refl
+
+-- the event of a query, refused or not, is legal
+legal-query : (i : Input) (names : Table) (es : List Entry) (query : Query) (why : Option Refusal) → refusal_of_query i.domain i.budget (know i es) query ≡ why → next_line i es ≡ Some (Good (command.Ask query)) → is_legal names i es (query_event (Terminal (answered es + 1)) query why) ≡ true
+legal-query i names es query None e h = rw (h, e, same_text-self (query_text names query)) refl
+legal-query i names es query (Some r) e h = rw (eq-eqb (answered es + 1) (answered es + 1) refl, h, e, same_text-self (refusal_text names r)) refl
+
+-- the event that answers the next line is legal
+legal-event_of : (i : Input) (names : Table) (es : List Entry) (line : Line) → next_line i es ≡ Some line → is_legal names i es (event_of i.domain i.budget (know i es) (answered es + 1) line) ≡ true
+legal-event_of i names es (Good (command.Edit edit)) h = legal-edit i names es edit (edited i.domain (know i es) edit) refl h
+legal-event_of i names es (Good (command.Ask query)) h = legal-query i names es query (refusal_of_query i.domain i.budget (know i es) query) refl h
+legal-event_of i names es (Good command.Quit) h = rw h refl
+legal-event_of i names es (Bad cause) h = rw (eq-eqb (answered es + 1) (answered es + 1) refl, h) (same_text-self (refusal_text names (refusal.Line cause)))
+
+-- it answers a line
+answers_line-event_of : (d : Domain) (budget : ℕ) (k : Knowledge) (n : ℕ) (line : Line) → answers_line (event_of d budget k n line) ≡ true
+answers_line-event_of d budget k n (Good (command.Edit edit)) =
+    elim (edited d k edit) as (λ o. answers_line (edit_event (Terminal n) edit o) ≡ true) [ Ok new ↦ refl | Err r ↦ refl ]
+answers_line-event_of d budget k n (Good (command.Ask query)) =
+    elim (refusal_of_query d budget k query) as (λ o. answers_line (query_event (Terminal n) query o) ≡ true) [ None ↦ refl | Some r ↦ refl ]
+answers_line-event_of d budget k n (Good command.Quit) = refl
+answers_line-event_of d budget k n (Bad cause) = refl
+
+-- and it is the terminal's
+has_hand-event_of : (d : Domain) (budget : ℕ) (k : Knowledge) (n : ℕ) (line : Line) → has_hand (event_of d budget k n line) 0 ≡ true
+has_hand-event_of d budget k n (Good (command.Edit edit)) =
+    elim (edited d k edit) as (λ o. has_hand (edit_event (Terminal n) edit o) 0 ≡ true) [ Ok new ↦ refl | Err r ↦ refl ]
+has_hand-event_of d budget k n (Good (command.Ask query)) =
+    elim (refusal_of_query d budget k query) as (λ o. has_hand (query_event (Terminal n) query o) 0 ≡ true) [ None ↦ refl | Some r ↦ refl ]
+has_hand-event_of d budget k n (Good command.Quit) = refl
+has_hand-event_of d budget k n (Bad cause) = refl
+
+-- the line after these has this event
+abbrev pub IsNext : Input → Knowledge → ℕ → Event → Type 0
+IsNext i k count what = (line : Line) × (slice_get (due_lines i.lines) count ≡ Some line) × (what ≡ event_of i.domain i.budget k (count + 1) line)
+
+-- one more line has its entry
+history-more : (i : Input) (names : Table) (k : Knowledge) (es : List Entry) (count : ℕ) (what : Event) → IsHistory names i es → k ≡ know i es → answered es ≡ count → IsNext i k count what → IsHistory names i (es ++ by_terminal what ∷ [])
+history-more i names k es count what h known counted next =
+    let line = next.0 in
+    rw (next.2, ← counted, known) (block es (by_terminal (event_of i.domain i.budget (know i es) (answered es + 1) line)) h (legal-event_of i names es line (rw counted next.1)) (has_hand-event_of i.domain i.budget (know i es) (answered es + 1) line))
+
+-- it has an answer
+answers-next : (i : Input) (k : Knowledge) (count : ℕ) (what : Event) → IsNext i k count what → answers_line what ≡ true
+answers-next i k count what next = rw next.2 (answers_line-event_of i.domain i.budget k (count + 1) next.0)
+
+entry_text-after : (names : Table) (d : Domain) (budget : ℕ) (k : Knowledge) (what : Event) → entry_text names d budget (known_after d k what) (by_terminal what) ≡ entry_text names d budget k (by_terminal what)
+entry_text-after names d budget k (event.Edit by edit) = refl
+entry_text-after names d budget k (event.Refused by why) = refl
+entry_text-after names d budget k (event.Ask query) = refl
+entry_text-after names d budget k event.Quit = refl
+
+-- An entry's text tells what is known only of a query, which changes nothing, so that it is the same after its event: with it the
+-- journal's text goes on.
+journal_text-more : (i : Input) (names : Table) (k new : Knowledge) (es : List Entry) (what : Event) → k ≡ know i es → new ≡ known_after i.domain k what → journal_text names i es ++ entry_text names i.domain i.budget new (by_terminal what) ≡ journal_text names i (es ++ by_terminal what ∷ [])
+journal_text-more i names k new es what known after =
+    let same : new ≡ known_after i.domain (know i es) what = after ∙ ap (λ x. known_after i.domain x what) known in
+    let told = ap (λ x. entry_text names i.domain i.budget x (by_terminal what)) same ∙ entry_text-after names i.domain i.budget (know i es) what in
+    ap (λ t. journal_text names i es ++ t) told ∙ sym (journal_text-push names i es (by_terminal what))
+
+-- a line is taken: its entry is written
+pub takes_line : (i : Input) (names : Table) (k new : Knowledge) (refused : Bool) (count : ℕ) (what : Event) (start now last : Option (List ℕ))
+    → IsSoFar i names k refused count start now
+    → IsNext i k count what
+    → new ≡ known_after i.domain k what
+    → Appends now last (entry_text names i.domain i.budget new (by_terminal what))
+    → IsSoFar i names new (refused || is_refusal what) (count + 1) start last
+takes_line i names k new refused count what start now last s next known more =
+    let e = by_terminal what in
+    record {
+      journal = s.journal ++ e ∷ [];
+      history = history-more i names k s.journal count what s.history s.known s.counted next;
+      known = known ∙ ap (λ x. known_after i.domain x what) s.known ∙ sym (know-push i s.journal e);
+      counted = answered-push s.journal e (answers-next i k count what next) ∙ ap (λ n. n + 1) s.counted;
+      refusals = ap (λ b. b || is_refusal what) s.refusals ∙ sym (list_any-push (λ x. is_refusal x.what) s.journal e);
+      text = Appends-same start last (journal_text names i s.journal ++ entry_text names i.domain i.budget new e) (journal_text names i (s.journal ++ e ∷ []))
+          (journal_text-more i names k new s.journal what s.known known)
+          (Appends-append start now last (journal_text names i s.journal) (entry_text names i.domain i.budget new e) s.text more);
+    }
+
+-- a line isn't answered, for want of memory
+pub stops_line : (i : Input) (names : Table) (k : Knowledge) (refused : Bool) (count : ℕ) (start now : Option (List ℕ)) → IsSoFar i names k refused count start now → IsCut i names start now
+stops_line i names k refused count start now s =
+    record { journal = s.journal; history = s.history; text = AppendsFront-all start now (journal_text names i s.journal) s.text }
+
+-- the writing of a line's entry is broken off
+pub cuts_line : (i : Input) (names : Table) (k new : Knowledge) (refused : Bool) (count : ℕ) (what : Event) (start now last : Option (List ℕ))
+    → IsSoFar i names k refused count start now
+    → IsNext i k count what
+    → new ≡ known_after i.domain k what
+    → AppendsFront now last (entry_text names i.domain i.budget new (by_terminal what))
+    → IsCut i names start last
+cuts_line i names k new refused count what start now last s next known more =
+    let e = by_terminal what in
+    record {
+      journal = s.journal ++ e ∷ [];
+      history = history-more i names k s.journal count what s.history s.known s.counted next;
+      text = subst (AppendsFront start last)
+          (journal_text-more i names k new s.journal what s.known known)
+          (AppendsFront-append start now last (journal_text names i s.journal) (entry_text names i.domain i.budget new e) s.text more);
+    }
+
+-- nothing, or a front of the header, was written
+pub cut_before : (i : Input) (names : Table) (start now : Option (List ℕ)) → AppendsFront start now header → IsCut i names start now
+cut_before i names start now h = record { journal = []; history = nothing; text = h }
+
+-- nothing was written
+pub nothing_written : (i : Input) (names : Table) (start : Option (List ℕ)) → IsCut i names start start
+nothing_written i names start = cut_before i names start start (AppendsFront-nil start header)
+
+-- every line up to the first `quit` has its entry
+pub is_done : (i : Input) (names : Table) (k : Knowledge) (refused : Bool) (start now : Option (List ℕ)) → AreLines names → IsSoFar i names k refused (length (due_lines i.lines)) start now → IsDone i names start now (if refused then 1 else 0)
+is_done i names k refused start now lines s = (
+  journal_text names i s.journal,
+  s.text,
+  record {
+    journal = s.journal;
+    entries = AreEntriesIn-journal_text names i s.journal lines;
+    text = refl;
+    history = s.history;
+    whole = s.counted;
+    hands = hands-history names i s.journal s.history;
+    answer = ap (λ b. if b then 1 else 0) s.refusals;
+  },
+)
+
+-- a fact that holds whatever the result is
+pub on_err : {T E : Type 0} {P : Type 0} (r : Result T E) → P → OnErr r P
+on_err (Ok x) p = tt
+on_err (Err e) p = p
+
+-- a flag as a number
+pub as_number : (b : Bool) → bool_byte b ≡ (if b then 1 else 0)
+as_number true = refl
+as_number false = refl

@@ -1,0 +1,40 @@
+-- How a line of the terminal is answered.
+use Rattle.std.specs.Prelude.{ℕ, Option, Some, None, Result, Ok, Err}
+use Rattle.ps_world.specs.Knowledge.{edited}
+use Rattle.ps_world.specs.declared.domains.Domain.{Domain}
+use Rattle.ps_world.specs.declared.known.Knowledge.{Knowledge}
+use Rattle.ps_world.specs.declared.edits.Edit.{Edit}
+use Rattle.ps_world.specs.declared.edits.EditRefusal.{EditRefusal}
+use Rattle.ps_machine.specs.History.{refusal_of_query}
+use Rattle.ps_machine.specs.declared.inputs.Query.{Query}
+use Rattle.ps_machine.specs.declared.inputs.Command.TheVariants as command
+use Rattle.ps_machine.specs.declared.inputs.Line.{Line}
+use Rattle.ps_machine.specs.declared.inputs.Line.TheVariants.{Good, Bad}
+use Rattle.ps_machine.specs.declared.journal.By.{By}
+use Rattle.ps_machine.specs.declared.journal.By.TheVariants.{Terminal}
+use Rattle.ps_machine.specs.declared.journal.Refusal.{Refusal}
+use Rattle.ps_machine.specs.declared.journal.Refusal.TheVariants as refusal
+use Rattle.ps_machine.specs.declared.journal.Event.{Event}
+use Rattle.ps_machine.specs.declared.journal.Event.TheVariants as event
+use Rattle.ps_machine.specs.declared.journal.Entry.{Entry}
+
+-- an entry that the terminal makes
+abbrev pub by_terminal : Event → Entry
+by_terminal what = record { hand = 0; what = what }
+
+-- the event of an edit with this outcome
+abbrev pub edit_event : By → Edit → Result Knowledge EditRefusal → Event
+edit_event by edit (Ok k) = event.Edit by edit
+edit_event by edit (Err r) = event.Refused by (refusal.Edit r)
+
+-- the event of a query that is refused for this, if it is
+abbrev pub query_event : By → Query → Option Refusal → Event
+query_event by q None = event.Ask q
+query_event by q (Some why) = event.Refused by why
+
+-- the event that answers the line with number n, where k is known
+abbrev pub event_of : Domain → ℕ → Knowledge → ℕ → Line → Event
+event_of d budget k n (Good (command.Edit edit)) = edit_event (Terminal n) edit (edited d k edit)
+event_of d budget k n (Good (command.Ask q)) = query_event (Terminal n) q (refusal_of_query d budget k q)
+event_of d budget k n (Good command.Quit) = event.Quit
+event_of d budget k n (Bad cause) = event.Refused (Terminal n) (refusal.Line cause)
