@@ -1,2 +1,2 @@
 pub mod NameLines
-pub mod Replies
+pub mod ReplyLines

@@ -1,7 +1,7 @@
 use Rattle.std.proofs.Common.{◌++◌, ◌∙◌, ap}
 use Rattle.ps_world.specs.Lines.{lines_of}
 use Rattle.ps_machine.specs.Journal.{reply_text}
-use Rattle.ps_journal.proofs.Replies.{lines_of-action}
+use Rattle.ps_journal.proofs.ReplyLines.{lines_of-action}
 use Rattle.ps_journal.proofs.replies.push_action_replies.Goals as goal
 
 pub returns : goal.returns
