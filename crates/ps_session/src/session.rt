@@ -3,7 +3,7 @@ ghost use Rattle.std.specs.Prelude.{◌≡◌, ◌≢◌, ◌<◌, ◌≤◌, �
 ghost use Rattle.std.specs.Io.KnownBytes.{Appends};
 ghost use Rattle.ps_text.specs.Names.{AreNames};
 ghost use Rattle.ps_text.specs.Causes.{HasCause, AppendsFront};
-ghost use Rattle.ps_world.specs.Knowledge.{edited};
+ghost use Rattle.ps_world.specs.Knowledge.{edited, opening};
 ghost use Rattle.ps_machine.specs.History.{due_lines, known_after, is_refusal};
 ghost use Rattle.ps_machine.specs.Journal.{entry_text};
 ghost use Rattle.ps_world.specs.Tables.{IsEditOf, IsKnownOf};
@@ -18,6 +18,7 @@ ghost use Rattle.ps_world.specs.declared.edits.EditRefusal.TheVariants.{OutOfMem
 ghost use Rattle.ps_journal.specs.declared.broken.Broken.TheVariants.{Write};
 
 use super::plans::{Answered, answer_query};
+use ps_action::PlanStep;
 use ps_domain::Expert;
 use ps_journal::{Broken, entry_text};
 use ps_machine::{By, Command, Entry, Event, Line, Refusal};
@@ -47,12 +48,36 @@ pub fn run<O: Sink>(
     ensures cause { HasCause Write (O.faults out.old) (O.faults out.new) result }
 {
     let mut problem = Problem::new(alloc, expert)?;
+    write_journal(alloc, names, expert, &mut problem, budget, lines, out)
+}
+
+/// Writes the journal of these lines, of which none is answered yet, and gives the status.
+fn write_journal<O: Sink>(
+    alloc: Global,
+    names: &Names,
+    expert: &Expert,
+    problem: &mut Problem,
+    budget: u32,
+    lines: &[Line],
+    out: &mut O,
+) -> Result<u8, Broken>
+    requires few { length lines.now < 2 ^ 32 }
+    requires budget { 1 ≤ budget }
+    requires named { All (IsLineOf (length names.now)) lines.now }
+    requires constants { All (IsParamOf (length names.now)) expert.now.constants }
+    requires names { AreNames names.now }
+    requires opening { problem.old ≡ opening expert.now }
+    ensures small { IfOk result (λ status. status < 2) }
+    ensures done { IfOk result (λ status. IsDone (input_with expert.now lines.now budget) names.now (O.taken out.old) (O.taken out.new) status) }
+    ensures cut { OnErr result (IsCut (input_with expert.now lines.now budget) names.now (O.taken out.old) (O.taken out.new)) }
+    ensures cause { HasCause Write (O.faults out.old) (O.faults out.new) result }
+{
     put(out, b"plansys-journal 1\n")?;
     let mut refused = false;
     for (i, line) in due_lines(lines).iter().enumerate() {
         let number = i as u32 + 1;
-        let answered = answer(alloc, expert, &mut problem, budget, number, line)?;
-        let refuses = write_answered(alloc, names, expert, &problem, answered, out)?;
+        let answered = answer(alloc, expert, problem, budget, number, line)?;
+        let refuses = write_answered(alloc, names, expert, problem, answered, out)?;
         refused |= refuses;
     }
     Ok(u8::from(refused))
@@ -91,7 +116,28 @@ fn write_answered<O: Sink>(
 {
     let Answered { what, steps } = answered;
     let entry = Entry { hand: 0, what };
-    let text = entry_text(alloc, names, expert, problem, &entry, steps.as_slice())?;
+    write_entry(alloc, names, expert, problem, &entry, steps.as_slice(), out)
+}
+
+/// Writes an entry and its reply lines, with the steps of the plan that it tells, by one `put`. Answers whether it tells that a line
+/// was refused.
+fn write_entry<O: Sink>(
+    alloc: Global,
+    names: &Names,
+    expert: &Expert,
+    problem: &Problem,
+    entry: &Entry,
+    steps: &[PlanStep],
+    out: &mut O,
+) -> Result<bool, Broken>
+    ensures refuses { IfOk result (λ refused. refused ≡ is_refusal entry.now.what) }
+    ensures text { OnOk result ((budget : ℕ) → steps.now ≡ told_steps expert.now budget problem.now entry.now.what
+        → Appends (O.taken out.old) (O.taken out.new) (entry_text names.now expert.now budget problem.now entry.now)) }
+    ensures cut { OnErr result ((budget : ℕ) → steps.now ≡ told_steps expert.now budget problem.now entry.now.what
+        → AppendsFront (O.taken out.old) (O.taken out.new) (entry_text names.now expert.now budget problem.now entry.now)) }
+    ensures cause { HasCause Write (O.faults out.old) (O.faults out.new) result }
+{
+    let text = entry_text(alloc, names, expert, problem, entry, steps)?;
     put(out, text.as_slice())?;
     Ok(matches!(entry.what, Event::Refused { .. }))
 }

@@ -1,6 +1,6 @@
 use Rattle.ps_session.proofs.Sessions.{on_err}
 use Rattle.ps_session.proofs.Taken.{AppendsFront-nil}
-use Rattle.ps_session.proofs.session.write_answered.Goals as goal
+use Rattle.ps_session.proofs.session.write_entry.Goals as goal
 
 -- the text wasn't made, so nothing was written
 pub returns-in_err-text-clause-cut : goal.returns-in_err-text-clause-cut
