@@ -307,38 +307,46 @@ plan_unhad texts bytes before file named first after stop same lt h =
     cut_same (λ t. with_file file (λ plan. lines (before ++ Plan bytes plan ∷ []) false) (t file)) (λ t. with_plan_line t bytes before (Some file)) texts first after stop (λ t. rw b refl)
     (file_cut file (λ t plan. lines (before ++ Plan bytes plan ∷ []) false) texts first after stop (subst (λ (f : List ℕ). IsNotHad f (texts f) first after stop) same h))
 
--- ---- a line that names a file
+-- ---- a file
 
-module _ (plans : Bool) (n : ℕ) (texts : Texts) (bytes : List ℕ) (before : List Flattened) (file : List ℕ) (is : IsKind bytes (Source file)) where
-  pub deep_step : n ≡ 0 → (want : Flat) → with_line before TooDeep false ≡ want → MayBe (step plans texts (on_source plans n texts) bytes before) want
-  deep_step e want h = inl (step-source plans texts (on_source plans n texts) bytes before file is ∙ on_source-zero plans n texts file before e ∙ h)
+module _ (plans : Bool) (n : ℕ) (texts : Texts) (file : List ℕ) (before : List Flattened) where
+  pub deep_file : n ≡ 0 → (want : Flat) → with_line before TooDeep false ≡ want → MayBe (on_source plans n texts file before) want
+  deep_file e want h = inl (on_source-zero plans n texts file before e ∙ h)
 
-  pub deep_cut : n ≡ 0 → (first after : ℕ) (stop : Stop) → IsFull before stop → IsCut (λ t. step plans t (on_source plans n t) bytes before) texts first after stop
-  deep_cut e first after stop h =
-      full_cut (λ t. step plans t (on_source plans n t) bytes before) before TooDeep false texts first after stop (step-source plans texts (on_source plans n texts) bytes before file is ∙ on_source-zero plans n texts file before e) h
+  pub deep_cut : n ≡ 0 → (first after : ℕ) (stop : Stop) → IsFull before stop → IsCut (λ t. on_source plans n t file before) texts first after stop
+  deep_cut e first after stop h = full_cut (λ t. on_source plans n t file before) before TooDeep false texts first after stop (on_source-zero plans n texts file before e) h
 
-  module _ (m : ℕ) (opened : n ≡ suc m) (named : List ℕ) (same : named ≡ file) where
-    opened_step : (t : Texts) → step plans t (on_source plans n t) bytes before ≡ with_file file (λ text. flatten plans m t text before) (t file)
-    opened_step t = step-source plans t (on_source plans n t) bytes before file is ∙ on_source-open plans n m t file before opened
+  module _ (m : ℕ) (opened : n ≡ suc m) where
+    file_opened : (t : Texts) → on_source plans n t file before ≡ with_file file (λ text. flatten plans m t text before) (t file)
+    file_opened t = on_source-open plans n m t file before opened
 
-    pub file_unhad : (first after : ℕ) (stop : Stop) → IsNotHad named (texts named) first after stop → IsCut (λ t. step plans t (on_source plans n t) bytes before) texts first after stop
+    pub file_unhad : (first after : ℕ) (stop : Stop) → IsNotHad file (texts file) first after stop → IsCut (λ t. on_source plans n t file before) texts first after stop
     file_unhad first after stop h =
-        cut_same (λ t. with_file file (λ text. flatten plans m t text before) (t file)) (λ t. step plans t (on_source plans n t) bytes before) texts first after stop opened_step
-        (file_cut file (λ t text. flatten plans m t text before) texts first after stop (subst (λ (f : List ℕ). IsNotHad f (texts f) first after stop) same h))
+        cut_same (λ t. with_file file (λ text. flatten plans m t text before) (t file)) (λ t. on_source plans n t file before) texts first after stop file_opened (file_cut file (λ t text. flatten plans m t text before) texts first after stop h)
 
-    module _ (text used : List ℕ) (e : used ≡ text) (later : Texts) (told : (k : List ℕ) → later k ≡ texts k) (short : length text ≤ longest_file) (had : IfSome (texts named) (λ t. text ≡ t)) where
-      pub file_step : (want : Flat) → MayBe (flatten plans m later used before) want → MayBe (step plans texts (on_source plans n texts) bytes before) want
+    module _ (text used : List ℕ) (e : used ≡ text) (later : Texts) (told : (k : List ℕ) → later k ≡ texts k) (short : length text ≤ longest_file) (had : IfSome (texts file) (λ t. text ≡ t)) where
+      pub file_step : (want : Flat) → MayBe (flatten plans m later used before) want → MayBe (on_source plans n texts file before) want
       file_step want h =
           let here : MayBe (flatten plans m texts text before) want = subst (λ (t : Texts). MayBe (flatten plans m t text before) want) (same_texts later texts told) (subst (λ (x : List ℕ). MayBe (flatten plans m later x before) want) e h) in
-          subst (λ f. MayBe f want) (sym (opened_step texts))
-          (file_had file (λ x. flatten plans m texts x before) (texts file) text want short (subst (λ (f : List ℕ). IfSome (texts f) (λ t. text ≡ t)) same had) here)
+          subst (λ f. MayBe f want) (sym (file_opened texts)) (file_had file (λ x. flatten plans m texts x before) (texts file) text want short had here)
 
-      pub file_cut_off : (first middle after : ℕ) (stop : Stop) → first ≤ middle → IsCut (λ t. flatten plans m t used before) later middle after stop → IsCut (λ t. step plans t (on_source plans n t) bytes before) texts first after stop
+      pub file_cut_off : (first middle after : ℕ) (stop : Stop) → first ≤ middle → IsCut (λ t. flatten plans m t used before) later middle after stop → IsCut (λ t. on_source plans n t file before) texts first after stop
       file_cut_off first middle after stop le c =
           let here : IsCut (λ t. flatten plans m t text before) texts middle after stop = subst (λ (t : Texts). IsCut (λ x. flatten plans m x text before) t middle after stop) (same_texts later texts told) (subst (λ (x : List ℕ). IsCut (λ t. flatten plans m t x before) later middle after stop) e c) in
-          cut_earlier (λ t. step plans t (on_source plans n t) bytes before) texts first middle after stop le
-          (cut_same (λ t. with_file file (λ x. flatten plans m t x before) (t file)) (λ t. step plans t (on_source plans n t) bytes before) texts middle after stop opened_step
-          (file_cut_in file (λ t x. flatten plans m t x before) texts text middle after stop short (subst (λ (f : List ℕ). IfSome (texts f) (λ t. text ≡ t)) same had) here))
+          cut_earlier (λ t. on_source plans n t file before) texts first middle after stop le
+          (cut_same (λ t. with_file file (λ x. flatten plans m t x before) (t file)) (λ t. on_source plans n t file before) texts middle after stop file_opened
+          (file_cut_in file (λ t x. flatten plans m t x before) texts text middle after stop short had here))
+
+-- a line that names a file stands for the lines of the file
+module _ (plans : Bool) (n : ℕ) (texts : Texts) (bytes : List ℕ) (before : List Flattened) (file : List ℕ) (is : IsKind bytes (Source file)) (named : List ℕ) (same : named ≡ file) where
+  stands_for : (t : Texts) → step plans t (on_source plans n t) bytes before ≡ on_source plans n t named before
+  stands_for t = step-source plans t (on_source plans n t) bytes before file is ∙ ap (λ (f : List ℕ). on_source plans n t f before) (sym same)
+
+  pub source_step : (want : Flat) → MayBe (on_source plans n texts named before) want → MayBe (step plans texts (on_source plans n texts) bytes before) want
+  source_step want h = subst (λ f. MayBe f want) (sym (stands_for texts)) h
+
+  pub source_cut : (first after : ℕ) (stop : Stop) → IsCut (λ t. on_source plans n t named before) texts first after stop → IsCut (λ t. step plans t (on_source plans n t) bytes before) texts first after stop
+  source_cut first after stop c = cut_same (λ t. on_source plans n t named before) (λ t. step plans t (on_source plans n t) bytes before) texts first after stop stands_for c
 
 -- ---- a whole text
 
@@ -361,26 +369,3 @@ module _ (plans : Bool) (n : ℕ) (texts later : Texts) (told : (k : List ℕ) �
   text_cut first middle after stop le c =
       subst (λ ls. IsCut (λ t. walk plans t (on_source plans n t) ls before) texts first after stop) whole_pieces
       (walk-cut plans n texts text spans i before now first middle after stop lt le taken (subst (λ (t : Texts). IsCut (λ x. step plans x (on_source plans n x) (line_at text spans i) now) t middle after stop) (same_texts later texts told) c))
-
--- ---- the script's own file
-
-module _ (plans : Bool) (file : List ℕ) (texts : Texts) where
-  script_opened : (t : Texts) → on_source plans 5 t file [] ≡ with_file file (λ text. flatten plans 4 t text []) (t file)
-  script_opened t = on_source-open plans 5 4 t file [] refl
-
-  pub script_unhad : (first after : ℕ) (stop : Stop) → IsNotHad file (texts file) first after stop → IsCut (λ t. on_source plans 5 t file []) texts first after stop
-  script_unhad first after stop h =
-      cut_same (λ t. with_file file (λ text. flatten plans 4 t text []) (t file)) (λ t. on_source plans 5 t file []) texts first after stop script_opened (file_cut file (λ t text. flatten plans 4 t text []) texts first after stop h)
-
-  module _ (text used : List ℕ) (e : used ≡ text) (later : Texts) (told : (k : List ℕ) → later k ≡ texts k) (short : length text ≤ longest_file) (had : IfSome (texts file) (λ t. text ≡ t)) (before : List Flattened) (none : before ≡ []) where
-    pub script_step : (want : Flat) → MayBe (flatten plans 4 later used before) want → MayBe (on_source plans 5 texts file []) want
-    script_step want h =
-        let here : MayBe (flatten plans 4 texts text []) want = subst (λ (b : List Flattened). MayBe (flatten plans 4 texts text b) want) none (subst (λ (t : Texts). MayBe (flatten plans 4 t text before) want) (same_texts later texts told) (subst (λ (x : List ℕ). MayBe (flatten plans 4 later x before) want) e h)) in
-        subst (λ f. MayBe f want) (sym (script_opened texts)) (file_had file (λ x. flatten plans 4 texts x []) (texts file) text want short had here)
-
-    pub script_cut_off : (first middle after : ℕ) (stop : Stop) → first ≤ middle → IsCut (λ t. flatten plans 4 t used before) later middle after stop → IsCut (λ t. on_source plans 5 t file []) texts first after stop
-    script_cut_off first middle after stop le c =
-        let here : IsCut (λ t. flatten plans 4 t text []) texts middle after stop = subst (λ (b : List Flattened). IsCut (λ t. flatten plans 4 t text b) texts middle after stop) none (subst (λ (t : Texts). IsCut (λ x. flatten plans 4 x text before) t middle after stop) (same_texts later texts told) (subst (λ (x : List ℕ). IsCut (λ t. flatten plans 4 t x before) later middle after stop) e c)) in
-        cut_earlier (λ t. on_source plans 5 t file []) texts first middle after stop le
-        (cut_same (λ t. with_file file (λ x. flatten plans 4 t x []) (t file)) (λ t. on_source plans 5 t file []) texts middle after stop script_opened
-        (file_cut_in file (λ t x. flatten plans 4 t x []) texts text middle after stop short had here))

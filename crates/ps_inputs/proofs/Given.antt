@@ -329,10 +329,8 @@ module _ (ws : List (List ℕ)) (texts : Texts) (domain : List ℕ) (short : len
           refused ws texts (input_of ws texts) domain before now stop e (λ line n. of_flat false ws texts domain h short e (λ o. IsFault o 3 line) (lines script ended) flat tt (refl, n)) j
 
       -- both are read
-      pub gives : (d : Domain) (t last : Table) (all : List Line) → is_session ws ≡ true → IsDomain domain d t → IsScript t script all last → Gives (input_of ws texts) (record { domain = d; lines = all; budget = budget_of ws }) last
-      gives d t last all h read are =
-          let i : Input = record { domain = d; lines = all; budget = budget_of ws } in
-          let is : IsInput (budget_of ws) domain script i last = record { between = t; read = read; lines = are; bounded = refl } in
+      pub gives : (i : Input) (last : Table) → is_session ws ≡ true → IsInput (budget_of ws) domain script i last → Gives (input_of ws texts) i last
+      gives i last h is =
           of_flat false ws texts domain h short e (λ o. Gives o i last) (lines script ended) flat tt is
 
     module _ (flat : MayBe (script_in true (script_file ws) texts) (lines script ended)) (plan : List ℕ) (short_plan : length plan ≤ longest_file) (had : IfSome (texts (plan_file ws)) (λ t. plan ≡ t)) where
@@ -346,8 +344,6 @@ module _ (ws : List (List ℕ)) (texts : Texts) (domain : List ℕ) (short : len
           refused ws texts (input_of ws texts) domain before now stop e (λ line n. of_validated (λ o. IsFault o 3 line) h tt (refl, n)) j
 
       -- all three are read
-      pub gives_plan : (d : Domain) (t last : Table) (all : List Line) (budget : ℕ) → is_validate ws ≡ true → IsDomain domain d t → IsScript t script all last → GivesPlan (input_of ws texts) (record { domain = d; lines = all; budget = budget }) last plan
-      gives_plan d t last all budget h read are =
-          let i : Input = record { domain = d; lines = all; budget = budget } in
-          let is : IsInput budget domain script i last = record { between = t; read = read; lines = are; bounded = refl } in
+      pub gives_plan : (i : Input) (last : Table) → is_validate ws ≡ true → IsInput i.budget domain script i last → GivesPlan (input_of ws texts) i last plan
+      gives_plan i last h is =
           of_validated (λ o. GivesPlan o i last plan) h tt (is, refl)

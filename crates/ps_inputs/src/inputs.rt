@@ -6,12 +6,12 @@ ghost use Rattle.ps_text.specs.Names.{AreNames};
 ghost use Rattle.ps_print.specs.CanonicalWords.{IsParamOf};
 ghost use Rattle.ps_words.specs.Words.{said, settings_said};
 ghost use Rattle.ps_inputs.specs.Asked.{check_in, session_in, validation_in};
-ghost use Rattle.ps_inputs.specs.Input.{IsDomain, argument, first_names, input_of, is_quiet};
+ghost use Rattle.ps_inputs.specs.Input.{IsDomain, IsInput, argument, first_names, input_of, is_quiet};
 ghost use Rattle.ps_inputs.specs.Faults.{word_texts, IsJudged, HasNoInput, Gives, GivesDomain, GivesPlan};
 
 use super::causes::cause_text;
 use super::faults::{Fault, Stop};
-use super::reading::{read_flat, read_script, read_text};
+use super::reading::{Flattened, read_flat, read_script, read_text};
 use ps_machine::Input;
 use ps_pddl::read_domain;
 use ps_text::{Files, Names};
@@ -94,6 +94,31 @@ fn judge_domain(alloc: Global, names: &mut Names, text: &[u8]) -> Result<Domain,
     }
 }
 
+/// Reads the text of a domain and the command lines of a script. Their names are put into the table, which has none yet but `object`.
+fn read_texts(
+    alloc: Global,
+    names: &mut Names,
+    domain: &[u8],
+    script: &[Flattened],
+    budget: u32,
+) -> Result<Input, Stop>
+    requires { names.old ≡ first_names }
+    ensures ok { IfOk result (λ i. IsInput budget domain.now script.now i names.new) }
+    ensures few { IfOk result (λ i. length i.lines ≤ length script.now) }
+    ensures named { IfOk result (λ i. All (IsLineOf (length names.new)) i.lines) }
+    ensures constants { IfOk result (λ i. All (IsParamOf (length names.new)) i.domain.constants) }
+    ensures names { OnOk result (AreNames names.new) }
+    ensures cause { IfErr result (IsJudged domain.now) }
+{
+    let domain = judge_domain(alloc, names, domain)?;
+    let lines = read_script(alloc, names, script)?;
+    Ok(Input {
+        domain,
+        lines,
+        budget,
+    })
+}
+
 /// The domain of a check. Its names are put into the table, which has none yet but `object`.
 pub fn read_checked<F: Files>(
     alloc: Global,
@@ -140,13 +165,14 @@ pub fn read_input<F: Files>(
     };
     let domain_text = read_text(alloc, settings.domain, files)?;
     let script = read_flat(alloc, false, settings.script, files)?;
-    let domain = judge_domain(alloc, names, domain_text.as_slice())?;
-    let lines = read_script(alloc, names, script.as_slice())?;
-    Ok(Input {
-        domain,
-        lines,
-        budget: settings.budget,
-    })
+    let budget = settings.budget;
+    read_texts(
+        alloc,
+        names,
+        domain_text.as_slice(),
+        script.as_slice(),
+        budget,
+    )
 }
 
 /// The input that a plan is to be validated on, and the text of the plan. Its names are put into the table, which has none yet but
@@ -171,14 +197,14 @@ pub fn read_validated<F: Files>(
     let domain_text = read_text(alloc, domain_file, files)?;
     let script = read_flat(alloc, true, script_file, files)?;
     let plan = read_text(alloc, plan_file, files)?;
-    let domain = judge_domain(alloc, names, domain_text.as_slice())?;
-    let lines = read_script(alloc, names, script.as_slice())?;
     // No plan is searched for.
     let budget = 0;
-    let input = Input {
-        domain,
-        lines,
+    let input = read_texts(
+        alloc,
+        names,
+        domain_text.as_slice(),
+        script.as_slice(),
         budget,
-    };
+    )?;
     Ok((input, plan))
 }

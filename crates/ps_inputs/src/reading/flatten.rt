@@ -27,8 +27,8 @@ pub enum Flattened {
 /// The most command lines of a script with its files.
 const MOST_LINES: usize = 10_000;
 
-/// How many levels of files may be opened from a script.
-const LEVELS: u8 = 4;
+/// How many levels of files may be opened: the script's own, and four from there.
+const LEVELS: u8 = 5;
 
 /// Refuses where there is no room for one line more.
 fn check_room(all: &[Flattened]) -> Result<(), Stop>
@@ -103,6 +103,30 @@ fn push_plan<F: Files>(
     Ok(false)
 }
 
+/// Takes the lines of a file, where as many levels of files may be opened; where none may, one line stands too deep. Answers whether the
+/// script ends with it.
+#[cycle(flatten)]
+fn open<F: Files>(
+    alloc: Global,
+    files: &mut F,
+    plans: bool,
+    levels: u8,
+    file: &str,
+    all: &mut Vec<Flattened>,
+) -> Result<bool, Stop>
+    ensures ok { IfOk result (λ ended. MayBe (on_source plans levels (F.text_of files.old) file.now all.old.items) (lines all.new.items ended)) }
+    ensures few { OnOk result (length all.old.items ≤ most_lines → length all.new.items ≤ most_lines) }
+    ensures cause { IfErr result (IsCut (λ texts. on_source plans levels texts file.now all.old.items) (F.text_of files.old) (F.faults files.old) (F.faults files.new)) }
+    ensures same { (n : List ℕ) → F.text_of files.new n ≡ F.text_of files.old n }
+    ensures later { F.faults files.old ≤ F.faults files.new }
+{
+    if levels == 0 {
+        return push_too_deep(all);
+    }
+    let text = read_text(alloc, file, files)?;
+    walk(alloc, files, plans, levels - 1, text.as_slice(), all)
+}
+
 /// Takes one line of a file, with all lines of the file that it may name. Answers whether the script ends with it.
 #[cycle(flatten)]
 fn take<F: Files>(
@@ -121,14 +145,7 @@ fn take<F: Files>(
 {
     match kind_of(alloc, line)? {
         Kind::Nothing => Ok(false),
-        Kind::Source(file) => {
-            if levels == 0 {
-                return push_too_deep(all);
-            }
-            let text = read_text(alloc, file.as_str(), files)?;
-            let ended = walk(alloc, files, plans, levels - 1, text.as_slice(), all)?;
-            Ok(ended)
-        }
+        Kind::Source(file) => open(alloc, files, plans, levels, file.as_str(), all),
         Kind::RunPlan(file) if plans => push_plan(alloc, files, line, &file, all),
         Kind::RunPlan(_) => push_text(alloc, line, all),
         Kind::Command => push_text(alloc, line, all),
@@ -178,8 +195,7 @@ pub fn read_flat<F: Files>(
     ensures same { (n : List ℕ) → F.text_of files.new n ≡ F.text_of files.old n }
     ensures later { F.faults files.old ≤ F.faults files.new }
 {
-    let text = read_text(alloc, file, files)?;
     let mut all = Vec::new(alloc);
-    walk(alloc, files, plans, LEVELS, text.as_slice(), &mut all)?;
+    open(alloc, files, plans, LEVELS, file, &mut all)?;
     Ok(all)
 }

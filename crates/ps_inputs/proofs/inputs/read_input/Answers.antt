@@ -1,16 +1,13 @@
-use Rattle.std.proofs.Common.{◌≡◌, ◌∙◌, ℕ, false, Ok, IfSome, ap, length, option_map, subst, sym}
+use Rattle.std.proofs.Common.{◌≡◌, ◌≤◌, ◌∙◌, ℕ, false, IfSome, ap, arith, length, option_map, subst, sym}
 use Rattle.std.proofs.lemmas.Result.{err_from_is_err_and}
-use Rattle.ps_inputs.proofs.TableNames.{AreNames-first, after_read, domain_within}
-use Rattle.ps_inputs.proofs.Later.{params-later}
 use Rattle.ps_words.specs.Words.{said, settings_said}
 use Rattle.ps_inputs.proofs.Asked.{ask_session, ask_no_session, budget_ranged}
 use Rattle.ps_inputs.proofs.Given.{no_session, no_domain_file, no_script, refused_given, gives}
-use Rattle.ps_inputs.proofs.Flattening.{same_texts}
+use Rattle.ps_inputs.proofs.Flattening.{if_err-map, if_ok-map, same_texts}
 use Rattle.ps_inputs.specs.Flats.{MayBe}
 use Rattle.ps_inputs.specs.Flats.Flat.{lines}
-use Rattle.ps_inputs.specs.Input.{IsDomain, first_names, input_of, script_in}
-use Rattle.ps_inputs.specs.Scripts.{IsScript}
-use Rattle.ps_inputs.specs.Faults.{word_texts, Gives, IsCut, IsJudged, IsNotHad}
+use Rattle.ps_inputs.specs.Input.{IsInput, script_in}
+use Rattle.ps_inputs.specs.Faults.{word_texts, IsCut, IsJudged, IsNotHad}
 use Rattle.ps_inputs.proofs.inputs.read_input.Goals as goal
 
 pub returns-in_default-clause-cause : goal.returns-in_default-clause-cause
@@ -43,8 +40,8 @@ returns-in_err-script-clause-cause g c =
     let cut = subst (λ f. IsCut (script_in false f) (g.F.Files.text_of c.read_text.new.files) middle now c.in_err-script.field-0.0) ask.script c.in_err-script.ensures.cause in
     rw (p.1, p.2) (no_script false ws texts domain ask.is c.in_ok-domain_text.ensures.short had (g.F.Files.text_of c.read_text.new.files) c.read_text.ensures.same (g.F.Files.faults c.args.files.now) middle now c.in_err-script.field-0.0 c.read_text.ensures.later cut)
 
-pub returns-in_err-domain-clause-cause : goal.returns-in_err-domain-clause-cause
-returns-in_err-domain-clause-cause g c =
+pub returns-clause-cause : goal.returns-clause-cause
+returns-clause-cause g c =
     let ws = word_texts c.args.words.now in
     let texts = g.F.Files.text_of c.args.files.now in
     let some = sym (ap (option_map settings_said) c.in-Some.is) ∙ c.session_in.ensures in
@@ -54,9 +51,9 @@ returns-in_err-domain-clause-cause g c =
     let had = subst (λ f. IfSome (texts f) (λ t. domain ≡ t)) ask.domain c.in_ok-domain_text.ensures.text in
     let flat = subst (λ t. MayBe (script_in false c.in-Some.settings.script.now t) (lines all c.in_ok-script.ensures.ok.0)) (same_texts (g.F.Files.text_of c.read_text.new.files) texts c.read_text.ensures.same) c.in_ok-script.ensures.ok.1 in
     let named = subst (λ f. MayBe (script_in false f texts) (lines all c.in_ok-script.ensures.ok.0)) ask.script flat in
-    let judged = subst (λ t. IsJudged t c.in_err-domain.field-0.0) c.as_slice.ensures.value c.in_err-domain.ensures.cause in
-    let p = err_from_is_err_and c.from_residual-in_err-domain.result c.from_residual-in_err-domain.ensures.1 in
-    rw (p.1, p.2) (refused_given ws texts domain c.in_ok-domain_text.ensures.short had all c.in_ok-script.ensures.ok.0 named (g.F.Files.faults c.args.files.now) (g.F.Files.faults c.read_flat.new.files) c.in_err-domain.field-0.0 ask.is judged)
+    if_err-map c.read_texts.result
+    (λ stop j. refused_given ws texts domain c.in_ok-domain_text.ensures.short had all c.in_ok-script.ensures.ok.0 named (g.F.Files.faults c.args.files.now) (g.F.Files.faults c.read_flat.new.files) stop ask.is (subst (λ t. IsJudged t stop) c.as_slice.ensures.value j))
+    c.read_texts.ensures.cause
 
 pub returns-clause-ok : goal.returns-clause-ok
 returns-clause-ok g c =
@@ -69,23 +66,22 @@ returns-clause-ok g c =
     let had = subst (λ f. IfSome (texts f) (λ t. text ≡ t)) ask.domain c.in_ok-domain_text.ensures.text in
     let flat = subst (λ t. MayBe (script_in false c.in-Some.settings.script.now t) (lines all c.in_ok-script.ensures.ok.0)) (same_texts (g.F.Files.text_of c.read_text.new.files) texts c.read_text.ensures.same) c.in_ok-script.ensures.ok.1 in
     let named = subst (λ f. MayBe (script_in false f texts) (lines all c.in_ok-script.ensures.ok.0)) ask.script flat in
-    let domain = subst (λ t. IsDomain t c.in_ok-domain.domain c.judge_domain.new.names) c.as_slice.ensures.value c.in_ok-domain.ensures.ok in
-    subst (λ (b : ℕ). Gives (input_of ws texts) (record { domain = c.in_ok-domain.domain; lines = c.in_ok-lines.lines; budget = b }) c.read_script.new.names) (sym ask.budget)
-    (gives ws texts text c.in_ok-domain_text.ensures.short had all c.in_ok-script.ensures.ok.0 named c.in_ok-domain.domain c.judge_domain.new.names c.read_script.new.names c.in_ok-lines.lines ask.is domain
-    (subst (λ t. IsScript c.judge_domain.new.names t c.in_ok-lines.lines c.read_script.new.names) c.as_slice-2.ensures.value c.in_ok-lines.ensures.lines))
+    let last = c.read_texts.new.names in
+    if_ok-map c.read_texts.result
+    (λ i is. gives ws texts text c.in_ok-domain_text.ensures.short had all c.in_ok-script.ensures.ok.0 named i last ask.is
+    (subst (λ (b : ℕ). IsInput b text all i last) ask.budget
+    (subst (λ t. IsInput c.in-Some.settings.budget t all i last) c.as_slice.ensures.value
+    (subst (λ s. IsInput c.in-Some.settings.budget c.as_slice.result.now s i last) c.as_slice-2.ensures.value is))))
+    c.read_texts.ensures.ok
 
--- the domain's text leaves a table of names
-pub read_script-requires : goal.read_script-requires
-read_script-requires g c =
-    after_read first_names c.judge_domain.new.names c.as_slice.result.now (Ok c.in_ok-domain.domain) c.in_ok-domain.ensures.ok AreNames-first
-
-pub returns-clause-constants : goal.returns-clause-constants
-returns-clause-constants g c =
-    let within = domain_within first_names c.as_slice.result.now c.in_ok-domain.domain c.judge_domain.new.names AreNames-first c.in_ok-domain.ensures.ok in
-    params-later (length c.judge_domain.new.names) (length c.read_script.new.names) c.in_ok-lines.ensures.grows c.in_ok-domain.domain.constants within.constants
+-- the script has few lines
+pub returns-clause-few : goal.returns-clause-few
+returns-clause-few g c =
+    if_ok-map c.read_texts.result (λ i le. omega (arith, le, ap length c.as_slice-2.ensures.value, c.in_ok-script.ensures.few)) c.read_texts.ensures.few
 
 -- and the budget is in its range
 pub returns-clause-budget : goal.returns-clause-budget
 returns-clause-budget g c =
     let some = sym (ap (option_map settings_said) c.in-Some.is) ∙ c.session_in.ensures in
-    budget_ranged (option_map said c.in_ok-asked.asked) (settings_said c.in-Some.settings) some c.in_ok-asked.ensures.ranges
+    let ranged = budget_ranged (option_map said c.in_ok-asked.asked) (settings_said c.in-Some.settings) some c.in_ok-asked.ensures.ranges in
+    if_ok-map c.read_texts.result (λ i is. subst (λ (b : ℕ). 1 ≤ b) (sym is.bounded) ranged) c.read_texts.ensures.ok

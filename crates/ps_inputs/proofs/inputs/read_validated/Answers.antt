@@ -1,14 +1,12 @@
-use Rattle.std.proofs.Common.{◌≡◌, ℕ, List, true, Ok, IfSome, ap, option_map, subst, sym, ◌∙◌, arith}
+use Rattle.std.proofs.Common.{◌≡◌, ℕ, List, true, IfSome, ap, option_map, subst, sym, ◌∙◌, arith}
 use Rattle.std.proofs.lemmas.Result.{err_from_is_err_and}
-use Rattle.ps_inputs.proofs.TableNames.{AreNames-first, after_read}
 use Rattle.ps_words.specs.Words.{said}
 use Rattle.ps_inputs.proofs.Asked.{ask_validation, ask_no_validation}
 use Rattle.ps_inputs.proofs.Given.{no_validate, no_domain_file, no_script, no_plan, refused_validated, gives_plan}
 use Rattle.ps_inputs.proofs.Flattening.{same_texts}
 use Rattle.ps_inputs.specs.Flats.{MayBe}
 use Rattle.ps_inputs.specs.Flats.Flat.{lines}
-use Rattle.ps_inputs.specs.Input.{IsDomain, first_names, script_in}
-use Rattle.ps_inputs.specs.Scripts.{IsScript}
+use Rattle.ps_inputs.specs.Input.{IsInput, script_in}
 use Rattle.ps_inputs.specs.Faults.{word_texts, IsCut, IsJudged, IsNotHad}
 use Rattle.ps_inputs.proofs.inputs.read_validated.Goals as goal
 
@@ -61,8 +59,8 @@ returns-in_err-plan-clause-cause g c =
     let unhad = subst (λ f. IsNotHad f (later f) middle now c.in_err-plan.field-0.0) ask.planned c.in_err-plan.ensures.cause in
     rw (p.1, p.2) (no_plan ws texts domain ask.is c.in_ok-domain_text.ensures.short had all c.in_ok-script.ensures.ok.0 named later told (g.F.Files.faults c.args.files.now) middle now c.in_err-plan.field-0.0 (omega (arith, c.read_text.ensures.later, c.read_flat.ensures.later)) unhad)
 
-pub returns-in_err-domain-clause-cause : goal.returns-in_err-domain-clause-cause
-returns-in_err-domain-clause-cause g c =
+pub returns-in_err-input-clause-cause : goal.returns-in_err-input-clause-cause
+returns-in_err-input-clause-cause g c =
     let ws = word_texts c.args.words.now in
     let texts = g.F.Files.text_of c.args.files.now in
     let some = sym (ap (option_map (λ files. (files.0.now, files.1.now, files.2.now))) c.in-Some.is) ∙ c.validation_in.ensures in
@@ -76,9 +74,9 @@ returns-in_err-domain-clause-cause g c =
     let told = λ (n : List ℕ). c.read_flat.ensures.same n ∙ c.read_text.ensures.same n in
     let plan_told = subst (λ t. IfSome (t c.in-Some.plan_file.now) (λ x. plan ≡ x)) (same_texts (g.F.Files.text_of c.read_flat.new.files) texts told) c.in_ok-plan.ensures.text in
     let plan_had = subst (λ f. IfSome (texts f) (λ x. plan ≡ x)) ask.planned plan_told in
-    let judged = subst (λ t. IsJudged t c.in_err-domain.field-0.0) c.as_slice.ensures.value c.in_err-domain.ensures.cause in
-    let p = err_from_is_err_and c.from_residual-in_err-domain.result c.from_residual-in_err-domain.ensures.1 in
-    rw (p.1, p.2) (refused_validated ws texts domain c.in_ok-domain_text.ensures.short had all c.in_ok-script.ensures.ok.0 named plan c.in_ok-plan.ensures.short plan_had (g.F.Files.faults c.args.files.now) (g.F.Files.faults c.read_text-2.new.files) c.in_err-domain.field-0.0 ask.is judged)
+    let judged = subst (λ t. IsJudged t c.in_err-input.field-0.0) c.as_slice.ensures.value c.in_err-input.ensures.cause in
+    let p = err_from_is_err_and c.from_residual-in_err-input.result c.from_residual-in_err-input.ensures.1 in
+    rw (p.1, p.2) (refused_validated ws texts domain c.in_ok-domain_text.ensures.short had all c.in_ok-script.ensures.ok.0 named plan c.in_ok-plan.ensures.short plan_had (g.F.Files.faults c.args.files.now) (g.F.Files.faults c.read_text-2.new.files) c.in_err-input.field-0.0 ask.is judged)
 
 pub returns-clause-ok : goal.returns-clause-ok
 returns-clause-ok g c =
@@ -95,11 +93,9 @@ returns-clause-ok g c =
     let told = λ (n : List ℕ). c.read_flat.ensures.same n ∙ c.read_text.ensures.same n in
     let plan_told = subst (λ t. IfSome (t c.in-Some.plan_file.now) (λ x. plan ≡ x)) (same_texts (g.F.Files.text_of c.read_flat.new.files) texts told) c.in_ok-plan.ensures.text in
     let plan_had = subst (λ f. IfSome (texts f) (λ x. plan ≡ x)) ask.planned plan_told in
-    let domain = subst (λ t. IsDomain t c.in_ok-domain.domain c.judge_domain.new.names) c.as_slice.ensures.value c.in_ok-domain.ensures.ok in
-    gives_plan ws texts text c.in_ok-domain_text.ensures.short had all c.in_ok-script.ensures.ok.0 named plan c.in_ok-plan.ensures.short plan_had c.in_ok-domain.domain c.judge_domain.new.names c.read_script.new.names c.in_ok-lines.lines 0 ask.is domain
-    (subst (λ t. IsScript c.judge_domain.new.names t c.in_ok-lines.lines c.read_script.new.names) c.as_slice-2.ensures.value c.in_ok-lines.ensures.lines)
-
--- the domain's text leaves a table of names
-pub read_script-requires : goal.read_script-requires
-read_script-requires g c =
-    after_read first_names c.judge_domain.new.names c.as_slice.result.now (Ok c.in_ok-domain.domain) c.in_ok-domain.ensures.ok AreNames-first
+    let last = c.read_texts.new.names in
+    let i = c.in_ok-input.input in
+    let budget = i.budget in
+    let whole = subst (λ (b : ℕ). IsInput b c.as_slice.result.now c.as_slice-2.result.now i last) (sym c.in_ok-input.ensures.ok.bounded) c.in_ok-input.ensures.ok in
+    gives_plan ws texts text c.in_ok-domain_text.ensures.short had all c.in_ok-script.ensures.ok.0 named plan c.in_ok-plan.ensures.short plan_had i last ask.is
+    (subst (λ t. IsInput budget t all i last) c.as_slice.ensures.value (subst (λ s. IsInput budget c.as_slice.result.now s i last) c.as_slice-2.ensures.value whole))

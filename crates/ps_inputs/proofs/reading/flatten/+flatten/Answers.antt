@@ -2,38 +2,49 @@ use Rattle.std.proofs.Common.{◌≡◌, ◌-◌, ◌∙◌, subst, arith}
 use Rattle.std.proofs.lemmas.Result.{err_from_is_err_and}
 use Rattle.ps_script.specs.Kinds.{IsKind}
 use Rattle.ps_inputs.specs.Flats.Flat.{lines}
-use Rattle.ps_inputs.proofs.Flattening.{deep_step, deep_cut, file_unhad, file_step, file_cut_off, if_ok-map, if_err-map, text_next, text_ended, text_cut}
+use Rattle.ps_inputs.proofs.Flattening.{deep_file, deep_cut, file_unhad, file_step, file_cut_off, if_ok-map, if_err-map, source_step, source_cut, text_next, text_ended, text_cut}
 use Rattle.ps_inputs.proofs.reading.flatten.+flatten.Goals as goal
 
-pub take-returns-then-levels-eq0-clause-ok : goal.take-returns-then-levels-eq0-clause-ok
-take-returns-then-levels-eq0-clause-ok g t c =
-    let kind = subst (IsKind c.args.line.now) c.in-Source.is c.in_ok-kind_of.ensures in
-    if_ok-map c.push_too_deep.result (λ ended h. deep_step c.args.plans c.args.levels (g.F.Files.text_of c.args.files.now) c.args.line.now c.args.all.now.items c.in-Source.file kind (omega arith) (lines c.push_too_deep.new.all.items ended) h) c.push_too_deep.ensures.ok
+pub open-returns-then-levels-eq0-clause-ok : goal.open-returns-then-levels-eq0-clause-ok
+open-returns-then-levels-eq0-clause-ok g t c =
+    if_ok-map c.push_too_deep.result (λ ended h. deep_file c.args.plans c.args.levels (g.F.Files.text_of c.args.files.now) c.args.file.now c.args.all.now.items (omega arith) (lines c.push_too_deep.new.all.items ended) h) c.push_too_deep.ensures.ok
 
-pub take-returns-then-levels-eq0-clause-cause : goal.take-returns-then-levels-eq0-clause-cause
-take-returns-then-levels-eq0-clause-cause g t c =
-    let kind = subst (IsKind c.args.line.now) c.in-Source.is c.in_ok-kind_of.ensures in
-    if_err-map c.push_too_deep.result (λ stop h. deep_cut c.args.plans c.args.levels (g.F.Files.text_of c.args.files.now) c.args.line.now c.args.all.now.items c.in-Source.file kind (omega arith) (g.F.Files.faults c.args.files.now) (g.F.Files.faults c.args.files.now) stop h) c.push_too_deep.ensures.cause
+pub open-returns-then-levels-eq0-clause-cause : goal.open-returns-then-levels-eq0-clause-cause
+open-returns-then-levels-eq0-clause-cause g t c =
+    if_err-map c.push_too_deep.result (λ stop h. deep_cut c.args.plans c.args.levels (g.F.Files.text_of c.args.files.now) c.args.file.now c.args.all.now.items (omega arith) (g.F.Files.faults c.args.files.now) (g.F.Files.faults c.args.files.now) stop h) c.push_too_deep.ensures.cause
 
-pub take-returns-in_err-text-in-Source-clause-cause : goal.take-returns-in_err-text-in-Source-clause-cause
-take-returns-in_err-text-in-Source-clause-cause g t c =
+pub open-returns-in_err-text-clause-cause : goal.open-returns-in_err-text-clause-cause
+open-returns-in_err-text-clause-cause g t c =
+    let p = err_from_is_err_and c.from_residual.result c.from_residual.ensures.1 in
+    rw (p.1, p.2) (file_unhad c.args.plans c.args.levels (g.F.Files.text_of c.args.files.now) c.args.file.now c.args.all.now.items (c.args.levels - 1) (omega arith) (g.F.Files.faults c.args.files.now) (g.F.Files.faults c.read_text.new.files) c.in_err-text.field-0.0 c.in_err-text.ensures.cause)
+
+pub open-returns-clause-ok : goal.open-returns-clause-ok
+open-returns-clause-ok g t c =
+    if_ok-map c.walk.result
+    (λ ended h. file_step c.args.plans c.args.levels (g.F.Files.text_of c.args.files.now) c.args.file.now c.args.all.now.items (c.args.levels - 1) (omega arith) c.in_ok-text.text.items c.as_slice.result.now c.as_slice.ensures.value (g.F.Files.text_of c.read_text.new.files) c.read_text.ensures.same c.in_ok-text.ensures.short c.in_ok-text.ensures.text (lines c.walk.new.all.items ended) h)
+    c.walk.ensures.ok
+
+pub open-returns-clause-cause : goal.open-returns-clause-cause
+open-returns-clause-cause g t c =
+    if_err-map c.walk.result
+    (λ stop h. file_cut_off c.args.plans c.args.levels (g.F.Files.text_of c.args.files.now) c.args.file.now c.args.all.now.items (c.args.levels - 1) (omega arith) c.in_ok-text.text.items c.as_slice.result.now c.as_slice.ensures.value (g.F.Files.text_of c.read_text.new.files) c.read_text.ensures.same c.in_ok-text.ensures.short c.in_ok-text.ensures.text (g.F.Files.faults c.args.files.now) (g.F.Files.faults c.read_text.new.files) (g.F.Files.faults c.walk.new.files) stop c.read_text.ensures.later h)
+    c.walk.ensures.cause
+
+pub take-returns-in-Source-clause-ok : goal.take-returns-in-Source-clause-ok
+take-returns-in-Source-clause-ok g t c =
     let kind = subst (IsKind c.args.line.now) c.in-Source.is c.in_ok-kind_of.ensures in
-    let p = err_from_is_err_and c.from_residual-in_err-text-in-Source.result c.from_residual-in_err-text-in-Source.ensures.1 in
     let named : c.as_str.result.now ≡ c.in-Source.file = cc in
-    rw (p.1, p.2) (file_unhad c.args.plans c.args.levels (g.F.Files.text_of c.args.files.now) c.args.line.now c.args.all.now.items c.in-Source.file kind (c.args.levels - 1) (omega arith) c.as_str.result.now named (g.F.Files.faults c.args.files.now) (g.F.Files.faults c.read_text.new.files) c.in_err-text-in-Source.field-0.0 c.in_err-text-in-Source.ensures.cause)
+    if_ok-map c.open.result
+    (λ ended h. source_step c.args.plans c.args.levels (g.F.Files.text_of c.args.files.now) c.args.line.now c.args.all.now.items c.in-Source.file kind c.as_str.result.now named (lines c.open.new.all.items ended) h)
+    c.open.ensures.ok
 
-pub take-returns-in_err-ended-in-Source-clause-cause : goal.take-returns-in_err-ended-in-Source-clause-cause
-take-returns-in_err-ended-in-Source-clause-cause g t c =
-    let kind = subst (IsKind c.args.line.now) c.in-Source.is c.in_ok-kind_of.ensures in
-    let p = err_from_is_err_and c.from_residual-in_err-ended-in-Source.result c.from_residual-in_err-ended-in-Source.ensures.1 in
-    let named : c.as_str.result.now ≡ c.in-Source.file = cc in
-    rw (p.1, p.2) (file_cut_off c.args.plans c.args.levels (g.F.Files.text_of c.args.files.now) c.args.line.now c.args.all.now.items c.in-Source.file kind (c.args.levels - 1) (omega arith) c.as_str.result.now named c.in_ok-text-in-Source.text.items c.as_slice.result.now c.as_slice.ensures.value (g.F.Files.text_of c.read_text.new.files) c.read_text.ensures.same c.in_ok-text-in-Source.ensures.short c.in_ok-text-in-Source.ensures.text (g.F.Files.faults c.args.files.now) (g.F.Files.faults c.read_text.new.files) (g.F.Files.faults c.walk.new.files) c.in_err-ended-in-Source.field-0.0 c.read_text.ensures.later c.in_err-ended-in-Source.ensures.cause)
-
-pub take-returns-in_ok-ended-in-Source-clause-ok : goal.take-returns-in_ok-ended-in-Source-clause-ok
-take-returns-in_ok-ended-in-Source-clause-ok g t c =
+pub take-returns-in-Source-clause-cause : goal.take-returns-in-Source-clause-cause
+take-returns-in-Source-clause-cause g t c =
     let kind = subst (IsKind c.args.line.now) c.in-Source.is c.in_ok-kind_of.ensures in
     let named : c.as_str.result.now ≡ c.in-Source.file = cc in
-    file_step c.args.plans c.args.levels (g.F.Files.text_of c.args.files.now) c.args.line.now c.args.all.now.items c.in-Source.file kind (c.args.levels - 1) (omega arith) c.as_str.result.now named c.in_ok-text-in-Source.text.items c.as_slice.result.now c.as_slice.ensures.value (g.F.Files.text_of c.read_text.new.files) c.read_text.ensures.same c.in_ok-text-in-Source.ensures.short c.in_ok-text-in-Source.ensures.text (lines c.walk.new.all.items c.in_ok-ended-in-Source.ended) c.in_ok-ended-in-Source.ensures.ok
+    if_err-map c.open.result
+    (λ stop h. source_cut c.args.plans c.args.levels (g.F.Files.text_of c.args.files.now) c.args.line.now c.args.all.now.items c.in-Source.file kind c.as_str.result.now named (g.F.Files.faults c.args.files.now) (g.F.Files.faults c.open.new.files) stop h)
+    c.open.ensures.cause
 
 pub walk-returns-in_err-ended-clause-cause : goal.walk-returns-in_err-ended-clause-cause
 walk-returns-in_err-ended-clause-cause g t c =

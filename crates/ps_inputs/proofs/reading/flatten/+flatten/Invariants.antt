@@ -4,11 +4,14 @@ use Rattle.ps_inputs.specs.Flats.{MayBe, most_lines, on_source, walk}
 use Rattle.ps_inputs.specs.Flats.Flat.{lines}
 use Rattle.ps_inputs.proofs.reading.flatten.+flatten.Given as goal
 
+abbrev pub decreases-open : goal.decreases-open
+decreases-open g l = 3 * l.levels
+
 abbrev pub decreases-take : goal.decreases-take
-decreases-take g l = 2 * l.levels
+decreases-take g l = 3 * l.levels + 1
 
 abbrev pub decreases-walk : goal.decreases-walk
-decreases-walk g l = 2 * l.levels + 1
+decreases-walk g l = 3 * l.levels + 2
 
 -- the lines so far are taken, and the files tell what they told
 abbrev pub invariant-walk-loop-span : goal.invariant-walk-loop-span
