@@ -1,13 +1,16 @@
 //! The top calls.
-ghost use Rattle.std.specs.Prelude.{◌≡◌, ◌≢◌, ◌<◌, ◌≤◌, ◌⊎◌, ℕ, None, List, codes, true, false, IfOk, IfErr, OnOk, OnErr};
+ghost use Rattle.std.specs.Prelude.{◌≡◌, ◌≢◌, ◌<◌, ◌≤◌, ◌^◌, ◌⊎◌, ℕ, None, List, codes, length, true, false, All, IfOk, IfErr, OnOk, OnErr};
 ghost use Rattle.std.specs.Io.KnownBytes.{Appends, Keeps};
 ghost use Rattle.ps_world.specs.DomainTexts.{domain_text};
 ghost use Rattle.ps_world.specs.Lines.{same_text};
 ghost use Rattle.ps_text.specs.Causes.{HasCause, Rose, AppendsFront};
 ghost use Rattle.ps_text.specs.Names.{AreNames};
+ghost use Rattle.ps_machine.specs.Tables.{IsLineOf};
+ghost use Rattle.ps_print.specs.CanonicalWords.{IsParamOf};
+ghost use Rattle.ps_session.specs.Session.{IsDone, IsCut};
 ghost use Rattle.ps_validate.specs.Verdicts.{known_after, verdict};
 ghost use Rattle.ps_words.specs.Words.{asked_of};
-ghost use Rattle.ps_inputs.specs.Input.{argument, input_of, is_quiet, cannot_write_line, out_of_memory_line};
+ghost use Rattle.ps_inputs.specs.Input.{argument, first_names, input_of, is_quiet, cannot_write_line, out_of_memory_line};
 ghost use Rattle.ps_calls.specs.Headline.{IsAnswered, IsFront, IsEnded, IsHalfTold, Says, LeadsTo};
 ghost use Rattle.ps_inputs.specs.Faults.{word_texts, fault_line, fault_status};
 ghost use Rattle.ps_calls.specs.Stops.{IsStopped};
@@ -20,7 +23,7 @@ use ps_inputs::{
     Fault, Stop, fault_line, is_quiet, is_validation, read_checked, read_input, read_validated,
 };
 use ps_journal::Broken;
-use ps_machine::Input;
+use ps_machine::{Input, Line};
 use ps_pddl::print_domain;
 use ps_session::run;
 use ps_text::{Files, Names, Sink, SinkRefusal, put};
@@ -41,14 +44,30 @@ fn attempt<F: Files, O: Sink>(
     ensures stopped { IfErr result (IsStopped (input_of (word_texts words.now) (F.text_of files.old)) (word_texts words.now) (F.text_of files.old) (F.faults files.old) (F.faults files.new) (O.taken out.old) (O.taken out.new) (O.faults out.old) (O.faults out.new)) }
 {
     let mut names = Names::new(alloc)?;
+    let input = read_input(alloc, words, &mut names, files)?;
+    let status = run_input(alloc, &names, input, out)?;
+    Ok(status)
+}
+
+/// Does the session of an input, and gives its status, 0 or 1.
+fn run_input<O: Sink>(alloc: Global, names: &Names, input: Input, out: &mut O) -> Result<u8, Broken>
+    requires few { length input.lines < 2 ^ 32 }
+    requires budget { 1 ≤ input.budget }
+    requires named { All (IsLineOf (length names.now)) input.lines }
+    requires constants { All (IsParamOf (length names.now)) input.domain.constants }
+    requires names { AreNames names.now }
+    ensures small { IfOk result (λ status. status < 2) }
+    ensures done { IfOk result (λ status. IsDone input names.now (O.taken out.old) (O.taken out.new) status) }
+    ensures cut { OnErr result (IsCut input names.now (O.taken out.old) (O.taken out.new)) }
+    ensures cause { HasCause Write (O.faults out.old) (O.faults out.new) result }
+{
     let Input {
         domain,
         lines,
         budget,
-    } = read_input(alloc, words, &mut names, files)?;
+    } = input;
     let expert = Expert::new(alloc, domain)?;
-    let status = run(alloc, &names, &expert, budget, lines.as_slice(), out)?;
-    Ok(status)
+    run(alloc, names, &expert, budget, lines.as_slice(), out)
 }
 
 /// Writes the canonical text of a domain by one `put`.
@@ -74,8 +93,24 @@ fn check<F: Files, O: Sink>(
     ensures stopped { IfErr result (IsStopped (input_of (word_texts words.now) (F.text_of files.old)) (word_texts words.now) (F.text_of files.old) (F.faults files.old) (F.faults files.new) (O.taken out.old) (O.taken out.new) (O.faults out.old) (O.faults out.new)) }
 {
     let mut names = Names::new(alloc)?;
-    let domain = read_checked(alloc, words, &mut names, files)?;
-    print(alloc, &names, &domain, out)?;
+    check_with(alloc, words, &mut names, files, out)
+}
+
+/// Does a check with a table of names, which has none yet but `object`.
+fn check_with<F: Files, O: Sink>(
+    alloc: Global,
+    words: &[String],
+    names: &mut Names,
+    files: &mut F,
+    out: &mut O,
+) -> Result<(), Stop>
+    requires names { names.old ≡ first_names }
+    requires check { same_text (argument (word_texts words.now) 0) (codes "check") ≡ true }
+    ensures printed { OnOk result (IsAnswered (input_of (word_texts words.now) (F.text_of files.old)) (O.taken out.old) (O.taken out.new) 0) }
+    ensures stopped { IfErr result (IsStopped (input_of (word_texts words.now) (F.text_of files.old)) (word_texts words.now) (F.text_of files.old) (F.faults files.old) (F.faults files.new) (O.taken out.old) (O.taken out.new) (O.faults out.old) (O.faults out.new)) }
+{
+    let domain = read_checked(alloc, words, names, files)?;
+    print(alloc, names, &domain, out)?;
     Ok(())
 }
 
@@ -107,8 +142,22 @@ fn judge(
 {
     let Input { domain, lines, .. } = input;
     let expert = Expert::new(alloc, domain)?;
-    let problem = known_after(alloc, &expert, lines.as_slice())?;
-    verdict(alloc, names, &expert, &problem, plan)
+    judge_lines(alloc, names, &expert, lines.as_slice(), plan)
+}
+
+/// What is wrong with the text of a plan after the edits of these lines, if something is. The only error is want of memory.
+fn judge_lines(
+    alloc: Global,
+    names: &mut Names,
+    expert: &Expert,
+    lines: &[Line],
+    plan: &[u8],
+) -> Result<Option<Invalid>, AllocError>
+    requires { AreNames names.old }
+    ensures { IfOk result (λ wrong. (wrong, names.new) ≡ verdict expert.now (known_after expert.now lines.now) names.old plan.now) }
+{
+    let problem = known_after(alloc, expert, lines)?;
+    verdict(alloc, names, expert, &problem, plan)
 }
 
 /// Reads a domain, a script and the text of a plan, and writes what the plan is worth after the script's edits. The answer is 0
