@@ -1,0 +1,145 @@
+//! Command lines, and what they ask for: the grammar of the words agrees with the one that `clap` parses.
+use super::tables::assert_told;
+use ps_words::{Asked, Settings, read_words};
+use std::alloc::{AllocError, Global};
+use std::test::Fail;
+
+/// Command lines of sessions, and the domain, the script, the workers, the budget, and whether turns are ordered.
+const SESSIONS: &str = "\
+session --domain d --script s -> session d s 2 20000 false
+session --script=s --domain=d -> session d s 2 20000 false
+session --ordered --budget 7 --script s --workers=3 --replans 0 --domain d -> session d s 3 7 true
+session --domain d --ordered --script s -> session d s 2 20000 true
+session --domain=a=b --script c=d -> session a=b c=d 2 20000 false
+session --domain d=--x --script s- -> session d=--x s- 2 20000 false
+session --domain session --script check -> session session check 2 20000 false
+session --domain d --script s --workers 0 -> none
+session --domain d --script s --workers 1 -> session d s 1 20000 false
+session --domain d --script s --workers=16 -> session d s 16 20000 false
+session --domain d --script s --workers 17 -> none
+session --domain d --script s --workers two -> none
+session --domain d --script s --budget 0 -> none
+session --domain d --script s --budget 1 -> session d s 2 1 false
+session --domain d --script s --budget 200000 -> session d s 2 200000 false
+session --domain d --script s --budget 200001 -> none
+session --domain d --script s --budget 007 -> session d s 2 7 false
+session --domain d --script s --budget 000000007 -> session d s 2 7 false
+session --domain d --script s --budget 0000000007 -> none
+session --domain d --script s --budget 9999999999 -> none
+session --domain d --script s --budget +5 -> none
+session --domain d --script s --budget 5x -> none
+session --domain d --script s --budget  -> none
+session --domain d --script s --budget= -> none
+session --domain d --script s --budget -> none
+session --domain d --script s --replans 0 -> session d s 2 20000 false
+session --domain d --script s --replans=000 -> session d s 2 20000 false
+session --domain d --script s --replans 1 -> none
+session --domain d --script s --ordered=x -> none
+session --domain d --script s --ordered=true -> none
+session --domain d --script s --ordered --ordered -> none
+session --domain d --script s --ordered true -> none
+session --domain d --script s --domain d -> none
+session --domain d --script s --domain=d -> none
+session --domain=d --script s --domain=e -> none
+session --domain d --script s --workers 2 --workers=2 -> none
+session --domain d -> none
+session --script s -> none
+session -> none
+session --domain d --script s --plan p -> none
+session --dom d --script s -> none
+session --domain d --script s --Ordered -> none
+session -domain d --script s -> none
+session --domain d --script s -d -> none
+session --domain d --script s --help -> none
+session --domain d --script s --version -> none
+session --domain d --script s -h -> none
+session x --domain d --script s -> none
+session --domain d x --script s -> none
+session --domain d --script s x -> none
+session --domain d --script s --ordered x -> none";
+
+/// Other command lines, and what they ask for.
+const OTHERS: &str = "\
+check --domain d -> check d
+check --domain=d -> check d
+check --domain a=b -> check a=b
+check --domain=a=b -> check a=b
+check -> none
+check d -> none
+check --domain -> none
+check --domain= -> none
+check --domain  -> none
+check --domain - -> none
+check --domain -- -> none
+check --domain -x -> none
+check --domain=-x -> none
+check --domain=- -> none
+check --domain --script -> none
+check --domain d --script s -> none
+check --domain d --domain d -> none
+check --domain d --ordered -> none
+check --domain d - -> none
+check --domain d -- -> none
+check -- --domain d -> none
+check --domain d  -> none
+check --=d -> none
+check --domain d --=d -> none
+validate --domain d --script s --plan p -> validate d s p
+validate --plan=p --script s --domain=d -> validate d s p
+validate --domain d --script s -> none
+validate --domain d --plan p -> none
+validate --script s --plan p -> none
+validate --domain d --script s --plan p --workers 2 -> none
+validate --domain d --script s --plan p q -> none
+Check --domain d -> none
+checks --domain d -> none
+--domain d check -> none
+--help -> none
+help -> none
+ -> none";
+
+/// The words of a line, which one space parts.
+fn words(alloc: Global, line: &str) -> Result<Vec<String>, AllocError> {
+    let mut all = Vec::new(alloc);
+    for word in line.split(' ') {
+        all.push(String::from_str(alloc, word)?)?;
+    }
+    Ok(all)
+}
+
+fn told_of_asked(alloc: Global, asked: Option<Asked<'_>>) -> Result<String, AllocError> {
+    match asked {
+        Some(Asked::Session(settings)) => told_of_session(alloc, settings),
+        Some(Asked::Check { domain }) => format!(in alloc; "check {domain}"),
+        Some(
+            Asked::Validate {
+                domain,
+                script,
+                plan,
+            },
+        ) => { format!(in alloc; "validate {domain} {script} {plan}") }
+        None => String::from_str(alloc, "none"),
+    }
+}
+
+fn told_of_session(alloc: Global, settings: Settings<'_>) -> Result<String, AllocError> {
+    let Settings {
+        domain,
+        script,
+        workers,
+        budget,
+        ordered,
+    } = settings;
+    format!(in alloc; "session {domain} {script} {workers} {budget} {ordered}")
+}
+
+fn told(alloc: Global, line: &str) -> Result<String, AllocError> {
+    let words = words(alloc, line)?;
+    told_of_asked(alloc, read_words(alloc, &words)?)
+}
+
+#[test]
+fn command_lines_are_read(rt: HostRuntime) -> Result<(), Fail> {
+    assert_told(&rt, rt.alloc(), SESSIONS, told)?;
+    assert_told(&rt, rt.alloc(), OTHERS, told)
+}
