@@ -1,0 +1,19 @@
+//! Tests of what is known, of actions and of plans: calls of the libraries that the program does not make in this way.
+#![tactic(auto)]
+
+#[cfg(test)]
+mod copies;
+#[cfg(test)]
+mod edits;
+#[cfg(test)]
+mod orders;
+#[cfg(test)]
+mod plans;
+#[cfg(test)]
+mod telling;
+#[cfg(test)]
+mod touching;
+#[cfg(test)]
+mod trees;
+#[cfg(test)]
+mod worlds;

@@ -1,0 +1,120 @@
+//! What conditions read, and what effects and edits change.
+use super::telling::push_listed;
+use super::worlds::{World, cond_of, edit_of, ground_of, world_of};
+use ps_eval::{Touched, changed_by, edited_by, reads};
+use ps_text::Names;
+use ps_world::Conds;
+use std::alloc::Global;
+use std::process::Abort;
+use std::test::Fail;
+
+const WORK: &str = "(define (domain work)
+(:types robot)
+(:predicates (parked ?r - robot))
+(:functions (load ?r - robot))
+(:durative-action leave :parameters (?r - robot) :duration (= ?duration 1)
+ :effect (and (at end (not (parked ?r))) (at end (increase (load ?r) 1)) (at end (parked ?r)))))";
+
+const TWO: &str = "set instance leia robot
+set instance r2d2 robot";
+
+/// Things one after another: an instance as `(N)`, a fact as `(P N)`, a value as `=(F N)`.
+fn told_touched(alloc: Global, names: &Names, all: &[Touched]) -> Result<String, Fail> {
+    let mut text = String::new(alloc);
+    for touched in all {
+        match touched {
+            Touched::Instance(name) => push_listed(names, *name, &[], &mut text)?,
+            Touched::Fact(fact) => {
+                push_listed(names, fact.head, fact.args.as_slice(), &mut text)?;
+            }
+            Touched::Value(term) => {
+                text.push_str(" =")?;
+                push_listed(names, term.head, term.args.as_slice(), &mut text)?;
+            }
+        }
+    }
+    Ok(text)
+}
+
+const CONDITION: &str =
+    "(and (parked leia) (not (parked r2d2)) (>= (+ (load leia) (- (load r2d2))) 0) (not (= leia r2d2)))";
+
+const READ: &str =
+    " (parked leia) (leia) (parked r2d2) (r2d2) = (load leia) (leia) = (load r2d2) (r2d2) (leia) (r2d2)";
+
+fn is_touched(
+    rt: &impl Abort,
+    alloc: Global,
+    names: &Names,
+    all: &[Touched],
+    want: &str,
+) -> Result<(), Fail> {
+    let told = told_touched(alloc, names, all)?;
+    assert_eq!(rt; told.as_str(), want);
+    Ok(())
+}
+
+fn conditions_of(alloc: Global, names: &mut Names) -> Result<Conds, Fail> {
+    let cond = cond_of(alloc, names, CONDITION)?;
+    Ok(Conds::of(vec![in alloc; cond]?))
+}
+
+fn all_read(alloc: Global, names: &mut Names) -> Result<Vec<Touched>, Fail> {
+    let conds = conditions_of(alloc, names)?;
+    Ok(reads(alloc, &conds)?)
+}
+
+fn reads_so(rt: &impl Abort, alloc: Global, names: &mut Names) -> Result<(), Fail> {
+    let all = all_read(alloc, names)?;
+    is_touched(rt, alloc, names, &all, READ)
+}
+
+fn all_changed(alloc: Global, world: &mut World) -> Result<Vec<Touched>, Fail> {
+    let ground = ground_of(alloc, world, "(leave leia)")?;
+    Ok(changed_by(alloc, ground.at_end.as_slice())?)
+}
+
+fn changes_so(rt: &impl Abort, alloc: Global, world: &mut World) -> Result<(), Fail> {
+    let all = all_changed(alloc, world)?;
+    let want = " (parked leia) = (load leia) (parked leia)";
+    is_touched(rt, alloc, &world.names, &all, want)
+}
+
+/// Lines, and what their edits change.
+const EDITS: [(&str, &str); 8] = [
+    ("set instance leia robot", " (leia)"),
+    ("remove instance leia", " (leia)"),
+    ("set predicate (parked leia)", " (parked leia)"),
+    ("remove predicate (parked leia)", " (parked leia)"),
+    ("set function (= (load leia) 1)", " = (load leia)"),
+    ("remove function (load leia)", " = (load leia)"),
+    ("set goal (parked leia)", ""),
+    ("remove goal", ""),
+];
+
+fn told_edited(alloc: Global, names: &mut Names, line: &str) -> Result<String, Fail> {
+    let edit = edit_of(alloc, names, line)?;
+    match edited_by(&edit) {
+        None => Ok(String::new(alloc)),
+        Some(touched) => told_touched(alloc, names, &[touched]),
+    }
+}
+
+fn edits_so(rt: &impl Abort, alloc: Global, names: &mut Names) -> Result<(), Fail> {
+    for (line, want) in EDITS {
+        assert_eq!(rt; told_edited(alloc, names, line)?.as_str(), want, "{line}");
+    }
+    Ok(())
+}
+
+fn touches_so(rt: &impl Abort, alloc: Global, world: &mut World) -> Result<(), Fail> {
+    reads_so(rt, alloc, &mut world.names)?;
+    changes_so(rt, alloc, world)?;
+    edits_so(rt, alloc, &mut world.names)
+}
+
+#[test]
+fn names_what_is_read_and_changed(rt: HostRuntime) -> Result<(), Fail> {
+    let mut world = world_of(rt.alloc(), WORK, TWO)?;
+    touches_so(&rt, rt.alloc(), &mut world)
+}
