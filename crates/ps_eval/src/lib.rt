@@ -8,4 +8,3 @@ mod touched;
 pub use evaluation::{apply, defined, duration, holds, holds_all};
 pub use laws::truth_reads_what_is_named;
 pub use touched::{Touched, changed_by, edited_by, reads};
-
