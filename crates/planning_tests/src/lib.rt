@@ -2,10 +2,6 @@
 #![tactic(auto)]
 
 #[cfg(test)]
-mod copies;
-#[cfg(test)]
-mod edits;
-#[cfg(test)]
 mod orders;
 #[cfg(test)]
 mod plans;

@@ -10,13 +10,6 @@ use ps_world::{Cond, Domain, Edit, Fact};
 use std::alloc::Global;
 use std::test::Fail;
 
-/// Robots and rooms.
-pub const ROOMS: &str = "(define (domain rooms)
-(:types robot room - object humanoid - robot)
-(:constants dock - room)
-(:predicates (robot_at ?r - robot ?ro - room) (parked ?r - robot))
-(:functions (load ?r - robot) (cap)))";
-
 /// What a test works on: a domain, what is known in it, and the names of its texts.
 #[derive(Drop)]
 pub struct World {
@@ -30,7 +23,7 @@ pub fn names_of(alloc: Global) -> Result<Box<Names>, Fail> {
     Ok(Box::new(alloc, Names::new(alloc)?)?)
 }
 
-pub fn domain_of(alloc: Global, names: &mut Names, text: &str) -> Result<Domain, Fail> {
+fn domain_of(alloc: Global, names: &mut Names, text: &str) -> Result<Domain, Fail> {
     Ok(read_domain(alloc, names, text.as_bytes())?)
 }
 
@@ -75,7 +68,7 @@ fn take_line(alloc: Global, world: &mut World, line: &str) -> Result<(), Fail> {
     Ok(())
 }
 
-pub fn line_of(alloc: Global, names: &mut Names, line: &str) -> Result<Line, Fail> {
+fn line_of(alloc: Global, names: &mut Names, line: &str) -> Result<Line, Fail> {
     match read_line(alloc, names, line.as_bytes())? {
         Read::Line(line) => Ok(line),
         _ => Err(Fail::from("no line")),
@@ -107,7 +100,7 @@ pub fn cond_of(alloc: Global, names: &mut Names, text: &str) -> Result<Cond, Fai
 }
 
 /// An act, written as a fact.
-pub fn act_of(alloc: Global, names: &mut Names, text: &str) -> Result<Act, Fail> {
+fn act_of(alloc: Global, names: &mut Names, text: &str) -> Result<Act, Fail> {
     let fact = fact_of(alloc, names, text)?;
     Ok(Act {
         action: fact.head,
