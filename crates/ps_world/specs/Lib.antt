@@ -6,6 +6,7 @@ pub mod ExprFalls
 pub mod ExprViews
 pub mod DomainTexts
 pub mod Facts
+pub mod Failures
 pub mod Knowledge
 pub mod Lines
 pub mod Names
