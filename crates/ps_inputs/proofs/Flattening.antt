@@ -4,7 +4,8 @@ use Rattle.std.proofs.lemmas.Bool.Decides.{nat_tests}
 use Rattle.std.proofs.Common.{drop-cons}
 use Rattle.std.proofs.Math.Seq.{take-suc}
 use Rattle.std.proofs.lemmas.List.{map-append, take-append-drop}
-use Rattle.ps_world.specs.Lines.{lines_of, same_text}
+use Rattle.ps_world.specs.Lines.{same_text}
+use Rattle.ps_text.specs.ScriptLines.{script_lines}
 use Rattle.ps_text.specs.Words.{pieces}
 use Rattle.ps_text.specs.declared.spans.Span.{Span}
 use Rattle.ps_text.proofs.Tables.{same_text-refl}
@@ -108,7 +109,7 @@ pub on_source-narrow : (plans : Bool) (n : ℕ) (file : List ℕ) (before : List
 unfolding on_source
 on_source-narrow plans zero file before texts other = inl refl
 on_source-narrow plans (suc n) file before texts other =
-    with_file-narrow file (λ t text. walk plans t (on_source plans n t) (lines_of text) before) (λ text. walk-narrow plans (λ t. on_source plans n t) (λ f b. on_source-narrow plans n f b) (lines_of text) before) texts other
+    with_file-narrow file (λ t text. walk plans t (on_source plans n t) (script_lines text) before) (λ text. walk-narrow plans (λ t. on_source plans n t) (λ f b. on_source-narrow plans n f b) (script_lines text) before) texts other
 
 -- ---- where flattening is cut off
 
@@ -350,8 +351,8 @@ module _ (plans : Bool) (n : ℕ) (texts : Texts) (bytes : List ℕ) (before : L
 
 -- ---- a whole text
 
-module _ (plans : Bool) (n : ℕ) (texts later : Texts) (told : (k : List ℕ) → later k ≡ texts k) (text : List ℕ) (spans items : List Span) (deref : spans ≡ items) (whole : pieces text items ≡ lines_of text) (i : ℕ) (before now : List Flattened) (lt : i < length spans) (taken : MayBe (walk plans texts (on_source plans n texts) (pieces text (take i spans)) before) (lines now false)) where
-  whole_pieces : pieces text spans ≡ lines_of text
+module _ (plans : Bool) (n : ℕ) (texts later : Texts) (told : (k : List ℕ) → later k ≡ texts k) (text : List ℕ) (spans items : List Span) (deref : spans ≡ items) (whole : pieces text items ≡ script_lines text) (i : ℕ) (before now : List Flattened) (lt : i < length spans) (taken : MayBe (walk plans texts (on_source plans n texts) (pieces text (take i spans)) before) (lines now false)) where
+  whole_pieces : pieces text spans ≡ script_lines text
   whole_pieces = ap (pieces text) deref ∙ whole
 
   pub text_next : (new : List Flattened) (ended : Bool) → ended ≡ false → MayBe (step plans later (on_source plans n later) (line_at text spans i) now) (lines new ended) → MayBe (walk plans texts (on_source plans n texts) (pieces text (take (i + 1) spans)) before) (lines new false)

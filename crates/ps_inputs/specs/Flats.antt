@@ -1,6 +1,7 @@
 -- A script with the lines of its files put in place of the lines that name them.
 use Rattle.std.specs.Prelude.{◌≡◌, ℕ, zero, suc, Bool, false, ◌&&◌, ◌==◌, ◌⊎◌, nat_lt, if◌then◌else◌, Option, Some, None, List, [], ◌∷◌, ◌++◌, codes, length}
-use Rattle.ps_world.specs.Lines.{line_end, lines_of, same_text}
+use Rattle.ps_world.specs.Lines.{line_end, same_text}
+use Rattle.ps_text.specs.ScriptLines.{script_lines}
 use Rattle.ps_text.specs.Words.{reads_as, word_at, words}
 use Rattle.ps_script.specs.Files.{after_run, file_in, is_run_plan, is_source}
 use Rattle.ps_script.specs.Lines.{is_nothing}
@@ -91,11 +92,11 @@ walk plans texts on_source (bytes ∷ rest) before = and_then (step plans texts 
 -- too deep.
 unfoldable pub on_source : Bool → ℕ → Texts → List ℕ → List Flattened → Flat
 on_source plans zero texts file before = with_line before TooDeep false
-on_source plans (suc n) texts file before = with_file file (λ text. walk plans texts (on_source plans n texts) (lines_of text) before) (texts file)
+on_source plans (suc n) texts file before = with_file file (λ text. walk plans texts (on_source plans n texts) (script_lines text) before) (texts file)
 
 -- the lines of a text with those of its files
 abbrev pub flatten : Bool → ℕ → Texts → List ℕ → List Flattened → Flat
-flatten plans n texts text before = walk plans texts (on_source plans n texts) (lines_of text) before
+flatten plans n texts text before = walk plans texts (on_source plans n texts) (script_lines text) before
 
 -- it is this, where the texts that matter are told
 abbrev pub MayBe : Flat → Flat → Type 0

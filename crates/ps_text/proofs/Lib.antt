@@ -11,3 +11,4 @@ pub mod TextTokens
 pub mod TokenSteps
 pub mod WordPlaces
 pub mod WordSteps
+pub mod ScriptLines

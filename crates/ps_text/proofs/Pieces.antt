@@ -72,10 +72,10 @@ module _ (parts : List ℕ → List (List ℕ)) (bytes : List ℕ) where
 abbrev pub is_lf : ℕ → Bool
 is_lf b = b == 10
 
-lines_of-lf : (b : ℕ) (bs : List ℕ) → (b == 10) ≡ true → lines_of (b ∷ bs) ≡ [] ∷ lines_of bs
+pub lines_of-lf : (b : ℕ) (bs : List ℕ) → (b == 10) ≡ true → lines_of (b ∷ bs) ≡ [] ∷ lines_of bs
 lines_of-lf b bs h = rw h
 
-lines_of-more : (b : ℕ) (bs : List ℕ) → (b == 10) ≡ false → lines_of (b ∷ bs) ≡ lengthened b (lines_of bs)
+pub lines_of-more : (b : ℕ) (bs : List ℕ) → (b == 10) ≡ false → lines_of (b ∷ bs) ≡ lengthened b (lines_of bs)
 lines_of-more b bs h = rw h
 
 pub lines_of-first : (xs : List ℕ) (n : ℕ) → position_or_len is_lf xs ≡ n → 0 < length xs → lines_of xs ≡ take n xs ∷ lines_of (drop (suc n) xs)

@@ -3,5 +3,6 @@ pub mod Decimals
 pub mod Laws
 pub mod Memory
 pub mod Names
+pub mod ScriptLines
 pub mod Tokens
 pub mod Words

@@ -1,7 +1,7 @@
 //! Spans of a text, and its lines.
-ghost use Rattle.std.specs.Prelude.{◌≡◌, ◌+◌, ◌≤◌, ◌==◌, drop, length, position, IfOk, vec_len};
+ghost use Rattle.std.specs.Prelude.{◌≡◌, ◌+◌, ◌-◌, ◌≤◌, ◌==◌, drop, length, position, IfOk, vec_len};
 ghost use Rattle.std.specs.List.{position_or_len};
-ghost use Rattle.ps_world.specs.Lines.{lines_of};
+ghost use Rattle.ps_text.specs.ScriptLines.{HasReturn, script_lines};
 ghost use Rattle.ps_text.specs.Words.{AreWithin, pieces};
 
 use std::alloc::{AllocError, Global};
@@ -29,18 +29,34 @@ pub(crate) fn line_end(bytes: &[u8], from: usize) -> usize
     from + first_line_feed(rest).unwrap_or(rest.len())
 }
 
-/// The lines of a text, in order, each without the LF that ends it. A last line needs none. The only error is want of memory.
-pub fn lines(alloc: Global, bytes: &[u8]) -> Result<Vec<Span>, AllocError>
-    ensures lines { IfOk result (λ v. pieces bytes.now v.items ≡ lines_of bytes.now) }
+/// Where a line ends that begins at one place and has its LF at another: one CR before the LF isn't of the line. The last line of a
+/// text may have no LF, and then ends with the text.
+fn without_return(bytes: &[u8], from: usize, to: usize) -> usize
+    requires { from ≤ to }
+    ensures within { (from ≤ result) × (result ≤ to) }
+    ensures line { HasReturn bytes.now from to → result ≡ to - 1 }
+    ensures kept { (¬ (HasReturn bytes.now from to)) → result ≡ to }
+{
+    if to < bytes.len() && from < to && bytes[to - 1] == b'\r' {
+        return to - 1;
+    }
+    to
+}
+
+/// The lines of a script, in order: each ends at an LF, and one CR before that LF is dropped. The last line needs no LF, and a CR at
+/// its end stays. The only error is want of memory.
+pub fn script_lines(alloc: Global, bytes: &[u8]) -> Result<Vec<Span>, AllocError>
+    ensures lines { IfOk result (λ v. pieces bytes.now v.items ≡ script_lines bytes.now) }
     ensures within { IfOk result (λ v. AreWithin bytes.now v.items) }
     ensures few { IfOk result (λ v. vec_len v ≤ length bytes.now) }
 {
     let mut spans = Vec::new(alloc);
     let mut from = 0;
     while from < bytes.len() {
-        let to = line_end(bytes, from);
+        let lf = line_end(bytes, from);
+        let to = without_return(bytes, from, lf);
         spans.push(Span { from, to })?;
-        from = if to < bytes.len() { to + 1 } else { to };
+        from = if lf < bytes.len() { lf + 1 } else { lf };
     }
     Ok(spans)
 }

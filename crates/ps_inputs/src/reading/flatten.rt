@@ -9,7 +9,7 @@ ghost use Rattle.ps_inputs.specs.declared.reading.flatten.Flattened.TheVariants.
 use super::files::read_text;
 use crate::faults::{Fault, Stop};
 use ps_script::{FileName, Kind, kind_of};
-use ps_text::{Files, Words, lines};
+use ps_text::{Files, Words, script_lines};
 use ps_world::Seq;
 use std::alloc::{AllocError, Global};
 
@@ -168,7 +168,7 @@ fn walk<F: Files>(
     ensures same { (n : List ℕ) → F.text_of files.new n ≡ F.text_of files.old n }
     ensures later { F.faults files.old ≤ F.faults files.new }
 {
-    let spans = lines(alloc, text)?;
+    let spans = script_lines(alloc, text)?;
     for span in &spans {
         let ended = take(alloc, files, plans, levels, &text[span.from..span.to], all)?;
         if ended {
