@@ -1,13 +1,16 @@
 -- What effects change.
-use Rattle.std.specs.Prelude.{ℕ, ℤ, ◌+ℤ◌, ◌-ℤ◌, Bool, false, not, if◌then◌else◌, Option, Some, None, option_map, option_and_then, Result, Ok, Err, List, [], ◌∷◌, ◌++◌, filter, filter_map, fold, length}
+use Rattle.std.specs.Prelude.{◌≡◌, ℕ, ℤ, ◌+ℤ◌, ◌-ℤ◌, Bool, false, not, if◌then◌else◌, Option, Some, None, option_map, option_and_then, Result, Ok, Err, IsOk, List, [], ◌∷◌, ◌++◌, filter, filter_map, fold, length}
 use Rattle.std.specs.List.{list_any}
 use Rattle.std.specs.Option.{option_or}
 use Rattle.std.specs.BTreeMap.{insert_entry}
 use Rattle.std.specs.BTreeSet.{insert_key}
 use Rattle.ps_world.specs.Facts.{fact_cmp}
+use Rattle.ps_world.specs.Failures.{Gives}
 use Rattle.ps_world.specs.Trees.{ExprTree}
 use Rattle.ps_world.specs.ExprViews.{expr_tree}
 use Rattle.ps_world.specs.Knowledge.{ground, same_fact, value_in}
+use Rattle.ps_world.specs.declared.failures.Failure.{Failure}
+use Rattle.ps_world.specs.declared.failures.Failure.TheVariants.{OutOfMemory}
 use Rattle.ps_world.specs.declared.numbers.Num.{Num}
 use Rattle.ps_world.specs.declared.facts.Fact.{Fact}
 use Rattle.ps_world.specs.declared.actions.NumOp.{NumOp}
@@ -106,3 +109,8 @@ unless None new = Ok new
 -- the knowledge after a list of effects, or its first fault
 abbrev pub effect : Knowledge → List Effect → Result Knowledge EffectRefusal
 effect k es = unless (fault_of_effects k es) (made k es (filter_map (value_set k) es))
+
+-- the answer to a list of effects: the knowledge after it, or its first fault, unless memory ran out, which only effects with no fault meet
+pub record Applies (k : Knowledge) (es : List Effect) (r : Result Knowledge (Failure EffectRefusal)) : Type 0 where
+  pub gives : Gives (λ new. new) r (effect k es)
+  pub memory : r ≡ Err OutOfMemory → IsOk (effect k es)

@@ -15,7 +15,7 @@ use Rattle.ps_world.specs.declared.actions.Effect.{Effect}
 use Rattle.ps_world.specs.declared.actions.Effect.TheVariants.{Add, Delete, Number}
 use Rattle.ps_world.specs.declared.known.Knowledge.{Knowledge}
 use Rattle.ps_action.specs.declared.refusals.EffectRefusal.{EffectRefusal}
-use Rattle.ps_action.specs.declared.refusals.EffectRefusal.TheVariants.{Clash, Undefined, Range, OutOfMemory}
+use Rattle.ps_action.specs.declared.refusals.EffectRefusal.TheVariants.{Clash, Undefined, Range}
 use Rattle.ps_action.specs.Values.{in_range}
 use Rattle.ps_action.specs.Effects.{count_after, fault_of_effect, fault_of_effects, effect}
 
@@ -55,7 +55,6 @@ abbrev pub IsOfPlace : ℕ → EffectRefusal → Type 0
 IsOfPlace i (Clash at) = at ≡ i
 IsOfPlace i (Undefined at) = at ≡ i
 IsOfPlace i (Range at) = at ≡ i
-IsOfPlace i OutOfMemory = ⊥
 
 -- it is the fault of the effect at its place, and no effect before that one has a fault
 pub record IsFirstFault (k : Knowledge) (es : List Effect) (r : EffectRefusal) : Type 0 where

@@ -2,7 +2,6 @@ pub mod Effects
 pub mod Grounding
 pub mod Laws
 pub mod Plans
-pub mod Refusals
 pub mod Search
 pub mod Texts
 pub mod Truth

@@ -1,11 +1,9 @@
 //! The slow functions that equal the definitions. `ps_eval` has the fast ones.
-ghost use Rattle.std.specs.Prelude.{◌≡◌, Ok, IfOk, IfErr, IsOk};
+ghost use Rattle.std.specs.Prelude.{◌≡◌, IfOk};
 ghost use Rattle.ps_world.specs.CondViews.{cond_tree};
 ghost use Rattle.ps_world.specs.declared.domains.Domain.{Domain as DomainView};
-ghost use Rattle.ps_action.specs.Effects.{effect, made};
-ghost use Rattle.ps_action.specs.Refusals.{RefusesEffects};
+ghost use Rattle.ps_action.specs.Effects.{Applies, made};
 ghost use Rattle.ps_action.specs.Truth.{HasNoType, is_true};
-ghost use Rattle.ps_action.specs.declared.refusals.EffectRefusal.TheVariants.{OutOfMemory};
 
 mod lists;
 
@@ -14,7 +12,7 @@ use crate::effects::{fault_of_effects, values_set};
 use crate::known::Types;
 use crate::refusals::EffectRefusal;
 use crate::truth::is_true;
-use ps_world::{Cond, Duplicate, Effect, Fact, Knowledge, Name, Num, Seq};
+use ps_world::{Cond, Duplicate, Effect, Fact, Failure, Knowledge, Name, Num, Seq};
 use std::alloc::{AllocError, Global};
 
 /// The types of a domain that declares nothing, where each type stands below itself alone.
@@ -41,19 +39,16 @@ pub fn holds_plain(known: &Knowledge, cond: &Cond) -> bool
 /// The knowledge after a list of effects, all of which read what is known before: deletes are made first, then adds, then new values.
 ///
 /// It is refused at the first effect, in the order of the list, that has a fault; the faults of one effect come in this order:
-/// `Clash` where an earlier effect gives the same term a value, `Undefined`, `Range`. `OutOfMemory` comes only where nothing else
-/// refuses the effects.
+/// `Clash` where an earlier effect gives the same term a value, `Undefined`, `Range`.
 pub fn apply_plain(
     alloc: Global,
     known: &Knowledge,
     effects: &[Effect],
-) -> Result<Knowledge, EffectRefusal>
-    ensures ok { IfOk result (λ new. effect known.now effects.now ≡ Ok new) }
-    ensures cause { IfErr result (λ r. RefusesEffects r (effect known.now effects.now)) }
-    ensures memory { IfErr result (λ r. r ≡ OutOfMemory → IsOk (effect known.now effects.now)) }
+) -> Result<Knowledge, Failure<EffectRefusal>>
+    ensures { Applies known.now effects.now result }
 {
     if let Some(fault) = fault_of_effects(known, effects) {
-        return Err(fault);
+        return Err(Failure::Refused(fault));
     }
     let ready = values_set(alloc, known, effects)?;
     Ok(make(alloc, known, effects, &ready)?)

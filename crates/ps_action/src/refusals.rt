@@ -1,11 +1,5 @@
-//! Why effects aren't made, an act isn't grounded, or a plan isn't good. Want of memory is always outermost.
-ghost use Rattle.std.specs.Prelude.{◌≡◌};
-ghost use Rattle.ps_action.specs.declared.refusals.EffectRefusal.TheVariants.{OutOfMemory as EffectMemory};
-ghost use Rattle.ps_action.specs.declared.refusals.GroundRefusal.TheVariants.{OutOfMemory as GroundMemory};
-ghost use Rattle.ps_action.specs.declared.refusals.PlanRefusal.TheVariants.{OutOfMemory as PlanMemory};
-
+//! Why effects aren't made, an act isn't grounded, or a plan isn't good.
 use ps_world::Name;
-use std::alloc::{AllocError, AllocFailed};
 
 /// Why a list of effects isn't made. Effects are counted from 0.
 #[derive(Clone, Copy, PartialEq, Eq, Debug)]
@@ -16,8 +10,6 @@ pub enum EffectRefusal {
     Undefined { at: usize },
     /// The new value is out of range.
     Range { at: usize },
-    /// Want of memory.
-    OutOfMemory,
 }
 
 /// Why an act isn't grounded. Arguments are counted from 0.
@@ -31,8 +23,6 @@ pub enum GroundRefusal {
     NoInstance(Name),
     /// The type of the argument isn't the parameter's or below it.
     WrongType { at: usize },
-    /// Want of memory.
-    OutOfMemory,
 }
 
 /// Why a plan isn't good. Steps are counted from 0.
@@ -54,54 +44,4 @@ pub enum PlanRefusal {
     EndEffect(u32, EffectRefusal),
     /// The goal doesn't hold after the last step.
     GoalFalse,
-    /// Want of memory.
-    OutOfMemory,
-}
-
-impl From<AllocError> for EffectRefusal {
-    ghost from_gives = { λ _ r. r ≡ EffectMemory };
-
-    fn from(_error: AllocError) -> EffectRefusal {
-        EffectRefusal::OutOfMemory
-    }
-}
-
-impl<T: Drop> From<AllocFailed<T>> for EffectRefusal {
-    ghost from_gives = { λ _ r. r ≡ EffectMemory };
-
-    fn from(_error: AllocFailed<T>) -> EffectRefusal {
-        EffectRefusal::OutOfMemory
-    }
-}
-
-impl From<AllocError> for GroundRefusal {
-    ghost from_gives = { λ _ r. r ≡ GroundMemory };
-
-    fn from(_error: AllocError) -> GroundRefusal {
-        GroundRefusal::OutOfMemory
-    }
-}
-
-impl<T: Drop> From<AllocFailed<T>> for GroundRefusal {
-    ghost from_gives = { λ _ r. r ≡ GroundMemory };
-
-    fn from(_error: AllocFailed<T>) -> GroundRefusal {
-        GroundRefusal::OutOfMemory
-    }
-}
-
-impl From<AllocError> for PlanRefusal {
-    ghost from_gives = { λ _ r. r ≡ PlanMemory };
-
-    fn from(_error: AllocError) -> PlanRefusal {
-        PlanRefusal::OutOfMemory
-    }
-}
-
-impl<T: Drop> From<AllocFailed<T>> for PlanRefusal {
-    ghost from_gives = { λ _ r. r ≡ PlanMemory };
-
-    fn from(_error: AllocFailed<T>) -> PlanRefusal {
-        PlanRefusal::OutOfMemory
-    }
 }
