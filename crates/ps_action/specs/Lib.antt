@@ -1,8 +1,12 @@
+pub mod ArcTables
+pub mod Arcs
 pub mod Effects
 pub mod Grounding
 pub mod Laws
 pub mod Plans
 pub mod Search
 pub mod Texts
+pub mod Touching
+pub mod Trees
 pub mod Truth
 pub mod Values
