@@ -31,6 +31,7 @@ is_line-query names query.ProblemPredicates h = refl
 is_line-query names query.ProblemFunctions h = refl
 is_line-query names query.ProblemGoal h = refl
 is_line-query names query.Plan h = refl
+is_line-query names query.Tree h = refl
 
 is_line-cause : (cause : LineCause) → is_line (line_cause_text cause) ≡ true
 is_line-cause (line.Lex at) = is_line-decimal at
@@ -38,7 +39,6 @@ is_line-cause (line.Number at) = is_line-decimal at
 is_line-cause line.Command = refl
 is_line-cause (line.Shape at) = is_line-decimal at
 is_line-cause line.Nest = refl
-is_line-cause line.NotBuilt = refl
 
 is_line-refusal : (names : Table) (r : Refusal) → AreLines names → is_line (refusal_text names r) ≡ true
 is_line-refusal names (refusal.Line cause) h = is_line-cause cause
@@ -49,6 +49,8 @@ is_line-refusal names refusal.NoGoal h = refl
 is_line-refusal names refusal.NoPlan h = refl
 is_line-refusal names (refusal.Spent depth) h = is_line-decimal depth
 is_line-refusal names refusal.TooMany h = refl
+is_line-refusal names refusal.NoRun h = refl
+is_line-refusal names refusal.NotBuilt h = refl
 
 is_line-by : (by : By) (rest : List ℕ) → is_line rest ≡ true → is_line (by_text by ++ rest) ≡ true
 is_line-by (Terminal n) rest h = is_line-append (decimal n) rest (is_line-decimal n) h

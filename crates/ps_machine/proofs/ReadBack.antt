@@ -114,6 +114,7 @@ are_lines-answer names d budget k query.ProblemFunctions h =
     are_lines-in_order (map (λ v. value_text names v.0 v.1) k.values) (are_lines-map (λ v. value_text names v.0 v.1) k.values (λ v. is_line-value names v.0 v.1 h))
 are_lines-answer names d budget k query.ProblemGoal h = are_lines-one (goal_line names k.goal) (is_line-goal_line names k.goal h)
 are_lines-answer names d budget k query.Plan h = are_lines-plan names d k (answered_by d k budget) h
+are_lines-answer names d budget k query.Tree h = refl
 
 are_lines-replies : (names : Table) (d : Domain) (budget : ℕ) (k : Knowledge) (e : Event) → AreLines names → are_lines (reply_lines names d budget k e) ≡ true
 are_lines-replies names d budget k (event.Edit by edit) h = refl

@@ -85,35 +85,33 @@ unplanned answer.TooMany = Some refusal.TooMany
 abbrev pub refusal_of_plan : Domain → ℕ → Knowledge → Option Refusal
 refusal_of_plan d budget k = if is_none k.goal then Some refusal.NoGoal else unplanned (answered_by d k budget)
 
--- why a query is refused, if it is: what it asks for isn't declared, or there is no plan
+-- why a query is refused, if it is: what it asks for isn't declared, there is no plan, or no run, whose tree it asks for
 abbrev pub refusal_of_query : Domain → ℕ → Knowledge → Query → Option Refusal
 refusal_of_query d budget k (query.ModelPredicate n) = if is_none (predicate_of d n) then Some refusal.NoPredicate else None
 refusal_of_query d budget k (query.ModelAction n) = if is_none (action_of d n) then Some refusal.NoAction else None
 refusal_of_query d budget k query.Plan = refusal_of_plan d budget k
+refusal_of_query d budget k query.Tree = Some refusal.NoRun
 refusal_of_query d budget k q = None
 
--- why the line is refused, if it is
+-- why the line is refused, if it is; a session can't open runs yet
 abbrev pub refusal_of : Domain → ℕ → Knowledge → Line → Option Refusal
 refusal_of d budget k (Bad cause) = Some (refusal.Line cause)
 refusal_of d budget k (Good (command.Edit edit)) = edit_refusal (edited d k edit)
 refusal_of d budget k (Good (command.Ask q)) = refusal_of_query d budget k q
+refusal_of d budget k (Good command.Run) = Some refusal.NotBuilt
+refusal_of d budget k (Good (command.RunAction act)) = Some refusal.NotBuilt
+refusal_of d budget k (Good command.RunPlan) = Some refusal.NotBuilt
 refusal_of d budget k (Good command.Quit) = None
 
 -- The line with number n, counted from 1, is the next one, and is this edit.
 abbrev pub is_edit : Table → Edit → Option Line → Bool
 is_edit names edit (Some (Good (command.Edit said))) = same_text (edit_text names said) (edit_text names edit)
-is_edit names edit (Some (Good (command.Ask q))) = false
-is_edit names edit (Some (Good command.Quit)) = false
-is_edit names edit (Some (Bad cause)) = false
-is_edit names edit None = false
+is_edit names edit line = false
 
 -- whether the line asks this query
 abbrev pub is_query : Table → Query → Option Line → Bool
 is_query names q (Some (Good (command.Ask said))) = same_text (query_text names said) (query_text names q)
-is_query names q (Some (Good (command.Edit edit))) = false
-is_query names q (Some (Good command.Quit)) = false
-is_query names q (Some (Bad cause)) = false
-is_query names q None = false
+is_query names q line = false
 
 -- whether the line ends the session
 abbrev pub is_quit : Option Line → Bool

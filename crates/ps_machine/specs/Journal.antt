@@ -60,6 +60,7 @@ answer_lines names d budget k query.ProblemPredicates = in_order (map (fact_text
 answer_lines names d budget k query.ProblemFunctions = in_order (map (λ v. value_text names v.0 v.1) k.values)
 answer_lines names d budget k query.ProblemGoal = goal_line names k.goal ∷ []
 answer_lines names d budget k query.Plan = plan_lines names d k (answered_by d k budget)
+answer_lines names d budget k query.Tree = []
 
 -- the reply lines of an event, where k is what is known before it; only a query has any
 abbrev pub reply_lines : Table → Domain → ℕ → Knowledge → Event → List (List ℕ)

@@ -1,6 +1,7 @@
 -- What can be printed with a table of so many names: all of whose names the table has.
-use Rattle.std.specs.Prelude.{ℕ}
+use Rattle.std.specs.Prelude.{ℕ, All}
 use Rattle.ps_world.specs.Tables.{IsOf, IsEditOf, IsEditRefusalOf}
+use Rattle.ps_action.specs.declared.acts.Act.{Act}
 use Rattle.ps_machine.specs.declared.inputs.Query.{Query}
 use Rattle.ps_machine.specs.declared.inputs.Query.TheVariants as query
 use Rattle.ps_machine.specs.declared.inputs.Command.TheVariants as command
@@ -17,10 +18,17 @@ IsQueryOf count (query.ModelPredicate n) = IsOf count n
 IsQueryOf count (query.ModelAction n) = IsOf count n
 IsQueryOf count q = Unit {0}
 
+-- an act's names are
+abbrev pub IsActOf : ℕ → Act → Type 0
+IsActOf count act = IsOf count act.action × All (IsOf count) act.args
+
 -- a line's names are
 abbrev pub IsLineOf : ℕ → Line → Type 0
 IsLineOf count (Good (command.Edit edit)) = IsEditOf count edit
 IsLineOf count (Good (command.Ask q)) = IsQueryOf count q
+IsLineOf count (Good command.Run) = Unit {0}
+IsLineOf count (Good (command.RunAction act)) = IsActOf count act
+IsLineOf count (Good command.RunPlan) = Unit {0}
 IsLineOf count (Good command.Quit) = Unit {0}
 IsLineOf count (Bad cause) = Unit {0}
 
@@ -34,8 +42,10 @@ IsRefusalOf count refusal.NoGoal = Unit {0}
 IsRefusalOf count refusal.NoPlan = Unit {0}
 IsRefusalOf count (refusal.Spent depth) = Unit {0}
 IsRefusalOf count refusal.TooMany = Unit {0}
+IsRefusalOf count refusal.NoRun = Unit {0}
+IsRefusalOf count refusal.NotBuilt = Unit {0}
 
--- the names of an event are, and no want of memory stands in it
+-- the names of an event are
 abbrev pub IsEventOf : ℕ → Event → Type 0
 IsEventOf count (event.Edit by edit) = IsEditOf count edit
 IsEventOf count (event.Refused by why) = IsRefusalOf count why

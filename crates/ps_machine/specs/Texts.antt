@@ -29,6 +29,7 @@ query_text names query.ProblemPredicates = codes "get problem predicates"
 query_text names query.ProblemFunctions = codes "get problem functions"
 query_text names query.ProblemGoal = codes "get problem goal"
 query_text names query.Plan = codes "get plan"
+query_text names query.Tree = codes "get tree"
 
 -- the cause for which a line is no command
 abbrev pub line_cause_text : LineCause → List ℕ
@@ -37,7 +38,6 @@ line_cause_text (line.Number at) = codes "Number " ++ decimal at
 line_cause_text line.Command = codes "Command"
 line_cause_text (line.Shape at) = codes "Shape " ++ decimal at
 line_cause_text line.Nest = codes "Nest"
-line_cause_text line.NotBuilt = codes "NotBuilt"
 
 -- the cause of a refusal
 abbrev pub refusal_text : Table → Refusal → List ℕ
@@ -49,6 +49,8 @@ refusal_text names refusal.NoGoal = codes "NoGoal"
 refusal_text names refusal.NoPlan = codes "NoPlan"
 refusal_text names (refusal.Spent depth) = codes "Spent " ++ decimal depth
 refusal_text names refusal.TooMany = codes "TooMany"
+refusal_text names refusal.NoRun = codes "NoRun"
+refusal_text names refusal.NotBuilt = codes "NotBuilt"
 
 -- whose edit it is
 abbrev pub by_text : By → List ℕ

@@ -1,4 +1,5 @@
 //! The input of a session.
+use ps_action::Act;
 use ps_world::{Domain, Duplicate, Edit, Name, Seq};
 use std::alloc::{AllocError, Global};
 
@@ -15,8 +16,6 @@ pub enum LineCause {
     Shape { at: usize },
     /// The file to read stands in too many others.
     Nest,
-    /// The line isn't of a form that this program has yet.
-    NotBuilt,
 }
 
 /// What a line asks for.
@@ -46,6 +45,8 @@ pub enum Query {
     ProblemGoal,
     /// A plan that reaches the goal.
     Plan,
+    /// The tree of the last run's plan.
+    Tree,
 }
 
 /// What a line of the terminal says.
@@ -53,6 +54,12 @@ pub enum Query {
 pub enum Command {
     Edit(Edit),
     Ask(Query),
+    /// A run for the goal.
+    Run,
+    /// A run of one act.
+    RunAction(Act),
+    /// A run of the plan in a file.
+    RunPlan,
     /// Nothing more is read.
     Quit,
 }
@@ -69,6 +76,9 @@ impl Duplicate for Command {
         Ok(match self {
             Command::Edit(edit) => Command::Edit(edit.copy(alloc)?),
             Command::Ask(query) => Command::Ask(*query),
+            Command::Run => Command::Run,
+            Command::RunAction(act) => Command::RunAction(*act),
+            Command::RunPlan => Command::RunPlan,
             Command::Quit => Command::Quit,
         })
     }

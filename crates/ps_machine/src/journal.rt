@@ -27,6 +27,10 @@ pub enum Refusal {
     Spent(u32),
     /// There are too many ground actions.
     TooMany,
+    /// No run has been opened.
+    NoRun,
+    /// A session can't open runs yet.
+    NotBuilt,
 }
 
 /// What happened.
