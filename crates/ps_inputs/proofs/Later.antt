@@ -72,10 +72,14 @@ module _ (m n : ℕ) (h : m ≤ n) where
   query-later query.ProblemFunctions p = p
   query-later query.ProblemGoal p = p
   query-later query.Plan p = p
+  query-later query.Tree p = p
 
   pub line-later : (line : Line) → IsLineOf m line → IsLineOf n line
   line-later (Good (command.Edit edit)) p = edit-later edit p
   line-later (Good (command.Ask q)) p = query-later q p
+  line-later (Good command.Run) p = p
+  line-later (Good (command.RunAction act)) p = (omega (arith, p.0), All-weaker (IsOf m) (IsOf n) (λ x q. omega (arith, q)) act.args p.1)
+  line-later (Good command.RunPlan) p = p
   line-later (Good command.Quit) p = p
   line-later (Bad cause) p = p
 

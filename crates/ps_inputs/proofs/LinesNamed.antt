@@ -234,18 +234,17 @@ pub named_after : (t : Table) (bytes : List ℕ) (r : Read) (after : Table) → 
 named_after t bytes r after n h =
     elim h as (λ r a i. IsNamed t a r) [
       | nothing e ↦ same_table t _ n (All-nil (IsLineOf (length t)))
-      | source file some is e ↦ same_table t _ n (bad_named (length t) NotBuilt)
+      | source file some is e ↦ same_table t _ n (All-nil (IsLineOf (length t)))
       | source_nothing some is e ↦ same_table t _ n (bad_named (length t) _)
       | run_plan file some other is e ↦ record {
         names = with_run_plan_names t n;
         grows = omega (arith, length-interned t (codes "run"), length-interned (interned t (codes "run")) (codes "plan"));
-        named = bad_named (length (with_run_plan t)) NotBuilt;
+        named = All-cons (IsLineOf (length (with_run_plan t))) (Good RunPlan) [] tt (All-nil (IsLineOf (length (with_run_plan t))));
       }
       | run_nothing some other is e ↦ same_table t _ n (bad_named (length t) _)
       | without_class at plain fault ↦ same_table t _ n (bad_named (length t) _)
       | without_number at plain fault ↦ same_table t _ n (bad_named (length t) _)
       | without_form tokens plain are e ↦ same_table t _ n (bad_named (length t) _)
       | without_shape form tokens i plain are is fault ↦ same_table t _ n (bad_named (length t) _)
-      | unbuilt form tokens is e ↦ same_table t _ n (bad_named (length t) _)
       | good form tokens ls a ts command is words spelt e ↦ good_named t bytes form tokens ls a ts command n is.are_tokens words spelt e
     ]

@@ -1,9 +1,10 @@
 -- The lines of a script.
 use Rattle.std.specs.Prelude.{◌≡◌, ℕ, Option, Some, None, List, [], ◌∷◌, ◌++◌}
 use Rattle.ps_world.specs.Names.{Table}
-use Rattle.ps_machine.specs.declared.inputs.LineCause.TheVariants.{Nest, NotBuilt}
+use Rattle.ps_machine.specs.declared.inputs.LineCause.TheVariants.{Nest}
 use Rattle.ps_machine.specs.declared.inputs.Line.{Line}
-use Rattle.ps_machine.specs.declared.inputs.Line.TheVariants.{Bad}
+use Rattle.ps_machine.specs.declared.inputs.Line.TheVariants.{Good, Bad}
+use Rattle.ps_machine.specs.declared.inputs.Command.TheVariants.{RunPlan}
 use Rattle.ps_plan.specs.PlanText.{plan_fault, planned, said_by}
 use Rattle.ps_plan.specs.declared.refusals.PlanTextRefusal.{PlanTextRefusal}
 use Rattle.ps_script.specs.Lines.{IsRead}
@@ -12,13 +13,12 @@ use Rattle.ps_script.specs.declared.reading.Read.TheVariants as read
 use Rattle.ps_inputs.specs.declared.reading.flatten.Flattened.{Flattened}
 use Rattle.ps_inputs.specs.declared.reading.flatten.Flattened.TheVariants.{Text, Plan, TooDeep}
 
--- The lines that a line gives, by what it is read as: none where it says nothing. Plans aren't run, and the lines of other
--- files stand in place of those that name them, so that a line that names a file is a bad line.
+-- The lines that a line gives, by what it is read as: none where it says nothing, or where the lines of a file stand in its place.
 abbrev pub given_by : Read → List Line
 given_by read.Nothing = []
 given_by (read.Line line) = line ∷ []
-given_by (read.Source file) = Bad NotBuilt ∷ []
-given_by (read.RunPlan file) = Bad NotBuilt ∷ []
+given_by (read.Source file) = []
+given_by (read.RunPlan file) = Good RunPlan ∷ []
 
 -- the table after the text of a plan, which gives no names where it has a fault
 abbrev pub unless_faulty : Table → List ℕ → Option PlanTextRefusal → Table

@@ -53,6 +53,7 @@ fn push_query(names: &Names, query: &Query, text: &mut Vec<u8>) -> Result<(), Al
         Query::ProblemFunctions => text.extend_from_slice(b"get problem functions")?,
         Query::ProblemGoal => text.extend_from_slice(b"get problem goal")?,
         Query::Plan => text.extend_from_slice(b"get plan")?,
+        Query::Tree => text.extend_from_slice(b"get tree")?,
     }
     Ok(())
 }
@@ -67,7 +68,6 @@ fn push_line_cause(alloc: Global, cause: &LineCause, text: &mut Vec<u8>) -> Resu
         LineCause::Command => text.extend_from_slice(b"Command")?,
         LineCause::Shape { at } => push_number_after(alloc, b"Shape ", *at as u64, text)?,
         LineCause::Nest => text.extend_from_slice(b"Nest")?,
-        LineCause::NotBuilt => text.extend_from_slice(b"NotBuilt")?,
     }
     Ok(())
 }
@@ -90,6 +90,8 @@ fn push_refusal(
         Refusal::NoPlan => text.extend_from_slice(b"NoPlan")?,
         Refusal::Spent(depth) => push_number_after(alloc, b"Spent ", u64::from(*depth), text)?,
         Refusal::TooMany => text.extend_from_slice(b"TooMany")?,
+        Refusal::NoRun => text.extend_from_slice(b"NoRun")?,
+        Refusal::NotBuilt => text.extend_from_slice(b"NotBuilt")?,
     }
     Ok(())
 }

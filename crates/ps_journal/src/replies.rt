@@ -65,6 +65,7 @@ fn push_answer(
         Query::ProblemFunctions => push_values(alloc, names, problem, text),
         Query::ProblemGoal => push_goal(alloc, names, problem.goal(), text),
         Query::Plan => push_steps(names, steps, text),
+        Query::Tree => Ok(()),
     }
 }
 

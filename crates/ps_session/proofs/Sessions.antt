@@ -90,6 +90,9 @@ legal-query i names es query (Some r) e h = rw (eq-eqb (answered es + 1) (answer
 legal-event_of : (i : Input) (names : Table) (es : List Entry) (line : Line) → next_line i es ≡ Some line → is_legal names i es (event_of i.domain i.budget (know i es) (answered es + 1) line) ≡ true
 legal-event_of i names es (Good (command.Edit edit)) h = legal-edit i names es edit (edited i.domain (know i es) edit) refl h
 legal-event_of i names es (Good (command.Ask query)) h = legal-query i names es query (refusal_of_query i.domain i.budget (know i es) query) refl h
+legal-event_of i names es (Good command.Run) h = rw (eq-eqb (answered es + 1) (answered es + 1) refl, h) (same_text-self (refusal_text names refusal.NotBuilt))
+legal-event_of i names es (Good (command.RunAction act)) h = rw (eq-eqb (answered es + 1) (answered es + 1) refl, h) (same_text-self (refusal_text names refusal.NotBuilt))
+legal-event_of i names es (Good command.RunPlan) h = rw (eq-eqb (answered es + 1) (answered es + 1) refl, h) (same_text-self (refusal_text names refusal.NotBuilt))
 legal-event_of i names es (Good command.Quit) h = rw h refl
 legal-event_of i names es (Bad cause) h = rw (eq-eqb (answered es + 1) (answered es + 1) refl, h) (same_text-self (refusal_text names (refusal.Line cause)))
 
@@ -99,6 +102,9 @@ answers_line-event_of d budget k n (Good (command.Edit edit)) =
     elim (edited d k edit) as (λ o. answers_line (edit_event (Terminal n) edit o) ≡ true) [ Ok new ↦ refl | Err r ↦ refl ]
 answers_line-event_of d budget k n (Good (command.Ask query)) =
     elim (refusal_of_query d budget k query) as (λ o. answers_line (query_event (Terminal n) query o) ≡ true) [ None ↦ refl | Some r ↦ refl ]
+answers_line-event_of d budget k n (Good command.Run) = refl
+answers_line-event_of d budget k n (Good (command.RunAction act)) = refl
+answers_line-event_of d budget k n (Good command.RunPlan) = refl
 answers_line-event_of d budget k n (Good command.Quit) = refl
 answers_line-event_of d budget k n (Bad cause) = refl
 
@@ -108,6 +114,9 @@ has_hand-event_of d budget k n (Good (command.Edit edit)) =
     elim (edited d k edit) as (λ o. has_hand (edit_event (Terminal n) edit o) 0 ≡ true) [ Ok new ↦ refl | Err r ↦ refl ]
 has_hand-event_of d budget k n (Good (command.Ask query)) =
     elim (refusal_of_query d budget k query) as (λ o. has_hand (query_event (Terminal n) query o) 0 ≡ true) [ None ↦ refl | Some r ↦ refl ]
+has_hand-event_of d budget k n (Good command.Run) = refl
+has_hand-event_of d budget k n (Good (command.RunAction act)) = refl
+has_hand-event_of d budget k n (Good command.RunPlan) = refl
 has_hand-event_of d budget k n (Good command.Quit) = refl
 has_hand-event_of d budget k n (Bad cause) = refl
 

@@ -36,5 +36,8 @@ query_event by q (Some why) = event.Refused by why
 abbrev pub event_of : Domain → ℕ → Knowledge → ℕ → Line → Event
 event_of d budget k n (Good (command.Edit edit)) = edit_event (Terminal n) edit (edited d k edit)
 event_of d budget k n (Good (command.Ask q)) = query_event (Terminal n) q (refusal_of_query d budget k q)
+event_of d budget k n (Good command.Run) = event.Refused (Terminal n) refusal.NotBuilt
+event_of d budget k n (Good (command.RunAction act)) = event.Refused (Terminal n) refusal.NotBuilt
+event_of d budget k n (Good command.RunPlan) = event.Refused (Terminal n) refusal.NotBuilt
 event_of d budget k n (Good command.Quit) = event.Quit
 event_of d budget k n (Bad cause) = event.Refused (Terminal n) (refusal.Line cause)

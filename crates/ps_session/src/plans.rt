@@ -65,6 +65,7 @@ pub fn answer_query(
             let answered = answer_plan(alloc, expert, problem, budget, by)?;
             Ok(answered)
         }
+        Query::Tree => Ok(Answered::refusing(alloc, by, Refusal::NoRun)),
         Query::ModelPredicate(name) if expert.predicate(name).is_none() => {
             Ok(Answered::refusing(alloc, by, Refusal::NoPredicate))
         }

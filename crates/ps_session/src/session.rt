@@ -169,6 +169,9 @@ fn answer(
             let answered = answer_query(alloc, expert, problem, budget, by, *query)?;
             Ok(answered)
         }
+        Line::Good(Command::Run | Command::RunAction(_) | Command::RunPlan) => {
+            Ok(Answered::refusing(alloc, by, Refusal::NotBuilt))
+        }
         Line::Good(Command::Quit) => Ok(Answered::without_plan(alloc, Event::Quit)),
         Line::Bad(cause) => Ok(Answered::refusing(alloc, by, Refusal::Line(*cause))),
     }

@@ -23,9 +23,7 @@ use Rattle.ps_validate.specs.declared.verdicts.Invalid.TheVariants.{Text, Plan}
 -- the knowledge after a line: a refused edit changes nothing, and no other line does
 abbrev pub after_line : Domain → Knowledge → Line → Knowledge
 after_line d k (Good (command.Edit edit)) = result_unwrap_or (edited d k edit) k
-after_line d k (Good (command.Ask q)) = k
-after_line d k (Good command.Quit) = k
-after_line d k (Bad cause) = k
+after_line d k line = k
 
 -- the knowledge after all edits of a script
 abbrev pub known_after : Domain → List Line → Knowledge

@@ -6,7 +6,7 @@ ghost use Rattle.ps_inputs.specs.Scripts.{Adds, IsScript, given_by, table_after_
 ghost use Rattle.ps_machine.specs.declared.inputs.Line.{Line as LineView};
 
 use super::flatten::Flattened;
-use ps_machine::{Line, LineCause};
+use ps_machine::{Command, Line, LineCause};
 use ps_plan::{PlanTextRefusal, read_plan};
 use ps_script::{Read, read_line};
 use ps_text::Names;
@@ -18,13 +18,13 @@ fn push_read(read: Read, all: &mut Vec<Line>) -> Result<(), AllocError>
     ensures { OnOk result (all.new.items ≡ all.old.items ++ given_by read) }
 {
     match read {
-        Read::Nothing => Ok(()),
+        Read::Nothing | Read::Source(_) => Ok(()),
         Read::Line(line) => {
             all.push(line)?;
             Ok(())
         }
-        Read::Source(_) | Read::RunPlan(_) => {
-            all.push(Line::Bad(LineCause::NotBuilt))?;
+        Read::RunPlan(_) => {
+            all.push(Line::Good(Command::RunPlan))?;
             Ok(())
         }
     }
@@ -69,7 +69,7 @@ fn push_one(
 /// The lines that the command lines of a script are, in order.
 ///
 /// The names of good lines are put into the table, and `run` and `plan` of a line that runs the plan in a file, and the names of
-/// that file's text where it was read and has no fault. Such a line is `NotBuilt`.
+/// that file's text where it was read and has no fault.
 /// The only error is want of memory.
 pub fn read_script(
     alloc: Global,
