@@ -1,5 +1,5 @@
 //! The table of names.
-ghost use Rattle.std.specs.Prelude.{◌≡◌, ◌<◌, ◌∷◌, [], None, Some, codes, length, not, position, slice_get, IfOk, OnOk, OnErr};
+ghost use Rattle.std.specs.Prelude.{◌≡◌, ◌<◌, ◌∷◌, [], None, Some, codes, length, not, position, slice_get, take, IfOk, OnOk, OnErr};
 ghost use Rattle.ps_world.specs.Failures.{refusal_of};
 ghost use Rattle.ps_text.specs.Names.{AreNames, bad_place, folded, interned, is_name, is_name_byte, name_fault, place_of};
 
@@ -121,6 +121,14 @@ impl Names {
         let folded = lower_case(*self.texts.allocator(), text)?;
         let (place, _) = self.texts.insert_full(folded)?;
         Ok(Name(place as u64))
+    }
+
+    /// Keeps the first `len` names, and drops the others.
+    pub fn cut_back(&mut self, len: usize)
+        requires { 0 < len }
+        ensures { self.new ≡ take len self.old }
+    {
+        self.texts.truncate(len);
     }
 
     /// How many names.
