@@ -8,8 +8,8 @@ ghost use Rattle.ps_forms.specs.Lexemes.{IsTokenOf, fixed_names, keywords, lexem
 ghost use Rattle.ps_forms.specs.Lexemes.{Keeps};
 
 use ps_shape::Mark;
-use ps_text::{Class, NameRefusal, Names, Token, read_number};
-use ps_world::{Name, Num};
+use ps_text::{Class, Names, Token, read_number};
+use ps_world::{Failure, Name, Num};
 use std::alloc::{AllocError, Global};
 
 /// A word of a domain's text.
@@ -196,8 +196,8 @@ fn number_of(names: &mut Names, text: &[u8]) -> Result<Name, AllocError>
 {
     match names.intern(text) {
         Ok(name) => Ok(name),
-        Err(NameRefusal::OutOfMemory) => Err(AllocError),
-        Err(_) => unreachable!(),
+        Err(Failure::OutOfMemory) => Err(AllocError),
+        Err(Failure::Refused(_)) => unreachable!(),
     }
 }
 

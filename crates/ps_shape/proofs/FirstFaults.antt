@@ -1,9 +1,12 @@
 -- What one mark after a clear beginning says of the whole list, whatever was wanted before it.
-use Rattle.std.proofs.Common.{◌≡◌, ℕ, ◌+◌, ◌<◌, ◌≤◌, List, [], ◌∷◌, length, take, Option, None, Some, slice_get, unwrap_or, refl, sym, ◌∙◌, ap, subst, inl, inr, arith}
+use Rattle.std.proofs.Common.{◌≡◌, ℕ, ◌+◌, ◌<◌, ◌≤◌, List, [], ◌∷◌, length, take, Option, None, Some, IfSome, Result, Ok, Err, slice_get, unwrap_or, refl, sym, ◌∙◌, ap, subst, inl, inr, arith}
 use Rattle.std.specs.Option.{option_and_then}
 use Rattle.std.proofs.lemmas.Bool.{cases_lt}
 use Rattle.std.proofs.lemmas.List.{take_all, take-take}
 use Rattle.std.proofs.lemmas.Option.{slice_get_within, slice_get_past}
+use Rattle.ps_world.specs.Failures.{refusal_of}
+use Rattle.ps_world.specs.declared.failures.Failure.{Failure}
+use Rattle.ps_world.specs.declared.failures.Failure.TheVariants.{Refused, OutOfMemory}
 use Rattle.ps_shape.specs.Fronts.{IsFirstMisfit}
 use Rattle.ps_shape.specs.Symbols.{level}
 use Rattle.ps_shape.specs.Forms.{unsupported}
@@ -13,7 +16,7 @@ use Rattle.ps_shape.specs.declared.marks.Mark.{Mark}
 use Rattle.ps_shape.specs.declared.marks.Mark.TheVariants.{Open}
 use Rattle.ps_shape.specs.declared.symbols.Symbol.{Symbol}
 use Rattle.ps_shape.specs.declared.faults.ShapeFault.{ShapeFault}
-use Rattle.ps_shape.specs.declared.faults.ShapeFault.TheVariants.{Unsupported, Depth, Unexpected, OutOfMemory}
+use Rattle.ps_shape.specs.declared.faults.ShapeFault.TheVariants.{Unsupported, Depth, Unexpected}
 use Rattle.ps_shape.proofs.Places.{slice_get-take, slice_get-take_past, take_one_more}
 use Rattle.ps_shape.proofs.Runs.{run_more, run_of_front, front_of_run, derived_of_run, run_of_derived}
 
@@ -88,7 +91,7 @@ shallow_more : (start : List Symbol) (ms : List Mark) (at : ℕ) (st : List Symb
 shallow_more start ms at st m r here flat = shallow start ms (at + 1) (flat_more start ms at st m r here flat)
 
 -- the fault at a mark is the first fault of the text
-pub refuses : (r : ShapeFault) (ms : List Mark) (at : ℕ) (st : List Symbol) (m : Mark) → Reached text_start ms at st → slice_get ms at ≡ Some m → Fails st m (slice_get ms (at + 1)) at r → Refuses r ms
+refuses : (r : ShapeFault) (ms : List Mark) (at : ℕ) (st : List Symbol) (m : Mark) → Reached text_start ms at st → slice_get ms at ≡ Some m → Fails st m (slice_get ms (at + 1)) at r → Refuses r ms
 refuses (Unsupported place what) ms at st m r here fails = (
   at,
   fails.0,
@@ -110,7 +113,12 @@ refuses (Unexpected place) ms at st m r here fails =
       shallow = shallow_more text_start ms at st m r here fails.2;
       supported = form_is ms at st m r.fits here ∙ fails.3;
     })
-refuses OutOfMemory ms at st m r here fails = tt
+
+-- an answer that tells the fault at a mark tells the first fault of the text
+pub refused : (answer : Result (Unit {0}) (Failure ShapeFault)) (ms : List Mark) (at : ℕ) (st : List Symbol) (m : Mark) → Reached text_start ms at st → slice_get ms at ≡ Some m → IfSome (refusal_of answer) (λ r. Fails st m (slice_get ms (at + 1)) at r) → IfSome (refusal_of answer) (λ r. Refuses r ms)
+refused (Ok value) ms at st m r here fails = tt
+refused (Err (Refused fault)) ms at st m r here fails = refuses fault ms at st m r here fails
+refused (Err OutOfMemory) ms at st m r here fails = tt
 
 whole_run : (start : List Symbol) (ms : List Mark) (at : ℕ) (st : List Symbol) → length ms ≤ at → Reached start ms at st → run start ms ≡ Some st
 whole_run start ms at st past r = ap (λ x. run start x) (sym (take_all at ms past)) ∙ r.fits

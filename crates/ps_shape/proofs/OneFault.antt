@@ -1,5 +1,5 @@
 -- A text's fault is the only one, is told by the marks up to it, and is none of a domain's text.
-use Rattle.std.proofs.Common.{◌≡◌, ℕ, ◌+◌, ◌<◌, ◌≤◌, List, [], ◌++◌, length, take, drop, None, Some, refl, sym, ◌∙◌, ap, subst, inl, inr, append_assoc, append-nil, arith}
+use Rattle.std.proofs.Common.{◌≡◌, ℕ, ◌+◌, ◌<◌, ◌≤◌, List, [], ◌++◌, length, take, drop, None, Some, sym, ◌∙◌, ap, subst, inl, inr, append_assoc, append-nil, arith}
 use Rattle.std.proofs.lemmas.Bool.{cases_lt}
 use Rattle.std.proofs.lemmas.List.{take_all, take-take, take-append-drop}
 use Rattle.std.proofs.lemmas.Option.{slice_get_within}
@@ -11,7 +11,7 @@ use Rattle.ps_shape.specs.Shape.{Derives, IsDomainShape, IsTooDeepFrom, IsShallo
 use Rattle.ps_shape.specs.declared.marks.Mark.{Mark}
 use Rattle.ps_shape.specs.declared.marks.Mark.TheVariants.{Open}
 use Rattle.ps_shape.specs.declared.symbols.Symbol.{Symbol}
-use Rattle.ps_shape.specs.declared.faults.ShapeFault.TheVariants.{Unsupported, Depth, Unexpected, OutOfMemory}
+use Rattle.ps_shape.specs.declared.faults.ShapeFault.TheVariants.{Unsupported, Depth, Unexpected}
 use Rattle.ps_shape.proofs.Places.{slice_get-take}
 
 -- a beginning of a front is a front
@@ -53,37 +53,33 @@ depth_order ms a b x y =
     ]
 
 pub faults_are_first : FaultsAreFirst
-faults_are_first OutOfMemory s ms due _ x y = absurd (due refl)
-faults_are_first (Unsupported at what) OutOfMemory ms _ due x y = absurd (due refl)
-faults_are_first (Depth at) OutOfMemory ms _ due x y = absurd (due refl)
-faults_are_first (Unexpected at) OutOfMemory ms _ due x y = absurd (due refl)
-faults_are_first (Unsupported at what) (Unsupported there other) ms _ _ x y =
+faults_are_first (Unsupported at what) (Unsupported there other) ms x y =
     let same : x.0 ≡ y.0 = same_misfit ms x.0 y.0 x.2.misfit y.2.misfit in
     let form : form_here ms x.0 ≡ Some other = subst (λ (k : ℕ). form_here ms k ≡ Some other) (sym same) y.2.form in
     let one : Some what ≡ Some other = sym x.2.form ∙ form in
     let what_is : what ≡ other = cc in
     let here : at ≡ there = x.1 ∙ ap (λ f. told_at f x.0) what_is ∙ ap (λ k. told_at other k) same ∙ sym y.1 in
     cc
-faults_are_first (Unsupported at what) (Depth there) ms _ _ x y = absurd (misfit_after_depth ms there x.0 y x.2.misfit x.2.shallow)
-faults_are_first (Unsupported at what) (Unexpected there) ms _ _ x y =
+faults_are_first (Unsupported at what) (Depth there) ms x y = absurd (misfit_after_depth ms there x.0 y x.2.misfit x.2.shallow)
+faults_are_first (Unsupported at what) (Unexpected there) ms x y =
     let same : x.0 ≡ there = same_misfit ms x.0 there x.2.misfit y.misfit in
     let form : form_here ms there ≡ Some what = subst (λ (k : ℕ). form_here ms k ≡ Some what) same x.2.form in
     let none : form_here ms there ≡ None = y.supported in
     cc
-faults_are_first (Depth at) (Unsupported there other) ms _ _ x y = absurd (misfit_after_depth ms at y.0 x y.2.misfit y.2.shallow)
-faults_are_first (Depth at) (Depth there) ms _ _ x y =
+faults_are_first (Depth at) (Unsupported there other) ms x y = absurd (misfit_after_depth ms at y.0 x y.2.misfit y.2.shallow)
+faults_are_first (Depth at) (Depth there) ms x y =
     let h : there ≤ at = depth_order ms at there x y in
     let k : at ≤ there = depth_order ms there at y x in
     let same : at ≡ there = omega arith in
     ap Depth same
-faults_are_first (Depth at) (Unexpected there) ms _ _ x y = absurd (misfit_after_depth ms at there x y.misfit y.shallow)
-faults_are_first (Unexpected at) (Unsupported there other) ms _ _ x y =
+faults_are_first (Depth at) (Unexpected there) ms x y = absurd (misfit_after_depth ms at there x y.misfit y.shallow)
+faults_are_first (Unexpected at) (Unsupported there other) ms x y =
     let same : at ≡ y.0 = same_misfit ms at y.0 x.misfit y.2.misfit in
     let form : form_here ms at ≡ Some other = subst (λ (k : ℕ). form_here ms k ≡ Some other) (sym same) y.2.form in
     let none : form_here ms at ≡ None = x.supported in
     cc
-faults_are_first (Unexpected at) (Depth there) ms _ _ x y = absurd (misfit_after_depth ms there at y x.misfit x.shallow)
-faults_are_first (Unexpected at) (Unexpected there) ms _ _ x y = ap Unexpected (same_misfit ms at there x.misfit y.misfit)
+faults_are_first (Unexpected at) (Depth there) ms x y = absurd (misfit_after_depth ms there at y x.misfit x.shallow)
+faults_are_first (Unexpected at) (Unexpected there) ms x y = ap Unexpected (same_misfit ms at there x.misfit y.misfit)
 
 -- a list of the language has no misfit
 no_misfit : (L : List Mark → Type 0) (ms : List Mark) (at : ℕ) → IsFirstMisfit L ms at → L ms → ⊥
@@ -94,10 +90,9 @@ no_misfit L ms at bad good =
     bad.end here good
 
 pub faults_are_real : FaultsAreReal
-faults_are_real (Unsupported at what) ms _ x good flat = no_misfit IsDomainShape ms x.0 x.2.misfit good
-faults_are_real (Depth at) ms _ x good flat = flat at x.deep
-faults_are_real (Unexpected at) ms _ x good flat = no_misfit IsDomainShape ms at x.misfit good
-faults_are_real OutOfMemory ms due x good flat = absurd (due refl)
+faults_are_real (Unsupported at what) ms x good flat = no_misfit IsDomainShape ms x.0 x.2.misfit good
+faults_are_real (Depth at) ms x good flat = flat at x.deep
+faults_are_real (Unexpected at) ms x good flat = no_misfit IsDomainShape ms at x.misfit good
 
 -- ---- whatever is wanted
 

@@ -20,7 +20,7 @@ use Rattle.ps_shape.specs.declared.symbols.ConditionPart.TheVariants as conditio
 use Rattle.ps_shape.specs.declared.symbols.EffectPart.TheVariants as effect
 use Rattle.ps_shape.specs.declared.faults.Form.{Form}
 use Rattle.ps_shape.specs.declared.faults.Form.TheVariants.{Either}
-use Rattle.ps_shape.specs.declared.faults.ShapeFault.TheVariants.{Unsupported, Depth, Unexpected, OutOfMemory}
+use Rattle.ps_shape.specs.declared.faults.ShapeFault.TheVariants.{Unsupported, Depth, Unexpected}
 use Rattle.ps_shape.proofs.Places.{slice_get-take}
 
 -- two lists that begin alike have the same shorter beginnings
@@ -122,4 +122,3 @@ faults_are_told (Unexpected at) ms others e x =
       | inl h ↦ unexpected_inside at ms others h e x
       | inr h ↦ subst (λ (y : List Mark). IsUnexpected y at) (alike_whole (at + 2) ms others (omega arith) e) x
     ]
-faults_are_told OutOfMemory ms others e x = tt

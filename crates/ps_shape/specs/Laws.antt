@@ -4,14 +4,13 @@ use Rattle.ps_shape.specs.Shape.{Derives, IsDomainShape, IsShallow, IsShallowFro
 use Rattle.ps_shape.specs.declared.marks.Mark.{Mark}
 use Rattle.ps_shape.specs.declared.symbols.Symbol.{Symbol}
 use Rattle.ps_shape.specs.declared.faults.ShapeFault.{ShapeFault}
-use Rattle.ps_shape.specs.declared.faults.ShapeFault.TheVariants.{Unsupported, Depth, Unexpected, OutOfMemory}
+use Rattle.ps_shape.specs.declared.faults.ShapeFault.TheVariants.{Unsupported, Depth, Unexpected}
 
 -- how many marks tell the fault: where a mark fits nothing, the mark after it might have told `either`
 abbrev pub told_by : ShapeFault → ℕ
 told_by (Unsupported at what) = at + 1
 told_by (Depth at) = at + 1
 told_by (Unexpected at) = at + 2
-told_by OutOfMemory = 0
 
 -- A fault is one whatever follows the marks that tell it.
 abbrev pub FaultsAreTold : Type 0
@@ -19,11 +18,11 @@ FaultsAreTold = (r : ShapeFault) (ms others : List Mark) → take (told_by r) ms
 
 -- A text has one fault at most.
 abbrev pub FaultsAreFirst : Type 0
-FaultsAreFirst = (r s : ShapeFault) (ms : List Mark) → (r ≡ OutOfMemory → ⊥) → (s ≡ OutOfMemory → ⊥) → Refuses r ms → Refuses s ms → r ≡ s
+FaultsAreFirst = (r s : ShapeFault) (ms : List Mark) → Refuses r ms → Refuses s ms → r ≡ s
 
 -- A text with a fault is no domain's, or too deep.
 abbrev pub FaultsAreReal : Type 0
-FaultsAreReal = (r : ShapeFault) (ms : List Mark) → (r ≡ OutOfMemory → ⊥) → Refuses r ms → IsDomainShape ms → IsShallow ms → ⊥
+FaultsAreReal = (r : ShapeFault) (ms : List Mark) → Refuses r ms → IsDomainShape ms → IsShallow ms → ⊥
 
 -- Marks have one first fault at most, whatever is wanted.
 abbrev pub FirstFaultsAreOne : Type 0

@@ -12,7 +12,7 @@ use Rattle.ps_shape.specs.declared.symbols.Symbol.TheVariants.{InText}
 use Rattle.ps_shape.specs.declared.symbols.TextPart.TheVariants.{Whole}
 use Rattle.ps_shape.specs.declared.faults.Form.{Form}
 use Rattle.ps_shape.specs.declared.faults.ShapeFault.{ShapeFault}
-use Rattle.ps_shape.specs.declared.faults.ShapeFault.TheVariants.{Unsupported, Depth, Unexpected, OutOfMemory}
+use Rattle.ps_shape.specs.declared.faults.ShapeFault.TheVariants.{Unsupported, Depth, Unexpected}
 
 -- What is wanted, from left to right, derives these marks: each symbol by a rule, from its first mark on.
 pub data Derives : List Symbol → List Mark → Type 0 where
@@ -93,9 +93,8 @@ pub record IsUnexpected (ms : List Mark) (at : ℕ) : Type 0 where
   pub shallow : IsShallow (take (at + 1) ms)
   pub supported : form_here ms at ≡ None
 
--- the error is the first fault of the marks, unless memory ran out
+-- this is the first fault of the marks
 abbrev pub Refuses : ShapeFault → List Mark → Type 0
 Refuses (Unsupported at what) ms = (begins : ℕ) × (at ≡ told_at what begins) × IsUnsupported ms begins what
 Refuses (Depth at) ms = IsDepth ms at
 Refuses (Unexpected at) ms = IsUnexpected ms at
-Refuses OutOfMemory ms = Unit {0}

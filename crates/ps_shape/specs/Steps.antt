@@ -8,7 +8,7 @@ use Rattle.ps_shape.specs.declared.marks.Mark.TheVariants.{Open}
 use Rattle.ps_shape.specs.declared.symbols.Symbol.{Symbol}
 use Rattle.ps_shape.specs.declared.faults.Form.{Form}
 use Rattle.ps_shape.specs.declared.faults.ShapeFault.{ShapeFault}
-use Rattle.ps_shape.specs.declared.faults.ShapeFault.TheVariants.{Unsupported, Depth, Unexpected, OutOfMemory}
+use Rattle.ps_shape.specs.declared.faults.ShapeFault.TheVariants.{Unsupported, Depth, Unexpected}
 
 -- the mark opens a level too many
 abbrev pub IsOver : List Symbol → Mark → Type 0
@@ -26,9 +26,8 @@ Stops st m = IsOver st m ⊎ (next_wanted st m ≡ None)
 abbrev pub form_of : List Symbol → Mark → Option Mark → Option Form
 form_of st m after = unsupported (slice_get st 0) m after
 
--- the error is the fault at this mark, unless memory ran out
+-- this is the fault at the mark
 abbrev pub Fails : List Symbol → Mark → Option Mark → ℕ → ShapeFault → Type 0
 Fails st m after at (Unsupported place what) = (place ≡ told_at what at) × (next_wanted st m ≡ None) × (IsOver st m → ⊥) × (form_of st m after ≡ Some what)
 Fails st m after at (Depth place) = (place ≡ at) × IsOver st m
 Fails st m after at (Unexpected place) = (place ≡ at) × (next_wanted st m ≡ None) × (IsOver st m → ⊥) × (form_of st m after ≡ None)
-Fails st m after at OutOfMemory = Unit {0}

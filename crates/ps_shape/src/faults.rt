@@ -4,7 +4,6 @@ ghost use Rattle.ps_shape.specs.Forms.{unsupported, form_of_keyword, form_where,
 
 use super::marks::Mark;
 use super::symbols::{ActionPart, ConditionPart, EffectPart, ListPart, Symbol, TextPart};
-use std::alloc::AllocError;
 
 /// What a text may hold that isn't supported.
 #[derive(Clone, Copy, PartialEq, Eq, Debug)]
@@ -40,19 +39,6 @@ pub enum ShapeFault {
     Depth { at: usize },
     /// The mark here fits nothing, or more is wanted at the text's end.
     Unexpected { at: usize },
-    /// Memory is wanting.
-    OutOfMemory,
-}
-
-impl From<AllocError> for ShapeFault {
-    ghost use Rattle.std.specs.Prelude.{◌≡◌};
-    ghost use Rattle.ps_shape.specs.declared.faults.ShapeFault.TheVariants.{OutOfMemory};
-
-    ghost from_gives = { λ _ fault. fault ≡ OutOfMemory };
-
-    fn from(_: AllocError) -> ShapeFault {
-        ShapeFault::OutOfMemory
-    }
 }
 
 /// The unsupported form that a mark begins that doesn't fit where the symbol is wanted; `next` is the mark after it.

@@ -1,19 +1,21 @@
 //! Judging the shape of a domain's text, and of marks from any part of the grammar on.
-ghost use Rattle.std.specs.Prelude.{◌≡◌, ◌≤◌, length, Ok, None, OnOk, IfErr, IfOk, IfSome, slice_get};
+ghost use Rattle.std.specs.Prelude.{◌≡◌, ◌≤◌, length, Ok, None, OnOk, IfOk, IfSome, slice_get};
+ghost use Rattle.ps_world.specs.Failures.{refusal_of};
 ghost use Rattle.ps_shape.specs.Shape.{Derives, IsDomainShape, IsShallow, IsShallowFrom, IsFirstFaultFrom, Refuses};
 
 use super::faults::ShapeFault;
 use super::marks::Mark;
 use super::symbols::Symbol;
 use super::wanted::Wanted;
+use ps_world::Failure;
 use std::alloc::{AllocError, Global};
 
 /// Judges the marks of a text: whether they are those of a domain, at most 64 levels of parentheses deep.
-/// The error is the first fault in the text: an unsupported form, a level too many, or another mark that fits nothing. The text's
-/// end is a fault where more is wanted. Memory may be wanting at any mark.
-pub fn judge(alloc: Global, marks: &[Mark]) -> Result<(), ShapeFault>
+/// The refusal is the first fault in the text: an unsupported form, a level too many, or another mark that fits nothing. The text's
+/// end is a fault where more is wanted. Memory may run out at any mark.
+pub fn judge(alloc: Global, marks: &[Mark]) -> Result<(), Failure<ShapeFault>>
     ensures ok { OnOk result (IsDomainShape marks.now × IsShallow marks.now) }
-    ensures fault { IfErr result (λ r. Refuses r marks.now) }
+    ensures fault { IfSome (refusal_of result) (λ fault. Refuses fault marks.now) }
 {
     let mut wanted = Wanted::whole(alloc)?;
     for (at, mark) in marks.iter().enumerate() {
@@ -22,7 +24,7 @@ pub fn judge(alloc: Global, marks: &[Mark]) -> Result<(), ShapeFault>
     if wanted.is_empty() {
         Ok(())
     } else {
-        Err(ShapeFault::Unexpected { at: marks.len() })
+        Err(Failure::Refused(ShapeFault::Unexpected { at: marks.len() }))
     }
 }
 

@@ -1,5 +1,6 @@
 //! The symbols that are still wanted, and what one mark more makes of them.
-ghost use Rattle.std.specs.Prelude.{◌≡◌, ◌≤◌, ◌<◌, ◌+◌, ◌^◌, ◌↔◌, [], ◌∷◌, ◌++◌, drop, length, true, false, Ok, None, Some, IfOk, OnOk, IfErr, IfSome, IsTrue, MatchOption, slice_get};
+ghost use Rattle.std.specs.Prelude.{◌≡◌, ◌≤◌, ◌<◌, ◌+◌, ◌^◌, ◌↔◌, [], ◌∷◌, ◌++◌, drop, length, true, false, Ok, None, Some, IfOk, OnOk, IfSome, IsTrue, MatchOption, slice_get};
+ghost use Rattle.ps_world.specs.Failures.{refusal_of};
 ghost use Rattle.ps_shape.specs.declared.symbols.Symbol.TheVariants.{InText};
 ghost use Rattle.ps_shape.specs.declared.symbols.TextPart.TheVariants.{Whole};
 ghost use Rattle.ps_shape.specs.Symbols.{level, symbols};
@@ -11,6 +12,7 @@ use super::faults::{Form, ShapeFault, unsupported};
 use super::marks::Mark;
 use super::rules::step;
 use super::symbols::{Symbol, TextPart, Then};
+use ps_world::Failure;
 use std::alloc::{AllocError, Global};
 use std::marker::Model;
 
@@ -157,19 +159,24 @@ impl Wanted {
         }
     }
 
-    /// Takes the mark at place `at`, if it fits; `after` is the mark after it. The errors are the mark's fault, and want of memory.
-    pub fn take(&mut self, at: usize, mark: Mark, after: Option<Mark>) -> Result<(), ShapeFault>
+    /// Takes the mark at place `at`, if it fits; `after` is the mark after it. The refusal is the mark's fault.
+    pub fn take(
+        &mut self,
+        at: usize,
+        mark: Mark,
+        after: Option<Mark>,
+    ) -> Result<(), Failure<ShapeFault>>
         requires room { level self.old + 6 < 2 ^ 64 }
         requires place { at + 1 < 2 ^ 64 }
         ensures passes { OnOk result (Passes self.old mark self.new) }
         ensures rises { OnOk result (level self.new ≤ level self.old + 1) }
-        ensures fails { IfErr result (λ r. Fails self.old mark after at r) }
+        ensures fails { IfSome (refusal_of result) (λ fault. Fails self.old mark after at fault) }
     {
         if self.is_over(mark) {
-            return Err(ShapeFault::Depth { at });
+            return Err(Failure::Refused(ShapeFault::Depth { at }));
         }
         let Some(next) = self.fitting(mark) else {
-            return Err(self.misfit(at, mark, after));
+            return Err(Failure::Refused(self.misfit(at, mark, after)));
         };
         let _ = self.pop();
         self.put(next)?;

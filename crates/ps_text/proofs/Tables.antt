@@ -1,7 +1,7 @@
 -- Tables of names: what putting a text into one keeps.
-use Rattle.std.proofs.Common.{◌≡◌, ℕ, zero, suc, ◌+◌, ◌<◌, ◌≤◌, true, false, cond, List, [], ◌∷◌, ◌++◌, length, map, Some, slice_get, get_or, codes, refl, sym, ap, ◌∙◌, inl, inr, arith}
-use Rattle.std.proofs.lemmas.List.{length_push, map_push, get_or_append_left, get_or_push}
-use Rattle.std.proofs.lemmas.List.Elements.{All-push}
+use Rattle.std.proofs.Common.{◌≡◌, ℕ, zero, suc, ◌+◌, ◌<◌, ◌≤◌, true, false, cond, List, [], ◌∷◌, ◌++◌, length, map, take, Some, slice_get, get_or, codes, refl, sym, ap, ◌∙◌, inl, inr, arith}
+use Rattle.std.proofs.lemmas.List.{length_push, length-take, map_push, get_or_append_left, get_or_push, get_or-take}
+use Rattle.std.proofs.lemmas.List.Elements.{All-push, All-take}
 use Rattle.std.proofs.lemmas.List.Folds.{list_any_at}
 use Rattle.std.proofs.lemmas.Option.{slice_get_within}
 use Rattle.std.proofs.lemmas.Bool.{cases_Bool, cases_lt, false≢true, or_parts}
@@ -130,6 +130,22 @@ module _ (t : Table) (text : List ℕ) (new : list_any (same_text text) t ≡ fa
         apart = apart-push h;
         first = slice_get-append t (text ∷ []) 0 (codes "object") h.first;
       }
+
+first_taken : (t : Table) (n : ℕ) (text : List ℕ) → 0 < n → slice_get t 0 ≡ Some text → slice_get (take n t) 0 ≡ Some text
+first_taken t zero text some h = absurd (omega (arith, some))
+first_taken [] (suc n) text some h = h
+first_taken (x ∷ t) (suc n) text some h = h
+
+-- the first names of a table of names are one
+pub AreNames-take : (t : Table) (n : ℕ) → 0 < n → AreNames t → AreNames (take n t)
+AreNames-take t n some h =
+    let same : (i : ℕ) → i < length (take n t) → get_or (take n t) i [] ≡ get_or t i [] =
+    λ i lt. get_or-take n t i [] (omega (arith, lt, length-take n t)) in
+    record {
+      texts = All-take IsNameText n t h.texts;
+      apart = λ i j hi hj e. h.apart i j (omega (arith, hi, length-take n t)) (omega (arith, hj, length-take n t)) (sym (same i hi) ∙ e ∙ same j hj);
+      first = first_taken t n (codes "object") some h.first;
+    }
 
 pub AreNames-interned : (t : Table) (text : List ℕ) → AreNames t → IsNameText text → AreNames (interned t text)
 AreNames-interned t text h n =

@@ -5,7 +5,7 @@ use Rattle.std.specs.Char.{to_ascii_lowercase, is_ascii_alphabetic, is_ascii_alp
 use Rattle.ps_world.specs.Lines.{same_text}
 use Rattle.ps_world.specs.Names.{Table}
 use Rattle.ps_text.specs.declared.table.NameRefusal.{NameRefusal}
-use Rattle.ps_text.specs.declared.table.NameRefusal.TheVariants.{Empty, BadByte, Long, OutOfMemory}
+use Rattle.ps_text.specs.declared.table.NameRefusal.TheVariants.{Empty, BadByte, Long}
 
 -- a byte in lower case
 abbrev pub lower : ℕ → ℕ
@@ -41,11 +41,6 @@ name_fault (b ∷ bs) = fault_at (bad_place (b ∷ bs)) (length (b ∷ bs))
 -- whether a text is a name
 abbrev pub is_name : List ℕ → Bool
 is_name text = is_none (name_fault text)
-
--- a refusal of a text tells its fault
-abbrev pub RefusesName : NameRefusal → List ℕ → Type 0
-RefusesName OutOfMemory text = Unit {0}
-RefusesName refusal text = name_fault text ≡ Some refusal
 
 -- the first place of a text in a table, or the table's length
 abbrev pub place_of : Table → List ℕ → ℕ

@@ -105,8 +105,7 @@ pub record IsFirstFault (bytes : List ℕ) (at : ℕ) (fault : LexRefusal) : Typ
   pub before : All (λ word. IsSome (class_of word)) (words (take at bytes))
   pub fault_is : class_at at (slice_range bytes at to) ≡ Err fault
 
--- a refusal tells the first word without a class, or want of memory
+-- a refusal tells the first word without a class
 abbrev pub RefusesText : LexRefusal → List ℕ → Type 0
 RefusesText (refusal.Bad at) bytes = IsFirstFault bytes at (refusal.Bad at)
 RefusesText (refusal.Number at) bytes = IsFirstFault bytes at (refusal.Number at)
-RefusesText refusal.OutOfMemory bytes = Unit {0}

@@ -1,12 +1,13 @@
 //! The tokens of a text.
-ghost use Rattle.std.specs.Prelude.{◌≡◌, IfErr, IfOk};
+ghost use Rattle.std.specs.Prelude.{◌≡◌, IfOk, IfSome};
+ghost use Rattle.ps_world.specs.Failures.{refusal_of};
 ghost use Rattle.ps_text.specs.Tokens.{AreTokens, RefusesText, begins_digit, begins_number, class_at, class_of, fault_of_word, is_marked, is_sign, is_sign_byte};
-ghost use Rattle.ps_text.specs.declared.lexing.LexRefusal.TheVariants.{OutOfMemory};
 
 use super::decimals::read_number;
 use super::table::is_name;
 use super::word_spans::next_word;
-use std::alloc::{AllocError, AllocFailed, Global};
+use ps_world::Failure;
+use std::alloc::Global;
 
 /// What a word is. The first class that fits is its class.
 #[derive(Clone, Copy, PartialEq, Eq, Debug)]
@@ -41,24 +42,6 @@ pub enum LexRefusal {
     Bad { at: usize },
     /// The word that begins here begins as a number, and is none.
     Number { at: usize },
-    /// Want of memory.
-    OutOfMemory,
-}
-
-impl From<AllocError> for LexRefusal {
-    ghost from_gives = { λ _ e. e ≡ OutOfMemory };
-
-    fn from(_e: AllocError) -> LexRefusal {
-        LexRefusal::OutOfMemory
-    }
-}
-
-impl<T: Drop> From<AllocFailed<T>> for LexRefusal {
-    ghost from_gives = { λ _ e. e ≡ OutOfMemory };
-
-    fn from(_e: AllocFailed<T>) -> LexRefusal {
-        LexRefusal::OutOfMemory
-    }
 }
 
 fn is_sign_byte(b: u8) -> bool
@@ -151,15 +134,18 @@ fn class_at(at: usize, word: &[u8]) -> Result<Class, LexRefusal>
 
 /// The words of a text, in order, each with its class. Blanks and comments give none.
 ///
-/// The first word without a class is refused: as `Number` where it begins as a number, and as `Bad` otherwise. `OutOfMemory` may come at any time.
-pub fn tokens(alloc: Global, bytes: &[u8]) -> Result<Vec<Token>, LexRefusal>
+/// The first word without a class is refused: as `Number` where it begins as a number, and as `Bad` otherwise. Memory may run out at any word.
+pub fn tokens(alloc: Global, bytes: &[u8]) -> Result<Vec<Token>, Failure<LexRefusal>>
     ensures ok { IfOk result (λ v. AreTokens bytes.now v.items) }
-    ensures refused { IfErr result (λ r. RefusesText r bytes.now) }
+    ensures refused { IfSome (refusal_of result) (λ r. RefusesText r bytes.now) }
 {
     let mut tokens = Vec::new(alloc);
     let mut from = 0;
     while let Some(span) = next_word(bytes, from) {
-        let class = class_at(span.from, &bytes[span.from..span.to])?;
+        let class = match class_at(span.from, &bytes[span.from..span.to]) {
+            Ok(class) => class,
+            Err(refusal) => return Err(Failure::Refused(refusal)),
+        };
         tokens.push(Token {
             class,
             from: span.from,

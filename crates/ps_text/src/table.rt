@@ -1,11 +1,11 @@
 //! The table of names.
-ghost use Rattle.std.specs.Prelude.{◌≡◌, ◌<◌, ◌∷◌, [], None, Some, codes, length, not, position, slice_get, IfOk, IfErr, OnOk, OnErr};
-ghost use Rattle.ps_text.specs.Names.{AreNames, RefusesName, bad_place, folded, interned, is_name, is_name_byte, name_fault, place_of};
-ghost use Rattle.ps_text.specs.declared.table.NameRefusal.TheVariants.{OutOfMemory};
+ghost use Rattle.std.specs.Prelude.{◌≡◌, ◌<◌, ◌∷◌, [], None, Some, codes, length, not, position, slice_get, take, IfOk, OnOk, OnErr};
+ghost use Rattle.ps_world.specs.Failures.{refusal_of};
+ghost use Rattle.ps_text.specs.Names.{AreNames, bad_place, folded, interned, is_name, is_name_byte, name_fault, place_of};
 
 use indexmap::IndexSet;
-use ps_world::Name;
-use std::alloc::{AllocError, AllocFailed, Global};
+use ps_world::{Failure, Name};
+use std::alloc::{AllocError, Global};
 use std::marker::Model;
 
 /// The most bytes of a name.
@@ -20,24 +20,6 @@ pub enum NameRefusal {
     BadByte { at: usize },
     /// The text is longer than 64 bytes.
     Long,
-    /// Want of memory.
-    OutOfMemory,
-}
-
-impl From<AllocError> for NameRefusal {
-    ghost from_gives = { λ _ e. e ≡ OutOfMemory };
-
-    fn from(_e: AllocError) -> NameRefusal {
-        NameRefusal::OutOfMemory
-    }
-}
-
-impl<T: Drop> From<AllocFailed<T>> for NameRefusal {
-    ghost from_gives = { λ _ e. e ≡ OutOfMemory };
-
-    fn from(_e: AllocFailed<T>) -> NameRefusal {
-        NameRefusal::OutOfMemory
-    }
 }
 
 fn is_name_byte(b: u8) -> bool
@@ -123,24 +105,30 @@ impl Names {
         })
     }
 
-    /// The name with this text, put at the end of the table if it is new. A refusal changes nothing.
+    /// The name with this text, put at the end of the table if it is new. An error changes nothing.
     ///
-    /// The refusals, in this order: `Empty`; `BadByte`; `Long`; `OutOfMemory`.
-    pub fn intern(&mut self, text: &[u8]) -> Result<Name, NameRefusal>
+    /// The errors, in this order: `Empty`; `BadByte`; `Long`; memory ran out.
+    pub fn intern(&mut self, text: &[u8]) -> Result<Name, Failure<NameRefusal>>
         ensures ok { IfOk result (λ n. n.0 ≡ place_of self.old (folded text.now)) }
         ensures table { OnOk result (self.new ≡ interned self.old (folded text.now)) }
-        ensures named { OnOk result (name_fault text.now ≡ None) }
         ensures within { IfOk result (λ n. n.0 < length self.new) }
         ensures err { OnErr result (self.new ≡ self.old) }
-        ensures cause { IfErr result (λ r. RefusesName r text.now) }
-        ensures order { IfErr result (λ r. r ≡ OutOfMemory → name_fault text.now ≡ None) }
+        ensures refused { refusal_of result ≡ name_fault text.now }
     {
         if let Some(refusal) = fault(text) {
-            return Err(refusal);
+            return Err(Failure::Refused(refusal));
         }
         let folded = lower_case(*self.texts.allocator(), text)?;
         let (place, _) = self.texts.insert_full(folded)?;
         Ok(Name(place as u64))
+    }
+
+    /// Keeps the first `len` names, and drops the others.
+    pub fn cut_back(&mut self, len: usize)
+        requires { 0 < len }
+        ensures { self.new ≡ take len self.old }
+    {
+        self.texts.truncate(len);
     }
 
     /// How many names.

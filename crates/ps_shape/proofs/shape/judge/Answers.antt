@@ -1,14 +1,14 @@
-use Rattle.std.proofs.Common.{arith}
+use Rattle.std.proofs.Common.{Err, arith}
 use Rattle.std.proofs.lemmas.Option.{slice_get-get_or}
 use Rattle.std.proofs.lemmas.Result.{err_from_is_err_and}
-use Rattle.ps_shape.proofs.FirstFaults.{refuses, reached_more, whole, unfinished}
+use Rattle.ps_shape.proofs.FirstFaults.{refused, reached_more, whole, unfinished}
 use Rattle.ps_shape.specs.Shape.{text_start}
 use Rattle.ps_shape.proofs.shape.judge.Goals as goal
 
 pub returns-in_err-take-clause-fault : goal.returns-in_err-take-clause-fault
 returns-in_err-take-clause-fault c =
     let p = err_from_is_err_and c.from_residual-in_err-take.result c.from_residual-in_err-take.ensures.1 in
-    rw (p.1, p.2) (refuses _ c.args.marks.now c.loop-at.at _ _ c.loop-at.invariant.reached (slice_get-get_or c.args.marks.now c.loop-at.at _ (omega arith)) (rw c.mark_at.ensures at c.in_err-take.ensures.fails))
+    rw (p.1, p.2) (refused (Err c.in_err-take.field-0.0) c.args.marks.now c.loop-at.at _ _ c.loop-at.invariant.reached (slice_get-get_or c.args.marks.now c.loop-at.at _ (omega arith)) (rw c.mark_at.ensures at c.in_err-take.ensures.fails))
 
 pub loop-at-preserved : goal.loop-at-preserved
 loop-at-preserved c = record {
