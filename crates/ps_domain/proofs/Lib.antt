@@ -1,9 +1,9 @@
 pub mod AllActions
 pub mod Counts
+pub mod FewListed
 pub mod Indexes
 pub mod Listed
 pub mod Lookups
 pub mod Members
 pub mod Pairs
 pub mod PutParts
-pub mod Unfits

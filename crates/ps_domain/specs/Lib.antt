@@ -1,3 +1,4 @@
+pub mod Grounding
 pub mod Laws
 pub mod Listing
 pub mod Places

@@ -12,6 +12,7 @@ use std::marker::Model;
 /// The domain expert, which answers what its domain declares. Contracts see it as its domain.
 #[derive(Drop)]
 pub struct Expert {
+    pub(crate) alloc: Global,
     /// In one box, so that whoever owns an expert owns one part.
     declared: Box<Declared>,
 }
@@ -34,6 +35,7 @@ impl Expert {
     {
         let declared = Declared::of(alloc, domain)?;
         Ok(Expert {
+            alloc,
             declared: Box::new(alloc, declared)?,
         })
     }

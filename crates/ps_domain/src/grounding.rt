@@ -1,15 +1,14 @@
 //! Ground actions: an act's action with the arguments of the act put in.
-ghost use Rattle.std.specs.Prelude.{◌≡◌, length, map, Ok, IfOk, IfErr, IsOk};
+ghost use Rattle.std.specs.Prelude.{◌≡◌, length, map, IfOk};
 ghost use Rattle.std.specs.Map.{lookup};
 ghost use Rattle.ps_world.specs.Names.{same_name};
-ghost use Rattle.ps_action.specs.Grounding.{ground_act, grounded, unfit, first_unfit, put_effect, put_list};
-ghost use Rattle.ps_action.specs.Refusals.{RefusesGround};
-ghost use Rattle.ps_action.specs.declared.refusals.GroundRefusal.TheVariants.{OutOfMemory};
+ghost use Rattle.ps_action.specs.Grounding.{grounded, unfit, first_unfit, put_effect, put_list};
+ghost use Rattle.ps_domain.specs.Grounding.{Grounds};
 
 use super::expert::Expert;
 use super::putting::{put_effects, put_expr, put_list};
 use ps_action::{Act, GroundAction, GroundRefusal};
-use ps_world::{ActionDef, Conditions, Effects, Name, Param};
+use ps_world::{ActionDef, Conditions, Effects, Failure, Name, Param};
 use std::alloc::{AllocError, Global};
 
 /// The type of an instance among these. None exactly where the name is none of them.
@@ -110,31 +109,27 @@ pub fn grounded(alloc: Global, action: &ActionDef, act: &Act) -> Result<GroundAc
 
 impl Expert {
     /// The ground action of an act among these instances, or the first refusal: `NoAction`, `Arity`, and then for each
-    /// argument `NoInstance`, `WrongType`. `OutOfMemory` comes only where nothing else refuses the act.
+    /// argument `NoInstance`, `WrongType`.
     pub fn ground(
         &self,
-        alloc: Global,
         instances: &[(Name, Name)],
         act: &Act,
-    ) -> Result<GroundAction, GroundRefusal>
-        ensures ok { IfOk result (λ g. ground_act self.now instances.now act.now ≡ Ok g) }
-        ensures cause { IfErr result (λ r. RefusesGround r (ground_act self.now instances.now act.now)) }
-        // Want of memory stands last.
-        ensures memory { IfErr result (λ r. r ≡ OutOfMemory → IsOk (ground_act self.now instances.now act.now)) }
+    ) -> Result<GroundAction, Failure<GroundRefusal>>
+        ensures { Grounds self.now instances.now act.now result }
     {
         let Some(action) = self.action(act.action) else {
-            return Err(GroundRefusal::NoAction);
+            return Err(Failure::Refused(GroundRefusal::NoAction));
         };
         let params = action.params.as_slice();
         let args = act.args.as_slice();
         let want = params.len();
         let got = args.len();
         if want != got {
-            return Err(GroundRefusal::Arity { want, got });
+            return Err(Failure::Refused(GroundRefusal::Arity { want, got }));
         }
         if let Some(fault) = first_unfit(self, instances, params, args) {
-            return Err(fault);
+            return Err(Failure::Refused(fault));
         }
-        Ok(grounded(alloc, action, act)?)
+        Ok(grounded(self.alloc, action, act)?)
     }
 }

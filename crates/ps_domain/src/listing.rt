@@ -1,16 +1,16 @@
 //! All ground actions, in the order of the domain's text and of their arguments.
-ghost use Rattle.std.specs.Prelude.{◌≡◌, ◌==◌, ◌+◌, ◌++◌, ◌≤◌, ◌<◌, [], ◌∷◌, length, map, IfOk, IfErr, OnOk};
+ghost use Rattle.std.specs.Prelude.{◌≡◌, ◌==◌, ◌+◌, ◌++◌, [], ◌∷◌, length, map, IfOk, OnOk};
 ghost use Rattle.std.specs.List.{list_any};
-ghost use Rattle.ps_action.specs.Grounding.{by_name, picks, all_ground, most_ground};
+ghost use Rattle.ps_action.specs.Grounding.{by_name, picks, all_ground};
+ghost use Rattle.ps_domain.specs.Grounding.{GroundsAll};
 ghost use Rattle.ps_domain.specs.Listing.{choices_in, ground_with, ground_from, all_with};
-ghost use Rattle.ps_domain.specs.declared.refusals.GroundAllRefusal.TheVariants.{TooMany, OutOfMemory};
 
 use super::counting::too_many;
 use super::expert::Expert;
 use super::grounding::grounded;
 use super::refusals::GroundAllRefusal;
 use ps_action::{Act, GroundAction};
-use ps_world::{ActionDef, Args, Name, Param, Seq};
+use ps_world::{ActionDef, Args, Failure, Name, Param, Seq};
 use std::alloc::{AllocError, Global};
 use std::collections::BTreeMap;
 
@@ -147,21 +147,16 @@ impl Expert {
     /// All ground actions among these instances: the actions in the order of the domain's text, and the arguments of each
     /// in the order of their names. An instance that stands twice has the type of its last place.
     ///
-    /// `TooMany` where there are more than 50,000, which is found before any is made, and otherwise `OutOfMemory` where memory
-    /// is wanting, as it always is for the arguments of an action with more than 6 parameters.
+    /// `TooMany` where there are more than 50,000, which is found before any is made.
     pub fn ground_all(
         &self,
-        alloc: Global,
         instances: &[(Name, Name)],
-    ) -> Result<Vec<GroundAction>, GroundAllRefusal>
-        ensures ok { IfOk result (λ all. (all.items ≡ all_ground self.now instances.now) × (length all.items ≤ most_ground)) }
-        ensures cause { IfErr result (λ r. r ≡ TooMany → most_ground < length (all_ground self.now instances.now)) }
-        // Want of memory stands last.
-        ensures memory { IfErr result (λ r. r ≡ OutOfMemory → length (all_ground self.now instances.now) ≤ most_ground) }
+    ) -> Result<Vec<GroundAction>, Failure<GroundAllRefusal>>
+        ensures { GroundsAll self.now instances.now result }
     {
         if too_many(self, instances) {
-            return Err(GroundAllRefusal::TooMany);
+            return Err(Failure::Refused(GroundAllRefusal::TooMany));
         }
-        Ok(all_ground(alloc, self, instances)?)
+        Ok(all_ground(self.alloc, self, instances)?)
     }
 }

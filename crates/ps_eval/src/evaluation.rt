@@ -1,17 +1,16 @@
 //! Whether conditions hold, and the change that effects make.
-ghost use Rattle.std.specs.Prelude.{◌≡◌, ◌≢◌, ◌↔◌, Ok, is_ok, IfOk, IfErr, OnOk, OnErr, IsOk, IsTrue};
+ghost use Rattle.std.specs.Prelude.{◌≡◌, is_ok};
 ghost use Rattle.ps_world.specs.CondViews.{cond_tree};
 ghost use Rattle.ps_world.specs.ExprViews.{expr_tree};
 ghost use Rattle.ps_action.specs.Effects.{effect};
 ghost use Rattle.ps_action.specs.Plans.{duration_of};
-ghost use Rattle.ps_action.specs.Refusals.{RefusesEffects};
 ghost use Rattle.ps_action.specs.Truth.{all_true, is_true};
-ghost use Rattle.ps_action.specs.declared.refusals.EffectRefusal.TheVariants.{OutOfMemory};
+ghost use Rattle.ps_eval.specs.Making.{Makes};
 
 use ps_action::{EffectRefusal, all_true, duration_of, fault_of_effects, is_true, values_set};
 use ps_domain::Expert;
 use ps_problem::Problem;
-use ps_world::{Cond, Conds, Effect, Expr, Num};
+use ps_world::{Cond, Conds, Effect, Expr, Failure, Num};
 use std::alloc::Global;
 
 /// Whether a condition holds (PDDL 2.1, section 4): a comparison with a side that isn't defined is false, and an empty `and` is
@@ -34,20 +33,16 @@ pub fn holds_all(problem: &Problem, expert: &Expert, conds: &Conds) -> bool
 ///
 /// It is refused, and nothing changes, at the first effect in the order of the list that has a fault; the faults of one effect
 /// come in this order: `Clash` where an earlier effect gives the same function term a value; `Undefined` where the new value isn't
-/// defined; `Range` where its absolute value passes 10^15 thousandths. `OutOfMemory` comes only where nothing else refuses the effects.
+/// defined; `Range` where its absolute value passes 10^15 thousandths.
 pub fn apply(
     alloc: Global,
     problem: &mut Problem,
     effects: &[Effect],
-) -> Result<bool, EffectRefusal>
-    ensures ok { OnOk result (effect problem.old effects.now ≡ Ok problem.new) }
-    ensures changed { IfOk result (λ changed. IsTrue changed ↔ (problem.new ≢ problem.old)) }
-    ensures cause { IfErr result (λ r. RefusesEffects r (effect problem.old effects.now)) }
-    ensures memory { IfErr result (λ r. r ≡ OutOfMemory → IsOk (effect problem.old effects.now)) }
-    ensures err { OnErr result (problem.new ≡ problem.old) }
+) -> Result<bool, Failure<EffectRefusal>>
+    ensures { Makes effects.now problem.old result problem.new }
 {
     if let Some(fault) = fault_of_effects(problem, effects) {
-        return Err(fault);
+        return Err(Failure::Refused(fault));
     }
     let ready = values_set(alloc, problem, effects)?;
     let changed = problem.put(effects, &ready)?;
