@@ -56,6 +56,6 @@ pub record IsChange (old : Knowledge) (edit : Edit) (new : Knowledge) : Type 0 w
   pub values : (f : Fact) (x : Num) → (value_in new f ≡ Some x) ↔ ValueAfter old edit f x
   pub goal : new.goal ≡ goal_after old edit
 
--- an accepted edit changes what it says and nothing else, and keeps the lists rising
+-- an accepted edit changes what it says and nothing else, in lists of any order, and keeps lists that rise rising
 abbrev pub EditsChange : Type 0
 EditsChange = (d : Domain) (old : Knowledge) (edit : Edit) (new : Knowledge) → edited d old edit ≡ Ok new → IsChange old edit new × (Rises old → Rises new)

@@ -2,7 +2,7 @@
 ghost use Rattle.ps_problem.specs.Changes.{EditsChange};
 ghost use Rattle.ps_problem.specs.WellKnown.{EditsKeepWellKnown, PutsKeepWellKnown};
 
-/// An accepted edit changes what it says and nothing else, and the lists still rise.
+/// An accepted edit changes what it says and nothing else, in lists of any order, and lists that rise still rise.
 pub fn edits_change_what_they_say()
     ensures { EditsChange }
 {}

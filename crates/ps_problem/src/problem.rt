@@ -1,8 +1,7 @@
 //! The problem expert.
-ghost use Rattle.std.specs.Prelude.{◌≡◌, ◌≢◌, ◌↔◌, Ok, IfOk, IfErr, OnOk, OnErr, IsOk, IsTrue};
-ghost use Rattle.ps_world.specs.Knowledge.{edited, opening};
-ghost use Rattle.ps_world.specs.Refusals.{Refuses};
-ghost use Rattle.ps_world.specs.declared.edits.EditRefusal.TheVariants.{OutOfMemory};
+ghost use Rattle.std.specs.Prelude.{◌≡◌, IfOk};
+ghost use Rattle.ps_world.specs.Knowledge.{opening};
+ghost use Rattle.ps_world.specs.Edits.{Edits};
 
 mod edits;
 mod facts;
@@ -16,7 +15,7 @@ mod values;
 use self::facts::Facts;
 use self::values::Values;
 use ps_domain::Expert;
-use ps_world::{Cond, Duplicate, Edit, EditRefusal, Name};
+use ps_world::{Cond, Duplicate, Edit, EditRefusal, Failure, Name};
 use std::alloc::{AllocError, Global};
 use std::collections::BTreeMap;
 use std::marker::Model;
@@ -82,7 +81,7 @@ impl Problem {
         }
     }
 
-    /// Makes an edit, and answers whether anything changed. After a refusal nothing has changed.
+    /// Makes an edit, and answers whether anything changed. Where it fails nothing has changed.
     ///
     /// The first refusal in the order of the rules of that edit:
     ///
@@ -94,13 +93,9 @@ impl Problem {
     /// - set goal: in the order of its text, for each fact and function the same, and for each side of a `(= a b)` `NoInstance`;
     ///   remove goal: `NoGoal`.
     ///
-    /// `OutOfMemory` comes only where nothing else refuses the edit.
-    pub fn edit(&mut self, expert: &Expert, edit: &Edit) -> Result<bool, EditRefusal>
-        ensures ok { OnOk result (edited expert.now self.old edit.now ≡ Ok self.new) }
-        ensures changed { IfOk result (λ changed. IsTrue changed ↔ (self.new ≢ self.old)) }
-        ensures cause { IfErr result (λ r. Refuses r (edited expert.now self.old edit.now)) }
-        ensures memory { IfErr result (λ r. r ≡ OutOfMemory → IsOk (edited expert.now self.old edit.now)) }
-        ensures err { OnErr result (self.new ≡ self.old) }
+    /// Memory runs out only where nothing refuses the edit.
+    pub fn edit(&mut self, expert: &Expert, edit: &Edit) -> Result<bool, Failure<EditRefusal>>
+        ensures { Edits expert.now edit.now self.old result self.new }
     {
         match edit {
             Edit::AddInstance(name, kind) => self.add_instance(expert, *name, *kind),

@@ -1,7 +1,6 @@
 pub mod Climbs
 pub mod CondRanks
 pub mod Digits
-pub mod Faults
 pub mod OneLine
 pub mod SameConds
 pub mod ShortLists

@@ -34,7 +34,7 @@ use Rattle.ps_world.specs.declared.domains.Domain.{Domain}
 use Rattle.ps_world.specs.declared.edits.Edit.{Edit}
 use Rattle.ps_world.specs.declared.edits.Edit.TheVariants.{AddInstance, RemoveInstance, AddFact, RemoveFact, SetValue, RemoveValue, SetGoal, RemoveGoal}
 use Rattle.ps_world.specs.declared.edits.EditRefusal.{EditRefusal}
-use Rattle.ps_world.specs.declared.edits.EditRefusal.TheVariants.{NoType, InstanceThere, Full, NoInstance, Constant, NoPredicate, Arity, WrongType, NoFact, NoFunction, NoValue, NoGoal, OutOfMemory}
+use Rattle.ps_world.specs.declared.edits.EditRefusal.TheVariants.{NoType, InstanceThere, Full, NoInstance, Constant, NoPredicate, Arity, WrongType, NoFact, NoFunction, NoValue, NoGoal}
 use Rattle.ps_world.proofs.Digits.{is_ink, is_inked, is_inked-decimal}
 
 -- ---- bytes, numbers and lists
@@ -299,4 +299,3 @@ is_line-edit_refusal names NoFact h = refl
 is_line-edit_refusal names NoFunction h = refl
 is_line-edit_refusal names NoValue h = refl
 is_line-edit_refusal names NoGoal h = refl
-is_line-edit_refusal names OutOfMemory h = refl

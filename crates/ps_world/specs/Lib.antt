@@ -5,13 +5,13 @@ pub mod CondViews
 pub mod ExprFalls
 pub mod ExprViews
 pub mod DomainTexts
+pub mod Edits
 pub mod Facts
 pub mod Failures
 pub mod Knowledge
 pub mod Lines
 pub mod Names
 pub mod Numbers
-pub mod Refusals
 pub mod Same
 pub mod ShortLists
 pub mod Tables

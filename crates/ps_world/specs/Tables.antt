@@ -13,7 +13,7 @@ use Rattle.ps_world.specs.declared.known.Knowledge.{Knowledge}
 use Rattle.ps_world.specs.declared.edits.Edit.{Edit}
 use Rattle.ps_world.specs.declared.edits.Edit.TheVariants.{AddInstance, RemoveInstance, AddFact, RemoveFact, SetValue, RemoveValue, SetGoal, RemoveGoal}
 use Rattle.ps_world.specs.declared.edits.EditRefusal.{EditRefusal}
-use Rattle.ps_world.specs.declared.edits.EditRefusal.TheVariants.{NoType, InstanceThere, Full, NoInstance, Constant, NoPredicate, Arity, WrongType, NoFact, NoFunction, NoValue, NoGoal, OutOfMemory}
+use Rattle.ps_world.specs.declared.edits.EditRefusal.TheVariants.{NoType, InstanceThere, Full, NoInstance, Constant, NoPredicate, Arity, WrongType, NoFact, NoFunction, NoValue, NoGoal}
 
 -- the name is one of so many
 abbrev pub IsOf : ℕ → Name → Type 0
@@ -80,7 +80,7 @@ IsEditOf count (RemoveValue f) = IsFactOf count f
 IsEditOf count (SetGoal goal) = IsGoalOf count (cond_tree goal)
 IsEditOf count RemoveGoal = Unit {0}
 
--- the names of an edit's refusal are, and it isn't want of memory
+-- the names of an edit's refusal are
 abbrev pub IsEditRefusalOf : ℕ → EditRefusal → Type 0
 IsEditRefusalOf count NoType = Unit {0}
 IsEditRefusalOf count InstanceThere = Unit {0}
@@ -94,4 +94,3 @@ IsEditRefusalOf count NoFact = Unit {0}
 IsEditRefusalOf count NoFunction = Unit {0}
 IsEditRefusalOf count NoValue = Unit {0}
 IsEditRefusalOf count NoGoal = Unit {0}
-IsEditRefusalOf count OutOfMemory = ⊥

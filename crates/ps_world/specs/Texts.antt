@@ -13,7 +13,7 @@ use Rattle.ps_world.specs.declared.conditions.Cond.{Cond}
 use Rattle.ps_world.specs.declared.edits.Edit.{Edit}
 use Rattle.ps_world.specs.declared.edits.Edit.TheVariants.{AddInstance, RemoveInstance, AddFact, RemoveFact, SetValue, RemoveValue, SetGoal, RemoveGoal}
 use Rattle.ps_world.specs.declared.edits.EditRefusal.{EditRefusal}
-use Rattle.ps_world.specs.declared.edits.EditRefusal.TheVariants.{NoType, InstanceThere, Full, NoInstance, Constant, NoPredicate, Arity, WrongType, NoFact, NoFunction, NoValue, NoGoal, OutOfMemory}
+use Rattle.ps_world.specs.declared.edits.EditRefusal.TheVariants.{NoType, InstanceThere, Full, NoInstance, Constant, NoPredicate, Arity, WrongType, NoFact, NoFunction, NoValue, NoGoal}
 
 -- names, each after a space
 abbrev pub args_text : Table → List Name → List ℕ
@@ -42,7 +42,7 @@ edit_text names (RemoveValue f) = codes "remove function " ++ fact_text names f
 edit_text names (SetGoal goal) = codes "set goal " ++ goal_text names goal
 edit_text names RemoveGoal = codes "remove goal"
 
--- the cause for which an edit is refused; want of memory stands in no entry, and has no text
+-- the cause for which an edit is refused
 abbrev pub edit_refusal_text : Table → EditRefusal → List ℕ
 edit_refusal_text names NoType = codes "NoType"
 edit_refusal_text names InstanceThere = codes "InstanceThere"
@@ -56,4 +56,3 @@ edit_refusal_text names NoFact = codes "NoFact"
 edit_refusal_text names NoFunction = codes "NoFunction"
 edit_refusal_text names NoValue = codes "NoValue"
 edit_refusal_text names NoGoal = codes "NoGoal"
-edit_refusal_text names OutOfMemory = []

@@ -1,13 +1,11 @@
 //! Edits of what is known.
-ghost use Rattle.std.specs.Prelude.{◌≡◌};
-ghost use Rattle.ps_world.specs.declared.edits.EditRefusal.TheVariants.{OutOfMemory};
 
 use super::conditions::Cond;
 use super::facts::Fact;
 use super::lists::Duplicate;
 use super::names::Name;
 use super::numbers::Num;
-use std::alloc::{AllocError, AllocFailed, Global};
+use std::alloc::{AllocError, Global};
 
 /// A change of what is known. No variable stands in it, and no condition that an instance has a type.
 #[derive(PartialEq, Eq, Drop)]
@@ -67,22 +65,4 @@ pub enum EditRefusal {
     NoValue,
     /// There is no goal.
     NoGoal,
-    /// Want of memory. It stands in no entry.
-    OutOfMemory,
-}
-
-impl From<AllocError> for EditRefusal {
-    ghost from_gives = { λ _ r. r ≡ OutOfMemory };
-
-    fn from(_error: AllocError) -> EditRefusal {
-        EditRefusal::OutOfMemory
-    }
-}
-
-impl<T: Drop> From<AllocFailed<T>> for EditRefusal {
-    ghost from_gives = { λ _ r. r ≡ OutOfMemory };
-
-    fn from(_error: AllocFailed<T>) -> EditRefusal {
-        EditRefusal::OutOfMemory
-    }
 }

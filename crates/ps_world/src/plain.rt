@@ -1,14 +1,13 @@
 //! The slow functions that equal the definitions.
-ghost use Rattle.std.specs.Prelude.{◌≡◌, Ok, IfOk, IfErr, IsOk};
-ghost use Rattle.ps_world.specs.Knowledge.{edited, goal_without, without};
-ghost use Rattle.ps_world.specs.Refusals.{Refuses};
+ghost use Rattle.std.specs.Prelude.{◌≡◌, IfOk};
+ghost use Rattle.ps_world.specs.Knowledge.{goal_without, without};
+ghost use Rattle.ps_world.specs.Edits.{EditGives};
 ghost use Rattle.ps_world.specs.declared.edits.Edit.TheVariants.{AddInstance, RemoveInstance, AddFact, RemoveFact, SetValue, RemoveValue, SetGoal, RemoveGoal};
-ghost use Rattle.ps_world.specs.declared.edits.EditRefusal.TheVariants.{OutOfMemory};
 
 mod faults;
 mod lists;
 
-use self::faults::{fact_fault, goal_fault, value_fault};
+use self::faults::{cond_fault, fact_fault, value_fault};
 pub use self::lists::{with_fact, with_number};
 use self::lists::{
     facts_but, facts_not_naming, has_value, instances_but, is_known, kind_among, values_but,
@@ -18,6 +17,7 @@ use super::conditions::Cond;
 use super::domains::Domain;
 use super::edits::{Edit, EditRefusal};
 use super::facts::Fact;
+use super::failures::Failure;
 use super::known::{Knowledge, MOST_INSTANCES};
 use super::lists::{Duplicate, Seq};
 use super::names::Name;
@@ -34,18 +34,15 @@ use std::alloc::{AllocError, Global};
 /// - set goal: in the order of its text, for each fact and function the same, and for each side of a `(= a b)` `NoInstance`;
 ///   remove goal: `NoGoal`.
 ///
-/// `OutOfMemory` comes only where nothing else refuses the edit. It looks through whole lists: `Problem` of `ps_problem`
-/// has the fast edit.
+/// Memory runs out only where nothing refuses the edit. It looks through whole lists: `Problem` of `ps_problem` has the
+/// fast edit.
 pub fn edit_plain(
     alloc: Global,
     domain: &Domain,
     known: &Knowledge,
     edit: &Edit,
-) -> Result<Knowledge, EditRefusal>
-    ensures ok { IfOk result (λ new. edited domain.now known.now edit.now ≡ Ok new) }
-    ensures cause { IfErr result (λ r. Refuses r (edited domain.now known.now edit.now)) }
-    // Want of memory stands last.
-    ensures memory { IfErr result (λ r. r ≡ OutOfMemory → IsOk (edited domain.now known.now edit.now)) }
+) -> Result<Knowledge, Failure<EditRefusal>>
+    ensures { EditGives domain.now known.now edit.now result }
 {
     match edit {
         Edit::AddInstance(name, kind) => add_instance(alloc, domain, known, *name, *kind),
@@ -65,18 +62,16 @@ fn add_instance(
     known: &Knowledge,
     name: Name,
     kind: Name,
-) -> Result<Knowledge, EditRefusal>
-    ensures ok { IfOk result (λ new. edited domain.now known.now (AddInstance name kind) ≡ Ok new) }
-    ensures cause { IfErr result (λ r. Refuses r (edited domain.now known.now (AddInstance name kind))) }
-    ensures memory { IfErr result (λ r. r ≡ OutOfMemory → IsOk (edited domain.now known.now (AddInstance name kind))) }
+) -> Result<Knowledge, Failure<EditRefusal>>
+    ensures { EditGives domain.now known.now (AddInstance name kind) result }
 {
     if !domain.is_type(kind) {
-        return Err(EditRefusal::NoType);
+        return Err(Failure::Refused(EditRefusal::NoType));
     }
     match kind_among(known.instances.as_slice(), name) {
         Some(there) if there == kind => Ok(known.copy(alloc)?),
-        Some(_) => Err(EditRefusal::InstanceThere),
-        None if known.instances.len() >= MOST_INSTANCES => Err(EditRefusal::Full),
+        Some(_) => Err(Failure::Refused(EditRefusal::InstanceThere)),
+        None if known.instances.len() >= MOST_INSTANCES => Err(Failure::Refused(EditRefusal::Full)),
         None => {
             let instances = with_entry(alloc, known.instances.as_slice(), name, kind)?;
             let mut new = known.copy(alloc)?;
@@ -91,16 +86,14 @@ fn remove_instance(
     domain: &Domain,
     known: &Knowledge,
     name: Name,
-) -> Result<Knowledge, EditRefusal>
-    ensures ok { IfOk result (λ new. edited domain.now known.now (RemoveInstance name) ≡ Ok new) }
-    ensures cause { IfErr result (λ r. Refuses r (edited domain.now known.now (RemoveInstance name))) }
-    ensures memory { IfErr result (λ r. r ≡ OutOfMemory → IsOk (edited domain.now known.now (RemoveInstance name))) }
+) -> Result<Knowledge, Failure<EditRefusal>>
+    ensures { EditGives domain.now known.now (RemoveInstance name) result }
 {
     if kind_among(known.instances.as_slice(), name).is_none() {
-        return Err(EditRefusal::NoInstance(name));
+        return Err(Failure::Refused(EditRefusal::NoInstance(name)));
     }
     if domain.constant(name).is_some() {
-        return Err(EditRefusal::Constant);
+        return Err(Failure::Refused(EditRefusal::Constant));
     }
     Ok(known_without(alloc, known, name)?)
 }
@@ -145,13 +138,11 @@ fn add_fact(
     domain: &Domain,
     known: &Knowledge,
     fact: Fact,
-) -> Result<Knowledge, EditRefusal>
-    ensures ok { IfOk result (λ new. edited domain.now known.now (AddFact fact) ≡ Ok new) }
-    ensures cause { IfErr result (λ r. Refuses r (edited domain.now known.now (AddFact fact))) }
-    ensures memory { IfErr result (λ r. r ≡ OutOfMemory → IsOk (edited domain.now known.now (AddFact fact))) }
+) -> Result<Knowledge, Failure<EditRefusal>>
+    ensures { EditGives domain.now known.now (AddFact fact) result }
 {
     if let Some(fault) = fact_fault(domain, known, &fact) {
-        return Err(fault);
+        return Err(Failure::Refused(fault));
     }
     let facts = with_fact(alloc, known.facts.as_slice(), fact)?;
     let mut new = known.copy(alloc)?;
@@ -164,16 +155,14 @@ fn remove_fact(
     domain: &Domain,
     known: &Knowledge,
     fact: Fact,
-) -> Result<Knowledge, EditRefusal>
-    ensures ok { IfOk result (λ new. edited domain.now known.now (RemoveFact fact) ≡ Ok new) }
-    ensures cause { IfErr result (λ r. Refuses r (edited domain.now known.now (RemoveFact fact))) }
-    ensures memory { IfErr result (λ r. r ≡ OutOfMemory → IsOk (edited domain.now known.now (RemoveFact fact))) }
+) -> Result<Knowledge, Failure<EditRefusal>>
+    ensures { EditGives domain.now known.now (RemoveFact fact) result }
 {
     if let Some(fault) = fact_fault(domain, known, &fact) {
-        return Err(fault);
+        return Err(Failure::Refused(fault));
     }
     if !is_known(known.facts.as_slice(), fact) {
-        return Err(EditRefusal::NoFact);
+        return Err(Failure::Refused(EditRefusal::NoFact));
     }
     let facts = facts_but(alloc, known.facts.as_slice(), fact)?;
     let mut new = known.copy(alloc)?;
@@ -187,13 +176,11 @@ fn set_value(
     known: &Knowledge,
     fact: Fact,
     number: Num,
-) -> Result<Knowledge, EditRefusal>
-    ensures ok { IfOk result (λ new. edited domain.now known.now (SetValue fact number) ≡ Ok new) }
-    ensures cause { IfErr result (λ r. Refuses r (edited domain.now known.now (SetValue fact number))) }
-    ensures memory { IfErr result (λ r. r ≡ OutOfMemory → IsOk (edited domain.now known.now (SetValue fact number))) }
+) -> Result<Knowledge, Failure<EditRefusal>>
+    ensures { EditGives domain.now known.now (SetValue fact number) result }
 {
     if let Some(fault) = value_fault(domain, known, &fact) {
-        return Err(fault);
+        return Err(Failure::Refused(fault));
     }
     let values = with_number(alloc, known.values.as_slice(), fact, number)?;
     let mut new = known.copy(alloc)?;
@@ -206,16 +193,14 @@ fn remove_value(
     domain: &Domain,
     known: &Knowledge,
     fact: Fact,
-) -> Result<Knowledge, EditRefusal>
-    ensures ok { IfOk result (λ new. edited domain.now known.now (RemoveValue fact) ≡ Ok new) }
-    ensures cause { IfErr result (λ r. Refuses r (edited domain.now known.now (RemoveValue fact))) }
-    ensures memory { IfErr result (λ r. r ≡ OutOfMemory → IsOk (edited domain.now known.now (RemoveValue fact))) }
+) -> Result<Knowledge, Failure<EditRefusal>>
+    ensures { EditGives domain.now known.now (RemoveValue fact) result }
 {
     if let Some(fault) = value_fault(domain, known, &fact) {
-        return Err(fault);
+        return Err(Failure::Refused(fault));
     }
     if !has_value(known.values.as_slice(), fact) {
-        return Err(EditRefusal::NoValue);
+        return Err(Failure::Refused(EditRefusal::NoValue));
     }
     let values = values_but(alloc, known.values.as_slice(), fact)?;
     let mut new = known.copy(alloc)?;
@@ -228,24 +213,24 @@ fn set_goal(
     domain: &Domain,
     known: &Knowledge,
     goal: &Cond,
-) -> Result<Knowledge, EditRefusal>
-    ensures ok { IfOk result (λ new. edited domain.now known.now (SetGoal goal.now) ≡ Ok new) }
-    ensures cause { IfErr result (λ r. Refuses r (edited domain.now known.now (SetGoal goal.now))) }
-    ensures memory { IfErr result (λ r. r ≡ OutOfMemory → IsOk (edited domain.now known.now (SetGoal goal.now))) }
+) -> Result<Knowledge, Failure<EditRefusal>>
+    ensures { EditGives domain.now known.now (SetGoal goal.now) result }
 {
-    if let Some(fault) = goal_fault(domain, known, goal) {
-        return Err(fault);
+    if let Some(fault) = cond_fault(domain, known, goal) {
+        return Err(Failure::Refused(fault));
     }
     Ok(known.with_goal(alloc, Some(goal))?)
 }
 
-fn remove_goal(alloc: Global, domain: &Domain, known: &Knowledge) -> Result<Knowledge, EditRefusal>
-    ensures ok { IfOk result (λ new. edited domain.now known.now RemoveGoal ≡ Ok new) }
-    ensures cause { IfErr result (λ r. Refuses r (edited domain.now known.now RemoveGoal)) }
-    ensures memory { IfErr result (λ r. r ≡ OutOfMemory → IsOk (edited domain.now known.now RemoveGoal)) }
+fn remove_goal(
+    alloc: Global,
+    domain: &Domain,
+    known: &Knowledge,
+) -> Result<Knowledge, Failure<EditRefusal>>
+    ensures { EditGives domain.now known.now RemoveGoal result }
 {
     if known.goal.is_none() {
-        return Err(EditRefusal::NoGoal);
+        return Err(Failure::Refused(EditRefusal::NoGoal));
     }
     Ok(known.with_goal(alloc, None)?)
 }

@@ -1,14 +1,12 @@
 //! The eight edits, each with the contract of `edit`.
-ghost use Rattle.std.specs.Prelude.{◌≡◌, ◌≢◌, ◌↔◌, Ok, Some, IfOk, IfErr, OnOk, OnErr, IsOk, IsTrue};
-ghost use Rattle.ps_world.specs.Knowledge.{edited};
-ghost use Rattle.ps_world.specs.Refusals.{Refuses};
+ghost use Rattle.std.specs.Prelude.{◌≡◌, ◌↔◌, Some, IsTrue};
+ghost use Rattle.ps_world.specs.Edits.{Edits};
 ghost use Rattle.ps_world.specs.declared.edits.Edit.TheVariants.{AddInstance, RemoveInstance, AddFact, RemoveFact, SetValue, RemoveValue, SetGoal, RemoveGoal};
-ghost use Rattle.ps_world.specs.declared.edits.EditRefusal.TheVariants.{OutOfMemory};
 
 use super::Problem;
-use super::faults::{fact_fault, goal_fault, value_fault};
+use super::faults::{cond_fault, fact_fault, value_fault};
 use ps_domain::Expert;
-use ps_world::{Cond, Duplicate, EditRefusal, Fact, MOST_INSTANCES, Name, Num};
+use ps_world::{Cond, Duplicate, EditRefusal, Fact, Failure, MOST_INSTANCES, Name, Num};
 
 impl Problem {
     pub(crate) fn add_instance(
@@ -16,20 +14,18 @@ impl Problem {
         expert: &Expert,
         name: Name,
         kind: Name,
-    ) -> Result<bool, EditRefusal>
-        ensures ok { OnOk result (edited expert.now self.old (AddInstance name kind) ≡ Ok self.new) }
-        ensures changed { IfOk result (λ changed. IsTrue changed ↔ (self.new ≢ self.old)) }
-        ensures cause { IfErr result (λ r. Refuses r (edited expert.now self.old (AddInstance name kind))) }
-        ensures memory { IfErr result (λ r. r ≡ OutOfMemory → IsOk (edited expert.now self.old (AddInstance name kind))) }
-        ensures err { OnErr result (self.new ≡ self.old) }
+    ) -> Result<bool, Failure<EditRefusal>>
+        ensures { Edits expert.now (AddInstance name kind) self.old result self.new }
     {
         if !expert.is_type(kind) {
-            return Err(EditRefusal::NoType);
+            return Err(Failure::Refused(EditRefusal::NoType));
         }
         match self.kind_of(name) {
             Some(there) if there == kind => Ok(false),
-            Some(_) => Err(EditRefusal::InstanceThere),
-            None if self.instances.len() >= MOST_INSTANCES => Err(EditRefusal::Full),
+            Some(_) => Err(Failure::Refused(EditRefusal::InstanceThere)),
+            None if self.instances.len() >= MOST_INSTANCES => Err(Failure::Refused(
+                EditRefusal::Full,
+            )),
             None => {
                 self.instances.insert(name, kind)?;
                 Ok(true)
@@ -41,49 +37,45 @@ impl Problem {
         &mut self,
         expert: &Expert,
         name: Name,
-    ) -> Result<bool, EditRefusal>
-        ensures ok { OnOk result (edited expert.now self.old (RemoveInstance name) ≡ Ok self.new) }
-        ensures changed { IfOk result (λ changed. IsTrue changed ↔ (self.new ≢ self.old)) }
-        ensures cause { IfErr result (λ r. Refuses r (edited expert.now self.old (RemoveInstance name))) }
-        ensures memory { IfErr result (λ r. r ≡ OutOfMemory → IsOk (edited expert.now self.old (RemoveInstance name))) }
-        ensures err { OnErr result (self.new ≡ self.old) }
+    ) -> Result<bool, Failure<EditRefusal>>
+        ensures { Edits expert.now (RemoveInstance name) self.old result self.new }
     {
         if self.kind_of(name).is_none() {
-            return Err(EditRefusal::NoInstance(name));
+            return Err(Failure::Refused(EditRefusal::NoInstance(name)));
         }
         if expert.domain().constant(name).is_some() {
-            return Err(EditRefusal::Constant);
+            return Err(Failure::Refused(EditRefusal::Constant));
         }
         self.leave_out(name);
         Ok(true)
     }
 
-    pub(crate) fn add_fact(&mut self, expert: &Expert, fact: Fact) -> Result<bool, EditRefusal>
-        ensures ok { OnOk result (edited expert.now self.old (AddFact fact) ≡ Ok self.new) }
-        ensures changed { IfOk result (λ changed. IsTrue changed ↔ (self.new ≢ self.old)) }
-        ensures cause { IfErr result (λ r. Refuses r (edited expert.now self.old (AddFact fact))) }
-        ensures memory { IfErr result (λ r. r ≡ OutOfMemory → IsOk (edited expert.now self.old (AddFact fact))) }
-        ensures err { OnErr result (self.new ≡ self.old) }
+    pub(crate) fn add_fact(
+        &mut self,
+        expert: &Expert,
+        fact: Fact,
+    ) -> Result<bool, Failure<EditRefusal>>
+        ensures { Edits expert.now (AddFact fact) self.old result self.new }
     {
         if let Some(fault) = fact_fault(self, expert, &fact) {
-            return Err(fault);
+            return Err(Failure::Refused(fault));
         }
         let added = self.facts.insert(fact)?;
         Ok(added)
     }
 
-    pub(crate) fn remove_fact(&mut self, expert: &Expert, fact: Fact) -> Result<bool, EditRefusal>
-        ensures ok { OnOk result (edited expert.now self.old (RemoveFact fact) ≡ Ok self.new) }
-        ensures changed { IfOk result (λ changed. IsTrue changed ↔ (self.new ≢ self.old)) }
-        ensures cause { IfErr result (λ r. Refuses r (edited expert.now self.old (RemoveFact fact))) }
-        ensures memory { IfErr result (λ r. r ≡ OutOfMemory → IsOk (edited expert.now self.old (RemoveFact fact))) }
-        ensures err { OnErr result (self.new ≡ self.old) }
+    pub(crate) fn remove_fact(
+        &mut self,
+        expert: &Expert,
+        fact: Fact,
+    ) -> Result<bool, Failure<EditRefusal>>
+        ensures { Edits expert.now (RemoveFact fact) self.old result self.new }
     {
         if let Some(fault) = fact_fault(self, expert, &fact) {
-            return Err(fault);
+            return Err(Failure::Refused(fault));
         }
         if !self.facts.remove(&fact) {
-            return Err(EditRefusal::NoFact);
+            return Err(Failure::Refused(EditRefusal::NoFact));
         }
         Ok(true)
     }
@@ -93,45 +85,41 @@ impl Problem {
         expert: &Expert,
         fact: Fact,
         number: Num,
-    ) -> Result<bool, EditRefusal>
-        ensures ok { OnOk result (edited expert.now self.old (SetValue fact number) ≡ Ok self.new) }
-        ensures changed { IfOk result (λ changed. IsTrue changed ↔ (self.new ≢ self.old)) }
-        ensures cause { IfErr result (λ r. Refuses r (edited expert.now self.old (SetValue fact number))) }
-        ensures memory { IfErr result (λ r. r ≡ OutOfMemory → IsOk (edited expert.now self.old (SetValue fact number))) }
-        ensures err { OnErr result (self.new ≡ self.old) }
+    ) -> Result<bool, Failure<EditRefusal>>
+        ensures { Edits expert.now (SetValue fact number) self.old result self.new }
     {
         if let Some(fault) = value_fault(self, expert, &fact) {
-            return Err(fault);
+            return Err(Failure::Refused(fault));
         }
         let held = self.values.insert(fact, number)?;
         Ok(!is_held(held, number))
     }
 
-    pub(crate) fn remove_value(&mut self, expert: &Expert, fact: Fact) -> Result<bool, EditRefusal>
-        ensures ok { OnOk result (edited expert.now self.old (RemoveValue fact) ≡ Ok self.new) }
-        ensures changed { IfOk result (λ changed. IsTrue changed ↔ (self.new ≢ self.old)) }
-        ensures cause { IfErr result (λ r. Refuses r (edited expert.now self.old (RemoveValue fact))) }
-        ensures memory { IfErr result (λ r. r ≡ OutOfMemory → IsOk (edited expert.now self.old (RemoveValue fact))) }
-        ensures err { OnErr result (self.new ≡ self.old) }
+    pub(crate) fn remove_value(
+        &mut self,
+        expert: &Expert,
+        fact: Fact,
+    ) -> Result<bool, Failure<EditRefusal>>
+        ensures { Edits expert.now (RemoveValue fact) self.old result self.new }
     {
         if let Some(fault) = value_fault(self, expert, &fact) {
-            return Err(fault);
+            return Err(Failure::Refused(fault));
         }
         if !self.values.remove(&fact) {
-            return Err(EditRefusal::NoValue);
+            return Err(Failure::Refused(EditRefusal::NoValue));
         }
         Ok(true)
     }
 
-    pub(crate) fn set_goal(&mut self, expert: &Expert, goal: &Cond) -> Result<bool, EditRefusal>
-        ensures ok { OnOk result (edited expert.now self.old (SetGoal goal.now) ≡ Ok self.new) }
-        ensures changed { IfOk result (λ changed. IsTrue changed ↔ (self.new ≢ self.old)) }
-        ensures cause { IfErr result (λ r. Refuses r (edited expert.now self.old (SetGoal goal.now))) }
-        ensures memory { IfErr result (λ r. r ≡ OutOfMemory → IsOk (edited expert.now self.old (SetGoal goal.now))) }
-        ensures err { OnErr result (self.new ≡ self.old) }
+    pub(crate) fn set_goal(
+        &mut self,
+        expert: &Expert,
+        goal: &Cond,
+    ) -> Result<bool, Failure<EditRefusal>>
+        ensures { Edits expert.now (SetGoal goal.now) self.old result self.new }
     {
-        if let Some(fault) = goal_fault(self, expert, goal) {
-            return Err(fault);
+        if let Some(fault) = cond_fault(self, expert, goal) {
+            return Err(Failure::Refused(fault));
         }
         if self.has_goal(goal) {
             return Ok(false);
@@ -140,15 +128,11 @@ impl Problem {
         Ok(true)
     }
 
-    pub(crate) fn remove_goal(&mut self, expert: &Expert) -> Result<bool, EditRefusal>
-        ensures ok { OnOk result (edited expert.now self.old RemoveGoal ≡ Ok self.new) }
-        ensures changed { IfOk result (λ changed. IsTrue changed ↔ (self.new ≢ self.old)) }
-        ensures cause { IfErr result (λ r. Refuses r (edited expert.now self.old RemoveGoal)) }
-        ensures memory { IfErr result (λ r. r ≡ OutOfMemory → IsOk (edited expert.now self.old RemoveGoal)) }
-        ensures err { OnErr result (self.new ≡ self.old) }
+    pub(crate) fn remove_goal(&mut self, expert: &Expert) -> Result<bool, Failure<EditRefusal>>
+        ensures { Edits expert.now RemoveGoal self.old result self.new }
     {
         if self.goal.is_none() {
-            return Err(EditRefusal::NoGoal);
+            return Err(Failure::Refused(EditRefusal::NoGoal));
         }
         self.goal = None;
         Ok(true)

@@ -1,11 +1,10 @@
 //! Why a fact, a function's value or a goal can't be spoken of.
-ghost use Rattle.std.specs.Prelude.{◌≡◌, ◌≢◌, length, Some};
+ghost use Rattle.std.specs.Prelude.{◌≡◌, length};
 ghost use Rattle.std.specs.Option.{option_copied};
 ghost use Rattle.ps_world.specs.Trees.{cond_trees};
 ghost use Rattle.ps_world.specs.ExprViews.{expr_tree};
 ghost use Rattle.ps_world.specs.CondViews.{cond_tree};
 ghost use Rattle.ps_world.specs.Knowledge.{kind_of, misfit, first_misfit, unsuited, fault_of_fact, fault_of_value, fault_of_name, fault_of_expr, fault_of_cond, fault_of_conds};
-ghost use Rattle.ps_world.specs.declared.edits.EditRefusal.TheVariants.{OutOfMemory};
 
 use super::Problem;
 use ps_domain::Expert;
@@ -13,8 +12,7 @@ use ps_world::{BoxedCond, BoxedExpr, Cond, Conds, Decl, EditRefusal, Expr, Fact,
 
 /// Why the fact can't be spoken of, if it can't: `NoPredicate`, `Arity`, and then for each argument `NoInstance`, `WrongType`.
 pub fn fact_fault(problem: &Problem, expert: &Expert, fact: &Fact) -> Option<EditRefusal>
-    ensures value { result ≡ fault_of_fact expert.now problem.now fact.now }
-    ensures not_memory { result ≢ Some OutOfMemory }
+    ensures { result ≡ fault_of_fact expert.now problem.now fact.now }
 {
     let decl = expert.predicate(fact.head);
     unsuited_to(
@@ -29,8 +27,7 @@ pub fn fact_fault(problem: &Problem, expert: &Expert, fact: &Fact) -> Option<Edi
 /// Why the function can't have a value there, if it can't: `NoFunction`, `Arity`, and then for each argument `NoInstance`,
 /// `WrongType`.
 pub fn value_fault(problem: &Problem, expert: &Expert, fact: &Fact) -> Option<EditRefusal>
-    ensures value { result ≡ fault_of_value expert.now problem.now fact.now }
-    ensures not_memory { result ≢ Some OutOfMemory }
+    ensures { result ≡ fault_of_value expert.now problem.now fact.now }
 {
     let decl = expert.function(fact.head);
     unsuited_to(
@@ -107,15 +104,6 @@ fn name_fault(problem: &Problem, name: Name) -> Option<EditRefusal>
     }
 }
 
-/// Why the condition can't be a goal, if it can't: the first fault in the order of the text. A fact and a function have
-/// those of their own, and a side of a `(= a b)` has `NoInstance`.
-pub fn goal_fault(problem: &Problem, expert: &Expert, goal: &Cond) -> Option<EditRefusal>
-    ensures value { result ≡ fault_of_cond expert.now problem.now (cond_tree goal.now) }
-    ensures not_memory { result ≢ Some OutOfMemory }
-{
-    cond_fault(problem, expert, goal)
-}
-
 #[cycle(expr_fault)]
 fn expr_fault(problem: &Problem, expert: &Expert, expr: &Expr) -> Option<EditRefusal>
     ensures { result ≡ fault_of_expr expert.now problem.now (expr_tree expr.now) }
@@ -141,8 +129,10 @@ fn boxed_expr_fault(problem: &Problem, expert: &Expert, boxed: &BoxedExpr) -> Op
     expr_fault(problem, expert, boxed.get())
 }
 
+/// Why the condition can't be a goal, if it can't: the first fault in the order of the text. A fact and a function have
+/// those of their own, and a side of a `(= a b)` has `NoInstance`.
 #[cycle(cond_fault)]
-fn cond_fault(problem: &Problem, expert: &Expert, cond: &Cond) -> Option<EditRefusal>
+pub fn cond_fault(problem: &Problem, expert: &Expert, cond: &Cond) -> Option<EditRefusal>
     ensures { result ≡ fault_of_cond expert.now problem.now (cond_tree cond.now) }
 {
     match cond {

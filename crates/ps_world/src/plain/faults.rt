@@ -1,11 +1,10 @@
 //! Why a fact, a function's value or a goal can't be spoken of.
-ghost use Rattle.std.specs.Prelude.{◌≡◌, ◌≢◌, length, Some};
+ghost use Rattle.std.specs.Prelude.{◌≡◌, length};
 ghost use Rattle.std.specs.Option.{option_copied};
 ghost use Rattle.ps_world.specs.Trees.{cond_trees};
 ghost use Rattle.ps_world.specs.ExprViews.{expr_tree};
 ghost use Rattle.ps_world.specs.CondViews.{cond_tree};
 ghost use Rattle.ps_world.specs.Knowledge.{kind_of, misfit, first_misfit, unsuited, fault_of_fact, fault_of_value, fault_of_name, fault_of_expr, fault_of_cond, fault_of_conds};
-ghost use Rattle.ps_world.specs.declared.edits.EditRefusal.TheVariants.{OutOfMemory};
 
 use super::lists::kind_among;
 use crate::{
@@ -15,8 +14,7 @@ use crate::{
 
 /// Why the fact can't be spoken of, if it can't: `NoPredicate`, `Arity`, and then for each argument `NoInstance`, `WrongType`.
 pub fn fact_fault(domain: &Domain, known: &Knowledge, fact: &Fact) -> Option<EditRefusal>
-    ensures value { result ≡ fault_of_fact domain.now known.now fact.now }
-    ensures not_memory { result ≢ Some OutOfMemory }
+    ensures { result ≡ fault_of_fact domain.now known.now fact.now }
 {
     let decl = domain.predicate(fact.head);
     unsuited_to(
@@ -31,8 +29,7 @@ pub fn fact_fault(domain: &Domain, known: &Knowledge, fact: &Fact) -> Option<Edi
 /// Why the function can't have a value there, if it can't: `NoFunction`, `Arity`, and then for each argument `NoInstance`,
 /// `WrongType`.
 pub fn value_fault(domain: &Domain, known: &Knowledge, fact: &Fact) -> Option<EditRefusal>
-    ensures value { result ≡ fault_of_value domain.now known.now fact.now }
-    ensures not_memory { result ≢ Some OutOfMemory }
+    ensures { result ≡ fault_of_value domain.now known.now fact.now }
 {
     let decl = domain.function(fact.head);
     unsuited_to(
@@ -109,15 +106,6 @@ fn name_fault(known: &Knowledge, name: Name) -> Option<EditRefusal>
     }
 }
 
-/// Why the condition can't be a goal, if it can't: the first fault in the order of the text. A fact and a function have
-/// those of their own, and a side of a `(= a b)` has `NoInstance`.
-pub fn goal_fault(domain: &Domain, known: &Knowledge, goal: &Cond) -> Option<EditRefusal>
-    ensures value { result ≡ fault_of_cond domain.now known.now (cond_tree goal.now) }
-    ensures not_memory { result ≢ Some OutOfMemory }
-{
-    cond_fault(domain, known, goal)
-}
-
 #[cycle(expr_fault)]
 fn expr_fault(domain: &Domain, known: &Knowledge, expr: &Expr) -> Option<EditRefusal>
     ensures { result ≡ fault_of_expr domain.now known.now (expr_tree expr.now) }
@@ -143,8 +131,10 @@ fn boxed_expr_fault(domain: &Domain, known: &Knowledge, boxed: &BoxedExpr) -> Op
     expr_fault(domain, known, boxed.get())
 }
 
+/// Why the condition can't be a goal, if it can't: the first fault in the order of the text. A fact and a function have
+/// those of their own, and a side of a `(= a b)` has `NoInstance`.
 #[cycle(cond_fault)]
-fn cond_fault(domain: &Domain, known: &Knowledge, cond: &Cond) -> Option<EditRefusal>
+pub fn cond_fault(domain: &Domain, known: &Knowledge, cond: &Cond) -> Option<EditRefusal>
     ensures { result ≡ fault_of_cond domain.now known.now (cond_tree cond.now) }
 {
     match cond {
