@@ -1,21 +1,17 @@
 -- What is at fault with a numeric effect.
-use Rattle.std.proofs.Common.{◌≡◌, ◌≢◌, ℕ, Bool, true, false, ℤ, if◌then◌else◌, Option, Some, None, List, [], ◌∷◌, ◌++◌, length, ap, ◌∙◌}
+use Rattle.std.proofs.Common.{◌≡◌, ℕ, Bool, if◌then◌else◌, Some, List, ap, ◌∙◌}
 use Rattle.std.specs.List.{list_any}
-use Rattle.std.specs.Option.{option_or}
 use Rattle.ps_world.specs.ExprViews.{expr_tree}
 use Rattle.ps_world.specs.Knowledge.{ground}
-use Rattle.ps_world.specs.declared.numbers.Num.{Num}
 use Rattle.ps_world.specs.declared.schemas.Lifted.{Lifted}
 use Rattle.ps_world.specs.declared.expressions.Expr.{Expr}
 use Rattle.ps_world.specs.declared.facts.Fact.{Fact}
 use Rattle.ps_world.specs.declared.actions.NumOp.{NumOp}
 use Rattle.ps_world.specs.declared.actions.Effect.{Effect}
-use Rattle.ps_world.specs.declared.actions.Effect.TheVariants.{Add, Delete, Number}
+use Rattle.ps_world.specs.declared.actions.Effect.TheVariants.{Number}
 use Rattle.ps_world.specs.declared.known.Knowledge.{Knowledge}
-use Rattle.ps_action.specs.declared.refusals.EffectRefusal.{EffectRefusal}
 use Rattle.ps_action.specs.declared.refusals.EffectRefusal.TheVariants.{Clash}
-use Rattle.ps_action.specs.Values.{in_range}
-use Rattle.ps_action.specs.Effects.{count_after, count_fault, range_fault, fault_of_effect, faults_from, fault_of_effects, sets}
+use Rattle.ps_action.specs.Effects.{count_after, count_fault, fault_of_effect, sets}
 
 -- that the term has a value given before, or that its count is none
 pub fault_of_number : (k : Knowledge) (before : List Effect) (at : ℕ) (how : NumOp) (l : Lifted) (x : Expr) (f : Fact) (b : Bool) → f ≡ ground l → b ≡ list_any (sets f) before → (if b then Some (Clash at) else count_fault at (count_after k how f (expr_tree x))) ≡ fault_of_effect k before at (Number how l x)

@@ -1,11 +1,11 @@
--- What the first fault of lines says: how many steps they say, and which faults there are.
+-- What the first fault of lines says: how many steps they say.
 use Rattle.std.proofs.Common.{◌≡◌, ℕ, ◌+◌, ◌≤◌, Bool, true, false, cond, nat_lt, if◌then◌else◌, Option, Some, None, is_some, List, [], ◌∷◌, length, filter_map, sym, ap, ◌∙◌, inl, inr, arith}
 use Rattle.std.proofs.lemmas.Bool.{cases_Bool, ltb-true}
 use Rattle.std.specs.List.{cons_option}
 use Rattle.ps_world.specs.Lines.{lines_of}
 use Rattle.ps_plan.specs.PlanText.{Said, fault_from, is_skipped, line_of, most_steps, plan_fault, said_by, says}
 use Rattle.ps_plan.specs.declared.refusals.PlanTextRefusal.{PlanTextRefusal}
-use Rattle.ps_plan.specs.declared.refusals.PlanTextRefusal.TheVariants.{Line, Long, OutOfMemory}
+use Rattle.ps_plan.specs.declared.refusals.PlanTextRefusal.TheVariants.{Line, Long}
 
 -- the answers of tests, one within the other
 first_of : {A : Type 0} (p : Bool) (x y : A) → p ≡ true → cond p x y ≡ x
@@ -52,28 +52,6 @@ module _ (n count : ℕ) (line : List ℕ) (lines : List (List ℕ)) where
 
   fault-bad : is_skipped line ≡ false → is_some (line_of line) ≡ false → fault_from n count (line ∷ lines) ≡ Some (Line n)
   fault-bad h k = outside (is_skipped line) (is_some (line_of line)) _ _ _ h k
-
--- ---- no want of memory
-
-real_from : (n count : ℕ) (lines : List (List ℕ)) → fault_from n count lines ≡ Some OutOfMemory → ⊥
-real_from n count [] h = cc
-real_from n count (line ∷ lines) h =
-    elim (kind_of line count) [
-      | skipped a ↦ real_from (n + 1) count lines (sym (fault-skipped n count line lines a) ∙ h)
-      | step a b c ↦ real_from (n + 1) (count + 1) lines (sym (fault-step n count line lines a b c) ∙ h)
-      | long a b c ↦ long_is n (sym (fault-long n count line lines a b c) ∙ h)
-      | bad a b ↦ line_is n (sym (fault-bad n count line lines a b) ∙ h)
-    ] where
-      long_is : (n : ℕ) → Some (Long n) ≡ Some OutOfMemory → ⊥
-      long_is n e = cc
-
-      line_is : (n : ℕ) → Some (Line n) ≡ Some OutOfMemory → ⊥
-      line_is n e = cc
-
--- the first fault of a text is no want of memory
-pub plan_fault-real : (bytes : List ℕ) → plan_fault bytes ≡ Some OutOfMemory → ⊥
-unfolding plan_fault
-plan_fault-real bytes h = real_from 1 0 (lines_of bytes) h
 
 -- ---- few steps
 

@@ -1,23 +1,20 @@
--- What the refusals of a step's parts are as refusals of the plan.
-use Rattle.std.specs.Prelude.{ℕ}
-use Rattle.ps_action.specs.declared.refusals.EffectRefusal.{EffectRefusal}
-use Rattle.ps_action.specs.declared.refusals.EffectRefusal.TheVariants as effect
-use Rattle.ps_action.specs.declared.refusals.GroundRefusal.{GroundRefusal}
-use Rattle.ps_action.specs.declared.refusals.GroundRefusal.TheVariants as ground
+-- What the call that judges a plan answers.
+use Rattle.std.specs.Prelude.{◌≡◌, Result, Ok, Err, IsOk, List}
+use Rattle.ps_world.specs.declared.domains.Domain.{Domain}
+use Rattle.ps_world.specs.declared.failures.Failure.{Failure}
+use Rattle.ps_world.specs.declared.failures.Failure.TheVariants.{Refused, OutOfMemory}
+use Rattle.ps_world.specs.declared.known.Knowledge.{Knowledge}
+use Rattle.ps_action.specs.Plans.{judged}
+use Rattle.ps_action.specs.declared.acts.Act.{Act}
 use Rattle.ps_action.specs.declared.refusals.PlanRefusal.{PlanRefusal}
-use Rattle.ps_action.specs.declared.refusals.PlanRefusal.TheVariants.{Ground, StartEffect, EndEffect, OutOfMemory}
 
--- the step's act can't be grounded; want of memory is the plan's own refusal
-abbrev pub ground_fault : ℕ → GroundRefusal → PlanRefusal
-ground_fault at ground.OutOfMemory = OutOfMemory
-ground_fault at r = Ground at r
+-- the failure of a part of a step, as that of the plan
+abbrev pub failing : {R S : Type 0} → (R → S) → Failure R → Failure S
+failing why (Refused refusal) = Refused (why refusal)
+failing why OutOfMemory = OutOfMemory
 
--- the step's start effects can't be made
-abbrev pub start_fault : ℕ → EffectRefusal → PlanRefusal
-start_fault at effect.OutOfMemory = OutOfMemory
-start_fault at r = StartEffect at r
-
--- the step's end effects can't be made
-abbrev pub end_fault : ℕ → EffectRefusal → PlanRefusal
-end_fault at effect.OutOfMemory = OutOfMemory
-end_fault at r = EndEffect at r
+-- a plan is good, or refused for the first thing that fails, or memory ran out, which says nothing
+abbrev pub Judges : Domain → Knowledge → List Act → Result (Unit {0}) (Failure PlanRefusal) → Type 0
+Judges d k acts (Ok done) = IsOk (judged d k acts)
+Judges d k acts (Err (Refused refusal)) = judged d k acts ≡ Err refusal
+Judges d k acts (Err OutOfMemory) = Unit {0}

@@ -1,10 +1,13 @@
 -- The text of a plan: what each of its lines says, the steps of all of them in the order of time, and its first fault.
-use Rattle.std.specs.Prelude.{◌≡◌, ℕ, ◌+◌, ◌-◌, ℤ, pos, negsuc, Bool, false, not, ◌&&◌, ◌||◌, ◌==◌, nat_le, nat_lt, int_lt, if◌then◌else◌, Option, Some, None, is_some, Result, Ok, Err, List, [], ◌∷◌, ◌++◌, length, take, drop, insert, flat_map, filter_map, codes, All}
+use Rattle.std.specs.Prelude.{◌≡◌, ℕ, ◌+◌, ◌-◌, ℤ, pos, negsuc, Bool, false, not, ◌&&◌, ◌||◌, ◌==◌, nat_le, nat_lt, int_lt, if◌then◌else◌, Option, Some, None, is_some, Result, Ok, Err, IfOk, IfErr, OnErr, List, [], ◌∷◌, ◌++◌, length, take, drop, insert, flat_map, filter_map, All}
+use Rattle.std.specs.Global.{Vec}
 use Rattle.std.specs.List.{list_all, position_or_len}
 use Rattle.std.specs.Option.{option_map, option_zip}
 use Rattle.ps_world.specs.Lines.{lengthened, line_end, lines_of, same_text}
-use Rattle.ps_world.specs.Names.{Table, name_text}
+use Rattle.ps_world.specs.Names.{Table}
 use Rattle.ps_world.specs.Tables.{IsOf}
+use Rattle.ps_world.specs.declared.failures.Failure.{Failure}
+use Rattle.ps_world.specs.declared.failures.Failure.TheVariants.{Refused, OutOfMemory}
 use Rattle.ps_world.specs.declared.names.Name.{Name}
 use Rattle.ps_world.specs.declared.numbers.Num.{Num}
 use Rattle.ps_text.specs.Decimals.{number_of}
@@ -14,7 +17,7 @@ use Rattle.ps_text.specs.declared.decimals.NumRefusal.{NumRefusal}
 use Rattle.ps_action.specs.Texts.{step_line}
 use Rattle.ps_action.specs.declared.acts.PlanStep.{PlanStep}
 use Rattle.ps_plan.specs.declared.refusals.PlanTextRefusal.{PlanTextRefusal}
-use Rattle.ps_plan.specs.declared.refusals.PlanTextRefusal.TheVariants.{Line, Long, OutOfMemory}
+use Rattle.ps_plan.specs.declared.refusals.PlanTextRefusal.TheVariants.{Line, Long}
 
 -- ---- the parts of a line
 
@@ -124,11 +127,6 @@ fault_from n count (line ∷ lines) =
 unfoldable pub plan_fault : List ℕ → Option PlanTextRefusal
 plan_fault bytes = fault_from 1 0 (lines_of bytes)
 
--- a refusal tells the first fault of a text, or want of memory
-abbrev pub RefusesPlan : PlanTextRefusal → List ℕ → Type 0
-RefusesPlan OutOfMemory bytes = Unit {0}
-RefusesPlan refusal bytes = plan_fault bytes ≡ Some refusal
-
 -- ---- the steps
 
 -- the names that texts are, put into a table one after another, and the table after them
@@ -169,6 +167,18 @@ planned table steps (said ∷ more) = planned (table_after table said) (placed (
 pub record IsPlan (table : Table) (bytes : List ℕ) (steps : List PlanStep) (after : Table) : Type 0 where
   pub faultless : plan_fault bytes ≡ None
   pub steps_are : planned table [] (said_by bytes) ≡ (steps, after)
+
+-- the fault that a failure says, which is none where memory ran out
+abbrev pub fault_in : Failure PlanTextRefusal → Option PlanTextRefusal
+fault_in (Refused fault) = Some fault
+fault_in OutOfMemory = None
+
+-- The answer to a text, with a table before it and the table after it: the plan that it is, or its first fault, unless memory ran out,
+-- which it does only for a text without a fault.
+pub record ReadsPlan (table : Table) (bytes : List ℕ) (r : Result (Vec PlanStep) (Failure PlanTextRefusal)) (after : Table) : Type 0 where
+  pub plan : IfOk r (λ steps. IsPlan table bytes steps.items after)
+  pub refused : IfErr r (λ failure. plan_fault bytes ≡ fault_in failure)
+  pub kept : OnErr r (after ≡ table)
 
 -- a step's names are among so many
 abbrev pub IsStepOf : ℕ → PlanStep → Type 0

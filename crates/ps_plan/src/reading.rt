@@ -1,8 +1,7 @@
 //! Reading the text of a plan.
-ghost use Rattle.std.specs.Prelude.{◌≡◌, ◌≤◌, [], length, None, All, IfErr, IfOk, OnErr, OnOk};
+ghost use Rattle.std.specs.Prelude.{◌≡◌, ◌≤◌, [], length, None, All, IfOk, OnOk};
 ghost use Rattle.ps_text.specs.Names.{AreNames};
-ghost use Rattle.ps_plan.specs.PlanText.{IsPlan, IsStepOf, RefusesPlan, plan_fault, planned, said_by};
-ghost use Rattle.ps_plan.specs.declared.refusals.PlanTextRefusal.TheVariants.{OutOfMemory};
+ghost use Rattle.ps_plan.specs.PlanText.{IsStepOf, ReadsPlan, plan_fault, planned, said_by};
 
 use super::faults::plan_fault;
 use super::lines::{first_line, says};
@@ -11,6 +10,7 @@ use super::refusals::PlanTextRefusal;
 use super::steps::{place, step_of};
 use ps_action::PlanStep;
 use ps_text::Names;
+use ps_world::Failure;
 use std::alloc::{AllocError, Global};
 
 /// The steps that the lines of a text without a fault say, in the order of time. Their names are put into the table.
@@ -36,23 +36,20 @@ fn read_steps(alloc: Global, names: &mut Names, bytes: &[u8]) -> Result<Vec<Plan
 /// whose first byte is `;`, say nothing. The names are put into the table in the order of the text.
 ///
 /// It refuses the first line that is out of the grammar (`Line`), or that says the 257th step (`Long`), whichever comes first, and
-/// `OutOfMemory` only where no line is at fault. A refusal changes nothing.
+/// then changes nothing. Memory runs out only where no line is at fault.
 pub fn read_plan(
     alloc: Global,
     names: &mut Names,
     bytes: &[u8],
-) -> Result<Vec<PlanStep>, PlanTextRefusal>
-    ensures ok { IfOk result (λ steps. IsPlan names.old bytes.now steps.items names.new) }
-    ensures cause { IfErr result (λ refusal. RefusesPlan refusal bytes.now) }
-    ensures memory { IfErr result (λ refusal. refusal ≡ OutOfMemory → plan_fault bytes.now ≡ None) }
-    ensures err { OnErr result (names.new ≡ names.old) }
+) -> Result<Vec<PlanStep>, Failure<PlanTextRefusal>>
+    ensures reads { ReadsPlan names.old bytes.now result names.new }
     ensures few { IfOk result (λ steps. length steps.items ≤ 256) }
     ensures named { IfOk result (λ steps. All (IsStepOf (length names.new)) steps.items) }
     ensures grows { OnOk result (length names.old ≤ length names.new) }
     ensures names { OnOk result (AreNames names.new) }
 {
     if let Some(fault) = plan_fault(bytes) {
-        return Err(fault);
+        return Err(Failure::Refused(fault));
     }
     let mut more = copy_of(alloc, names)?;
     let steps = read_steps(alloc, &mut more, bytes)?;

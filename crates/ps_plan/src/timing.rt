@@ -5,11 +5,11 @@ ghost use Rattle.ps_action.specs.declared.acts.Act.{Act as ActView};
 ghost use Rattle.ps_plan.specs.Timing.{IsInRange, timed_ground, timed_on};
 
 use super::judging::{ground, take_ground_step};
-use ps_action::{Act, GroundAction, GroundRefusal, PlanRefusal, PlanStep};
+use ps_action::{Act, GroundAction, PlanStep};
 use ps_domain::Expert;
 use ps_eval::duration;
 use ps_problem::Problem;
-use ps_world::{MOST_THOUSANDTHS, Num};
+use ps_world::{Failure, MOST_THOUSANDTHS, Num};
 use std::alloc::{AllocError, Global};
 
 /// The time of a step after one at this time and with this duration: a thousandth lies between them, and no time passes the
@@ -51,8 +51,8 @@ fn push_ground_step(
     steps.push(step)?;
     match take_ground_step(alloc, expert, problem, 0, action) {
         Ok(()) => Ok(Some(time_after(time, lasting))),
-        Err(PlanRefusal::OutOfMemory) => Err(AllocError),
-        Err(_) => Ok(None),
+        Err(Failure::Refused(_)) => Ok(None),
+        Err(Failure::OutOfMemory) => Err(AllocError),
     }
 }
 
@@ -69,10 +69,10 @@ fn push_step(
         ≡ steps.old.items ++ timed_from expert.now problem.old time (act.now ∷ rest)) }
     ensures in_range { OnOk result (All IsInRange steps.old.items → All IsInRange steps.new.items) }
 {
-    match ground(alloc, expert, problem, act) {
+    match ground(expert, problem, act) {
         Ok(action) => push_ground_step(alloc, expert, problem, time, act, &action, steps),
-        Err(GroundRefusal::OutOfMemory) => Err(AllocError),
-        Err(_) => Ok(None),
+        Err(Failure::Refused(_)) => Ok(None),
+        Err(Failure::OutOfMemory) => Err(AllocError),
     }
 }
 

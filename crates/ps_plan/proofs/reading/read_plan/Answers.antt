@@ -1,12 +1,8 @@
-use Rattle.std.proofs.Common.{[], Some, sym, ap, ◌∙◌}
+use Rattle.std.proofs.Common.{[], sym, ap, ◌∙◌}
 use Rattle.ps_plan.specs.PlanText.{IsPlan, planned, said_by}
-use Rattle.ps_plan.proofs.Limits.{plan_fault-real}
 use Rattle.ps_plan.proofs.PlanNames.{IsPlan-few, IsPlan-grows, IsPlan-named}
 use Rattle.ps_plan.proofs.reading.read_plan.Goals as goal
 use Rattle.ps_plan.proofs.reading.read_plan.Goals.{In_ok-steps}
-
-pub returns-in-Some-clause-memory : goal.returns-in-Some-clause-memory
-returns-in-Some-clause-memory c = λ e. absurd (plan_fault-real c.args.bytes.now (sym c.plan_fault.ensures ∙ c.in-Some.is ∙ ap Some e))
 
 is_plan : (c : In_ok-steps) → IsPlan c.args.names.now c.args.bytes.now c.in_ok-steps.steps.items c.read_steps.new.names
 is_plan c =
