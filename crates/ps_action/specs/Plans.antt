@@ -1,5 +1,5 @@
 -- Plans, judged one action after another.
-use Rattle.std.specs.Prelude.{ℕ, ◌+◌, ◌^◌, min, pos, negsuc, Bool, if◌then◌else◌, Option, Some, None, Result, Ok, Err, List, [], ◌∷◌}
+use Rattle.std.specs.Prelude.{ℕ, ◌+◌, ◌^◌, ◌≤◌, min, pos, negsuc, Bool, if◌then◌else◌, Option, Some, None, Result, Ok, Err, IsOk, List, [], ◌∷◌, length}
 use Rattle.ps_world.specs.Trees.{ExprTree}
 use Rattle.ps_world.specs.ExprViews.{expr_tree}
 use Rattle.ps_world.specs.CondViews.{cond_tree}
@@ -61,6 +61,11 @@ judged d k acts = judged_by d k k.goal acts
 -- the most acts of a plan
 abbrev pub most_acts : ℕ
 most_acts = 256
+
+-- a good plan: there is a goal, there are at most 256 acts, each step goes well after the others, and the goal holds after the last
+pub record IsGoodPlan (d : Domain) (k : Knowledge) (acts : List Act) : Type 0 where
+  pub few : length acts ≤ most_acts
+  pub goes_well : IsOk (judged d k acts)
 
 -- ---- the times of a plan
 

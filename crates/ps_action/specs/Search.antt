@@ -10,7 +10,7 @@ use Rattle.ps_world.specs.declared.facts.Fact.{Fact}
 use Rattle.ps_world.specs.declared.domains.Domain.{Domain}
 use Rattle.ps_world.specs.declared.known.Knowledge.{Knowledge}
 use Rattle.ps_action.specs.Grounding.{all_ground, most_ground}
-use Rattle.ps_action.specs.Plans.{after_steps, judged, most_acts}
+use Rattle.ps_action.specs.Plans.{IsGoodPlan, after_steps, judged, most_acts}
 use Rattle.ps_action.specs.declared.acts.Act.{Act}
 use Rattle.ps_action.specs.declared.answers.Answer.{Answer}
 use Rattle.ps_action.specs.declared.answers.Answer.TheVariants.{Plan, NoPlan, Spent, TooMany}
@@ -102,7 +102,7 @@ HasLength n TooMany = ⊥
 
 -- A solver may answer so: with a good plan as short as the least, and else with the answer above.
 abbrev pub Fits : Domain → Knowledge → ℕ → Answer → Type 0
-Fits d k budget (Plan acts) = IsOk (judged d k acts) × HasLength (length acts) (answer d k budget)
+Fits d k budget (Plan acts) = IsGoodPlan d k acts × HasLength (length acts) (answer d k budget)
 Fits d k budget NoPlan = answer d k budget ≡ NoPlan
 Fits d k budget (Spent depth) = answer d k budget ≡ Spent depth
 Fits d k budget TooMany = answer d k budget ≡ TooMany

@@ -20,7 +20,7 @@ pub use arcs::Arcs;
 pub use effects::{fault_of_effects, values_set};
 pub use known::{Known, Types};
 pub use plain::{apply_plain, holds_plain};
-pub use refusals::{EffectRefusal, GroundRefusal, PlanRefusal};
+pub use refusals::{EffectRefusal, GroundRefusal, PlanRefusal, PlanTextRefusal};
 pub use states::{ActState, Status};
 pub use touched::Touched;
 pub use truth::{all_true, is_true};

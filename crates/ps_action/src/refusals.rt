@@ -1,4 +1,4 @@
-//! Why effects aren't made, an act isn't grounded, or a plan isn't good.
+//! Why effects aren't made, an act isn't grounded, a plan isn't good, or a text is no plan.
 use ps_world::Name;
 
 /// Why a list of effects isn't made. Effects are counted from 0.
@@ -44,4 +44,13 @@ pub enum PlanRefusal {
     EndEffect(u32, EffectRefusal),
     /// The goal doesn't hold after the last step.
     GoalFalse,
+}
+
+/// Why a text is no plan. Lines are counted from 1.
+#[derive(Clone, Copy, PartialEq, Eq, Debug)]
+pub enum PlanTextRefusal {
+    /// The first line that is out of the grammar.
+    Line { n: usize },
+    /// The line of the 257th step.
+    Long { n: usize },
 }

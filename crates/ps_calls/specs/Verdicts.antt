@@ -8,8 +8,8 @@ use Rattle.ps_action.specs.declared.refusals.GroundRefusal.{GroundRefusal}
 use Rattle.ps_action.specs.declared.refusals.GroundRefusal.TheVariants as ground
 use Rattle.ps_action.specs.declared.refusals.PlanRefusal.{PlanRefusal}
 use Rattle.ps_action.specs.declared.refusals.PlanRefusal.TheVariants as plan
-use Rattle.ps_plan.specs.declared.refusals.PlanTextRefusal.{PlanTextRefusal}
-use Rattle.ps_plan.specs.declared.refusals.PlanTextRefusal.TheVariants as text
+use Rattle.ps_action.specs.declared.refusals.PlanTextRefusal.{PlanTextRefusal}
+use Rattle.ps_action.specs.declared.refusals.PlanTextRefusal.TheVariants as text
 use Rattle.ps_validate.specs.declared.verdicts.Invalid.{Invalid}
 use Rattle.ps_validate.specs.declared.verdicts.Invalid.TheVariants.{Text, Plan}
 

@@ -9,7 +9,7 @@ use Rattle.ps_action.specs.declared.acts.PlanStep.{PlanStep}
 use Rattle.ps_text.specs.Names.{folded, interned, is_name, AreNames}
 use Rattle.ps_text.specs.Words.{word_at}
 use Rattle.ps_plan.specs.PlanText.{Said, amount_of, fits, is_skipped, line_of, named_all, names_from, parts_of, placed, planned, plan_fault, said_by, said_of, says, step_of, table_after, times_of}
-use Rattle.ps_plan.specs.declared.refusals.PlanTextRefusal.{PlanTextRefusal}
+use Rattle.ps_action.specs.declared.refusals.PlanTextRefusal.{PlanTextRefusal}
 use Rattle.ps_plan.proofs.LineParts.{names_from-more}
 use Rattle.ps_plan.proofs.NamedParts.{fit_parts}
 use Rattle.ps_plan.proofs.PlanNames.{planned-grows}

@@ -6,7 +6,7 @@ use Rattle.ps_machine.specs.declared.inputs.Line.{Line}
 use Rattle.ps_machine.specs.declared.inputs.Line.TheVariants.{Good, Bad}
 use Rattle.ps_machine.specs.declared.inputs.Command.TheVariants.{RunPlan}
 use Rattle.ps_plan.specs.PlanText.{plan_fault, planned, said_by}
-use Rattle.ps_plan.specs.declared.refusals.PlanTextRefusal.{PlanTextRefusal}
+use Rattle.ps_action.specs.declared.refusals.PlanTextRefusal.{PlanTextRefusal}
 use Rattle.ps_script.specs.Lines.{IsRead}
 use Rattle.ps_script.specs.declared.reading.Read.{Read}
 use Rattle.ps_script.specs.declared.reading.Read.TheVariants as read

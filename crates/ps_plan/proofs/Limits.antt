@@ -4,8 +4,8 @@ use Rattle.std.proofs.lemmas.Bool.{cases_Bool, ltb-true}
 use Rattle.std.specs.List.{cons_option}
 use Rattle.ps_world.specs.Lines.{lines_of}
 use Rattle.ps_plan.specs.PlanText.{Said, fault_from, is_skipped, line_of, most_steps, plan_fault, said_by, says}
-use Rattle.ps_plan.specs.declared.refusals.PlanTextRefusal.{PlanTextRefusal}
-use Rattle.ps_plan.specs.declared.refusals.PlanTextRefusal.TheVariants.{Line, Long}
+use Rattle.ps_action.specs.declared.refusals.PlanTextRefusal.{PlanTextRefusal}
+use Rattle.ps_action.specs.declared.refusals.PlanTextRefusal.TheVariants.{Line, Long}
 
 -- the answers of tests, one within the other
 first_of : {A : Type 0} (p : Bool) (x y : A) → p ≡ true → cond p x y ≡ x

@@ -16,8 +16,8 @@ use Rattle.ps_text.specs.Words.{is_blank, word_at}
 use Rattle.ps_text.specs.declared.decimals.NumRefusal.{NumRefusal}
 use Rattle.ps_action.specs.Texts.{step_line}
 use Rattle.ps_action.specs.declared.acts.PlanStep.{PlanStep}
-use Rattle.ps_plan.specs.declared.refusals.PlanTextRefusal.{PlanTextRefusal}
-use Rattle.ps_plan.specs.declared.refusals.PlanTextRefusal.TheVariants.{Line, Long}
+use Rattle.ps_action.specs.declared.refusals.PlanTextRefusal.{PlanTextRefusal}
+use Rattle.ps_action.specs.declared.refusals.PlanTextRefusal.TheVariants.{Line, Long}
 
 -- ---- the parts of a line
 

@@ -3,7 +3,7 @@ ghost use Rattle.std.specs.Prelude.{◌≡◌};
 ghost use Rattle.ps_plan.specs.PlanText.{plan_fault};
 
 use super::lines::{first_line, is_skipped, line_of};
-use super::refusals::PlanTextRefusal;
+use ps_action::PlanTextRefusal;
 
 /// The most steps of a plan.
 pub const MOST_STEPS: usize = 256;

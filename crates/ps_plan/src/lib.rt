@@ -9,7 +9,7 @@ mod naming;
 mod parts;
 mod printing;
 mod reading;
-mod refusals;
+mod solving;
 mod steps;
 mod timing;
 
@@ -18,5 +18,5 @@ pub use judging::check_plan;
 pub use laws::{printed_plans_are_read, timed_plans_rise};
 pub use printing::print_plan;
 pub use reading::read_plan;
-pub use refusals::PlanTextRefusal;
+pub use solving::Solver;
 pub use timing::timed;

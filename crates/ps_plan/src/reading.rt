@@ -6,9 +6,8 @@ ghost use Rattle.ps_plan.specs.PlanText.{IsStepOf, ReadsPlan, plan_fault, planne
 use super::faults::plan_fault;
 use super::lines::{first_line, says};
 use super::naming::copy_of;
-use super::refusals::PlanTextRefusal;
 use super::steps::{place, step_of};
-use ps_action::PlanStep;
+use ps_action::{PlanStep, PlanTextRefusal};
 use ps_text::Names;
 use ps_world::Failure;
 use std::alloc::{AllocError, Global};

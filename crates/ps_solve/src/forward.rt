@@ -16,7 +16,6 @@ use super::light::lighten;
 use super::prepared::{Prepared, prepare_all};
 use super::rows::Row;
 use super::search::Search;
-use super::solver::Solver;
 use ps_action::{Act, Answer, GroundAction, GroundRefusal};
 use ps_domain::{Expert, GroundAllRefusal};
 use ps_problem::Problem;

@@ -10,10 +10,8 @@ mod nodes;
 mod prepared;
 mod rows;
 mod search;
-mod solver;
 mod steps;
 mod values;
 
 pub use forward::Forward;
 pub use laws::{levels_go_on, no_plan_is_none, sample_answers};
-pub use solver::Solver;

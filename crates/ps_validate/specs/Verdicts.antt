@@ -14,7 +14,7 @@ use Rattle.ps_action.specs.declared.acts.Act.{Act}
 use Rattle.ps_action.specs.declared.acts.PlanStep.{PlanStep}
 use Rattle.ps_action.specs.declared.refusals.PlanRefusal.TheVariants as plan
 use Rattle.ps_plan.specs.PlanText.{plan_fault, planned, said_by}
-use Rattle.ps_plan.specs.declared.refusals.PlanTextRefusal.{PlanTextRefusal}
+use Rattle.ps_action.specs.declared.refusals.PlanTextRefusal.{PlanTextRefusal}
 use Rattle.ps_validate.specs.declared.verdicts.Invalid.{Invalid}
 use Rattle.ps_validate.specs.declared.verdicts.Invalid.TheVariants.{Text, Plan}
 
