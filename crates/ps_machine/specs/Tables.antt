@@ -35,7 +35,7 @@ IsRefusalOf count refusal.NoPlan = Unit {0}
 IsRefusalOf count (refusal.Spent depth) = Unit {0}
 IsRefusalOf count refusal.TooMany = Unit {0}
 
--- the names of an event are, and no want of memory stands in it
+-- the names of an event are
 abbrev pub IsEventOf : ℕ → Event → Type 0
 IsEventOf count (event.Edit by edit) = IsEditOf count edit
 IsEventOf count (event.Refused by why) = IsRefusalOf count why
