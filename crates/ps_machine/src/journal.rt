@@ -10,7 +10,7 @@ pub enum By {
     Terminal(u32),
 }
 
-/// Why something was refused. `EditRefusal::OutOfMemory` stands in no entry.
+/// Why something was refused.
 #[derive(Clone, Copy, PartialEq, Eq)]
 pub enum Refusal {
     Line(LineCause),

@@ -5,7 +5,7 @@ ghost use Rattle.ps_validate.specs.Verdicts.{after_line, known_after};
 use ps_domain::Expert;
 use ps_machine::{Command, Line};
 use ps_problem::Problem;
-use ps_world::EditRefusal;
+use ps_world::Failure;
 use std::alloc::{AllocError, Global};
 
 /// Does the edit of a line. A refused edit changes nothing, and no other line does.
@@ -14,7 +14,7 @@ fn take_line(expert: &Expert, problem: &mut Problem, line: &Line) -> Result<(), 
 {
     match line {
         Line::Good(Command::Edit(edit)) => match problem.edit(expert, edit) {
-            Err(EditRefusal::OutOfMemory) => Err(AllocError),
+            Err(Failure::OutOfMemory) => Err(AllocError),
             _ => Ok(()),
         },
         _ => Ok(()),
