@@ -107,7 +107,3 @@ lexemes_of bytes t (token ∷ tokens) =
 -- the marks of words
 abbrev pub marks : List Lexeme → List Mark
 marks ls = map (λ l. l.mark) ls
-
--- old names keep their texts
-abbrev pub Keeps : Table → Table → Type 0
-Keeps table after = (n : ℕ) → n < length table → slice_get after n ≡ slice_get table n

@@ -5,7 +5,7 @@ ghost use Rattle.ps_text.specs.Tokens.{AreTokens, class_of};
 ghost use Rattle.ps_text.specs.Words.{reads_as};
 ghost use Rattle.ps_shape.specs.declared.marks.Mark.TheVariants as mark;
 ghost use Rattle.ps_forms.specs.Lexemes.{IsTokenOf, fixed_names, keywords, lexeme_of, lexemes_of, mark_in, mark_of, name_within, named, number_or_zero, numbered, signs, table_after};
-ghost use Rattle.ps_forms.specs.Lexemes.{Keeps};
+ghost use Rattle.ps_text.specs.Names.{Keeps};
 
 use ps_shape::Mark;
 use ps_text::{Class, Names, Token, read_number};

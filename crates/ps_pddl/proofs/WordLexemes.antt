@@ -14,9 +14,11 @@ use Rattle.ps_text.specs.declared.lexing.Class.TheVariants as class
 use Rattle.ps_text.specs.declared.lexing.Token.{Token}
 use Rattle.ps_text.proofs.Folds.{IsNameText-folded}
 use Rattle.ps_text.proofs.Tables.{AreNames-interned, interned-there, place_of-interned, place_of-within, same_text-refl}
-use Rattle.ps_forms.specs.Lexemes.{lexeme_of, lexemes_of, mark_of, name_within, named, number_or_zero, numbered, table_after, Keeps}
+use Rattle.ps_text.specs.Names.{Keeps}
+use Rattle.ps_forms.specs.Lexemes.{lexeme_of, lexemes_of, mark_of, name_within, named, number_or_zero, numbered, table_after}
 use Rattle.ps_forms.specs.declared.lexemes.Lexeme.{Lexeme}
-use Rattle.ps_forms.proofs.Kept.{kept_along, kept_named}
+use Rattle.ps_text.proofs.Kept.{kept_along}
+use Rattle.ps_forms.proofs.Kept.{kept_named}
 use Rattle.ps_forms.proofs.TokenNames.{is_name-class, is_name-variable}
 
 -- what a word is, wherever it stands: its mark, its number, and its name if that is one of these names

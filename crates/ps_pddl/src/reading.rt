@@ -1,7 +1,8 @@
 //! Reading a domain's text.
 ghost use Rattle.std.specs.Prelude.{◌≡◌, Ok, IfErr, IfOk, OnOk};
 ghost use Rattle.ps_shape.specs.Shape.{IsDomainShape, IsShallow};
-ghost use Rattle.ps_forms.specs.Lexemes.{Keeps, marks};
+ghost use Rattle.ps_text.specs.Names.{Keeps};
+ghost use Rattle.ps_forms.specs.Lexemes.{marks};
 ghost use Rattle.ps_pddl.specs.Reading.{IsRead, IsRefused, RefusesShape, misshapen, place};
 
 use super::meaning::domain_of;

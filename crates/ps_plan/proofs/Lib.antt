@@ -1,4 +1,3 @@
-pub mod Copies
 pub mod Limits
 pub mod LineParts
 pub mod NamedParts

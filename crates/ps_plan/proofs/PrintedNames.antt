@@ -1,5 +1,5 @@
 -- The names of a printed step, read with the table that it was printed with.
-use Rattle.std.proofs.Common.{◌≡◌, ℕ, true, List, [], ◌∷◌, map, length, get_or, slice_get, Some, All, refl, sym, ap, ◌∙◌}
+use Rattle.std.proofs.Common.{◌≡◌, ℕ, true, List, [], ◌∷◌, map, length, get_or, slice_get, Some, is_none, All, refl, sym, ap, ◌∙◌}
 use Rattle.std.proofs.lemmas.Bool.{and_from}
 use Rattle.std.proofs.lemmas.List.Elements.{All-head, All-tail}
 use Rattle.std.proofs.lemmas.List.Folds.{list_any_at}
@@ -13,7 +13,6 @@ use Rattle.ps_action.specs.declared.acts.PlanStep.{PlanStep}
 use Rattle.ps_text.specs.Names.{AreNames, folded, interned, is_name, place_of}
 use Rattle.ps_text.proofs.Tables.{interned-there, place_of-interned, same_text-refl}
 use Rattle.ps_plan.specs.PlanText.{IsStepOf, Said, args_of, named_all, step_of, table_after}
-use Rattle.ps_plan.proofs.Copies.{is_name-there}
 use Rattle.ps_plan.proofs.PrintedLines.{said_with}
 use Rattle.ps_plan.proofs.PrintedParts.{IsWordName, is_word-name}
 
@@ -30,7 +29,7 @@ module _ (table : Table) (h : AreNames table) where
     text = name_text table n
 
     pub is_name-printed : is_name text ≡ true
-    is_name-printed = is_name-there table h n.0 within
+    is_name-printed = ap is_none (h.texts n.0 [] within).name
 
     pub is_word-printed : IsWordName table n
     is_word-printed = is_word-name text (h.texts n.0 [] within).name

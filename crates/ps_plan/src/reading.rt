@@ -1,21 +1,22 @@
 //! Reading the text of a plan.
-ghost use Rattle.std.specs.Prelude.{◌≡◌, ◌≤◌, [], length, None, All, IfOk, OnOk};
-ghost use Rattle.ps_text.specs.Names.{AreNames};
+ghost use Rattle.std.specs.Prelude.{◌≡◌, ◌≤◌, [], length, None, All, IfOk, OnOk, OnErr};
+ghost use Rattle.ps_text.specs.Names.{AreNames, Keeps};
 ghost use Rattle.ps_plan.specs.PlanText.{IsStepOf, ReadsPlan, plan_fault, planned, said_by};
 
 use super::faults::plan_fault;
 use super::lines::{first_line, says};
-use super::naming::copy_of;
 use super::steps::{place, step_of};
 use ps_action::{PlanStep, PlanTextRefusal};
 use ps_text::Names;
 use ps_world::Failure;
 use std::alloc::{AllocError, Global};
 
-/// The steps that the lines of a text without a fault say, in the order of time. Their names are put into the table.
+/// The steps that the lines of a text without a fault say, in the order of time. Their names are put into the table; after an error
+/// some of them may be there.
 fn read_steps(alloc: Global, names: &mut Names, bytes: &[u8]) -> Result<Vec<PlanStep>, AllocError>
     requires { plan_fault bytes.now ≡ None }
     ensures steps { IfOk result (λ steps. planned names.old [] (said_by bytes.now) ≡ (steps.items, names.new)) }
+    ensures kept { Keeps names.old names.new }
 {
     let mut steps = Vec::new(alloc);
     let mut rest = bytes;
@@ -27,6 +28,24 @@ fn read_steps(alloc: Global, names: &mut Names, bytes: &[u8]) -> Result<Vec<Plan
         rest = after;
     }
     Ok(steps)
+}
+
+/// The same steps; after an error the table is as it was.
+fn read_all_steps(
+    alloc: Global,
+    names: &mut Names,
+    bytes: &[u8],
+) -> Result<Vec<PlanStep>, AllocError>
+    requires { plan_fault bytes.now ≡ None }
+    ensures steps { IfOk result (λ steps. planned names.old [] (said_by bytes.now) ≡ (steps.items, names.new)) }
+    ensures err { OnErr result (names.new ≡ names.old) }
+{
+    let known = names.len();
+    let steps = read_steps(alloc, names, bytes);
+    if steps.is_err() {
+        names.cut_back(known);
+    }
+    steps
 }
 
 /// The plan that a text is, its steps in the order of time. Steps of equal times keep the order of the text.
@@ -50,8 +69,8 @@ pub fn read_plan(
     if let Some(fault) = plan_fault(bytes) {
         return Err(Failure::Refused(fault));
     }
-    let mut more = copy_of(alloc, names)?;
-    let steps = read_steps(alloc, &mut more, bytes)?;
-    *names = more;
+    let steps = read_all_steps(alloc, names, bytes)?;
+    // A table tells that its texts are names.
+    let _count = names.len();
     Ok(steps)
 }

@@ -1,5 +1,6 @@
 //! The steps that lines say, with names by their numbers in a table.
 ghost use Rattle.std.specs.Prelude.{◌≡◌, true, int_lt, position, IfOk, OnOk};
+ghost use Rattle.ps_text.specs.Names.{Keeps};
 ghost use Rattle.ps_plan.specs.PlanText.{fits, named_all, names_from, placed, step_of, table_after};
 
 use super::lines::SaidLine;
@@ -15,6 +16,7 @@ fn args_of(names: &mut Names, parts: &Parts) -> Result<Args, AllocError>
     requires { fits parts.now ≡ true }
     ensures ok { IfOk result (λ args. args ≡ (named_all names.old (names_from parts.now 4)).0) }
     ensures table { OnOk result (names.new ≡ (named_all names.old (names_from parts.now 4)).1) }
+    ensures kept { Keeps names.old names.new }
 {
     let count = parts.len() - 8;
     let mut found = [Name::OBJECT; MOST_ARGUMENTS];
@@ -31,6 +33,7 @@ fn args_of(names: &mut Names, parts: &Parts) -> Result<Args, AllocError>
 pub fn step_of(names: &mut Names, said: &SaidLine) -> Result<PlanStep, AllocError>
     ensures ok { IfOk result (λ step. step ≡ step_of names.old said.now) }
     ensures table { OnOk result (names.new ≡ table_after names.old said.now) }
+    ensures kept { Keeps names.old names.new }
 {
     let action = name_of(names, said.parts.part(3))?;
     let args = args_of(names, &said.parts)?;

@@ -15,11 +15,11 @@ use Rattle.ps_text.specs.declared.lexing.LexRefusal.TheVariants as lexing
 use Rattle.ps_text.specs.declared.lexing.Token.{Token}
 use Rattle.ps_shape.specs.Shape.{Derives, IsFirstFaultFrom, IsShallowFrom}
 use Rattle.ps_shape.specs.declared.marks.Mark.{Mark}
-use Rattle.ps_forms.specs.Lexemes.{Keeps, lexeme_of, lexemes_of, marks, table_after}
+use Rattle.ps_text.specs.Names.{Keeps}
+use Rattle.ps_forms.specs.Lexemes.{lexeme_of, lexemes_of, marks, table_after}
 use Rattle.ps_forms.specs.Nested.{Nesteds}
 use Rattle.ps_forms.specs.Spelling.{SpellAll, is_balanced}
 use Rattle.ps_forms.specs.declared.lexemes.Lexeme.{Lexeme}
-use Rattle.ps_forms.proofs.Kept.{kept_front}
 use Rattle.ps_script.specs.Commands.{command_of}
 use Rattle.ps_script.specs.Files.{after_run, file_in, is_run_plan, is_source}
 use Rattle.ps_script.specs.Forms.{form_of, is_built, start_of}
@@ -64,11 +64,6 @@ pub refused_read : {A : Type 0} (table : Table) (bytes : List ℕ) (answer : Res
 refused_read table bytes answer failure f g c r plain fault was is same from e =
     let here : RefusesText f bytes = subst (λ a. IfSome (refusal_of a) (λ x. RefusesText x bytes)) (was ∙ ap Err is) fault in
     subst (λ (x : Read). IsRead table bytes x table) (sym (e ∙ ap bad (from ∙ ap cause_of same))) (classless_read table bytes f plain here)
-
--- a table that is cut back to its old names is the old one
-pub cut_read : {A E : Type 0} (answer : Result A E) (table now after : Table) (n : ℕ) → n ≡ length table → after ≡ take n now → OnErr answer (Keeps table now) → OnErr answer (after ≡ table)
-cut_read (Ok value) table now after n count cut kept = tt
-cut_read (Err error) table now after n count cut kept = cut ∙ ap (λ k. take k now) count ∙ kept_front table now kept
 
 pub source_read : (table : Table) (bytes text : List ℕ) (found : Option (List ℕ)) (file : List ℕ) → is_nothing bytes ≡ false → is_source bytes ≡ true → text ≡ after_run bytes → found ≡ file_in text → found ≡ Some file → IsRead table bytes (Source file) table
 source_read table bytes text found file some is t f s = source file some is (ap file_in (sym t) ∙ sym f ∙ s)

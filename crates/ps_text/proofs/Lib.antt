@@ -2,6 +2,7 @@ pub mod Counts
 pub mod Cuts
 pub mod Digits
 pub mod Folds
+pub mod Kept
 pub mod OneLexing
 pub mod Pieces
 pub mod Printed

@@ -60,3 +60,7 @@ pub record AreNames (table : Table) : Type 0 where
   pub texts : All IsNameText table
   pub apart : (i j : ℕ) → i < length table → j < length table → slice_index_or table i [] ≡ slice_index_or table j [] → i ≡ j
   pub first : slice_get table 0 ≡ Some (codes "object")
+
+-- old names keep their texts
+abbrev pub Keeps : Table → Table → Type 0
+Keeps table after = (n : ℕ) → n < length table → slice_get after n ≡ slice_get table n

@@ -1,5 +1,6 @@
 use Rattle.std.proofs.Common.{◌∙◌}
-use Rattle.ps_forms.proofs.Kept.{kept_along, kept_named}
+use Rattle.ps_text.proofs.Kept.{kept_along}
+use Rattle.ps_forms.proofs.Kept.{kept_named}
 use Rattle.ps_forms.proofs.LexemeSteps.{table_more, words_more}
 use Rattle.ps_forms.proofs.TokenNames.{are_tokens_of}
 use Rattle.ps_forms.proofs.lexemes.lexemes_of.Goals as goal

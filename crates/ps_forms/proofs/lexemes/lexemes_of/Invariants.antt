@@ -1,6 +1,6 @@
 use Rattle.std.proofs.Common.{◌≡◌, ◌++◌, drop}
 use Rattle.ps_forms.specs.Lexemes.{lexemes_of}
-use Rattle.ps_forms.specs.Lexemes.{Keeps}
+use Rattle.ps_text.specs.Names.{Keeps}
 use Rattle.ps_forms.proofs.lexemes.lexemes_of.Given as goal
 
 -- the words are those that stand, and those of the tokens that are left

@@ -1,14 +1,14 @@
-use Rattle.std.proofs.Common.{[], sym, ap, ◌∙◌}
-use Rattle.ps_plan.specs.PlanText.{IsPlan, planned, said_by}
+use Rattle.std.proofs.Common.{◌∙◌, sym}
+use Rattle.ps_plan.specs.PlanText.{IsPlan}
 use Rattle.ps_plan.proofs.PlanNames.{IsPlan-few, IsPlan-grows, IsPlan-named}
 use Rattle.ps_plan.proofs.reading.read_plan.Goals as goal
 use Rattle.ps_plan.proofs.reading.read_plan.Goals.{In_ok-steps}
 
-is_plan : (c : In_ok-steps) → IsPlan c.args.names.now c.args.bytes.now c.in_ok-steps.steps.items c.read_steps.new.names
+is_plan : (c : In_ok-steps) → IsPlan c.args.names.now c.args.bytes.now c.in_ok-steps.steps.items c.read_all_steps.new.names
 is_plan c =
     record {
       faultless = sym c.plan_fault.ensures ∙ c.in_default.is;
-      steps_are = ap (λ t. planned t [] (said_by c.args.bytes.now)) (sym c.in_ok-more.ensures) ∙ c.in_ok-steps.ensures.steps;
+      steps_are = c.in_ok-steps.ensures.steps;
     }
 
 pub returns-clause-few : goal.returns-clause-few

@@ -2,6 +2,7 @@ use Rattle.std.proofs.Common.{◌≡◌, ◌+◌, ◌-◌, ◌<◌, length, arit
 use Rattle.std.proofs.lemmas.List.{length-set}
 use Rattle.ps_text.specs.Names.{folded, interned, place_of}
 use Rattle.ps_text.specs.Words.{word_at}
+use Rattle.ps_text.proofs.Kept.{kept_along}
 use Rattle.ps_plan.proofs.NamedParts.{args-more, args-table, fit_parts, is_name-at}
 use Rattle.ps_plan.proofs.steps.args_of.Goals as goal
 
@@ -21,5 +22,6 @@ loop-i-preserved c =
     record {
       room = length-set c.loop-i.found i c.in_ok-found.field-0 ∙ c.loop-i.invariant.room;
       names = c.loop-i.invariant.names ∙ args-more parts i c.loop-i.names c.name_of.new.names within table c.loop-i.found c.in_ok-found.field-0 (omega (arith, c.loop-i.invariant.room, c.len-count.ensures.count, c.len-count.ensures.few)) place;
+      kept = kept_along c.args.names.now c.loop-i.names c.name_of.new.names c.loop-i.invariant.kept found.kept;
       table = c.loop-i.invariant.table ∙ args-table parts i c.loop-i.names c.name_of.new.names within table;
     }

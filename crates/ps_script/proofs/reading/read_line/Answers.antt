@@ -1,4 +1,4 @@
-use Rattle.ps_script.proofs.LineReads.{cut_read}
+use Rattle.ps_text.proofs.Kept.{cut_read}
 use Rattle.ps_script.proofs.reading.read_line.Goals as goal
 
 pub returns-then-is_err-clause-err : goal.returns-then-is_err-clause-err
