@@ -16,10 +16,11 @@ use super::light::lighten;
 use super::prepared::{Prepared, prepare_all};
 use super::rows::Row;
 use super::search::Search;
-use ps_action::{Act, Answer, GroundAction, GroundRefusal};
+use ps_action::{Act, Answer, GroundAction};
 use ps_domain::{Expert, GroundAllRefusal};
+use ps_plan::Solver;
 use ps_problem::Problem;
-use ps_world::{Cond, Name};
+use ps_world::{Cond, Failure, Name};
 use std::alloc::{AllocError, Global};
 
 /// A solver that looks at all that one step leads to, then at all that two steps lead to, and so on, in the order of the acts, and at
@@ -46,14 +47,14 @@ fn push_ground(
 ) -> Result<(), AllocError>
     ensures { OnOk result ((n : Node) → moves expert.now problem.now found.new.items n ≡ moves expert.now problem.now found.old.items n ++ moves expert.now problem.now (option_to_list (result_ok (ground_act expert.now instances.now act.now))) n) }
 {
-    match expert.ground(alloc, instances, act) {
+    match expert.ground(instances, act) {
         Ok(mut action) => {
             lighten(alloc, problem, expert, &mut action)?;
             found.push(action)?;
             Ok(())
         }
-        Err(GroundRefusal::OutOfMemory) => Err(AllocError),
-        Err(_) => Ok(()),
+        Err(Failure::Refused(_)) => Ok(()),
+        Err(Failure::OutOfMemory) => Err(AllocError),
     }
 }
 
@@ -100,10 +101,10 @@ impl<'a> Question<'a> {
         requires instances { instances.now ≡ self.now.problem.now.instances }
         ensures { IfOk result (λ a. a ≡ answer self.now.expert.now self.now.problem.now self.now.budget) }
     {
-        match self.expert.ground_all(alloc, instances) {
+        match self.expert.ground_all(instances) {
             Ok(all) => self.answer_by(alloc, instances, &all),
-            Err(GroundAllRefusal::TooMany) => Ok(Answer::TooMany),
-            Err(GroundAllRefusal::OutOfMemory) => Err(AllocError),
+            Err(Failure::Refused(GroundAllRefusal::TooMany)) => Ok(Answer::TooMany),
+            Err(Failure::OutOfMemory) => Err(AllocError),
         }
     }
 

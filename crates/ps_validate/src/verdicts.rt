@@ -10,9 +10,10 @@ use ps_domain::Expert;
 use ps_plan::{PlanTextRefusal, check_plan, read_plan};
 use ps_problem::Problem;
 use ps_text::Names;
+use ps_world::Failure;
 use std::alloc::{AllocError, Global};
 
-/// Why a plan isn't valid. No want of memory stands in it.
+/// Why a plan isn't valid.
 #[derive(Clone, Copy, PartialEq, Eq, Debug)]
 pub enum Invalid {
     /// Its text is none of a plan.
@@ -45,8 +46,8 @@ fn plan_wrong(
     let acts = acts_of(alloc, steps)?;
     match check_plan(alloc, expert, problem, &acts) {
         Ok(()) => Ok(None),
-        Err(PlanRefusal::OutOfMemory) => Err(AllocError),
-        Err(fault) => Ok(Some(Invalid::Plan(fault))),
+        Err(Failure::Refused(fault)) => Ok(Some(Invalid::Plan(fault))),
+        Err(Failure::OutOfMemory) => Err(AllocError),
     }
 }
 
@@ -65,8 +66,8 @@ fn text_wrong(
 {
     match read_plan(alloc, names, plan) {
         Ok(steps) => plan_wrong(alloc, expert, problem, &steps),
-        Err(PlanTextRefusal::OutOfMemory) => Err(AllocError),
-        Err(fault) => Ok(Some(Invalid::Text(fault))),
+        Err(Failure::Refused(fault)) => Ok(Some(Invalid::Text(fault))),
+        Err(Failure::OutOfMemory) => Err(AllocError),
     }
 }
 

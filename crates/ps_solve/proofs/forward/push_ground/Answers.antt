@@ -14,4 +14,4 @@ returns-in_ok-push-in-Ok c =
     λ n.
     ap (λ (l : List GroundAction). moves d k l n) c.in_ok-push-in-Ok.ensures.items
     ∙ one_more d k n found c.lighten.new.action c.in-Ok.action (c.in_ok-lighten-in-Ok.ensures n)
-    ∙ ap (λ (r : Result GroundAction GroundRefusal). moves d k found n ++ moves d k (option_to_list (result_ok r)) n) (sym c.in-Ok.ensures.ok)
+    ∙ ap (λ (r : Result GroundAction GroundRefusal). moves d k found n ++ moves d k (option_to_list (result_ok r)) n) (sym c.in-Ok.ensures.gives)
