@@ -46,7 +46,7 @@ pub fn push_arity(
     Ok(())
 }
 
-/// Adds why an edit is refused. Want of memory stands in no entry, and adds nothing.
+/// Adds why an edit is refused.
 pub fn push_edit_refusal(
     alloc: Global,
     names: &Names,
@@ -70,7 +70,6 @@ pub fn push_edit_refusal(
         EditRefusal::NoFunction => text.extend_from_slice(b"NoFunction")?,
         EditRefusal::NoValue => text.extend_from_slice(b"NoValue")?,
         EditRefusal::NoGoal => text.extend_from_slice(b"NoGoal")?,
-        EditRefusal::OutOfMemory => {}
     }
     Ok(())
 }

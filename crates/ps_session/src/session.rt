@@ -1,5 +1,5 @@
 //! The session: each line of the terminal in turn, with its entry and its reply lines.
-ghost use Rattle.std.specs.Prelude.{◌≡◌, ◌≢◌, ◌<◌, ◌≤◌, ◌^◌, ℕ, length, IfOk, OnOk, OnErr, All};
+ghost use Rattle.std.specs.Prelude.{◌≡◌, ◌<◌, ◌≤◌, ◌^◌, ℕ, length, IfOk, OnOk, OnErr, All};
 ghost use Rattle.std.specs.Io.KnownBytes.{Appends};
 ghost use Rattle.ps_text.specs.Names.{AreNames};
 ghost use Rattle.ps_text.specs.Causes.{HasCause, AppendsFront};
@@ -12,9 +12,6 @@ ghost use Rattle.ps_print.specs.CanonicalWords.{IsParamOf};
 ghost use Rattle.ps_journal.specs.Steps.{told_steps};
 ghost use Rattle.ps_session.specs.Events.{by_terminal, edit_event, event_of};
 ghost use Rattle.ps_session.specs.Session.{IsDone, IsCut, input_with};
-ghost use Rattle.ps_machine.specs.declared.journal.Event.TheVariants.{Refused};
-ghost use Rattle.ps_machine.specs.declared.journal.Refusal.TheVariants.{Edit as RefusedEdit};
-ghost use Rattle.ps_world.specs.declared.edits.EditRefusal.TheVariants.{OutOfMemory as NoMemory};
 ghost use Rattle.ps_journal.specs.declared.broken.Broken.TheVariants.{Write};
 
 use super::plans::{Answered, answer_query};
@@ -24,7 +21,7 @@ use ps_journal::{Broken, entry_text};
 use ps_machine::{By, Command, Entry, Event, Line, Refusal};
 use ps_problem::Problem;
 use ps_text::{Names, Sink, put};
-use ps_world::{Duplicate, Edit, EditRefusal};
+use ps_world::{Duplicate, Edit, Failure};
 use std::alloc::{AllocError, AllocFailed, Global};
 
 /// Does the session of these lines up to the first `quit`, and gives its status: 1 where a line was refused, else 0. A solver looks
@@ -194,23 +191,10 @@ fn answer_edit(
     let copy = edit.copy(alloc)?;
     match problem.edit(expert, edit) {
         Ok(_) => Ok(Event::Edit { by, edit: copy }),
-        Err(refusal) => {
-            let event = refusal_event(by, refusal)?;
-            Ok(event)
-        }
-    }
-}
-
-/// The event of a refused edit. Want of memory is none.
-fn refusal_event(by: By, refusal: EditRefusal) -> Result<Event, AllocError>
-    ensures event { IfOk result (λ event. event ≡ Refused by (RefusedEdit refusal)) }
-    ensures memory { OnOk result (refusal ≢ NoMemory) }
-{
-    match refusal {
-        EditRefusal::OutOfMemory => Err(AllocError),
-        _ => Ok(Event::Refused {
+        Err(Failure::Refused(refusal)) => Ok(Event::Refused {
             by,
             why: Refusal::Edit(refusal),
         }),
+        Err(Failure::OutOfMemory) => Err(AllocError),
     }
 }
