@@ -1,5 +1,5 @@
 -- Tables that keep their names.
-use Rattle.std.proofs.Common.{◌≡◌, ℕ, zero, suc, ◌<◌, true, false, if◌then◌else◌, List, [], ◌∷◌, ◌++◌, length, slice_get, Option, None, Some, refl, ◌∙◌, ap, arith}
+use Rattle.std.proofs.Common.{◌≡◌, ℕ, zero, suc, ◌<◌, true, false, if◌then◌else◌, List, [], ◌∷◌, ◌++◌, length, slice_get, take, Option, None, Some, refl, ◌∙◌, ap, arith}
 use Rattle.std.specs.List.{list_any}
 use Rattle.std.proofs.lemmas.Option.{slice_get_within, slice_get-get_or}
 use Rattle.ps_world.specs.Lines.{same_text}
@@ -15,6 +15,15 @@ pub kept_along : (t u v : Table) → Keeps t u → Keeps u v → Keeps t v
 kept_along t u v p q n lt =
     let here = p n lt ∙ slice_get-get_or t n [] lt in
     q n (slice_get_within u n _ here) ∙ p n lt
+
+-- a table that keeps the names of another begins with them
+pub kept_front : (t u : Table) → Keeps t u → take (length t) u ≡ t
+kept_front [] u keeps = refl
+kept_front (x ∷ t) [] keeps = let none = keeps 0 (omega arith) in absurd (cc)
+kept_front (x ∷ t) (y ∷ u) keeps =
+    let first = keeps 0 (omega arith) in
+    let same : y ≡ x = cc in
+    rw (same, kept_front t u (λ n lt. keeps (suc n) (omega (arith, lt)))) refl
 
 get-append : (t u : Table) (n : ℕ) → n < length t → slice_get (t ++ u) n ≡ slice_get t n
 get-append [] u n lt = absurd (omega (arith, lt))

@@ -1,7 +1,11 @@
 -- What a line is read as, by what was found out of it.
-use Rattle.std.proofs.Common.{◌≡◌, ℕ, true, false, List, [], ◌∷◌, length, Option, None, Some, IfSome, refl, sym, ◌∙◌, ap, subst}
+use Rattle.std.proofs.Common.{◌≡◌, ℕ, true, false, List, [], ◌∷◌, length, take, Option, None, Some, IfSome, Result, Ok, Err, OnErr, refl, sym, ◌∙◌, ap, subst}
+use Rattle.ps_world.specs.Failures.{refusal_of}
 use Rattle.ps_world.specs.Names.{Table}
+use Rattle.ps_world.specs.declared.failures.Failure.{Failure}
+use Rattle.ps_world.specs.declared.failures.Failure.TheVariants.{Refused}
 use Rattle.ps_machine.specs.declared.inputs.Command.{Command}
+use Rattle.ps_machine.specs.declared.inputs.LineCause.{LineCause}
 use Rattle.ps_machine.specs.declared.inputs.LineCause.TheVariants as cause
 use Rattle.ps_machine.specs.declared.inputs.Line.TheVariants.{Good}
 use Rattle.ps_text.specs.Tokens.{AreTokens, RefusesText}
@@ -11,14 +15,15 @@ use Rattle.ps_text.specs.declared.lexing.LexRefusal.TheVariants as lexing
 use Rattle.ps_text.specs.declared.lexing.Token.{Token}
 use Rattle.ps_shape.specs.Shape.{Derives, IsFirstFaultFrom, IsShallowFrom}
 use Rattle.ps_shape.specs.declared.marks.Mark.{Mark}
-use Rattle.ps_forms.specs.Lexemes.{lexeme_of, lexemes_of, marks, table_after}
+use Rattle.ps_forms.specs.Lexemes.{Keeps, lexeme_of, lexemes_of, marks, table_after}
 use Rattle.ps_forms.specs.Nested.{Nesteds}
 use Rattle.ps_forms.specs.Spelling.{SpellAll, is_balanced}
 use Rattle.ps_forms.specs.declared.lexemes.Lexeme.{Lexeme}
+use Rattle.ps_forms.proofs.Kept.{kept_front}
 use Rattle.ps_script.specs.Commands.{command_of}
 use Rattle.ps_script.specs.Files.{after_run, file_in, is_run_plan, is_source}
 use Rattle.ps_script.specs.Forms.{form_of, is_built, start_of}
-use Rattle.ps_script.specs.Lines.{IsOfForm, IsPlain, IsRead, bad, is_nothing, marks_of, place, with_run_plan}
+use Rattle.ps_script.specs.Lines.{IsOfForm, IsPlain, IsRead, bad, cause_of, is_nothing, marks_of, place, with_run_plan}
 use Rattle.ps_script.specs.Lines.IsRead.{good, run_nothing, run_plan, source, source_nothing, unbuilt, without_class, without_form, without_number, without_shape}
 use Rattle.ps_script.specs.declared.forms.Form.{Form}
 use Rattle.ps_script.specs.declared.reading.Read.{Read}
@@ -51,13 +56,19 @@ unbuilt_read table bytes form tokens r is b e = subst (λ (x : Read). IsRead tab
 pub formless_read : (table : Table) (bytes : List ℕ) (tokens : List Token) (ws : List (List ℕ)) (found : Option Form) (r : Read) → IsPlain bytes → AreTokens bytes tokens → ws ≡ words bytes → found ≡ form_of ws → found ≡ None → r ≡ bad cause.Command → IsRead table bytes r table
 formless_read table bytes tokens ws found r plain are w f n e = subst (λ (x : Read). IsRead table bytes x table) (sym e) (without_form tokens plain are (ap form_of (sym w) ∙ sym f ∙ n))
 
-pub classless_read : (table : Table) (bytes : List ℕ) (at k : ℕ) (f : LexRefusal) (r : Read) → IsPlain bytes → RefusesText f bytes → f ≡ lexing.Bad at → k ≡ at → r ≡ bad (cause.Lex k) → IsRead table bytes r table
-classless_read table bytes at k f r plain fault is same e =
-    subst (λ (x : Read). IsRead table bytes x table) (sym (e ∙ ap (λ n. bad (cause.Lex n)) same)) (without_class at plain (subst (λ (g : LexRefusal). RefusesText g bytes) is fault))
+classless_read : (table : Table) (bytes : List ℕ) (fault : LexRefusal) → IsPlain bytes → RefusesText fault bytes → IsRead table bytes (bad (cause_of fault)) table
+classless_read table bytes (lexing.Bad at) plain fault = without_class at plain fault
+classless_read table bytes (lexing.Number at) plain fault = without_number at plain fault
 
-pub numberless_read : (table : Table) (bytes : List ℕ) (at k : ℕ) (f : LexRefusal) (r : Read) → IsPlain bytes → RefusesText f bytes → f ≡ lexing.Number at → k ≡ at → r ≡ bad (cause.Number k) → IsRead table bytes r table
-numberless_read table bytes at k f r plain fault is same e =
-    subst (λ (x : Read). IsRead table bytes x table) (sym (e ∙ ap (λ n. bad (cause.Number n)) same)) (without_number at plain (subst (λ (g : LexRefusal). RefusesText g bytes) is fault))
+pub refused_read : {A : Type 0} (table : Table) (bytes : List ℕ) (answer : Result A (Failure LexRefusal)) (failure : Failure LexRefusal) (f g : LexRefusal) (c : LineCause) (r : Read) → IsPlain bytes → IfSome (refusal_of answer) (λ x. RefusesText x bytes) → answer ≡ Err failure → failure ≡ Refused f → g ≡ f → c ≡ cause_of g → r ≡ bad c → IsRead table bytes r table
+refused_read table bytes answer failure f g c r plain fault was is same from e =
+    let here : RefusesText f bytes = subst (λ a. IfSome (refusal_of a) (λ x. RefusesText x bytes)) (was ∙ ap Err is) fault in
+    subst (λ (x : Read). IsRead table bytes x table) (sym (e ∙ ap bad (from ∙ ap cause_of same))) (classless_read table bytes f plain here)
+
+-- a table that is cut back to its old names is the old one
+pub cut_read : {A E : Type 0} (answer : Result A E) (table now after : Table) (n : ℕ) → n ≡ length table → after ≡ take n now → OnErr answer (Keeps table now) → OnErr answer (after ≡ table)
+cut_read (Ok value) table now after n count cut kept = tt
+cut_read (Err error) table now after n count cut kept = cut ∙ ap (λ k. take k now) count ∙ kept_front table now kept
 
 pub source_read : (table : Table) (bytes text : List ℕ) (found : Option (List ℕ)) (file : List ℕ) → is_nothing bytes ≡ false → is_source bytes ≡ true → text ≡ after_run bytes → found ≡ file_in text → found ≡ Some file → IsRead table bytes (Source file) table
 source_read table bytes text found file some is t f s = source file some is (ap file_in (sym t) ∙ sym f ∙ s)

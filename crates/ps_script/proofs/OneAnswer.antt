@@ -21,7 +21,7 @@ use Rattle.ps_script.specs.Commands.{command_of}
 use Rattle.ps_script.specs.Files.{after_run, file_in, is_run_plan, is_source}
 use Rattle.ps_script.specs.Forms.{form_of, is_built, start_of}
 use Rattle.ps_script.specs.Laws.{LinesAreReadAsOne}
-use Rattle.ps_script.specs.Lines.{IsPlain, IsRead, bad, is_nothing, marks_of, place, with_run_plan}
+use Rattle.ps_script.specs.Lines.{IsPlain, IsRead, bad, cause_of, is_nothing, marks_of, place, with_run_plan}
 use Rattle.ps_script.specs.Lines.IsRead.{nothing, source, source_nothing, run_plan, run_nothing, without_class, without_number, without_form, without_shape, unbuilt, good}
 use Rattle.ps_script.specs.declared.forms.Form.{Form}
 use Rattle.ps_script.specs.declared.forms.Form.TheVariants as form
@@ -45,12 +45,6 @@ early table bytes =
 
 -- ---- other lines
 
--- the answer to a word without a class
-abbrev unlexed : LexRefusal → Read
-unlexed (lexing.Bad at) = bad (cause.Lex at)
-unlexed (lexing.Number at) = bad (cause.Number at)
-unlexed lexing.OutOfMemory = Nothing
-
 -- the answer to a line of a form
 data Formed (table : Table) (bytes : List ℕ) (tokens : List Token) (f : Form) : Read → Table → Type 0 where
   misfit : (i : ℕ) → IsFirstFaultFrom (start_of f) (marks_of bytes tokens) i → Formed table bytes tokens f (bad (cause.Shape (place bytes tokens i))) table
@@ -59,7 +53,7 @@ data Formed (table : Table) (bytes : List ℕ) (tokens : List Token) (f : Form) 
 
 -- the answer to a line with words
 data Worded (table : Table) (bytes : List ℕ) : Read → Table → Type 0 where
-  faulty : (at : ℕ) (fault : LexRefusal) → IsFirstFault bytes at fault → Worded table bytes (unlexed fault) table
+  faulty : (at : ℕ) (fault : LexRefusal) → IsFirstFault bytes at fault → Worded table bytes (bad (cause_of fault)) table
   formless : (tokens : List Token) → AreTokens bytes tokens → form_of (words bytes) ≡ None → Worded table bytes (bad cause.Command) table
   formed : (tokens : List Token) (f : Form) (r : Read) (after : Table) → AreTokens bytes tokens → form_of (words bytes) ≡ Some f → Formed table bytes tokens f r after → Worded table bytes r after
 
@@ -98,7 +92,7 @@ one_form : (a b : Form) → ◌≡◌ {A = Option Form} (Some a) (Some b) → a 
 one_form a b e = cc
 
 worded_one : (table : Table) (bytes : List ℕ) (r s : Read) (after other : Table) → Worded table bytes r after → Worded table bytes s other → (r ≡ s) × (after ≡ other)
-worded_one table bytes _ _ _ _ (faulty i f x) (faulty k g y) = (ap unlexed (faults_are_one bytes i k f g x y).1, refl)
+worded_one table bytes _ _ _ _ (faulty i f x) (faulty k g y) = (ap (λ x. bad (cause_of x)) (faults_are_one bytes i k f g x y).1, refl)
 worded_one table bytes _ _ _ _ (faulty i f x) (formless ts y e) = absurd (tokens_are_faultless bytes i f ts x y)
 worded_one table bytes _ _ _ _ (faulty i f x) (formed ts g s o y e z) = absurd (tokens_are_faultless bytes i f ts x y)
 worded_one table bytes _ _ _ _ (formless ts y e) (faulty i f x) = absurd (tokens_are_faultless bytes i f ts x y)

@@ -9,6 +9,7 @@ use Rattle.ps_machine.specs.declared.inputs.Line.TheVariants.{Good, Bad}
 use Rattle.ps_text.specs.Names.{interned}
 use Rattle.ps_text.specs.Tokens.{AreTokens, IsFirstFault}
 use Rattle.ps_text.specs.Words.{words}
+use Rattle.ps_text.specs.declared.lexing.LexRefusal.{LexRefusal}
 use Rattle.ps_text.specs.declared.lexing.LexRefusal.TheVariants as lexing
 use Rattle.ps_text.specs.declared.lexing.Token.{Token}
 use Rattle.ps_shape.specs.Shape.{Derives, IsFirstFaultFrom, IsShallowFrom}
@@ -54,6 +55,11 @@ place bytes tokens i = option_map_or (λ t. t.from) (slice_get tokens i) (length
 -- a bad line
 abbrev pub bad : LineCause → Read
 bad c = Line (Bad c)
+
+-- why a line with a word without a class is bad
+abbrev pub cause_of : LexRefusal → LineCause
+cause_of (lexing.Bad at) = cause.Lex at
+cause_of (lexing.Number at) = cause.Number at
 
 -- a line with these words is of this form, and all of it fits
 pub record IsOfForm (bytes : List ℕ) (form : Form) (tokens : List Token) : Type 0 where

@@ -7,7 +7,7 @@ ghost use Rattle.ps_text.specs.Words.{words};
 ghost use Rattle.ps_forms.specs.Lexemes.{IsTokenOf, Keeps, mark_of};
 ghost use Rattle.ps_script.specs.Files.{after_run, file_in, is_run_plan, is_source};
 ghost use Rattle.ps_script.specs.Forms.{form_of, is_built};
-ghost use Rattle.ps_script.specs.Lines.{IsOfForm, IsPlain, IsRead, bad, begins_nothing, is_nothing, marks_of, place, with_run_plan};
+ghost use Rattle.ps_script.specs.Lines.{IsOfForm, IsPlain, IsRead, bad, begins_nothing, cause_of, is_nothing, marks_of, place, with_run_plan};
 
 use super::commands::command_of;
 use super::files::{FileName, after_run, file_in, is_run_plan, is_source, trimmed};
@@ -15,7 +15,8 @@ use super::forms::{Form, form_of};
 use ps_forms::{lexemes_of, mark_of, trees_of};
 use ps_machine::{Line, LineCause};
 use ps_shape::Mark;
-use ps_text::{LexRefusal, NameRefusal, Names, Token, Words, tokens};
+use ps_text::{LexRefusal, Names, Token, Words, tokens};
+use ps_world::Failure;
 use std::alloc::{AllocError, Global};
 
 /// What a line is read as.
@@ -48,6 +49,16 @@ fn bad(cause: LineCause) -> Read
     Read::Line(Line::Bad(cause))
 }
 
+/// Why a line with a word without a class is bad.
+fn cause_of(refusal: LexRefusal) -> LineCause
+    ensures { result ≡ cause_of refusal }
+{
+    match refusal {
+        LexRefusal::Bad { at } => LineCause::Lex { at },
+        LexRefusal::Number { at } => LineCause::Number { at },
+    }
+}
+
 /// Puts a fixed word into the table.
 fn put_word(names: &mut Names, word: &[u8]) -> Result<(), AllocError>
     requires { is_name word.now ≡ true }
@@ -56,8 +67,8 @@ fn put_word(names: &mut Names, word: &[u8]) -> Result<(), AllocError>
 {
     match names.intern(word) {
         Ok(_) => Ok(()),
-        Err(NameRefusal::OutOfMemory) => Err(AllocError),
-        Err(_) => unreachable!(),
+        Err(Failure::OutOfMemory) => Err(AllocError),
+        Err(Failure::Refused(_)) => unreachable!(),
     }
 }
 
@@ -190,18 +201,13 @@ fn read_plain(alloc: Global, names: &mut Names, bytes: &[u8]) -> Result<Read, Al
                 None => Ok(bad(LineCause::Command)),
             }
         }
-        Err(LexRefusal::Bad { at }) => Ok(bad(LineCause::Lex { at })),
-        Err(LexRefusal::Number { at }) => Ok(bad(LineCause::Number { at })),
-        Err(LexRefusal::OutOfMemory) => Err(AllocError),
+        Err(Failure::Refused(refusal)) => Ok(bad(cause_of(refusal))),
+        Err(Failure::OutOfMemory) => Err(AllocError),
     }
 }
 
-/// What a line is read as; its bytes are those before its LF.
-///
-/// The names of a good line, and `run` and `plan` of a line that runs a plan, are put into the table. After any other line, a bad one
-/// too, the table is as it was. A bad line tells the first fault. The only error is want of memory; then old names keep their numbers
-/// and texts.
-pub fn read_line(alloc: Global, names: &mut Names, bytes: &[u8]) -> Result<Read, AllocError>
+/// Reads a line. After an error the table may have new names.
+fn read_any(alloc: Global, names: &mut Names, bytes: &[u8]) -> Result<Read, AllocError>
     ensures read { IfOk result (λ r. IsRead names.old bytes.now r names.new) }
     ensures err { OnErr result (Keeps names.old names.new) }
 {
@@ -215,4 +221,20 @@ pub fn read_line(alloc: Global, names: &mut Names, bytes: &[u8]) -> Result<Read,
         return read_run_plan(alloc, names, bytes);
     }
     read_plain(alloc, names, bytes)
+}
+
+/// What a line is read as; its bytes are those before its LF.
+///
+/// The names of a good line, and `run` and `plan` of a line that runs a plan, are put into the table. After any other line, a bad one
+/// too, and after an error, the table is as it was. A bad line tells the first fault.
+pub fn read_line(alloc: Global, names: &mut Names, bytes: &[u8]) -> Result<Read, AllocError>
+    ensures read { IfOk result (λ r. IsRead names.old bytes.now r names.new) }
+    ensures err { OnErr result (names.new ≡ names.old) }
+{
+    let known = names.len();
+    let read = read_any(alloc, names, bytes);
+    if read.is_err() {
+        names.cut_back(known);
+    }
+    read
 }
