@@ -1,8 +1,6 @@
-pub mod Acting
 pub mod CanonicalForms
 pub mod CanonicalLexing
 pub mod ConditionForms
-pub mod Declaring
 pub mod EffectForms
 pub mod FewParams
 pub mod Fits

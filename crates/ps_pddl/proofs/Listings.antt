@@ -1,7 +1,9 @@
 -- One word of a list of typed names.
-use Rattle.std.proofs.Common.{◌≡◌, ℕ, ◌+◌, ◌<◌, List, [], ◌∷◌, ◌++◌, length, drop, map, get_or, true, false, None, Ok, refl, sym, ◌∙◌, ap}
+use Rattle.std.proofs.Common.{◌≡◌, ℕ, ◌+◌, ◌<◌, List, [], ◌∷◌, ◌++◌, length, drop, map, get_or, true, false, None, Ok, Err, refl, sym, ◌∙◌, ap}
 use Rattle.std.specs.List.{list_any}
 use Rattle.std.proofs.lemmas.List.{drop_more}
+use Rattle.ps_world.specs.Failures.{Gives}
+use Rattle.ps_world.specs.declared.failures.Failure.{Failure}
 use Rattle.ps_world.specs.Names.{same_name}
 use Rattle.ps_world.specs.declared.names.Name.{Name}
 use Rattle.ps_world.specs.declared.domains.Param.{Param}
@@ -12,8 +14,8 @@ use Rattle.ps_forms.specs.Nested.{Nesteds, nesteds}
 use Rattle.ps_forms.specs.NestedViews.{nested}
 use Rattle.ps_forms.specs.Places.{word_of}
 use Rattle.ps_pddl.specs.Lists.{fault_of_new, cap_of, most_of, counted, with_name, kind_ahead, listed, listed_type}
-use Rattle.ps_pddl.specs.Steps.{◌>>=◌, Refuses}
-use Rattle.ps_pddl.proofs.Steps.{refuses-first}
+use Rattle.ps_pddl.specs.Steps.{◌>>=◌}
+use Rattle.ps_pddl.proofs.Steps.{gives_first}
 use Rattle.ps_pddl.specs.declared.refusals.DomainRefusal.{DomainRefusal}
 use Rattle.ps_forms.specs.declared.lexemes.Lexeme.{Lexeme}
 use Rattle.ps_forms.specs.declared.trees.Tree.{Tree}
@@ -53,5 +55,5 @@ module _ (ts : List Tree) (i : ℕ) (t : Tree) (within : i < length ts) (here : 
     listed-added all e = rw (listed-name, e) refl
 
     -- what is at fault with the name is at fault with the list
-    pub listed-fault : (r : DomainRefusal) → Refuses (with_name listing l kind before) r → Refuses (listed d listing (left ts i) before) r
-    listed-fault r h = rw listed-name (refuses-first (with_name listing l kind before) (λ all. listed d listing (left ts (i + 1)) all) r h)
+    pub listed-fault : (f : Failure DomainRefusal) → Gives (λ x. x) (Err f) (with_name listing l kind before) → Gives (λ x. x) (Err f) (listed d listing (left ts i) before)
+    listed-fault f h = rw listed-name (gives_first (with_name listing l kind before) (λ all. listed d listing (left ts (i + 1)) all) f h)

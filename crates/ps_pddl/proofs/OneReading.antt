@@ -5,7 +5,6 @@ use Rattle.ps_text.specs.Tokens.{IsFirstFault}
 use Rattle.ps_text.specs.declared.lexing.LexRefusal.{LexRefusal}
 use Rattle.ps_text.specs.declared.lexing.LexRefusal.TheVariants.{Bad, Number}
 use Rattle.ps_text.proofs.OneLexing.{tokens_are_one, faults_are_one, tokens_are_faultless}
-use Rattle.ps_shape.specs.Shape.{IsDomainShape, IsShallow}
 use Rattle.ps_shape.specs.Shape as shape
 use Rattle.ps_shape.proofs.OneFault.{faults_are_first, faults_are_real}
 use Rattle.ps_pddl.specs.Laws.{ReadingsAreOne}
@@ -42,20 +41,20 @@ readings_are_one table bytes _ _ _ _ (without_class at x) (without_class there y
     let f = fault_here bytes at x in
     let g = fault_here bytes there y in
     (ap (λ k. Err (Lex k)) (faults_are_one bytes at there f.0 g.0 f.1 g.1).0, refl)
-readings_are_one table bytes _ _ _ _ (without_class at x) (without_shape ms other g also y w) = absurd (all_classed table bytes ms other at also x)
+readings_are_one table bytes _ _ _ _ (without_class at x) (without_shape ms other g also y) = absurd (all_classed table bytes ms other at also x)
 readings_are_one table bytes _ _ _ _ (without_class at x) (with_meaning ms other us s also p q v m) = absurd (all_classed table bytes ms other at also x)
-readings_are_one table bytes _ _ _ _ (without_shape ls after f words x v) (without_class at y) = absurd (all_classed table bytes ls after at words y)
-readings_are_one table bytes _ _ _ _ (without_shape ls after f words x v) (without_shape ms other g also y w) =
+readings_are_one table bytes _ _ _ _ (without_shape ls after f words x) (without_class at y) = absurd (all_classed table bytes ls after at words y)
+readings_are_one table bytes _ _ _ _ (without_shape ls after f words x) (without_shape ms other g also y) =
     let both = one_words table bytes ls ms after other words also in
-    let same : f ≡ g = faults_are_first f g (marks ms) v w (subst (λ l. shape.Refuses f (marks l)) both.0 x) y in
+    let same : f ≡ g = faults_are_first f g (marks ms) (subst (λ l. shape.Refuses f (marks l)) both.0 x) y in
     (ap (λ l. Err (misshapen bytes l f)) both.0 ∙ ap (λ k. Err (misshapen bytes ms k)) same, both.1)
-readings_are_one table bytes _ _ _ _ (without_shape ls after f words x v) (with_meaning ms other us s also p q w m) =
+readings_are_one table bytes _ _ _ _ (without_shape ls after f words x) (with_meaning ms other us s also p q w m) =
     let both = one_words table bytes ls ms after other words also in
-    absurd (faults_are_real f (marks ms) v (subst (λ l. shape.Refuses f (marks l)) both.0 x) p q)
+    absurd (faults_are_real f (marks ms) (subst (λ l. shape.Refuses f (marks l)) both.0 x) p q)
 readings_are_one table bytes _ _ _ _ (with_meaning ls after ts r words p q w m) (without_class at y) = absurd (all_classed table bytes ls after at words y)
-readings_are_one table bytes _ _ _ _ (with_meaning ls after ts r words p q w m) (without_shape ms other g also y v) =
+readings_are_one table bytes _ _ _ _ (with_meaning ls after ts r words p q w m) (without_shape ms other g also y) =
     let both = one_words table bytes ls ms after other words also in
-    absurd (faults_are_real g (marks ls) v (subst (λ l. shape.Refuses g (marks l)) (sym both.0) y) p q)
+    absurd (faults_are_real g (marks ls) (subst (λ l. shape.Refuses g (marks l)) (sym both.0) y) p q)
 readings_are_one table bytes _ _ _ _ (with_meaning ls after ts r words p q w m) (with_meaning ms other us s also h k v n) =
     let both = one_words table bytes ls ms after other words also in
     let same : ts ≡ us = one_spelling ts us ms (subst (SpellAll ts) both.0 w) v in

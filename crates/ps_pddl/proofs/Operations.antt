@@ -1,5 +1,5 @@
 -- Expressions by how many words and lists they have.
-use Rattle.std.proofs.Common.{◌≡◌, ◌≤◌, List, [], ◌∷◌, Result, Ok, Err, IfOk, length, map, slice_index_or, refl, arith, suc}
+use Rattle.std.proofs.Common.{◌≡◌, ◌≤◌, List, [], ◌∷◌, Ok, length, map, slice_index_or, refl, arith, suc}
 use Rattle.ps_world.specs.ExprViews.{expr_tree}
 use Rattle.ps_world.specs.declared.domains.Domain.{Domain}
 use Rattle.ps_world.specs.declared.domains.Param.{Param}
@@ -35,7 +35,3 @@ with_two d ps (t ∷ u ∷ v ∷ us) a b h p q = rw (p, q) refl
 -- what stands between two parentheses has a level less
 pub group-rank : (t : Tree) (ts : Nesteds) (us : List Tree) → t ≡ Group ts → nesteds (map nested us) ≡ ts → rank (nested t) ≡ suc (ranks (nesteds (map nested us)))
 group-rank t ts us p q = rw (p, q) refl
-
-pub made : {A E : Type 0} (r : Result A E) (x : A) → IfOk r (λ y. y ≡ x) → IfOk r (λ y. ◌≡◌ {A = Result A E} (Ok x) (Ok y))
-made (Ok y) x h = rw h refl
-made (Err e) x h = tt

@@ -1,18 +1,12 @@
--- The refusal of one step is the refusal of the steps that begin with it.
-use Rattle.std.proofs.Common.{refl}
-use Rattle.ps_pddl.specs.Steps.{Read, ◌>>=◌, Refuses}
+-- The failure of one step is the failure of the steps that begin with it.
+use Rattle.std.proofs.Common.{Err, refl}
+use Rattle.ps_world.specs.Failures.{Gives}
+use Rattle.ps_world.specs.declared.failures.Failure.{Failure}
+use Rattle.ps_world.specs.declared.failures.Failure.TheVariants.{Refused, OutOfMemory}
+use Rattle.ps_pddl.specs.Steps.{Read, ◌>>=◌}
 use Rattle.ps_pddl.specs.declared.refusals.DomainRefusal.{DomainRefusal}
-use Rattle.ps_pddl.specs.declared.refusals.DomainRefusal.TheVariants.{Lex, Unexpected, Unsupported, Unknown, Twice, Arity, Kind, Cycle, Limit, OutOfMemory}
 
--- after the first step nothing else is read
-pub refuses-first : {A B : Type 0} (step : Read A) (next : A → Read B) (r : DomainRefusal) → Refuses step r → Refuses (step >>= next) r
-refuses-first step next (Lex at) h = rw h refl
-refuses-first step next (Unexpected at) h = rw h refl
-refuses-first step next (Unsupported at what) h = rw h refl
-refuses-first step next (Unknown at name) h = rw h refl
-refuses-first step next (Twice at name) h = rw h refl
-refuses-first step next (Arity at) h = rw h refl
-refuses-first step next (Kind at) h = rw h refl
-refuses-first step next (Cycle name) h = rw h refl
-refuses-first step next (Limit at which) h = rw h refl
-refuses-first step next OutOfMemory h = tt
+-- after the first step nothing else is read; where a call fails, it doesn't matter how what it returns is seen
+pub gives_first : {A B : Type 0} (step : Read A) (next : A → Read B) (f : Failure DomainRefusal) → Gives (λ x. x) (Err f) step → Gives (λ x. x) (Err f) (step >>= next)
+gives_first step next (Refused r) h = rw h refl
+gives_first step next OutOfMemory h = tt

@@ -23,7 +23,7 @@ abbrev pub is_depth : Cap → Bool
 is_depth Depth = true
 is_depth cap = false
 
--- whether a refusal is of what a text means, and not of its words, of its shape or of memory
+-- whether a refusal is of what a text means, and not of its words or of its shape
 abbrev pub is_of_meaning : DomainRefusal → Bool
 is_of_meaning (Unknown at name) = true
 is_of_meaning (Twice at name) = true

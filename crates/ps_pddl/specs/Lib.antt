@@ -1,5 +1,6 @@
 pub mod Conditions
 pub mod Effects
+pub mod Forms
 pub mod Laws
 pub mod Lists
 pub mod Meaning

@@ -1,5 +1,5 @@
 -- What a list of typed names declares.
-use Rattle.std.specs.Prelude.{ℕ, Bool, true, not, ◌&&◌, nat_le, if◌then◌else◌, Option, Some, None, Ok, Err, List, [], ◌∷◌, ◌++◌, filter, length}
+use Rattle.std.specs.Prelude.{◌≡◌, ℕ, ◌+◌, Bool, true, not, ◌&&◌, nat_le, if◌then◌else◌, Option, Some, None, Ok, Err, List, [], ◌∷◌, ◌++◌, drop, filter, length}
 use Rattle.std.specs.List.{list_any}
 use Rattle.ps_world.specs.Names.{same_name, object}
 use Rattle.ps_world.specs.Knowledge.{is_type}
@@ -10,8 +10,10 @@ use Rattle.ps_shape.specs.Marks.{is}
 use Rattle.ps_shape.specs.declared.marks.Mark.TheVariants.{Minus}
 use Rattle.ps_forms.specs.Nested.{Nesteds, none, more}
 use Rattle.ps_forms.specs.Places.{word_of, head}
+use Rattle.ps_pddl.specs.Forms.{forms}
 use Rattle.ps_pddl.specs.Steps.{Read, ◌>>=◌, unless}
 use Rattle.ps_forms.specs.declared.lexemes.Lexeme.{Lexeme}
+use Rattle.ps_forms.specs.declared.trees.Tree.{Tree}
 use Rattle.ps_pddl.specs.declared.refusals.Cap.{Cap}
 use Rattle.ps_pddl.specs.declared.refusals.Cap.TheVariants as cap
 use Rattle.ps_pddl.specs.declared.refusals.DomainRefusal.{DomainRefusal}
@@ -75,3 +77,9 @@ abbrev mutual
   listed_type d listing (more t ts) before =
       if is_type d (word_of t).name then listed d listing ts before
       else Err (Unknown (word_of t).at (word_of t).name)
+
+-- the name of a type at this place is passed over in every list, or every list is refused for it
+abbrev pub PassesType : Domain → List Tree → ℕ → Read (Unit {0}) → Type 0
+PassesType d ts at (Ok done) =
+    (listing : Listing) (before : List Param) → listed_type d listing (forms (drop at ts)) before ≡ listed d listing (forms (drop (at + 1) ts)) before
+PassesType d ts at (Err fault) = (listing : Listing) (before : List Param) → listed_type d listing (forms (drop at ts)) before ≡ Err fault

@@ -43,7 +43,19 @@ all_declared d which (more (group inside) ts) before =
 
 -- ---- actions
 
--- (= ?duration X)
+-- the duration after its keyword, if one is written: (= ?duration X)
+abbrev pub duration_in : Nesteds → Option Nested
+duration_in ts = at (items_at (after mark.DurationKey ts)) 2
+
+-- the condition after its keyword, if one is written
+abbrev pub condition_in : Nesteds → Option Nested
+condition_in ts = at (after mark.ConditionKey ts) 0
+
+-- the effect after its keyword, if one is written
+abbrev pub effect_in : Nesteds → Option Nested
+effect_in ts = at (after mark.EffectKey ts) 0
+
+-- the duration, which is 0 where none is written
 abbrev pub duration : Domain → List Param → Option Nested → Read Expr
 duration d ps None = Ok (Num (pos 0))
 duration d ps (Some x) = value d ps x
@@ -61,9 +73,9 @@ changes d ps (Some form) = effect.timed d ps form (record { at_start = []; at_en
 -- an action's body, where these are its name and its parameters
 abbrev pub action_body : Domain → Name → List Param → Nesteds → Read ActionDef
 action_body d name ps ts =
-    duration d ps (at (items_at (after mark.DurationKey ts)) 2) >>= λ time.
-    parts d ps (at (after mark.ConditionKey ts) 0) >>= λ condition.
-    changes d ps (at (after mark.EffectKey ts) 0) >>= λ effect.
+    duration d ps (duration_in ts) >>= λ time.
+    parts d ps (condition_in ts) >>= λ condition.
+    changes d ps (effect_in ts) >>= λ effect.
     Ok (record {
       name = name;
       params = ps;

@@ -1,7 +1,6 @@
 -- Reading, step by step, up to the first fault.
-use Rattle.std.specs.Prelude.{◌≡◌, Option, Some, None, Result, Ok, Err}
+use Rattle.std.specs.Prelude.{Option, Some, None, Result, Ok, Err}
 use Rattle.ps_pddl.specs.declared.refusals.DomainRefusal.{DomainRefusal}
-use Rattle.ps_pddl.specs.declared.refusals.DomainRefusal.TheVariants.{OutOfMemory}
 
 -- what is read, or the first fault
 abbrev pub Read : Type 0 → Type 0
@@ -17,8 +16,3 @@ abbrev pub ◌>>=◌ : {A B : Type 0} → Read A → (A → Read B) → Read B
 abbrev pub unless : {A : Type 0} → Option DomainRefusal → Read A → Read A
 unless (Some fault) read = Err fault
 unless None read = read
-
--- a refusal tells the fault, or want of memory
-abbrev pub Refuses : {A : Type 0} → Read A → DomainRefusal → Type 0
-Refuses read OutOfMemory = Unit {0}
-Refuses read fault = read ≡ Err fault

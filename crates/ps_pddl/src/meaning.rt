@@ -1,9 +1,7 @@
 //! What a domain's text means: the domain that its nested lists declare (PDDL 2.1, sections 2 to 5).
-ghost use Rattle.std.specs.Prelude.{◌≡◌, Ok, IfErr, IfOk, OnOk, map};
-ghost use Rattle.ps_forms.specs.Nested.{nesteds};
-ghost use Rattle.ps_forms.specs.NestedViews.{nested};
+ghost use Rattle.ps_world.specs.Failures.{Gives};
 ghost use Rattle.ps_pddl.specs.Meaning.{domain_of, with_actions, with_constants, with_functions, with_predicates, with_sections};
-ghost use Rattle.ps_pddl.specs.Steps.{Refuses};
+ghost use Rattle.ps_pddl.specs.Forms.{forms};
 
 mod actions;
 mod changes;
@@ -23,14 +21,17 @@ use lists::{Listing, listed};
 use ps_domain::Declared;
 use ps_forms::{Tree, head, items_at, rest, section};
 use ps_shape::Mark;
-use ps_world::{Domain, Seq};
+use ps_world::{Domain, Failure, Seq};
 use std::alloc::Global;
 use types::declare_types;
 
 /// Declares the constants of a list.
-fn declare_constants(alloc: Global, d: &mut Declared, trees: &[Tree]) -> Result<(), DomainRefusal>
-    ensures ok { OnOk result (with_constants d.old (nesteds (map nested trees.now)) ≡ Ok d.new) }
-    ensures err { IfErr result (λ r. Refuses (with_constants d.old (nesteds (map nested trees.now))) r) }
+fn declare_constants(
+    alloc: Global,
+    d: &mut Declared,
+    trees: &[Tree],
+) -> Result<(), Failure<DomainRefusal>>
+    ensures { Gives (λ _. d.new) result (with_constants d.old (forms trees.now)) }
 {
     let constants = listed(alloc, d, Listing::Constants, trees)?;
     d.set_constants(alloc, Seq::of(constants))?;
@@ -38,9 +39,12 @@ fn declare_constants(alloc: Global, d: &mut Declared, trees: &[Tree]) -> Result<
 }
 
 /// Declares the predicates of a section.
-fn declare_predicates(alloc: Global, d: &mut Declared, trees: &[Tree]) -> Result<(), DomainRefusal>
-    ensures ok { OnOk result (with_predicates d.old (nesteds (map nested trees.now)) ≡ Ok d.new) }
-    ensures err { IfErr result (λ r. Refuses (with_predicates d.old (nesteds (map nested trees.now))) r) }
+fn declare_predicates(
+    alloc: Global,
+    d: &mut Declared,
+    trees: &[Tree],
+) -> Result<(), Failure<DomainRefusal>>
+    ensures { Gives (λ _. d.new) result (with_predicates d.old (forms trees.now)) }
 {
     let predicates = all_declared(alloc, d, Cap::Predicates, trees)?;
     d.set_predicates(alloc, predicates)?;
@@ -48,9 +52,12 @@ fn declare_predicates(alloc: Global, d: &mut Declared, trees: &[Tree]) -> Result
 }
 
 /// Declares the functions of a section.
-fn declare_functions(alloc: Global, d: &mut Declared, trees: &[Tree]) -> Result<(), DomainRefusal>
-    ensures ok { OnOk result (with_functions d.old (nesteds (map nested trees.now)) ≡ Ok d.new) }
-    ensures err { IfErr result (λ r. Refuses (with_functions d.old (nesteds (map nested trees.now))) r) }
+fn declare_functions(
+    alloc: Global,
+    d: &mut Declared,
+    trees: &[Tree],
+) -> Result<(), Failure<DomainRefusal>>
+    ensures { Gives (λ _. d.new) result (with_functions d.old (forms trees.now)) }
 {
     let functions = all_declared(alloc, d, Cap::Functions, trees)?;
     d.set_functions(alloc, functions)?;
@@ -58,9 +65,12 @@ fn declare_functions(alloc: Global, d: &mut Declared, trees: &[Tree]) -> Result<
 }
 
 /// Declares the actions among these sections.
-fn declare_actions(alloc: Global, d: &mut Declared, trees: &[Tree]) -> Result<(), DomainRefusal>
-    ensures ok { OnOk result (with_actions d.old (nesteds (map nested trees.now)) ≡ Ok d.new) }
-    ensures err { IfErr result (λ r. Refuses (with_actions d.old (nesteds (map nested trees.now))) r) }
+fn declare_actions(
+    alloc: Global,
+    d: &mut Declared,
+    trees: &[Tree],
+) -> Result<(), Failure<DomainRefusal>>
+    ensures { Gives (λ _. d.new) result (with_actions d.old (forms trees.now)) }
 {
     let actions = actions(alloc, d, trees)?;
     d.set_actions(alloc, actions)?;
@@ -68,9 +78,12 @@ fn declare_actions(alloc: Global, d: &mut Declared, trees: &[Tree]) -> Result<()
 }
 
 /// Declares what sections declare. Types, constants, predicates, functions and actions are judged in this order.
-fn declare_sections(alloc: Global, d: &mut Declared, trees: &[Tree]) -> Result<(), DomainRefusal>
-    ensures ok { OnOk result (with_sections d.old (nesteds (map nested trees.now)) ≡ Ok d.new) }
-    ensures err { IfErr result (λ r. Refuses (with_sections d.old (nesteds (map nested trees.now))) r) }
+fn declare_sections(
+    alloc: Global,
+    d: &mut Declared,
+    trees: &[Tree],
+) -> Result<(), Failure<DomainRefusal>>
+    ensures { Gives (λ _. d.new) result (with_sections d.old (forms trees.now)) }
 {
     declare_types(alloc, d, section(Mark::Types, trees))?;
     declare_constants(alloc, d, section(Mark::Constants, trees))?;
@@ -81,9 +94,8 @@ fn declare_sections(alloc: Global, d: &mut Declared, trees: &[Tree]) -> Result<(
 
 /// The domain that a text of a domain's shape declares. The refusal is the first fault of its meaning.
 #[tactic(auto, unfolding(crate::specs::Meaning::domain_of))]
-pub fn domain_of(alloc: Global, trees: &[Tree]) -> Result<Domain, DomainRefusal>
-    ensures ok { IfOk result (λ d. domain_of (nesteds (map nested trees.now)) ≡ Ok d) }
-    ensures err { IfErr result (λ r. Refuses (domain_of (nesteds (map nested trees.now))) r) }
+pub fn domain_of(alloc: Global, trees: &[Tree]) -> Result<Domain, Failure<DomainRefusal>>
+    ensures { Gives (λ d. d) result (domain_of (forms trees.now)) }
 {
     let inside = items_at(trees);
     let name = head(rest(items_at(rest(inside)))).name;

@@ -1,16 +1,18 @@
 //! Reading a domain's text.
-ghost use Rattle.std.specs.Prelude.{◌≡◌, Ok, IfErr, IfOk, OnOk};
+ghost use Rattle.std.specs.Prelude.{◌≡◌, IfOk, IfSome, OnOk};
+ghost use Rattle.ps_world.specs.Failures.{refusal_of};
+ghost use Rattle.ps_text.specs.Tokens.{AreTokens};
 ghost use Rattle.ps_shape.specs.Shape.{IsDomainShape, IsShallow};
 ghost use Rattle.ps_text.specs.Names.{Keeps};
 ghost use Rattle.ps_forms.specs.Lexemes.{marks};
-ghost use Rattle.ps_pddl.specs.Reading.{IsRead, IsRefused, RefusesShape, misshapen, place};
+ghost use Rattle.ps_pddl.specs.Reading.{ReadsDomain, RefusesClass, RefusesShape, misshapen, place, unlexed};
 
 use super::meaning::domain_of;
 use super::refusals::{Cap, DomainRefusal};
 use ps_forms::{Lexeme, lexemes_of, trees_of};
 use ps_shape::{Mark, ShapeFault, judge};
-use ps_text::{Names, tokens};
-use ps_world::Domain;
+use ps_text::{LexRefusal, Names, Token, tokens};
+use ps_world::{Domain, Failure};
 use std::alloc::{AllocError, Global};
 
 /// The domain that a text declares. Its names are put into the table. After a refusal the table may have new names; old ones keep
@@ -19,28 +21,53 @@ use std::alloc::{AllocError, Global};
 /// The refusal is the first fault, where each phase runs only if the one before found none: `Lex`, at the first word without a class;
 /// the first of `Unsupported`, `Limit` of depth and `Unexpected` in the order of the text; then, in the order types, constants,
 /// predicates, functions, actions, each in the order of the text, the first of `Limit`, `Twice`, `Unknown`, `Arity` and `Kind`, with
-/// `Cycle` after all types. `OutOfMemory` may come at any time.
-pub fn read_domain(alloc: Global, names: &mut Names, bytes: &[u8]) -> Result<Domain, DomainRefusal>
-    ensures ok { IfOk result (λ d. IsRead names.old bytes.now (Ok d) names.new) }
-    ensures refused { IfErr result (λ r. IsRefused names.old bytes.now r names.new) }
+/// `Cycle` after all types. Memory may run out at any time.
+pub fn read_domain(
+    alloc: Global,
+    names: &mut Names,
+    bytes: &[u8],
+) -> Result<Domain, Failure<DomainRefusal>>
+    ensures reads { ReadsDomain names.old bytes.now result names.new }
     ensures kept { Keeps names.old names.new }
 {
-    let tokens = tokens(alloc, bytes)?;
+    let tokens = classed(alloc, bytes)?;
     let words = lexemes_of(alloc, names, bytes, &tokens)?;
     check_shape(alloc, bytes, &words)?;
     let trees = trees_of(alloc, &words)?;
     domain_of(alloc, trees.as_slice())
 }
 
-/// Whether words are of a domain's shape. The error is the first fault.
-fn check_shape(alloc: Global, bytes: &[u8], words: &[Lexeme]) -> Result<(), DomainRefusal>
+/// The words of a text, each with its class. The refusal is `Lex`, at the first word without one.
+fn classed(alloc: Global, bytes: &[u8]) -> Result<Vec<Token>, Failure<DomainRefusal>>
+    ensures ok { IfOk result (λ v. AreTokens bytes.now v.items) }
+    ensures class { IfSome (refusal_of result) (λ r. RefusesClass bytes.now r) }
+{
+    match tokens(alloc, bytes) {
+        Ok(tokens) => Ok(tokens),
+        Err(Failure::Refused(fault)) => Err(Failure::Refused(unlexed(fault))),
+        Err(Failure::OutOfMemory) => Err(Failure::OutOfMemory),
+    }
+}
+
+/// A word without a class, with its byte.
+fn unlexed(fault: LexRefusal) -> DomainRefusal
+    ensures { result ≡ unlexed fault }
+{
+    match fault {
+        LexRefusal::Bad { at } | LexRefusal::Number { at } => DomainRefusal::Lex { at },
+    }
+}
+
+/// Whether words are of a domain's shape. The refusal is the first fault.
+fn check_shape(alloc: Global, bytes: &[u8], words: &[Lexeme]) -> Result<(), Failure<DomainRefusal>>
     ensures ok { OnOk result (IsDomainShape (marks words.now) × IsShallow (marks words.now)) }
-    ensures fault { IfErr result (λ r. RefusesShape bytes.now words.now r) }
+    ensures fault { IfSome (refusal_of result) (λ r. RefusesShape bytes.now words.now r) }
 {
     let marks = marks_of(alloc, words)?;
     match judge(alloc, &marks) {
         Ok(()) => Ok(()),
-        Err(fault) => Err(misshapen(bytes, words, fault)),
+        Err(Failure::Refused(fault)) => Err(Failure::Refused(misshapen(bytes, words, fault))),
+        Err(Failure::OutOfMemory) => Err(Failure::OutOfMemory),
     }
 }
 
@@ -66,7 +93,6 @@ fn misshapen(bytes: &[u8], words: &[Lexeme], fault: ShapeFault) -> DomainRefusal
         ShapeFault::Unexpected { at } => DomainRefusal::Unexpected {
             at: place(bytes, words, at),
         },
-        ShapeFault::OutOfMemory => DomainRefusal::OutOfMemory,
     }
 }
 

@@ -1,8 +1,6 @@
 //! Why a text is no domain.
 use ps_shape::Form;
-use ps_text::LexRefusal;
 use ps_world::Name;
-use std::alloc::{AllocError, AllocFailed};
 
 /// What a domain has at most so many of.
 #[derive(Clone, Copy, PartialEq, Eq, Debug)]
@@ -44,42 +42,4 @@ pub enum DomainRefusal {
     Cycle { name: Name },
     /// What begins here is one too many.
     Limit { at: usize, which: Cap },
-    /// Want of memory.
-    OutOfMemory,
-}
-
-impl From<AllocError> for DomainRefusal {
-    ghost use Rattle.std.specs.Prelude.{◌≡◌};
-    ghost use Rattle.ps_pddl.specs.declared.refusals.DomainRefusal.TheVariants.{OutOfMemory};
-
-    ghost from_gives = { λ _ e. e ≡ OutOfMemory };
-
-    fn from(_e: AllocError) -> DomainRefusal {
-        DomainRefusal::OutOfMemory
-    }
-}
-
-impl<T: Drop> From<AllocFailed<T>> for DomainRefusal {
-    ghost use Rattle.std.specs.Prelude.{◌≡◌};
-    ghost use Rattle.ps_pddl.specs.declared.refusals.DomainRefusal.TheVariants.{OutOfMemory};
-
-    ghost from_gives = { λ _ e. e ≡ OutOfMemory };
-
-    fn from(_e: AllocFailed<T>) -> DomainRefusal {
-        DomainRefusal::OutOfMemory
-    }
-}
-
-impl From<LexRefusal> for DomainRefusal {
-    ghost use Rattle.std.specs.Prelude.{◌≡◌};
-    ghost use Rattle.ps_pddl.specs.Reading.{unlexed};
-
-    ghost from_gives = { λ refusal e. e ≡ unlexed refusal };
-
-    fn from(refusal: LexRefusal) -> DomainRefusal {
-        match refusal {
-            LexRefusal::Bad { at } | LexRefusal::Number { at } => DomainRefusal::Lex { at },
-            LexRefusal::OutOfMemory => DomainRefusal::OutOfMemory,
-        }
-    }
 }

@@ -1,14 +1,12 @@
 //! What a domain's actions are.
-ghost use Rattle.std.specs.Prelude.{◌≡◌, ◌≤◌, Ok, [], length, map, IfErr, IfOk, OnOk};
+ghost use Rattle.std.specs.Prelude.{◌≡◌, ◌≤◌, [], length};
 ghost use Rattle.std.specs.List.{list_any};
+ghost use Rattle.ps_world.specs.Failures.{Gives};
 ghost use Rattle.ps_world.specs.Names.{same_name};
-ghost use Rattle.ps_shape.specs.declared.marks.Mark.TheVariants.{ConditionKey, DurationKey, EffectKey, DurativeAction};
+ghost use Rattle.ps_shape.specs.declared.marks.Mark.TheVariants.{DurativeAction};
 ghost use Rattle.ps_shape.specs.Marks.{is};
-ghost use Rattle.ps_forms.specs.Nested.{nesteds};
-ghost use Rattle.ps_forms.specs.NestedViews.{nested};
-ghost use Rattle.ps_forms.specs.Places.{after, at, items_at};
-ghost use Rattle.ps_pddl.specs.Meaning.{action, action_body, actions, changes, duration, parts};
-ghost use Rattle.ps_pddl.specs.Steps.{Refuses};
+ghost use Rattle.ps_pddl.specs.Meaning.{action, action_body, actions, changes, condition_in, duration, duration_in, effect_in, parts};
+ghost use Rattle.ps_pddl.specs.Forms.{forms};
 
 use super::changes::{Changes, timed as timed_effect};
 use super::lists::{Listing, fault_of_new, listed};
@@ -19,7 +17,7 @@ use crate::refusals::{Cap, DomainRefusal};
 use ps_domain::Declared;
 use ps_forms::{Tree, after, at, head, items, items_at, rest};
 use ps_shape::Mark;
-use ps_world::{ActionDef, Conds, Expr, Name, Num, Param, Seq};
+use ps_world::{ActionDef, Conds, Expr, Failure, Name, Num, Param, Seq};
 use std::alloc::Global;
 
 /// How many actions a domain has at most.
@@ -31,10 +29,9 @@ fn duration(
     d: &Declared,
     params: &[Param],
     trees: &[Tree],
-) -> Result<Expr, DomainRefusal>
+) -> Result<Expr, Failure<DomainRefusal>>
     requires { length params.now ≤ MOST_PARAMS }
-    ensures ok { IfOk result (λ e. duration d.now params.now (at (items_at (after DurationKey (nesteds (map nested trees.now)))) 2) ≡ Ok e) }
-    ensures err { IfErr result (λ r. Refuses (duration d.now params.now (at (items_at (after DurationKey (nesteds (map nested trees.now)))) 2)) r) }
+    ensures { Gives (λ e. e) result (duration d.now params.now (duration_in (forms trees.now))) }
 {
     match at(items_at(after(Mark::DurationKey, trees)), 2) {
         Some(tree) => value(alloc, d, params, tree),
@@ -48,10 +45,9 @@ fn parts(
     d: &Declared,
     params: &[Param],
     trees: &[Tree],
-) -> Result<Parts, DomainRefusal>
+) -> Result<Parts, Failure<DomainRefusal>>
     requires { length params.now ≤ MOST_PARAMS }
-    ensures ok { IfOk result (λ p. parts d.now params.now (at (after ConditionKey (nesteds (map nested trees.now))) 0) ≡ Ok p) }
-    ensures err { IfErr result (λ r. Refuses (parts d.now params.now (at (after ConditionKey (nesteds (map nested trees.now))) 0)) r) }
+    ensures { Gives (λ p. p) result (parts d.now params.now (condition_in (forms trees.now))) }
 {
     let mut all = Parts {
         start: Conds::new(alloc),
@@ -73,10 +69,9 @@ fn changes(
     d: &Declared,
     params: &[Param],
     trees: &[Tree],
-) -> Result<Changes, DomainRefusal>
+) -> Result<Changes, Failure<DomainRefusal>>
     requires { length params.now ≤ MOST_PARAMS }
-    ensures ok { IfOk result (λ c. changes d.now params.now (at (after EffectKey (nesteds (map nested trees.now))) 0) ≡ Ok c) }
-    ensures err { IfErr result (λ r. Refuses (changes d.now params.now (at (after EffectKey (nesteds (map nested trees.now))) 0)) r) }
+    ensures { Gives (λ c. c) result (changes d.now params.now (effect_in (forms trees.now))) }
 {
     let mut all = Changes {
         at_start: Seq::new(alloc),
@@ -98,10 +93,9 @@ fn action_body(
     name: Name,
     params: Vec<Param>,
     trees: &[Tree],
-) -> Result<ActionDef, DomainRefusal>
+) -> Result<ActionDef, Failure<DomainRefusal>>
     requires { length params.items ≤ MOST_PARAMS }
-    ensures ok { IfOk result (λ a. action_body d.now name params.items (nesteds (map nested trees.now)) ≡ Ok a) }
-    ensures err { IfErr result (λ r. Refuses (action_body d.now name params.items (nesteds (map nested trees.now))) r) }
+    ensures { Gives (λ a. a) result (action_body d.now name params.items (forms trees.now)) }
 {
     let duration = duration(alloc, d, &params, trees)?;
     let Parts { start, over, end } = parts(alloc, d, &params, trees)?;
@@ -131,14 +125,13 @@ fn add_action(
     d: &Declared,
     trees: &[Tree],
     before: &mut Seq<ActionDef>,
-) -> Result<(), DomainRefusal>
-    ensures ok { OnOk result (action d.now (nesteds (map nested trees.now)) before.old ≡ Ok before.new) }
-    ensures err { IfErr result (λ r. Refuses (action d.now (nesteds (map nested trees.now)) before.old) r) }
+) -> Result<(), Failure<DomainRefusal>>
+    ensures { Gives (λ _. before.new) result (action d.now (forms trees.now) before.old) }
 {
     let word = head(trees);
     let taken = is_there(before.as_slice(), word.name);
     match fault_of_new(Cap::Actions, MOST_ACTIONS, before.len(), taken, word) {
-        Some(fault) => Err(fault),
+        Some(fault) => Err(Failure::Refused(fault)),
         None => {
             let inside = items_at(after(Mark::Parameters, trees));
             let params = listed(alloc, d, Listing::Params, inside)?;
@@ -155,9 +148,12 @@ fn is_action(mark: Mark) -> bool
 }
 
 /// The actions among these sections. The refusal is the first fault.
-pub fn actions(alloc: Global, d: &Declared, trees: &[Tree]) -> Result<Seq<ActionDef>, DomainRefusal>
-    ensures ok { IfOk result (λ v. actions d.now (nesteds (map nested trees.now)) [] ≡ Ok v) }
-    ensures err { IfErr result (λ r. Refuses (actions d.now (nesteds (map nested trees.now)) []) r) }
+pub fn actions(
+    alloc: Global,
+    d: &Declared,
+    trees: &[Tree],
+) -> Result<Seq<ActionDef>, Failure<DomainRefusal>>
+    ensures { Gives (λ v. v) result (actions d.now (forms trees.now) []) }
 {
     let mut all = Seq::new(alloc);
     let mut i = 0;

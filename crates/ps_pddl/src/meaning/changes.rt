@@ -1,9 +1,9 @@
 //! The parts of an action's effect, by the time at which they come.
-ghost use Rattle.std.specs.Prelude.{◌≡◌, ◌≤◌, Ok, IfErr, OnOk, length, map};
-ghost use Rattle.ps_forms.specs.Nested.{nesteds};
+ghost use Rattle.std.specs.Prelude.{◌≤◌, length};
+ghost use Rattle.ps_world.specs.Failures.{Gives};
 ghost use Rattle.ps_forms.specs.NestedViews.{nested};
 ghost use Rattle.ps_pddl.specs.Effects.{all_timed, at_time, timed, timed_form, timed_list, timed_part};
-ghost use Rattle.ps_pddl.specs.Steps.{Refuses};
+ghost use Rattle.ps_pddl.specs.Forms.{forms};
 
 use super::conditions::is_and;
 use super::effects::effect;
@@ -12,7 +12,7 @@ use crate::refusals::DomainRefusal;
 use ps_domain::Declared;
 use ps_forms::{Lexeme, Tree, head, rest, word_of};
 use ps_shape::Mark;
-use ps_world::{Effect, Param, Seq};
+use ps_world::{Effect, Failure, Param, Seq};
 use std::alloc::Global;
 
 /// The parts of an action's effect.
@@ -27,47 +27,38 @@ pub struct Changes {
 /// Puts an effect with the word after its `at`.
 fn add_at(
     alloc: Global,
-    domain: &Declared,
+    d: &Declared,
     params: &[Param],
     time: Mark,
     tree: &Tree,
-    changes: &mut Changes,
-) -> Result<(), DomainRefusal>
+    all: &mut Changes,
+) -> Result<(), Failure<DomainRefusal>>
     requires { length params.now ≤ MOST_PARAMS }
-    ensures ok { OnOk result (at_time domain.now params.now time (nested tree.now) changes.old ≡ Ok changes.new) }
-    ensures err { IfErr result (λ r. Refuses (at_time domain.now params.now time (nested tree.now) changes.old) r) }
+    ensures { Gives (λ _. all.new) result
+        (at_time d.now params.now time (nested tree.now) all.old) }
 {
     match time {
-        Mark::Start => {
-            effect(alloc, domain, params, tree, &mut changes.at_start)?;
-            Ok(())
-        }
-        _ => {
-            effect(alloc, domain, params, tree, &mut changes.at_end)?;
-            Ok(())
-        }
+        Mark::Start => effect(alloc, d, params, tree, &mut all.at_start),
+        _ => effect(alloc, d, params, tree, &mut all.at_end),
     }
 }
 
 /// Puts the effects of a form, by its first word and what follows it.
 fn timed_part(
     alloc: Global,
-    domain: &Declared,
+    d: &Declared,
     params: &[Param],
     word: Mark,
     time: Mark,
     tree: &Tree,
-    changes: &mut Changes,
-) -> Result<(), DomainRefusal>
+    all: &mut Changes,
+) -> Result<(), Failure<DomainRefusal>>
     requires { length params.now ≤ MOST_PARAMS }
-    ensures ok { OnOk result (timed_part domain.now params.now word time (nested tree.now) changes.old ≡ Ok changes.new) }
-    ensures err { IfErr result (λ r. Refuses (timed_part domain.now params.now word time (nested tree.now) changes.old) r) }
+    ensures { Gives (λ _. all.new) result
+        (timed_part d.now params.now word time (nested tree.now) all.old) }
 {
     match word {
-        Mark::At => {
-            add_at(alloc, domain, params, time, tree, changes)?;
-            Ok(())
-        }
+        Mark::At => add_at(alloc, d, params, time, tree, all),
         _ => Ok(()),
     }
 }
@@ -75,31 +66,20 @@ fn timed_part(
 /// Puts the effects of a form, by its head and the list that follows it.
 fn timed_form(
     alloc: Global,
-    domain: &Declared,
+    d: &Declared,
     params: &[Param],
     word: Lexeme,
     trees: &[Tree],
-    changes: &mut Changes,
-) -> Result<(), DomainRefusal>
+    all: &mut Changes,
+) -> Result<(), Failure<DomainRefusal>>
     requires { length params.now ≤ MOST_PARAMS }
-    ensures ok { OnOk result (timed_form domain.now params.now word (nesteds (map nested trees.now)) changes.old ≡ Ok changes.new) }
-    ensures err { IfErr result (λ r. Refuses (timed_form domain.now params.now word (nesteds (map nested trees.now)) changes.old) r) }
+    ensures { Gives (λ _. all.new) result
+        (timed_form d.now params.now word (forms trees.now) all.old) }
 {
     match trees {
         [] => Ok(()),
         [_] => Ok(()),
-        [time, tree, ..] => {
-            timed_part(
-                alloc,
-                domain,
-                params,
-                word.mark,
-                word_of(time).mark,
-                tree,
-                changes,
-            )?;
-            Ok(())
-        }
+        [time, tree, ..] => timed_part(alloc, d, params, word.mark, word_of(time).mark, tree, all),
     }
 }
 
@@ -107,17 +87,16 @@ fn timed_form(
 #[cycle(timed)]
 fn all_timed(
     alloc: Global,
-    domain: &Declared,
+    d: &Declared,
     params: &[Param],
     trees: &[Tree],
-    changes: &mut Changes,
-) -> Result<(), DomainRefusal>
+    all: &mut Changes,
+) -> Result<(), Failure<DomainRefusal>>
     requires { length params.now ≤ MOST_PARAMS }
-    ensures ok { OnOk result (all_timed domain.now params.now (nesteds (map nested trees.now)) changes.old ≡ Ok changes.new) }
-    ensures err { IfErr result (λ r. Refuses (all_timed domain.now params.now (nesteds (map nested trees.now)) changes.old) r) }
+    ensures { Gives (λ _. all.new) result (all_timed d.now params.now (forms trees.now) all.old) }
 {
     for tree in trees {
-        timed(alloc, domain, params, tree, changes)?;
+        timed(alloc, d, params, tree, all)?;
     }
     Ok(())
 }
@@ -126,45 +105,38 @@ fn all_timed(
 #[cycle(timed)]
 fn timed_list(
     alloc: Global,
-    domain: &Declared,
+    d: &Declared,
     params: &[Param],
     trees: &[Tree],
-    changes: &mut Changes,
-) -> Result<(), DomainRefusal>
+    all: &mut Changes,
+) -> Result<(), Failure<DomainRefusal>>
     requires { length params.now ≤ MOST_PARAMS }
-    ensures ok { OnOk result (timed_list domain.now params.now (nesteds (map nested trees.now)) changes.old ≡ Ok changes.new) }
-    ensures err { IfErr result (λ r. Refuses (timed_list domain.now params.now (nesteds (map nested trees.now)) changes.old) r) }
+    ensures { Gives (λ _. all.new) result (timed_list d.now params.now (forms trees.now) all.old) }
 {
     if trees.is_empty() {
         return Ok(());
     }
     let word = head(trees);
     if is_and(word.mark) {
-        all_timed(alloc, domain, params, rest(trees), changes)?;
-        return Ok(());
+        return all_timed(alloc, d, params, rest(trees), all);
     }
-    timed_form(alloc, domain, params, word, rest(trees), changes)?;
-    Ok(())
+    timed_form(alloc, d, params, word, rest(trees), all)
 }
 
 /// Puts the effects of an action's effect at their ends, in the order of the text; `and` is flattened.
 #[cycle(timed)]
 pub fn timed(
     alloc: Global,
-    domain: &Declared,
+    d: &Declared,
     params: &[Param],
     tree: &Tree,
-    changes: &mut Changes,
-) -> Result<(), DomainRefusal>
+    all: &mut Changes,
+) -> Result<(), Failure<DomainRefusal>>
     requires { length params.now ≤ MOST_PARAMS }
-    ensures ok { OnOk result (timed domain.now params.now (nested tree.now) changes.old ≡ Ok changes.new) }
-    ensures err { IfErr result (λ r. Refuses (timed domain.now params.now (nested tree.now) changes.old) r) }
+    ensures { Gives (λ _. all.new) result (timed d.now params.now (nested tree.now) all.old) }
 {
     match tree {
         Tree::Word(_) => Ok(()),
-        Tree::Group(trees) => {
-            timed_list(alloc, domain, params, trees.as_slice(), changes)?;
-            Ok(())
-        }
+        Tree::Group(trees) => timed_list(alloc, d, params, trees.as_slice(), all),
     }
 }

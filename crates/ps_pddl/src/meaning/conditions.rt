@@ -1,14 +1,13 @@
 //! What a condition means.
-ghost use Rattle.std.specs.Prelude.{◌≡◌, ◌≤◌, [], Ok, IfOk, IfErr, length, map};
+ghost use Rattle.std.specs.Prelude.{◌≡◌, ◌≤◌, [], IfOk, length};
+ghost use Rattle.ps_world.specs.Failures.{Gives};
 ghost use Rattle.ps_world.specs.CondViews.{cond_tree};
-ghost use Rattle.ps_world.specs.declared.conditions.Cond.TheVariants.{And as AllOf, Not as Negated};
+ghost use Rattle.ps_world.specs.declared.conditions.Cond.TheVariants.{Not as Negated};
 ghost use Rattle.ps_shape.specs.Marks.{is};
 ghost use Rattle.ps_shape.specs.declared.marks.Mark.TheVariants.{And, Not, Number};
-ghost use Rattle.ps_forms.specs.Nested.{nesteds};
 ghost use Rattle.ps_forms.specs.NestedViews.{nested};
-ghost use Rattle.ps_pddl.specs.Conditions.{comparison, condition, conditions, equality, form, plain_condition, rel_of, related, same_as, stated};
-ghost use Rattle.ps_pddl.specs.Steps.{Refuses};
-ghost use Rattle.ps_pddl.specs.declared.refusals.DomainRefusal.TheVariants.{OutOfMemory};
+ghost use Rattle.ps_pddl.specs.Conditions.{comparison, condition, conditions, equality, form, plain_condition, rel_of, same_as, stated};
+ghost use Rattle.ps_pddl.specs.Forms.{forms};
 
 use super::terms::{MOST_PARAMS, fact, resolved};
 use super::values::value;
@@ -16,8 +15,8 @@ use crate::refusals::DomainRefusal;
 use ps_domain::Declared;
 use ps_forms::{Lexeme, Tree, head, rest};
 use ps_shape::Mark;
-use ps_world::{BoxedCond, Cond, Conds, Param, Rel, Term};
-use std::alloc::Global;
+use ps_world::{BoxedCond, Cond, Conds, Failure, Param, Rel, Term};
+use std::alloc::{AllocError, Global};
 
 /// The comparison with this sign.
 fn rel_of(mark: Mark) -> Option<Rel>
@@ -54,31 +53,31 @@ pub fn is_not(mark: Mark) -> bool
 /// Two numeric expressions compared. The first is judged first.
 fn comparison(
     alloc: Global,
-    domain: &Declared,
+    d: &Declared,
     params: &[Param],
     rel: Rel,
     left: &Tree,
     right: &Tree,
-) -> Result<Cond, DomainRefusal>
+) -> Result<Cond, Failure<DomainRefusal>>
     requires { length params.now ≤ MOST_PARAMS }
-    ensures ok { IfOk result (λ c. comparison domain.now params.now rel (nested left.now) (nested right.now) ≡ Ok c) }
-    ensures err { IfErr result (λ r. Refuses (comparison domain.now params.now rel (nested left.now) (nested right.now)) r) }
+    ensures { Gives (λ c. c) result
+        (comparison d.now params.now rel (nested left.now) (nested right.now)) }
 {
-    let left = value(alloc, domain, params, left)?;
-    let right = value(alloc, domain, params, right)?;
+    let left = value(alloc, d, params, left)?;
+    let right = value(alloc, d, params, right)?;
     Ok(Cond::Cmp(rel, left, right))
 }
 
 /// Two terms that are to be the same, of which the first is this one. The second must be a term too, else `Kind` tells the first.
 fn same_as(
-    domain: &Declared,
+    d: &Declared,
     params: &[Param],
     first: Lexeme,
     left: Term,
     right: &Tree,
 ) -> Result<Cond, DomainRefusal>
     requires { length params.now ≤ MOST_PARAMS }
-    ensures { result ≡ same_as domain.now params.now first left (nested right.now) }
+    ensures { result ≡ same_as d.now params.now first left (nested right.now) }
 {
     match right {
         Tree::Group(_) => Err(DomainRefusal::Kind { at: first.at }),
@@ -86,7 +85,7 @@ fn same_as(
             if is_number(word.mark) {
                 return Err(DomainRefusal::Kind { at: first.at });
             }
-            match resolved(domain, params, *word) {
+            match resolved(d, params, *word) {
                 Ok(typed) => Ok(Cond::Same(left, typed.term)),
                 Err(fault) => Err(fault),
             }
@@ -97,23 +96,23 @@ fn same_as(
 /// `=`: numbers are compared where the first operand is a number or a parenthesis, else terms.
 fn equality(
     alloc: Global,
-    domain: &Declared,
+    d: &Declared,
     params: &[Param],
     left: &Tree,
     right: &Tree,
-) -> Result<Cond, DomainRefusal>
+) -> Result<Cond, Failure<DomainRefusal>>
     requires { length params.now ≤ MOST_PARAMS }
-    ensures ok { IfOk result (λ c. equality domain.now params.now (nested left.now) (nested right.now) ≡ Ok c) }
-    ensures err { IfErr result (λ r. Refuses (equality domain.now params.now (nested left.now) (nested right.now)) r) }
+    ensures { Gives (λ c. c) result
+        (equality d.now params.now (nested left.now) (nested right.now)) }
 {
     match left {
-        Tree::Group(_) => comparison(alloc, domain, params, Rel::Eq, left, right),
+        Tree::Group(_) => comparison(alloc, d, params, Rel::Eq, left, right),
         Tree::Word(word) => {
             if is_number(word.mark) {
-                return comparison(alloc, domain, params, Rel::Eq, left, right);
+                return comparison(alloc, d, params, Rel::Eq, left, right);
             }
-            let typed = resolved(domain, params, *word)?;
-            same_as(domain, params, *word, typed.term, right)
+            let typed = resolved(d, params, *word).map_err(Failure::Refused)?;
+            same_as(d, params, *word, typed.term, right).map_err(Failure::Refused)
         }
     }
 }
@@ -121,45 +120,42 @@ fn equality(
 /// That a fact is known.
 fn stated(
     alloc: Global,
-    domain: &Declared,
+    d: &Declared,
     params: &[Param],
     word: Lexeme,
     trees: &[Tree],
-) -> Result<Cond, DomainRefusal>
+) -> Result<Cond, Failure<DomainRefusal>>
     requires { length params.now ≤ MOST_PARAMS }
-    ensures ok { IfOk result (λ c. stated domain.now params.now word (nesteds (map nested trees.now)) ≡ Ok c) }
-    ensures err { IfErr result (λ r. Refuses (stated domain.now params.now word (nesteds (map nested trees.now))) r) }
+    ensures { Gives (λ c. c) result (stated d.now params.now word (forms trees.now)) }
 {
-    Ok(Cond::Holds(fact(alloc, domain, params, word, trees)?))
+    Ok(Cond::Holds(fact(alloc, d, params, word, trees)?))
 }
 
 /// A comparison, two terms that are the same, or a fact.
 fn plain_condition(
     alloc: Global,
-    domain: &Declared,
+    d: &Declared,
     params: &[Param],
     word: Lexeme,
     trees: &[Tree],
-) -> Result<Cond, DomainRefusal>
+) -> Result<Cond, Failure<DomainRefusal>>
     requires { length params.now ≤ MOST_PARAMS }
-    ensures ok { IfOk result (λ c. plain_condition domain.now params.now word (nesteds (map nested trees.now)) ≡ Ok c) }
-    ensures err { IfErr result (λ r. Refuses (plain_condition domain.now params.now word (nesteds (map nested trees.now))) r) }
+    ensures { Gives (λ c. c) result (plain_condition d.now params.now word (forms trees.now)) }
 {
     match trees {
-        [] => stated(alloc, domain, params, word, trees),
-        [_] => stated(alloc, domain, params, word, trees),
+        [] => stated(alloc, d, params, word, trees),
+        [_] => stated(alloc, d, params, word, trees),
         [left, right, ..] => match rel_of(word.mark) {
-            None => stated(alloc, domain, params, word, trees),
-            Some(Rel::Eq) => equality(alloc, domain, params, left, right),
-            Some(rel) => comparison(alloc, domain, params, rel, left, right),
+            None => stated(alloc, d, params, word, trees),
+            Some(Rel::Eq) => equality(alloc, d, params, left, right),
+            Some(rel) => comparison(alloc, d, params, rel, left, right),
         },
     }
 }
 
 /// That a condition doesn't hold.
-fn negated(alloc: Global, inner: Cond) -> Result<Cond, DomainRefusal>
-    ensures ok { IfOk result (λ c. c ≡ Negated (cond_tree inner)) }
-    ensures err { IfErr result (λ r. r ≡ OutOfMemory) }
+fn negated(alloc: Global, inner: Cond) -> Result<Cond, AllocError>
+    ensures { IfOk result (λ c. c ≡ Negated (cond_tree inner)) }
 {
     Ok(Cond::Not(BoxedCond::new(alloc, inner)?))
 }
@@ -168,17 +164,16 @@ fn negated(alloc: Global, inner: Cond) -> Result<Cond, DomainRefusal>
 #[cycle(condition)]
 fn conditions(
     alloc: Global,
-    domain: &Declared,
+    d: &Declared,
     params: &[Param],
     trees: &[Tree],
-) -> Result<Conds, DomainRefusal>
+) -> Result<Conds, Failure<DomainRefusal>>
     requires { length params.now ≤ MOST_PARAMS }
-    ensures ok { IfOk result (λ cs. conditions domain.now params.now (nesteds (map nested trees.now)) [] ≡ Ok cs) }
-    ensures err { IfErr result (λ r. Refuses (conditions domain.now params.now (nesteds (map nested trees.now)) []) r) }
+    ensures { Gives (λ cs. cs) result (conditions d.now params.now (forms trees.now) []) }
 {
     let mut all = Conds::new(alloc);
     for tree in trees {
-        let one = condition(alloc, domain, params, tree)?;
+        let one = condition(alloc, d, params, tree)?;
         all.push(one)?;
     }
     Ok(all)
@@ -188,31 +183,30 @@ fn conditions(
 #[cycle(condition)]
 fn form(
     alloc: Global,
-    domain: &Declared,
+    d: &Declared,
     params: &[Param],
     trees: &[Tree],
-) -> Result<Cond, DomainRefusal>
+) -> Result<Cond, Failure<DomainRefusal>>
     requires { length params.now ≤ MOST_PARAMS }
-    ensures ok { IfOk result (λ c. form domain.now params.now (nesteds (map nested trees.now)) ≡ Ok c) }
-    ensures err { IfErr result (λ r. Refuses (form domain.now params.now (nesteds (map nested trees.now))) r) }
+    ensures { Gives (λ c. c) result (form d.now params.now (forms trees.now)) }
 {
     let word = head(trees);
     if is_and(word.mark) {
-        let all = conditions(alloc, domain, params, rest(trees))?;
+        let all = conditions(alloc, d, params, rest(trees))?;
         return Ok(Cond::And(all));
     }
     if is_not(word.mark) {
         return match trees {
             [_, inner, ..] => {
-                let inner = condition(alloc, domain, params, inner)?;
-                negated(alloc, inner)
+                let inner = condition(alloc, d, params, inner)?;
+                Ok(negated(alloc, inner)?)
             }
             _ => Ok(Cond::And(Conds::new(alloc))),
         };
     }
     match trees {
         [] => Ok(Cond::And(Conds::new(alloc))),
-        _ => plain_condition(alloc, domain, params, word, rest(trees)),
+        _ => plain_condition(alloc, d, params, word, rest(trees)),
     }
 }
 
@@ -220,16 +214,15 @@ fn form(
 #[cycle(condition)]
 pub fn condition(
     alloc: Global,
-    domain: &Declared,
+    d: &Declared,
     params: &[Param],
     tree: &Tree,
-) -> Result<Cond, DomainRefusal>
+) -> Result<Cond, Failure<DomainRefusal>>
     requires { length params.now ≤ MOST_PARAMS }
-    ensures ok { IfOk result (λ c. condition domain.now params.now (nested tree.now) ≡ Ok c) }
-    ensures err { IfErr result (λ r. Refuses (condition domain.now params.now (nested tree.now)) r) }
+    ensures { Gives (λ c. c) result (condition d.now params.now (nested tree.now)) }
 {
     match tree {
         Tree::Word(_) => Ok(Cond::And(Conds::new(alloc))),
-        Tree::Group(trees) => form(alloc, domain, params, trees.as_slice()),
+        Tree::Group(trees) => form(alloc, d, params, trees.as_slice()),
     }
 }

@@ -1,17 +1,16 @@
 //! What a domain's predicates and functions declare.
-ghost use Rattle.std.specs.Prelude.{◌≡◌, Ok, [], map, IfErr, IfOk, OnOk};
+ghost use Rattle.std.specs.Prelude.{◌≡◌, []};
 ghost use Rattle.std.specs.List.{list_any};
+ghost use Rattle.ps_world.specs.Failures.{Gives};
 ghost use Rattle.ps_world.specs.Names.{same_name};
-ghost use Rattle.ps_forms.specs.Nested.{nesteds};
-ghost use Rattle.ps_forms.specs.NestedViews.{nested};
 ghost use Rattle.ps_pddl.specs.Meaning.{all_declared, declared};
-ghost use Rattle.ps_pddl.specs.Steps.{Refuses};
+ghost use Rattle.ps_pddl.specs.Forms.{forms};
 
 use super::lists::{Listing, fault_of_new, listed};
 use crate::refusals::{Cap, DomainRefusal};
 use ps_domain::Declared;
 use ps_forms::{Tree, head, rest};
-use ps_world::{Decl, Name, Seq};
+use ps_world::{Decl, Failure, Name, Seq};
 use std::alloc::Global;
 
 /// How many predicates a domain has at most, and how many functions.
@@ -31,14 +30,13 @@ fn add_declared(
     which: Cap,
     inside: &[Tree],
     before: &mut Seq<Decl>,
-) -> Result<(), DomainRefusal>
-    ensures ok { OnOk result (declared d.now which (nesteds (map nested inside.now)) before.old ≡ Ok before.new) }
-    ensures err { IfErr result (λ r. Refuses (declared d.now which (nesteds (map nested inside.now)) before.old) r) }
+) -> Result<(), Failure<DomainRefusal>>
+    ensures { Gives (λ _. before.new) result (declared d.now which (forms inside.now) before.old) }
 {
     let word = head(inside);
     let taken = is_declared(before.as_slice(), word.name);
     match fault_of_new(which, MOST_DECLS, before.len(), taken, word) {
-        Some(fault) => Err(fault),
+        Some(fault) => Err(Failure::Refused(fault)),
         None => {
             let params = Seq::of(listed(alloc, d, Listing::Params, rest(inside))?);
             before.push(Decl {
@@ -57,9 +55,8 @@ pub fn all_declared(
     d: &Declared,
     which: Cap,
     trees: &[Tree],
-) -> Result<Seq<Decl>, DomainRefusal>
-    ensures ok { IfOk result (λ v. all_declared d.now which (nesteds (map nested trees.now)) [] ≡ Ok v) }
-    ensures err { IfErr result (λ r. Refuses (all_declared d.now which (nesteds (map nested trees.now)) []) r) }
+) -> Result<Seq<Decl>, Failure<DomainRefusal>>
+    ensures { Gives (λ v. v) result (all_declared d.now which (forms trees.now) []) }
 {
     let mut all = Seq::new(alloc);
     let mut i = 0;

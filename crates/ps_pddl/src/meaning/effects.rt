@@ -1,9 +1,9 @@
 //! What an effect means (PDDL 2.1, section 5).
-ghost use Rattle.std.specs.Prelude.{◌≡◌, ◌≤◌, Ok, IfErr, OnOk, length, map};
-ghost use Rattle.ps_forms.specs.Nested.{nesteds};
+ghost use Rattle.std.specs.Prelude.{◌≡◌, ◌≤◌, length};
+ghost use Rattle.ps_world.specs.Failures.{Gives};
 ghost use Rattle.ps_forms.specs.NestedViews.{nested};
 ghost use Rattle.ps_pddl.specs.Effects.{added, change_of, changed, deleted, deletion, effect, effects, form, plain_effect};
-ghost use Rattle.ps_pddl.specs.Steps.{Refuses};
+ghost use Rattle.ps_pddl.specs.Forms.{forms};
 
 use super::conditions::{is_and, is_not};
 use super::terms::{MOST_PARAMS, fact, value_of};
@@ -12,7 +12,7 @@ use crate::refusals::DomainRefusal;
 use ps_domain::Declared;
 use ps_forms::{Lexeme, Tree, count, head, items, rest};
 use ps_shape::Mark;
-use ps_world::{Effect, NumOp, Param, Seq};
+use ps_world::{Effect, Failure, NumOp, Param, Seq};
 use std::alloc::Global;
 
 /// How the head of an effect changes a number.
@@ -32,17 +32,16 @@ fn change_of(mark: Mark) -> Option<NumOp>
 /// Puts the effect that a fact is known.
 fn added(
     alloc: Global,
-    domain: &Declared,
+    d: &Declared,
     params: &[Param],
     word: Lexeme,
     trees: &[Tree],
     all: &mut Seq<Effect>,
-) -> Result<(), DomainRefusal>
+) -> Result<(), Failure<DomainRefusal>>
     requires { length params.now ≤ MOST_PARAMS }
-    ensures ok { OnOk result (added domain.now params.now word (nesteds (map nested trees.now)) all.old ≡ Ok all.new) }
-    ensures err { IfErr result (λ r. Refuses (added domain.now params.now word (nesteds (map nested trees.now)) all.old) r) }
+    ensures { Gives (λ _. all.new) result (added d.now params.now word (forms trees.now) all.old) }
 {
-    let fact = fact(alloc, domain, params, word, trees)?;
+    let fact = fact(alloc, d, params, word, trees)?;
     all.push(Effect::Add(fact))?;
     Ok(())
 }
@@ -50,17 +49,16 @@ fn added(
 /// Puts the effect that a fact is no longer known.
 fn deleted(
     alloc: Global,
-    domain: &Declared,
+    d: &Declared,
     params: &[Param],
     tree: &Tree,
     all: &mut Seq<Effect>,
-) -> Result<(), DomainRefusal>
+) -> Result<(), Failure<DomainRefusal>>
     requires { length params.now ≤ MOST_PARAMS }
-    ensures ok { OnOk result (deleted domain.now params.now (nested tree.now) all.old ≡ Ok all.new) }
-    ensures err { IfErr result (λ r. Refuses (deleted domain.now params.now (nested tree.now) all.old) r) }
+    ensures { Gives (λ _. all.new) result (deleted d.now params.now (nested tree.now) all.old) }
 {
     let inside = items(tree);
-    let fact = fact(alloc, domain, params, head(inside), rest(inside))?;
+    let fact = fact(alloc, d, params, head(inside), rest(inside))?;
     all.push(Effect::Delete(fact))?;
     Ok(())
 }
@@ -68,20 +66,20 @@ fn deleted(
 /// Puts the effect that a function's value changes.
 fn changed(
     alloc: Global,
-    domain: &Declared,
+    d: &Declared,
     params: &[Param],
     how: NumOp,
     term: &Tree,
     by: &Tree,
     all: &mut Seq<Effect>,
-) -> Result<(), DomainRefusal>
+) -> Result<(), Failure<DomainRefusal>>
     requires { length params.now ≤ MOST_PARAMS }
-    ensures ok { OnOk result (changed domain.now params.now how (nested term.now) (nested by.now) all.old ≡ Ok all.new) }
-    ensures err { IfErr result (λ r. Refuses (changed domain.now params.now how (nested term.now) (nested by.now) all.old) r) }
+    ensures { Gives (λ _. all.new) result
+        (changed d.now params.now how (nested term.now) (nested by.now) all.old) }
 {
     let inside = items(term);
-    let function = value_of(alloc, domain, params, head(inside), rest(inside))?;
-    let amount = value(alloc, domain, params, by)?;
+    let function = value_of(alloc, d, params, head(inside), rest(inside))?;
+    let amount = value(alloc, d, params, by)?;
     all.push(Effect::Number(how, function, amount))?;
     Ok(())
 }
@@ -89,22 +87,22 @@ fn changed(
 /// Puts an effect on a fact or a function's value.
 fn plain_effect(
     alloc: Global,
-    domain: &Declared,
+    d: &Declared,
     params: &[Param],
     word: Lexeme,
     trees: &[Tree],
     all: &mut Seq<Effect>,
-) -> Result<(), DomainRefusal>
+) -> Result<(), Failure<DomainRefusal>>
     requires { length params.now ≤ MOST_PARAMS }
-    ensures ok { OnOk result (plain_effect domain.now params.now word (nesteds (map nested trees.now)) all.old ≡ Ok all.new) }
-    ensures err { IfErr result (λ r. Refuses (plain_effect domain.now params.now word (nesteds (map nested trees.now)) all.old) r) }
+    ensures { Gives (λ _. all.new) result
+        (plain_effect d.now params.now word (forms trees.now) all.old) }
 {
     match trees {
-        [] => added(alloc, domain, params, word, trees, all),
-        [_] => added(alloc, domain, params, word, trees, all),
+        [] => added(alloc, d, params, word, trees, all),
+        [_] => added(alloc, d, params, word, trees, all),
         [term, by, ..] => match change_of(word.mark) {
-            Some(how) => changed(alloc, domain, params, how, term, by, all),
-            None => added(alloc, domain, params, word, trees, all),
+            Some(how) => changed(alloc, d, params, how, term, by, all),
+            None => added(alloc, d, params, word, trees, all),
         },
     }
 }
@@ -112,18 +110,17 @@ fn plain_effect(
 /// Puts the deletion of the first of these.
 fn deletion(
     alloc: Global,
-    domain: &Declared,
+    d: &Declared,
     params: &[Param],
     trees: &[Tree],
     all: &mut Seq<Effect>,
-) -> Result<(), DomainRefusal>
+) -> Result<(), Failure<DomainRefusal>>
     requires { length params.now ≤ MOST_PARAMS }
-    ensures ok { OnOk result (deletion domain.now params.now (nesteds (map nested trees.now)) all.old ≡ Ok all.new) }
-    ensures err { IfErr result (λ r. Refuses (deletion domain.now params.now (nesteds (map nested trees.now)) all.old) r) }
+    ensures { Gives (λ _. all.new) result (deletion d.now params.now (forms trees.now) all.old) }
 {
     match trees {
         [] => Ok(()),
-        [first, ..] => deleted(alloc, domain, params, first, all),
+        [first, ..] => deleted(alloc, d, params, first, all),
     }
 }
 
@@ -131,17 +128,16 @@ fn deletion(
 #[cycle(effect)]
 fn effects(
     alloc: Global,
-    domain: &Declared,
+    d: &Declared,
     params: &[Param],
     trees: &[Tree],
     all: &mut Seq<Effect>,
-) -> Result<(), DomainRefusal>
+) -> Result<(), Failure<DomainRefusal>>
     requires { length params.now ≤ MOST_PARAMS }
-    ensures ok { OnOk result (effects domain.now params.now (nesteds (map nested trees.now)) all.old ≡ Ok all.new) }
-    ensures err { IfErr result (λ r. Refuses (effects domain.now params.now (nesteds (map nested trees.now)) all.old) r) }
+    ensures { Gives (λ _. all.new) result (effects d.now params.now (forms trees.now) all.old) }
 {
     for tree in trees {
-        effect(alloc, domain, params, tree, all)?;
+        effect(alloc, d, params, tree, all)?;
     }
     Ok(())
 }
@@ -150,14 +146,13 @@ fn effects(
 #[cycle(effect)]
 fn form(
     alloc: Global,
-    domain: &Declared,
+    d: &Declared,
     params: &[Param],
     trees: &[Tree],
     all: &mut Seq<Effect>,
-) -> Result<(), DomainRefusal>
+) -> Result<(), Failure<DomainRefusal>>
     requires { length params.now ≤ MOST_PARAMS }
-    ensures ok { OnOk result (form domain.now params.now (nesteds (map nested trees.now)) all.old ≡ Ok all.new) }
-    ensures err { IfErr result (λ r. Refuses (form domain.now params.now (nesteds (map nested trees.now)) all.old) r) }
+    ensures { Gives (λ _. all.new) result (form d.now params.now (forms trees.now) all.old) }
 {
     if count(trees) == 0 {
         return Ok(());
@@ -165,35 +160,28 @@ fn form(
     let word = head(trees);
     let operands = rest(trees);
     if is_and(word.mark) {
-        effects(alloc, domain, params, operands, all)?;
-        return Ok(());
+        return effects(alloc, d, params, operands, all);
     }
     if is_not(word.mark) {
-        deletion(alloc, domain, params, operands, all)?;
-        return Ok(());
+        return deletion(alloc, d, params, operands, all);
     }
-    plain_effect(alloc, domain, params, word, operands, all)?;
-    Ok(())
+    plain_effect(alloc, d, params, word, operands, all)
 }
 
 /// Puts what an effect means at the end; `and` is flattened.
 #[cycle(effect)]
 pub fn effect(
     alloc: Global,
-    domain: &Declared,
+    d: &Declared,
     params: &[Param],
     tree: &Tree,
     all: &mut Seq<Effect>,
-) -> Result<(), DomainRefusal>
+) -> Result<(), Failure<DomainRefusal>>
     requires { length params.now ≤ MOST_PARAMS }
-    ensures ok { OnOk result (effect domain.now params.now (nested tree.now) all.old ≡ Ok all.new) }
-    ensures err { IfErr result (λ r. Refuses (effect domain.now params.now (nested tree.now) all.old) r) }
+    ensures { Gives (λ _. all.new) result (effect d.now params.now (nested tree.now) all.old) }
 {
     match tree {
         Tree::Word(_) => Ok(()),
-        Tree::Group(trees) => {
-            form(alloc, domain, params, trees.as_slice(), all)?;
-            Ok(())
-        }
+        Tree::Group(trees) => form(alloc, d, params, trees.as_slice(), all),
     }
 }

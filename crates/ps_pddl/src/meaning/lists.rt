@@ -1,21 +1,18 @@
 //! What a list of typed names declares.
-ghost use Rattle.std.specs.Prelude.{◌≡◌, ◌+◌, Ok, List, [], drop, map, true, false, IfErr, IfOk, OnOk};
+ghost use Rattle.std.specs.Prelude.{◌≡◌, [], drop, true, false, IfErr, OnErr, OnOk};
 ghost use Rattle.std.specs.List.{list_any};
+ghost use Rattle.ps_world.specs.Failures.{Gives};
 ghost use Rattle.ps_world.specs.Names.{same_name};
 ghost use Rattle.ps_world.specs.Knowledge.{is_type};
-ghost use Rattle.ps_world.specs.declared.domains.Param.{Param};
-ghost use Rattle.ps_forms.specs.Nested.{nesteds};
-ghost use Rattle.ps_forms.specs.NestedViews.{nested};
-ghost use Rattle.ps_pddl.specs.Lists.{cap_of, counted, counts, fault_of_new, kind_ahead, listed, listed_type, most_of, with_name};
-ghost use Rattle.ps_pddl.specs.Steps.{Refuses};
-ghost use Rattle.ps_pddl.specs.declared.meaning.lists.Listing.{Listing};
+ghost use Rattle.ps_pddl.specs.Lists.{PassesType, cap_of, counted, counts, fault_of_new, kind_ahead, listed, most_of, with_name};
+ghost use Rattle.ps_pddl.specs.Forms.{forms};
 ghost use Rattle.ps_pddl.specs.declared.refusals.DomainRefusal.TheVariants.{Unknown};
 
 use crate::refusals::{Cap, DomainRefusal};
 use ps_domain::Declared;
 use ps_forms::{Lexeme, Tree, head, word_of};
 use ps_shape::Mark;
-use ps_world::{MOST_ARGUMENTS, MOST_INSTANCES, Name, Param};
+use ps_world::{Failure, MOST_ARGUMENTS, MOST_INSTANCES, Name, Param};
 use std::alloc::Global;
 
 /// How many types a domain has at most.
@@ -101,7 +98,7 @@ pub fn fault_of_new(
 
 /// The type of the run of names that goes on at this place: the name after the next `-`, or `object`.
 fn kind_ahead(trees: &[Tree], from: usize) -> Name
-    ensures { result ≡ kind_ahead (nesteds (map nested (drop from trees.now))) }
+    ensures { result ≡ kind_ahead (forms (drop from trees.now)) }
 {
     let mut i = from;
     while i < trees.len() {
@@ -126,9 +123,8 @@ fn add_name(
     word: Lexeme,
     kind: Name,
     before: &mut Vec<Param>,
-) -> Result<(), DomainRefusal>
-    ensures ok { OnOk result (with_name listing word kind before.old.items ≡ Ok before.new.items) }
-    ensures err { IfErr result (λ r. Refuses (with_name listing word kind before.old.items) r) }
+) -> Result<(), Failure<DomainRefusal>>
+    ensures { Gives (λ _. before.new.items) result (with_name listing word kind before.old.items) }
 {
     let param = Param {
         name: word.name,
@@ -137,7 +133,7 @@ fn add_name(
     let count = listing.counted(&param, before);
     let taken = is_taken(before, word.name);
     match fault_of_new(listing.cap(), listing.most(), count, taken, word) {
-        Some(fault) => Err(fault),
+        Some(fault) => Err(Failure::Refused(fault)),
         None => {
             before.push(param)?;
             Ok(())
@@ -147,11 +143,7 @@ fn add_name(
 
 /// Passes over the name of a type at this place, if anything stands there. The refusal is that it is no type.
 fn pass_type(d: &Declared, trees: &[Tree], at: usize) -> Result<(), DomainRefusal>
-    ensures ok { OnOk result ((listing : Listing) (before : List Param) →
-        listed_type d.now listing (nesteds (map nested (drop at trees.now))) before
-        ≡ listed d.now listing (nesteds (map nested (drop (at + 1) trees.now))) before) }
-    ensures err { IfErr result (λ r. (listing : Listing) (before : List Param) →
-        Refuses (listed_type d.now listing (nesteds (map nested (drop at trees.now))) before) r) }
+    ensures { PassesType d.now trees.now at result }
 {
     match trees.get(at) {
         None => Ok(()),
@@ -162,7 +154,8 @@ fn pass_type(d: &Declared, trees: &[Tree], at: usize) -> Result<(), DomainRefusa
 /// Passes over the name of a type. The refusal is that it is no type.
 fn pass_word(d: &Declared, word: Lexeme) -> Result<(), DomainRefusal>
     ensures ok { OnOk result (is_type d.now word.name ≡ true) }
-    ensures err { IfErr result (λ r. (is_type d.now word.name ≡ false) × (r ≡ Unknown word.at word.name)) }
+    ensures err { OnErr result (is_type d.now word.name ≡ false) }
+    ensures fault { IfErr result (λ r. r ≡ Unknown word.at word.name) }
 {
     if d.is_type(word.name) {
         Ok(())
@@ -181,9 +174,8 @@ pub fn listed(
     d: &Declared,
     listing: Listing,
     trees: &[Tree],
-) -> Result<Vec<Param>, DomainRefusal>
-    ensures ok { IfOk result (λ v. listed d.now listing (nesteds (map nested trees.now)) [] ≡ Ok v.items) }
-    ensures err { IfErr result (λ r. Refuses (listed d.now listing (nesteds (map nested trees.now)) []) r) }
+) -> Result<Vec<Param>, Failure<DomainRefusal>>
+    ensures { Gives (λ v. v.items) result (listed d.now listing (forms trees.now) []) }
 {
     let mut all = Vec::new(alloc);
     let mut kind = kind_ahead(trees, 0);
@@ -192,7 +184,7 @@ pub fn listed(
         let word = word_of(&trees[i]);
         i += 1;
         if word.mark == Mark::Minus {
-            pass_type(d, trees, i)?;
+            pass_type(d, trees, i).map_err(Failure::Refused)?;
             i += 1;
             kind = kind_ahead(trees, i);
         } else {

@@ -1,9 +1,9 @@
 //! The parts of an action's condition, by the time at which they have to hold.
-ghost use Rattle.std.specs.Prelude.{◌≡◌, ◌≤◌, Ok, IfErr, OnOk, OnErr, length, map};
-ghost use Rattle.ps_forms.specs.Nested.{nesteds};
+ghost use Rattle.std.specs.Prelude.{◌≡◌, ◌≤◌, OnOk, length};
+ghost use Rattle.ps_world.specs.Failures.{Gives};
 ghost use Rattle.ps_forms.specs.NestedViews.{nested};
 ghost use Rattle.ps_pddl.specs.Conditions.{all_timed, at_time, over_all, timed, timed_form, timed_list, timed_part};
-ghost use Rattle.ps_pddl.specs.Steps.{Refuses};
+ghost use Rattle.ps_pddl.specs.Forms.{forms};
 
 use super::conditions::{condition, is_and};
 use super::terms::MOST_PARAMS;
@@ -11,7 +11,7 @@ use crate::refusals::DomainRefusal;
 use ps_domain::Declared;
 use ps_forms::{Lexeme, Tree, head, rest, word_of};
 use ps_shape::Mark;
-use ps_world::{Cond, Conds, Param};
+use ps_world::{Cond, Conds, Failure, Param};
 use std::alloc::{AllocError, Global};
 
 /// The parts of an action's condition.
@@ -26,45 +26,45 @@ pub struct Parts {
 }
 
 /// Puts a part with the word after its `at`.
-fn add_at(parts: &mut Parts, time: Mark, cond: Cond) -> Result<(), AllocError>
-    ensures { OnOk result (parts.new ≡ at_time time cond parts.old) }
+fn add_at(all: &mut Parts, time: Mark, cond: Cond) -> Result<(), AllocError>
+    ensures { OnOk result (all.new ≡ at_time time cond all.old) }
 {
     match time {
-        Mark::Start => parts.start.push(cond),
-        _ => parts.end.push(cond),
+        Mark::Start => all.start.push(cond),
+        _ => all.end.push(cond),
     }
 }
 
 /// Puts a part that has to hold over all.
-fn add_over(parts: &mut Parts, cond: Cond) -> Result<(), AllocError>
-    ensures { OnOk result (parts.new ≡ over_all cond parts.old) }
+fn add_over(all: &mut Parts, cond: Cond) -> Result<(), AllocError>
+    ensures { OnOk result (all.new ≡ over_all cond all.old) }
 {
-    parts.over.push(cond)
+    all.over.push(cond)
 }
 
 /// Puts a part, by its first word and what follows it.
 fn timed_part(
     alloc: Global,
-    domain: &Declared,
+    d: &Declared,
     params: &[Param],
     word: Mark,
     time: Mark,
     tree: &Tree,
-    parts: &mut Parts,
-) -> Result<(), DomainRefusal>
+    all: &mut Parts,
+) -> Result<(), Failure<DomainRefusal>>
     requires { length params.now ≤ MOST_PARAMS }
-    ensures ok { OnOk result (timed_part domain.now params.now word time (nested tree.now) parts.old ≡ Ok parts.new) }
-    ensures err { IfErr result (λ r. Refuses (timed_part domain.now params.now word time (nested tree.now) parts.old) r) }
+    ensures { Gives (λ _. all.new) result
+        (timed_part d.now params.now word time (nested tree.now) all.old) }
 {
     match word {
         Mark::At => {
-            let cond = condition(alloc, domain, params, tree)?;
-            add_at(parts, time, cond)?;
+            let cond = condition(alloc, d, params, tree)?;
+            add_at(all, time, cond)?;
             Ok(())
         }
         Mark::Over => {
-            let cond = condition(alloc, domain, params, tree)?;
-            add_over(parts, cond)?;
+            let cond = condition(alloc, d, params, tree)?;
+            add_over(all, cond)?;
             Ok(())
         }
         _ => Ok(()),
@@ -74,31 +74,20 @@ fn timed_part(
 /// Puts a part, by its head and the list that follows it.
 fn timed_form(
     alloc: Global,
-    domain: &Declared,
+    d: &Declared,
     params: &[Param],
     word: Lexeme,
     trees: &[Tree],
-    parts: &mut Parts,
-) -> Result<(), DomainRefusal>
+    all: &mut Parts,
+) -> Result<(), Failure<DomainRefusal>>
     requires { length params.now ≤ MOST_PARAMS }
-    ensures ok { OnOk result (timed_form domain.now params.now word (nesteds (map nested trees.now)) parts.old ≡ Ok parts.new) }
-    ensures err { IfErr result (λ r. Refuses (timed_form domain.now params.now word (nesteds (map nested trees.now)) parts.old) r) }
+    ensures { Gives (λ _. all.new) result
+        (timed_form d.now params.now word (forms trees.now) all.old) }
 {
     match trees {
         [] => Ok(()),
         [_] => Ok(()),
-        [time, tree, ..] => {
-            timed_part(
-                alloc,
-                domain,
-                params,
-                word.mark,
-                word_of(time).mark,
-                tree,
-                parts,
-            )?;
-            Ok(())
-        }
+        [time, tree, ..] => timed_part(alloc, d, params, word.mark, word_of(time).mark, tree, all),
     }
 }
 
@@ -106,17 +95,16 @@ fn timed_form(
 #[cycle(timed)]
 fn all_timed(
     alloc: Global,
-    domain: &Declared,
+    d: &Declared,
     params: &[Param],
     trees: &[Tree],
-    parts: &mut Parts,
-) -> Result<(), DomainRefusal>
+    all: &mut Parts,
+) -> Result<(), Failure<DomainRefusal>>
     requires { length params.now ≤ MOST_PARAMS }
-    ensures ok { OnOk result (all_timed domain.now params.now (nesteds (map nested trees.now)) parts.old ≡ Ok parts.new) }
-    ensures err { IfErr result (λ r. Refuses (all_timed domain.now params.now (nesteds (map nested trees.now)) parts.old) r) }
+    ensures { Gives (λ _. all.new) result (all_timed d.now params.now (forms trees.now) all.old) }
 {
     for tree in trees {
-        timed(alloc, domain, params, tree, parts)?;
+        timed(alloc, d, params, tree, all)?;
     }
     Ok(())
 }
@@ -125,45 +113,38 @@ fn all_timed(
 #[cycle(timed)]
 fn timed_list(
     alloc: Global,
-    domain: &Declared,
+    d: &Declared,
     params: &[Param],
     trees: &[Tree],
-    parts: &mut Parts,
-) -> Result<(), DomainRefusal>
+    all: &mut Parts,
+) -> Result<(), Failure<DomainRefusal>>
     requires { length params.now ≤ MOST_PARAMS }
-    ensures ok { OnOk result (timed_list domain.now params.now (nesteds (map nested trees.now)) parts.old ≡ Ok parts.new) }
-    ensures err { IfErr result (λ r. Refuses (timed_list domain.now params.now (nesteds (map nested trees.now)) parts.old) r) }
+    ensures { Gives (λ _. all.new) result (timed_list d.now params.now (forms trees.now) all.old) }
 {
     if trees.is_empty() {
         return Ok(());
     }
     let word = head(trees);
     if is_and(word.mark) {
-        all_timed(alloc, domain, params, rest(trees), parts)?;
-        return Ok(());
+        return all_timed(alloc, d, params, rest(trees), all);
     }
-    timed_form(alloc, domain, params, word, rest(trees), parts)?;
-    Ok(())
+    timed_form(alloc, d, params, word, rest(trees), all)
 }
 
 /// Puts the parts of a condition at their ends, in the order of the text; `and` is flattened.
 #[cycle(timed)]
 pub fn timed(
     alloc: Global,
-    domain: &Declared,
+    d: &Declared,
     params: &[Param],
     tree: &Tree,
-    parts: &mut Parts,
-) -> Result<(), DomainRefusal>
+    all: &mut Parts,
+) -> Result<(), Failure<DomainRefusal>>
     requires { length params.now ≤ MOST_PARAMS }
-    ensures ok { OnOk result (timed domain.now params.now (nested tree.now) parts.old ≡ Ok parts.new) }
-    ensures err { IfErr result (λ r. Refuses (timed domain.now params.now (nested tree.now) parts.old) r) }
+    ensures { Gives (λ _. all.new) result (timed d.now params.now (nested tree.now) all.old) }
 {
     match tree {
         Tree::Word(_) => Ok(()),
-        Tree::Group(trees) => {
-            timed_list(alloc, domain, params, trees.as_slice(), parts)?;
-            Ok(())
-        }
+        Tree::Group(trees) => timed_list(alloc, d, params, trees.as_slice(), all),
     }
 }

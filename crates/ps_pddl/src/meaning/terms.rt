@@ -1,17 +1,16 @@
 //! What names and variables stand for in an action, and what a head with arguments means.
-ghost use Rattle.std.specs.Prelude.{◌≡◌, ◌≤◌, [], Ok, Some, IfOk, IfErr, length, map, position};
+ghost use Rattle.std.specs.Prelude.{◌≡◌, ◌≤◌, [], Some, length, position};
+ghost use Rattle.ps_world.specs.Failures.{Gives};
 ghost use Rattle.ps_world.specs.Names.{same_name};
-ghost use Rattle.ps_forms.specs.Nested.{nesteds};
-ghost use Rattle.ps_forms.specs.NestedViews.{nested};
 ghost use Rattle.ps_pddl.specs.Terms.{applied, argument, arguments, fact, lifted, resolved, term_of, value_of, variable_of};
-ghost use Rattle.ps_pddl.specs.Steps.{Refuses};
+ghost use Rattle.ps_pddl.specs.Forms.{forms};
 ghost use Rattle.ps_pddl.specs.declared.refusals.DomainRefusal.TheVariants.{Unknown};
 
 use crate::refusals::DomainRefusal;
 use ps_domain::Declared;
 use ps_forms::{Lexeme, Tree, count, word_of};
 use ps_shape::Mark;
-use ps_world::{Decl, Lifted, Name, Param, Term, Terms};
+use ps_world::{Decl, Failure, Lifted, Name, Param, Term, Terms};
 use std::alloc::Global;
 
 /// The most parameters of an action, a predicate or a function.
@@ -46,14 +45,14 @@ fn variable_of(params: &[Param], name: Name) -> Option<Typed>
 }
 
 /// A declared parameter or constant as a term with its type.
-fn term_of(domain: &Declared, params: &[Param], mark: Mark, name: Name) -> Option<Typed>
+fn term_of(d: &Declared, params: &[Param], mark: Mark, name: Name) -> Option<Typed>
     requires { length params.now ≤ MOST_PARAMS }
-    ensures { result ≡ term_of domain.now params.now mark name }
+    ensures { result ≡ term_of d.now params.now mark name }
 {
     match mark {
         Mark::Variable => variable_of(params, name),
         _ => {
-            let constant = domain.constant(name)?;
+            let constant = d.constant(name)?;
             Some(Typed {
                 term: Term::Const(name),
                 kind: constant.kind,
@@ -73,29 +72,24 @@ fn unknown(word: Lexeme) -> DomainRefusal
 }
 
 /// The term that a word is, with its type. It may be `Unknown`.
-pub fn resolved(domain: &Declared, params: &[Param], word: Lexeme) -> Result<Typed, DomainRefusal>
+pub fn resolved(d: &Declared, params: &[Param], word: Lexeme) -> Result<Typed, DomainRefusal>
     requires { length params.now ≤ MOST_PARAMS }
-    ensures { result ≡ resolved domain.now params.now word }
+    ensures { result ≡ resolved d.now params.now word }
 {
-    match term_of(domain, params, word.mark, word.name) {
+    match term_of(d, params, word.mark, word.name) {
         Some(term) => Ok(term),
         None => Err(unknown(word)),
     }
 }
 
 /// The term that a word is where this type is wanted: `Unknown` comes before `Kind`.
-fn argument(
-    domain: &Declared,
-    params: &[Param],
-    want: Name,
-    word: Lexeme,
-) -> Result<Term, DomainRefusal>
+fn argument(d: &Declared, params: &[Param], want: Name, word: Lexeme) -> Result<Term, DomainRefusal>
     requires { length params.now ≤ MOST_PARAMS }
-    ensures { result ≡ argument domain.now params.now want word }
+    ensures { result ≡ argument d.now params.now want word }
 {
     let at = word.at;
-    let Typed { term, kind } = resolved(domain, params, word)?;
-    if domain.is_below(kind, want) {
+    let Typed { term, kind } = resolved(d, params, word)?;
+    if d.is_below(kind, want) {
         Ok(term)
     } else {
         Err(DomainRefusal::Kind { at })
@@ -105,19 +99,20 @@ fn argument(
 /// The arguments, one for each parameter of what is declared.
 fn arguments(
     alloc: Global,
-    domain: &Declared,
+    d: &Declared,
     params: &[Param],
     wants: &[Param],
     trees: &[Tree],
-) -> Result<Vec<Term>, DomainRefusal>
+) -> Result<Vec<Term>, Failure<DomainRefusal>>
     requires few { length params.now ≤ MOST_PARAMS }
     requires enough { length wants.now ≤ length trees.now }
-    ensures ok { IfOk result (λ v. arguments domain.now params.now wants.now (nesteds (map nested trees.now)) [] ≡ Ok v.items) }
-    ensures err { IfErr result (λ r. Refuses (arguments domain.now params.now wants.now (nesteds (map nested trees.now)) []) r) }
+    ensures { Gives (λ v. v.items) result
+        (arguments d.now params.now wants.now (forms trees.now) []) }
 {
     let mut terms = Vec::new(alloc);
     for (i, want) in wants.iter().enumerate() {
-        terms.push(argument(domain, params, want.kind, word_of(&trees[i]))?)?;
+        let term = argument(d, params, want.kind, word_of(&trees[i])).map_err(Failure::Refused)?;
+        terms.push(term)?;
     }
     Ok(terms)
 }
@@ -138,55 +133,53 @@ fn lifted(head: Lexeme, terms: &[Term]) -> Result<Lifted, DomainRefusal>
 /// A head that is declared so, with arguments that suit it: `Arity` comes before what is at fault with an argument.
 fn applied(
     alloc: Global,
-    domain: &Declared,
+    d: &Declared,
     params: &[Param],
     decl: &Decl,
     head: Lexeme,
     trees: &[Tree],
-) -> Result<Lifted, DomainRefusal>
+) -> Result<Lifted, Failure<DomainRefusal>>
     requires { length params.now ≤ MOST_PARAMS }
-    ensures ok { IfOk result (λ l. applied domain.now params.now (Some decl.now) head (nesteds (map nested trees.now)) ≡ Ok l) }
-    ensures err { IfErr result (λ r. Refuses (applied domain.now params.now (Some decl.now) head (nesteds (map nested trees.now))) r) }
+    ensures { Gives (λ l. l) result
+        (applied d.now params.now (Some decl.now) head (forms trees.now)) }
 {
     if decl.params.len() != count(trees) {
-        return Err(DomainRefusal::Arity { at: head.at });
+        return Err(Failure::Refused(DomainRefusal::Arity { at: head.at }));
     }
-    let terms = arguments(alloc, domain, params, decl.params.as_slice(), trees)?;
-    lifted(head, terms.as_slice())
+    let terms = arguments(alloc, d, params, decl.params.as_slice(), trees)?;
+    lifted(head, terms.as_slice()).map_err(Failure::Refused)
 }
 
 /// A fact: a declared predicate with arguments that suit it. `Unknown` at the head comes before `Arity`.
 pub fn fact(
     alloc: Global,
-    domain: &Declared,
+    d: &Declared,
     params: &[Param],
     head: Lexeme,
     trees: &[Tree],
-) -> Result<Lifted, DomainRefusal>
+) -> Result<Lifted, Failure<DomainRefusal>>
     requires { length params.now ≤ MOST_PARAMS }
-    ensures ok { IfOk result (λ l. fact domain.now params.now head (nesteds (map nested trees.now)) ≡ Ok l) }
-    ensures err { IfErr result (λ r. Refuses (fact domain.now params.now head (nesteds (map nested trees.now))) r) }
+    ensures { Gives (λ l. l) result (fact d.now params.now head (forms trees.now)) }
 {
-    match domain.predicate(head.name) {
-        Some(decl) => applied(alloc, domain, params, decl, head, trees),
-        None => Err(unknown(head)),
+    match d.predicate(head.name) {
+        Some(decl) => applied(alloc, d, params, decl, head, trees),
+        None => Err(Failure::Refused(unknown(head))),
     }
 }
 
 /// The value of a declared function at arguments that suit it. `Unknown` at the head comes before `Arity`.
 pub fn value_of(
     alloc: Global,
-    domain: &Declared,
+    d: &Declared,
     params: &[Param],
     head: Lexeme,
     trees: &[Tree],
-) -> Result<Lifted, DomainRefusal>
+) -> Result<Lifted, Failure<DomainRefusal>>
     requires { length params.now ≤ MOST_PARAMS }
-    ensures ok { IfOk result (λ l. value_of domain.now params.now head (nesteds (map nested trees.now)) ≡ Ok l) }
-    ensures err { IfErr result (λ r. Refuses (value_of domain.now params.now head (nesteds (map nested trees.now))) r) }
+    ensures { Gives (λ l. l) result (value_of d.now params.now head (forms trees.now)) }
 {
-    match domain.function(head.name) {
-        Some(decl) => applied(alloc, domain, params, decl, head, trees),
-        None => Err(unknown(head)),
+    match d.function(head.name) {
+        Some(decl) => applied(alloc, d, params, decl, head, trees),
+        None => Err(Failure::Refused(unknown(head))),
     }
 }

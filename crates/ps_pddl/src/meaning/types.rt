@@ -1,9 +1,8 @@
 //! What the list of types declares.
-ghost use Rattle.std.specs.Prelude.{◌≡◌, Ok, [], find, length, map, IfErr, IfOk, OnOk};
-ghost use Rattle.ps_forms.specs.Nested.{nesteds};
-ghost use Rattle.ps_forms.specs.NestedViews.{nested};
+ghost use Rattle.std.specs.Prelude.{◌≡◌, [], find, length, IfOk};
+ghost use Rattle.ps_world.specs.Failures.{Gives};
 ghost use Rattle.ps_pddl.specs.Lists.{kept};
-ghost use Rattle.ps_pddl.specs.Steps.{Refuses};
+ghost use Rattle.ps_pddl.specs.Forms.{forms};
 ghost use Rattle.ps_pddl.specs.Types.{acyclic, is_cyclic, leads_to, names_of, with_types};
 ghost use Rattle.ps_pddl.specs.declared.meaning.lists.Listing.TheVariants.{Types};
 
@@ -12,12 +11,12 @@ use crate::refusals::DomainRefusal;
 use ps_domain::Declared;
 use ps_forms::{Tree, word_of};
 use ps_shape::Mark;
-use ps_world::{Name, Param, Seq};
+use ps_world::{Failure, Name, Param, Seq};
 use std::alloc::{AllocError, Global};
 
 /// The names of a list, with the parent `object`: a parent may be declared after its child.
 fn names_of(alloc: Global, trees: &[Tree]) -> Result<Vec<Param>, AllocError>
-    ensures { IfOk result (λ v. v.items ≡ names_of (nesteds (map nested trees.now)) []) }
+    ensures { IfOk result (λ v. v.items ≡ names_of (forms trees.now) []) }
 {
     let mut all = Vec::new(alloc);
     let mut i = 0;
@@ -93,21 +92,23 @@ fn first_cyclic(d: &Declared) -> Option<Param>
 }
 
 /// Whether no type's parents lead back to it. The refusal names the first whose do.
-fn check_parents(d: &Declared) -> Result<(), DomainRefusal>
-    ensures ok { OnOk result (acyclic d.now (find (is_cyclic d.now) d.now.types) ≡ Ok d.now) }
-    ensures err { IfErr result (λ r. Refuses (acyclic d.now (find (is_cyclic d.now) d.now.types)) r) }
+fn check_parents(d: &Declared) -> Result<(), Failure<DomainRefusal>>
+    ensures { Gives (λ _. d.now) result (acyclic d.now (find (is_cyclic d.now) d.now.types)) }
 {
     match first_cyclic(d) {
-        Some(param) => Err(DomainRefusal::Cycle { name: param.name }),
+        Some(param) => Err(Failure::Refused(DomainRefusal::Cycle { name: param.name })),
         None => Ok(()),
     }
 }
 
 /// Declares the types of a list. The refusal is the first fault: one of the list, or else the first type whose parents lead back to
 /// it.
-pub fn declare_types(alloc: Global, d: &mut Declared, trees: &[Tree]) -> Result<(), DomainRefusal>
-    ensures ok { OnOk result (with_types d.old (nesteds (map nested trees.now)) ≡ Ok d.new) }
-    ensures err { IfErr result (λ r. Refuses (with_types d.old (nesteds (map nested trees.now))) r) }
+pub fn declare_types(
+    alloc: Global,
+    d: &mut Declared,
+    trees: &[Tree],
+) -> Result<(), Failure<DomainRefusal>>
+    ensures { Gives (λ _. d.new) result (with_types d.old (forms trees.now)) }
 {
     d.set_types(alloc, Seq::of(names_of(alloc, trees)?))?;
     let all = listed(alloc, d, Listing::Types, trees)?;

@@ -16,4 +16,4 @@ decreases-conditions l = 4 * ranks (nesteds (map nested l.trees.now)) + 1
 -- the conditions that are left, after those before, are all of them
 abbrev pub invariant-conditions-loop-tree : goal.invariant-conditions-loop-tree
 invariant-conditions-loop-tree l =
-    conditions l.domain l.params (nesteds (map nested (drop l.tree-index l.trees))) l.all ≡ conditions l.domain l.params (nesteds (map nested l.trees)) []
+    conditions l.d l.params (nesteds (map nested (drop l.tree-index l.trees))) l.all ≡ conditions l.d l.params (nesteds (map nested l.trees)) []

@@ -2,10 +2,6 @@ use Rattle.std.proofs.Common.{arith}
 use Rattle.ps_pddl.proofs.ConditionForms.{with_one}
 use Rattle.ps_pddl.proofs.meaning.conditions.plain_condition.Goals as goal
 
-pub returns-in-len1-clause-ok : goal.returns-in-len1-clause-ok
-returns-in-len1-clause-ok c =
-    rw (with_one c.args.domain.now c.args.params.now c.args.word c.args.trees.now (omega arith)) c.stated-in-len1.ensures.ok
-
-pub returns-in-len1-clause-err : goal.returns-in-len1-clause-err
-returns-in-len1-clause-err c =
-    rw (with_one c.args.domain.now c.args.params.now c.args.word c.args.trees.now (omega arith)) c.stated-in-len1.ensures.err
+pub returns-in-len1 : goal.returns-in-len1
+returns-in-len1 c =
+    rw (with_one c.args.d.now c.args.params.now c.args.word c.args.trees.now (omega arith)) c.stated-in-len1.ensures

@@ -2,5 +2,5 @@ use Rattle.std.proofs.Common.{arith}
 use Rattle.ps_pddl.proofs.ConditionForms.{no_form}
 use Rattle.ps_pddl.proofs.meaning.parts.timed_form.Goals as goal
 
-pub returns-in-len1-clause-ok : goal.returns-in-len1-clause-ok
-returns-in-len1-clause-ok c = no_form c.args.domain.now c.args.params.now c.args.word c.args.trees.now _ (omega arith)
+pub returns-in-len1 : goal.returns-in-len1
+returns-in-len1 c = no_form c.args.d.now c.args.params.now c.args.word c.args.trees.now _ (omega arith)

@@ -1,8 +1,8 @@
-use Rattle.std.proofs.Common.{arith, sym}
+use Rattle.std.proofs.Common.{Ok, ap, arith, sym}
 use Rattle.std.proofs.lemmas.Result.{err_from_is_err_and}
 use Rattle.ps_forms.proofs.NestedLists.{second-rank, third-rank}
-use Rattle.ps_pddl.proofs.Operations.{alone, with_one, with_two, group-rank, made}
-use Rattle.ps_pddl.proofs.Steps.{refuses-first}
+use Rattle.ps_pddl.proofs.Operations.{alone, with_one, with_two, group-rank}
+use Rattle.ps_pddl.proofs.Steps.{gives_first}
 use Rattle.ps_pddl.proofs.meaning.values.+value.Goals as goal
 
 pub operation-value-requires : goal.operation-value-requires
@@ -19,33 +19,29 @@ pub value-operation-requires : goal.value-operation-requires
 value-operation-requires t c =
     (omega (arith, c.decreases, group-rank c.args.tree.now c.in-Group.trees c.as_slice.result.now c.in-Group.is c.as_slice.ensures), c.requires)
 
-pub operation-returns-in_err-inner-in-len2-clause-err : goal.operation-returns-in_err-inner-in-len2-clause-err
-operation-returns-in_err-inner-in-len2-clause-err t c =
+pub operation-returns-in_err-inner-in-len2 : goal.operation-returns-in_err-inner-in-len2
+operation-returns-in_err-inner-in-len2 t c =
     let p = err_from_is_err_and c.from_residual.result c.from_residual.ensures.1 in
-    rw (p.1, p.2, with_one c.args.domain.now c.args.params.now c.args.trees.now c.one-item.result (omega arith) c.one-item.is, sym c.head-word.ensures, sym c.is_minus.ensures, c.if-is_minus.true) (refuses-first _ _ _ c.in_err-inner-in-len2.ensures.err)
+    rw (p.1, p.2, with_one c.args.d.now c.args.params.now c.args.trees.now c.one-item.result (omega arith) c.one-item.is, sym c.head-word.ensures, sym c.is_minus.ensures, c.if-is_minus.true) (gives_first _ _ _ c.in_err-inner-in-len2.ensures)
 
-pub operation-returns-in_err-left-in-Some-clause-err : goal.operation-returns-in_err-left-in-Some-clause-err
-operation-returns-in_err-left-in-Some-clause-err t c =
+pub operation-returns-in_err-left-in-Some : goal.operation-returns-in_err-left-in-Some
+operation-returns-in_err-left-in-Some t c =
     let p = err_from_is_err_and c.from_residual-in_err-left-in-Some.result c.from_residual-in_err-left-in-Some.ensures.1 in
-    rw (p.1, p.2, with_two c.args.domain.now c.args.params.now c.args.trees.now c.left-item.result c.right-item.result (omega arith) c.left-item.is c.right-item.is, sym c.head-word.ensures, sym c.operator_of.ensures, c.in-Some.is) (refuses-first _ _ _ c.in_err-left-in-Some.ensures.err)
+    rw (p.1, p.2, with_two c.args.d.now c.args.params.now c.args.trees.now c.left-item.result c.right-item.result (omega arith) c.left-item.is c.right-item.is, sym c.head-word.ensures, sym c.operator_of.ensures, c.in-Some.is) (gives_first _ _ _ c.in_err-left-in-Some.ensures)
 
-pub operation-returns-in_err-right-in-Some-clause-err : goal.operation-returns-in_err-right-in-Some-clause-err
-operation-returns-in_err-right-in-Some-clause-err t c =
+pub operation-returns-in_err-right-in-Some : goal.operation-returns-in_err-right-in-Some
+operation-returns-in_err-right-in-Some t c =
     let p = err_from_is_err_and c.from_residual-in_err-right-in-Some.result c.from_residual-in_err-right-in-Some.ensures.1 in
-    rw (p.1, p.2, with_two c.args.domain.now c.args.params.now c.args.trees.now c.left-item.result c.right-item.result (omega arith) c.left-item.is c.right-item.is, sym c.head-word.ensures, sym c.operator_of.ensures, c.in-Some.is, c.in_ok-left-in-Some.ensures.ok) (refuses-first _ _ _ c.in_err-right-in-Some.ensures.err)
+    rw (p.1, p.2, with_two c.args.d.now c.args.params.now c.args.trees.now c.left-item.result c.right-item.result (omega arith) c.left-item.is c.right-item.is, sym c.head-word.ensures, sym c.operator_of.ensures, c.in-Some.is, c.in_ok-left-in-Some.ensures) (gives_first _ _ _ c.in_err-right-in-Some.ensures)
 
-pub operation-returns-in-len1-clause-ok : goal.operation-returns-in-len1-clause-ok
-operation-returns-in-len1-clause-ok t c =
-    rw (alone c.args.domain.now c.args.params.now c.args.trees.now (omega arith), sym c.head-word.ensures, sym c.rest.ensures) c.function_value.ensures.ok
+pub operation-returns-in-len1 : goal.operation-returns-in-len1
+operation-returns-in-len1 t c =
+    rw (alone c.args.d.now c.args.params.now c.args.trees.now (omega arith), sym c.head-word.ensures, sym c.rest.ensures) c.function_value.ensures
 
-pub operation-returns-in-len1-clause-err : goal.operation-returns-in-len1-clause-err
-operation-returns-in-len1-clause-err t c =
-    rw (alone c.args.domain.now c.args.params.now c.args.trees.now (omega arith), sym c.head-word.ensures, sym c.rest.ensures) c.function_value.ensures.err
+pub operation-returns-in_ok-negated-in-len2 : goal.operation-returns-in_ok-negated-in-len2
+operation-returns-in_ok-negated-in-len2 t c =
+    rw (with_one c.args.d.now c.args.params.now c.args.trees.now c.one-item.result (omega arith) c.one-item.is, sym c.head-word.ensures, sym c.is_minus.ensures, c.if-is_minus.true, c.in_ok-inner-in-len2.ensures) (ap Ok (sym c.in_ok-negated-in-len2.ensures))
 
-pub operation-returns-in_ok-inner-in-len2-clause-ok : goal.operation-returns-in_ok-inner-in-len2-clause-ok
-operation-returns-in_ok-inner-in-len2-clause-ok t c =
-    rw (with_one c.args.domain.now c.args.params.now c.args.trees.now c.one-item.result (omega arith) c.one-item.is, sym c.head-word.ensures, sym c.is_minus.ensures, c.if-is_minus.true, c.in_ok-inner-in-len2.ensures.ok) (made c.negated.result _ c.negated.ensures.ok)
-
-pub operation-returns-in_ok-right-in-Some-clause-ok : goal.operation-returns-in_ok-right-in-Some-clause-ok
-operation-returns-in_ok-right-in-Some-clause-ok t c =
-    rw (with_two c.args.domain.now c.args.params.now c.args.trees.now c.left-item.result c.right-item.result (omega arith) c.left-item.is c.right-item.is, sym c.head-word.ensures, sym c.operator_of.ensures, c.in-Some.is, c.in_ok-left-in-Some.ensures.ok, c.in_ok-right-in-Some.ensures.ok) (made c.operated.result _ c.operated.ensures.ok)
+pub operation-returns-in_ok-operated-in-Some : goal.operation-returns-in_ok-operated-in-Some
+operation-returns-in_ok-operated-in-Some t c =
+    rw (with_two c.args.d.now c.args.params.now c.args.trees.now c.left-item.result c.right-item.result (omega arith) c.left-item.is c.right-item.is, sym c.head-word.ensures, sym c.operator_of.ensures, c.in-Some.is, c.in_ok-left-in-Some.ensures, c.in_ok-right-in-Some.ensures) (ap Ok (sym c.in_ok-operated-in-Some.ensures))
