@@ -2,9 +2,8 @@
 ghost use Rattle.std.specs.Prelude.{◌≡◌, ◌++◌, IfOk, OnOk};
 ghost use Rattle.ps_calls.specs.Verdicts.{effect_text, fault_text, ground_text, plan_text, step_text, verdict_line, verdict_status, wrong_text};
 
-use ps_action::{EffectRefusal, GroundRefusal, PlanRefusal};
+use ps_action::{EffectRefusal, GroundRefusal, PlanRefusal, PlanTextRefusal};
 use ps_journal::{push_arity, push_name_after, push_number_after};
-use ps_plan::PlanTextRefusal;
 use ps_text::Names;
 use ps_validate::Invalid;
 use std::alloc::{AllocError, Global};

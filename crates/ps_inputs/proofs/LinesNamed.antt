@@ -18,8 +18,8 @@ use Rattle.ps_world.specs.declared.conditions.Rel.TheVariants.{Eq}
 use Rattle.ps_world.specs.declared.conditions.Cond.{Cond}
 use Rattle.ps_world.specs.declared.conditions.Cond.TheVariants as cond
 use Rattle.ps_machine.specs.declared.inputs.Command.{Command}
+use Rattle.ps_machine.specs.declared.inputs.Command.TheVariants as command
 use Rattle.ps_machine.specs.declared.inputs.LineCause.{LineCause}
-use Rattle.ps_machine.specs.declared.inputs.LineCause.TheVariants.{NotBuilt}
 use Rattle.ps_machine.specs.declared.inputs.Line.TheVariants.{Good, Bad}
 use Rattle.ps_text.specs.Names.{interned, AreNames}
 use Rattle.ps_text.specs.Tokens.{AreTokens}
@@ -37,9 +37,9 @@ use Rattle.ps_pddl.proofs.ReadNames.{AllTold, AreTold, first_below, lists_told, 
 use Rattle.ps_script.specs.Commands.{command_of, after_two}
 use Rattle.ps_script.specs.Goals.{args_of, condition, conditions, equality, fact_of, first_condition, form, lifted_of, names_of, negation, operated, operation, operator_of, plain_condition, rel_of, related, value}
 use Rattle.ps_script.specs.Lines.{IsRead, with_run_plan}
-use Rattle.ps_script.specs.Lines.IsRead.{nothing, source, source_nothing, run_plan, run_nothing, without_class, without_number, without_form, without_shape, unbuilt, good}
+use Rattle.ps_script.specs.Lines.IsRead.{nothing, source, source_nothing, run_plan, run_nothing, without_class, without_number, without_form, without_shape, good}
 use Rattle.ps_script.specs.declared.forms.Form.{Form}
-use Rattle.ps_script.specs.declared.forms.Form.TheVariants.{SetInstance, SetPredicate, SetFunction, SetGoal, RemoveInstance, RemovePredicate, RemoveFunction, ModelPredicate, ModelAction}
+use Rattle.ps_script.specs.declared.forms.Form.TheVariants.{SetInstance, SetPredicate, SetFunction, SetGoal, RemoveInstance, RemovePredicate, RemoveFunction, ModelPredicate, ModelAction, RunAction}
 use Rattle.ps_script.specs.declared.reading.Read.{Read}
 use Rattle.ps_script.specs.declared.reading.Read.TheVariants as read
 use Rattle.ps_inputs.specs.Scripts.{given_by}
@@ -172,7 +172,7 @@ module _ (after : Table) (first : 0 < length after) where
   stated_within ts h = fact_within (items_at (after_two ts)) (items_told (after_two ts) (two_told ts h))
 
   -- the names of a command are in the table, and its numbers in range
-  command_within : (f : Form) (ts : Nesteds) → AreTold after ts → IfSome (command_of f ts) (λ c. IsLineOf (length after) (Good c))
+  command_within : (f : Form) (ts : Nesteds) → AreTold after ts → IsLineOf (length after) (Good (command_of f ts))
   command_within SetInstance ts h = (head_name (after_two ts) (two_told ts h), fourth_within ts h)
   command_within SetPredicate ts h = stated_within ts h
   command_within SetFunction ts h =
@@ -185,6 +185,7 @@ module _ (after : Table) (first : 0 < length after) where
   command_within RemoveFunction ts h = stated_within ts h
   command_within ModelPredicate ts h = fourth_within ts h
   command_within ModelAction ts h = fourth_within ts h
+  command_within RunAction ts h = stated_within ts h
   command_within _ ts h = tt
 
 -- ---- a line
@@ -215,13 +216,13 @@ same_table t r n h = record { names = n; grows = omega arith; named = h }
 pub bad_named : (count : ℕ) (c : LineCause) → All (IsLineOf count) (Bad c ∷ [])
 bad_named count c = All-cons (IsLineOf count) (Bad c) [] tt (All-nil (IsLineOf count))
 
-good_named : (t : Table) (bytes : List ℕ) (f : Form) (tokens : List Token) (ls : List Lexeme) (after : Table) (ts : Nesteds) (c : Command) → AreNames t → AreTokens bytes tokens → lexemes_of bytes t tokens ≡ (ls, after) → SpellAll ts ls → command_of f ts ≡ Some c → IsNamed t after (read.Line (Good c))
+good_named : (t : Table) (bytes : List ℕ) (f : Form) (tokens : List Token) (ls : List Lexeme) (after : Table) (ts : Nesteds) (c : Command) → AreNames t → AreTokens bytes tokens → lexemes_of bytes t tokens ≡ (ls, after) → SpellAll ts ls → command_of f ts ≡ c → IsNamed t after (read.Line (Good c))
 good_named t bytes f tokens ls after ts c n are words spelt e =
     let has : HasWords t bytes ls after = record { tokens = tokens; are_tokens = are; words = words } in
     let names : AreNames after = names_after t bytes ls after n has in
     let told : AreTold after ts = lists_told t bytes ls after ts n has spelt in
     let within = command_within after (first_below after names) f ts told in
-    let here : IsLineOf (length after) (Good c) = subst (λ (o : Option Command). IfSome o (λ x. IsLineOf (length after) (Good x))) e within in
+    let here : IsLineOf (length after) (Good c) = subst (λ x. IsLineOf (length after) (Good x)) e within in
     let same : length (lexemes_of bytes t tokens).1 ≡ length after = ap (λ (x : List Lexeme × Table). length x.1) words in
     record {
       names = names;
@@ -239,7 +240,7 @@ named_after t bytes r after n h =
       | run_plan file some other is e ↦ record {
         names = with_run_plan_names t n;
         grows = omega (arith, length-interned t (codes "run"), length-interned (interned t (codes "run")) (codes "plan"));
-        named = All-cons (IsLineOf (length (with_run_plan t))) (Good RunPlan) [] tt (All-nil (IsLineOf (length (with_run_plan t))));
+        named = All-cons (IsLineOf (length (with_run_plan t))) (Good command.RunPlan) [] tt (All-nil (IsLineOf (length (with_run_plan t))));
       }
       | run_nothing some other is e ↦ same_table t _ n (bad_named (length t) _)
       | without_class at plain fault ↦ same_table t _ n (bad_named (length t) _)

@@ -22,9 +22,9 @@ use Rattle.ps_forms.specs.Spelling.{SpellAll, is_balanced}
 use Rattle.ps_forms.specs.declared.lexemes.Lexeme.{Lexeme}
 use Rattle.ps_script.specs.Commands.{command_of}
 use Rattle.ps_script.specs.Files.{after_run, file_in, is_run_plan, is_source}
-use Rattle.ps_script.specs.Forms.{form_of, is_built, start_of}
+use Rattle.ps_script.specs.Forms.{form_of, start_of}
 use Rattle.ps_script.specs.Lines.{IsOfForm, IsPlain, IsRead, bad, cause_of, is_nothing, marks_of, place, with_run_plan}
-use Rattle.ps_script.specs.Lines.IsRead.{good, run_nothing, run_plan, source, source_nothing, unbuilt, without_class, without_form, without_number, without_shape}
+use Rattle.ps_script.specs.Lines.IsRead.{good, run_nothing, run_plan, source, source_nothing, without_class, without_form, without_number, without_shape}
 use Rattle.ps_script.specs.declared.forms.Form.{Form}
 use Rattle.ps_script.specs.declared.reading.Read.{Read}
 use Rattle.ps_script.specs.declared.reading.Read.TheVariants.{Line, RunPlan, Source}
@@ -41,17 +41,14 @@ good_balance table bytes form tokens ls same after is words e =
     let m : marks same ≡ marks_of bytes tokens = ap marks e ∙ ap (λ x. marks x.0) (sym words) ∙ marks_same bytes table tokens in
     subst (λ (ms : List Mark). is_balanced 0 ms ≡ true) (sym m) (balanced_line form _ is.derived)
 
-pub good_read : (table : Table) (bytes : List ℕ) (form : Form) (tokens : List Token) (ls same : List Lexeme) (after : Table) (ts us : Nesteds) (found : Option Command) (command : Command) → IsOfForm bytes form tokens → lexemes_of bytes table tokens ≡ (ls, after) → same ≡ ls → SpellAll ts same → us ≡ ts → found ≡ command_of form us → found ≡ Some command → IsRead table bytes (Line (Good command)) after
-good_read table bytes form tokens ls same after ts us found command is words e spelt u f s =
-    good form tokens ls after ts command is words (subst (SpellAll ts) e spelt) (ap (command_of form) (sym u) ∙ sym f ∙ s)
+pub good_read : (table : Table) (bytes : List ℕ) (form : Form) (tokens : List Token) (ls same : List Lexeme) (after : Table) (ts us : Nesteds) (command : Command) → IsOfForm bytes form tokens → lexemes_of bytes table tokens ≡ (ls, after) → same ≡ ls → SpellAll ts same → us ≡ ts → command ≡ command_of form us → IsRead table bytes (Line (Good command)) after
+good_read table bytes form tokens ls same after ts us command is words e spelt u f =
+    good form tokens ls after ts command is words (subst (SpellAll ts) e spelt) (ap (command_of form) (sym u) ∙ sym f)
 
 pub misfit_read : (table : Table) (bytes : List ℕ) (form : Form) (tokens : List Token) (ms items : List Mark) (i at : ℕ) (found : Option ℕ) (r : Read) → IsPlain bytes → AreTokens bytes tokens → form_of (words bytes) ≡ Some form → ms ≡ items → items ≡ marks_of bytes tokens → found ≡ Some i → IfSome found (λ at. IsFirstFaultFrom (start_of form) ms at) → at ≡ place bytes tokens i → r ≡ bad (cause.Shape at) → IsRead table bytes r table
 misfit_read table bytes form tokens ms items i at found r plain are is m n f fault p e =
     let here : IsFirstFaultFrom (start_of form) ms i = subst (λ (o : Option ℕ). IfSome o (λ at. IsFirstFaultFrom (start_of form) ms at)) f fault in
     subst (λ (x : Read). IsRead table bytes x table) (sym (e ∙ ap (λ k. bad (cause.Shape k)) p)) (without_shape form tokens i plain are is (subst (λ (x : List Mark). IsFirstFaultFrom (start_of form) x i) (m ∙ n) here))
-
-pub unbuilt_read : (table : Table) (bytes : List ℕ) (form : Form) (tokens : List Token) (r : Read) → IsOfForm bytes form tokens → is_built form ≡ false → r ≡ bad cause.NotBuilt → IsRead table bytes r table
-unbuilt_read table bytes form tokens r is b e = subst (λ (x : Read). IsRead table bytes x table) (sym e) (unbuilt form tokens is b)
 
 pub formless_read : (table : Table) (bytes : List ℕ) (tokens : List Token) (ws : List (List ℕ)) (found : Option Form) (r : Read) → IsPlain bytes → AreTokens bytes tokens → ws ≡ words bytes → found ≡ form_of ws → found ≡ None → r ≡ bad cause.Command → IsRead table bytes r table
 formless_read table bytes tokens ws found r plain are w f n e = subst (λ (x : Read). IsRead table bytes x table) (sym e) (without_form tokens plain are (ap form_of (sym w) ∙ sym f ∙ n))

@@ -19,10 +19,10 @@ use Rattle.ps_forms.specs.declared.lexemes.Lexeme.{Lexeme}
 use Rattle.ps_forms.proofs.OneSpelling.{one_spelling}
 use Rattle.ps_script.specs.Commands.{command_of}
 use Rattle.ps_script.specs.Files.{after_run, file_in, is_run_plan, is_source}
-use Rattle.ps_script.specs.Forms.{form_of, is_built, start_of}
+use Rattle.ps_script.specs.Forms.{form_of, start_of}
 use Rattle.ps_script.specs.Laws.{LinesAreReadAsOne}
 use Rattle.ps_script.specs.Lines.{IsPlain, IsRead, bad, cause_of, is_nothing, marks_of, place, with_run_plan}
-use Rattle.ps_script.specs.Lines.IsRead.{nothing, source, source_nothing, run_plan, run_nothing, without_class, without_number, without_form, without_shape, unbuilt, good}
+use Rattle.ps_script.specs.Lines.IsRead.{nothing, source, source_nothing, run_plan, run_nothing, without_class, without_number, without_form, without_shape, good}
 use Rattle.ps_script.specs.declared.forms.Form.{Form}
 use Rattle.ps_script.specs.declared.forms.Form.TheVariants as form
 use Rattle.ps_script.specs.declared.reading.Read.{Read}
@@ -48,8 +48,7 @@ early table bytes =
 -- the answer to a line of a form
 data Formed (table : Table) (bytes : List ℕ) (tokens : List Token) (f : Form) : Read → Table → Type 0 where
   misfit : (i : ℕ) → IsFirstFaultFrom (start_of f) (marks_of bytes tokens) i → Formed table bytes tokens f (bad (cause.Shape (place bytes tokens i))) table
-  later : Derives (start_of f) (marks_of bytes tokens) → IsShallowFrom (start_of f) (marks_of bytes tokens) → is_built f ≡ false → Formed table bytes tokens f (bad cause.NotBuilt) table
-  meant : (ls : List Lexeme) (after : Table) (ts : Nesteds) (command : Command) → Derives (start_of f) (marks_of bytes tokens) → IsShallowFrom (start_of f) (marks_of bytes tokens) → lexemes_of bytes table tokens ≡ (ls, after) → SpellAll ts ls → command_of f ts ≡ Some command → Formed table bytes tokens f (Line (Good command)) after
+  meant : (ls : List Lexeme) (after : Table) (ts : Nesteds) (command : Command) → Derives (start_of f) (marks_of bytes tokens) → IsShallowFrom (start_of f) (marks_of bytes tokens) → lexemes_of bytes table tokens ≡ (ls, after) → SpellAll ts ls → command_of f ts ≡ command → Formed table bytes tokens f (Line (Good command)) after
 
 -- the answer to a line with words
 data Worded (table : Table) (bytes : List ℕ) : Read → Table → Type 0 where
@@ -57,35 +56,15 @@ data Worded (table : Table) (bytes : List ℕ) : Read → Table → Type 0 where
   formless : (tokens : List Token) → AreTokens bytes tokens → form_of (words bytes) ≡ None → Worded table bytes (bad cause.Command) table
   formed : (tokens : List Token) (f : Form) (r : Read) (after : Table) → AreTokens bytes tokens → form_of (words bytes) ≡ Some f → Formed table bytes tokens f r after → Worded table bytes r after
 
--- a form that isn't built has no command
-no_command : (f : Form) (ts : Nesteds) → is_built f ≡ false → command_of f ts ≡ None
-no_command form.Tree ts e = refl
-no_command form.Run ts e = refl
-no_command form.RunAction ts e = refl
-no_command _ ts e = absurd (cc)
-
-mute : (f : Form) (ts : Nesteds) (command : Command) → is_built f ≡ false → command_of f ts ≡ Some command → ⊥
-mute f ts command e c =
-    let none : None ≡ Some command = sym (no_command f ts e) ∙ c in
-    cc
-
-one_command : (a b : Command) → ◌≡◌ {A = Option Command} (Some a) (Some b) → a ≡ b
-one_command a b e = cc
-
 formed_one : (table : Table) (bytes : List ℕ) (tokens : List Token) (f : Form) (r s : Read) (after other : Table) → Formed table bytes tokens f r after → Formed table bytes tokens f s other → (r ≡ s) × (after ≡ other)
 formed_one table bytes tokens f _ _ _ _ (misfit i x) (misfit k y) =
     (ap (λ n. bad (cause.Shape (place bytes tokens n))) (first_faults_are_one (start_of f) (marks_of bytes tokens) i k x y), refl)
-formed_one table bytes tokens f _ _ _ _ (misfit i x) (later d h b) = absurd (first_faults_are_real (start_of f) (marks_of bytes tokens) i x d h)
 formed_one table bytes tokens f _ _ _ _ (misfit i x) (meant ls a ts c d h w p m) = absurd (first_faults_are_real (start_of f) (marks_of bytes tokens) i x d h)
-formed_one table bytes tokens f _ _ _ _ (later d h b) (misfit i x) = absurd (first_faults_are_real (start_of f) (marks_of bytes tokens) i x d h)
-formed_one table bytes tokens f _ _ _ _ (later d h b) (later e k g) = (refl, refl)
-formed_one table bytes tokens f _ _ _ _ (later d h b) (meant ls a ts c e k w p m) = absurd (mute f ts c b m)
 formed_one table bytes tokens f _ _ _ _ (meant ls a ts c d h w p m) (misfit i x) = absurd (first_faults_are_real (start_of f) (marks_of bytes tokens) i x d h)
-formed_one table bytes tokens f _ _ _ _ (meant ls a ts c d h w p m) (later e k b) = absurd (mute f ts c b m)
 formed_one table bytes tokens f _ _ _ _ (meant ls a ts c d h w p m) (meant ms o us g e k v q n) =
     let both = sym w ∙ v in
     let lists : ts ≡ us = one_spelling ts us ms (subst (SpellAll ts) (ap (λ x. x.0) both) p) q in
-    let same : c ≡ g = one_command c g (sym m ∙ ap (command_of f) lists ∙ n) in
+    let same : c ≡ g = sym m ∙ ap (command_of f) lists ∙ n in
     (ap (λ x. Line (Good x)) same, ap (λ x. x.1) both)
 
 one_form : (a b : Form) → ◌≡◌ {A = Option Form} (Some a) (Some b) → a ≡ b
@@ -124,8 +103,6 @@ answered table bytes _ _ (without_class at plain x) = inr (plain_late table byte
 answered table bytes _ _ (without_number at plain x) = inr (plain_late table bytes plain, faulty at (lexing.Number at) x)
 answered table bytes _ _ (without_form tokens plain x e) = inr (plain_late table bytes plain, formless tokens x e)
 answered table bytes _ _ (without_shape f tokens i plain x e y) = inr (plain_late table bytes plain, formed tokens f _ _ x e (misfit i y))
-answered table bytes _ _ (unbuilt f tokens is b) =
-    inr (plain_late table bytes is.plain, formed tokens f _ _ is.are_tokens is.form_is (later is.derived is.shallow b))
 answered table bytes _ _ (good f tokens ls after ts command is w p m) =
     inr (plain_late table bytes is.plain, formed tokens f _ _ is.are_tokens is.form_is (meant ls after ts command is.derived is.shallow w p m))
 

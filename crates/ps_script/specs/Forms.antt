@@ -65,10 +65,3 @@ start_of Tree = AnyName ∷ AnyName ∷ []
 start_of Run = AnyName ∷ []
 start_of RunAction = AnyName ∷ AnyName ∷ InGoal goal.Atom ∷ []
 start_of _ = AnyName ∷ AnyName ∷ AnyName ∷ []
-
--- whether this program has the form yet
-abbrev pub is_built : Form → Bool
-is_built Tree = false
-is_built Run = false
-is_built RunAction = false
-is_built _ = true

@@ -20,7 +20,7 @@ use Rattle.ps_forms.specs.Spelling.{SpellAll}
 use Rattle.ps_forms.specs.declared.lexemes.Lexeme.{Lexeme}
 use Rattle.ps_script.specs.Commands.{command_of}
 use Rattle.ps_script.specs.Files.{after_run, file_in, is_run_plan, is_source, trimmed}
-use Rattle.ps_script.specs.Forms.{form_of, is_built, start_of}
+use Rattle.ps_script.specs.Forms.{form_of, start_of}
 use Rattle.ps_script.specs.declared.forms.Form.{Form}
 use Rattle.ps_script.specs.declared.reading.Read.{Read}
 use Rattle.ps_script.specs.declared.reading.Read.TheVariants.{Nothing, Line, Source, RunPlan}
@@ -81,5 +81,4 @@ pub data IsRead (table : Table) (bytes : List ℕ) : Read → Table → Type 0 w
   without_number : (at : ℕ) → IsPlain bytes → IsFirstFault bytes at (lexing.Number at) → IsRead table bytes (bad (cause.Number at)) table
   without_form : (tokens : List Token) → IsPlain bytes → AreTokens bytes tokens → form_of (words bytes) ≡ None → IsRead table bytes (bad cause.Command) table
   without_shape : (form : Form) (tokens : List Token) (i : ℕ) → IsPlain bytes → AreTokens bytes tokens → form_of (words bytes) ≡ Some form → IsFirstFaultFrom (start_of form) (marks_of bytes tokens) i → IsRead table bytes (bad (cause.Shape (place bytes tokens i))) table
-  unbuilt : (form : Form) (tokens : List Token) → IsOfForm bytes form tokens → is_built form ≡ false → IsRead table bytes (bad cause.NotBuilt) table
-  good : (form : Form) (tokens : List Token) (ls : List Lexeme) (after : Table) (ts : Nesteds) (command : Command) → IsOfForm bytes form tokens → lexemes_of bytes table tokens ≡ (ls, after) → SpellAll ts ls → command_of form ts ≡ Some command → IsRead table bytes (Line (Good command)) after
+  good : (form : Form) (tokens : List Token) (ls : List Lexeme) (after : Table) (ts : Nesteds) (command : Command) → IsOfForm bytes form tokens → lexemes_of bytes table tokens ≡ (ls, after) → SpellAll ts ls → command_of form ts ≡ command → IsRead table bytes (Line (Good command)) after

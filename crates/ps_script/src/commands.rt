@@ -2,10 +2,11 @@
 ghost use Rattle.std.specs.Prelude.{◌≡◌, IfOk, map};
 ghost use Rattle.ps_forms.specs.Nested.{nesteds};
 ghost use Rattle.ps_forms.specs.NestedViews.{nested};
-ghost use Rattle.ps_script.specs.Commands.{after_two, command_of, fourth_name, stated, valued};
+ghost use Rattle.ps_script.specs.Commands.{acted, after_two, command_of, fourth_name, stated, valued};
 
 use super::forms::Form;
 use super::goals::{fact_of, first_condition};
+use ps_action::Act;
 use ps_forms::{Tree, head, items_at, rest};
 use ps_machine::{Command, Query};
 use ps_world::{Edit, Fact, Name};
@@ -32,6 +33,17 @@ fn stated(alloc: Global, trees: &[Tree]) -> Result<Fact, AllocError>
     fact_of(alloc, items_at(after_two(trees)))
 }
 
+/// The act after the two fixed words.
+fn acted(alloc: Global, trees: &[Tree]) -> Result<Act, AllocError>
+    ensures { IfOk result (λ a. a ≡ acted (nesteds (map nested trees.now))) }
+{
+    let fact = stated(alloc, trees)?;
+    Ok(Act {
+        action: fact.head,
+        args: fact.args,
+    })
+}
+
 /// `(= (NAME NAME*) NUMBER)`, by what stands between its parentheses.
 fn valued(alloc: Global, trees: &[Tree]) -> Result<Command, AllocError>
     ensures { IfOk result (λ c. c ≡ valued (nesteds (map nested trees.now))) }
@@ -41,12 +53,11 @@ fn valued(alloc: Global, trees: &[Tree]) -> Result<Command, AllocError>
     Ok(Command::Edit(Edit::SetValue(fact, number)))
 }
 
-/// The command that a line is, by its form and its nested lists. None where the form is one that this program hasn't yet. The only
-/// error is want of memory.
-pub fn command_of(alloc: Global, form: Form, trees: &[Tree]) -> Result<Option<Command>, AllocError>
+/// The command that a line is, by its form and its nested lists.
+pub fn command_of(alloc: Global, form: Form, trees: &[Tree]) -> Result<Command, AllocError>
     ensures { IfOk result (λ c. c ≡ command_of form (nesteds (map nested trees.now))) }
 {
-    Ok(Some(match form {
+    Ok(match form {
         Form::SetInstance => {
             let name = head(after_two(trees)).name;
             Command::Edit(Edit::AddInstance(name, fourth_name(trees)))
@@ -70,7 +81,9 @@ pub fn command_of(alloc: Global, form: Form, trees: &[Tree]) -> Result<Option<Co
         Form::ProblemFunctions => Command::Ask(Query::ProblemFunctions),
         Form::ProblemGoal => Command::Ask(Query::ProblemGoal),
         Form::Plan => Command::Ask(Query::Plan),
+        Form::Tree => Command::Ask(Query::Tree),
+        Form::Run => Command::Run,
+        Form::RunAction => Command::RunAction(acted(alloc, trees)?),
         Form::Quit => Command::Quit,
-        Form::Tree | Form::Run | Form::RunAction => return Ok(None),
-    }))
+    })
 }

@@ -1,7 +1,7 @@
 //! The forms of a line.
 ghost use Rattle.std.specs.Prelude.{◌≡◌, ◌∷◌, [], Ok, drop, IfOk, IfSome};
 ghost use Rattle.ps_shape.specs.Shape.{Derives, IsFirstFaultFrom, IsShallowFrom};
-ghost use Rattle.ps_script.specs.Forms.{begins, form_in, form_of, is_built, one_word, start_of, three_words, two_words};
+ghost use Rattle.ps_script.specs.Forms.{begins, form_in, form_of, one_word, start_of, three_words, two_words};
 
 use ps_shape::{GoalPart, Mark, Symbol, first_fault};
 use ps_text::Words;
@@ -186,13 +186,6 @@ pub fn form_of(words: &Words) -> Option<Form>
 }
 
 impl Form {
-    /// Whether this program has the form yet.
-    pub fn is_built(self) -> bool
-        ensures { result ≡ is_built self }
-    {
-        !matches!(self, Form::Tree | Form::Run | Form::RunAction)
-    }
-
     /// The place of the first word of a line of this form that doesn't fit, or of the line's end where more is wanted.
     /// The only error is want of memory.
     pub fn first_misfit(self, alloc: Global, marks: &[Mark]) -> Result<Option<usize>, AllocError>

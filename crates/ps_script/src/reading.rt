@@ -7,7 +7,7 @@ ghost use Rattle.ps_text.specs.Words.{words};
 ghost use Rattle.ps_text.specs.Names.{Keeps};
 ghost use Rattle.ps_forms.specs.Lexemes.{IsTokenOf, mark_of};
 ghost use Rattle.ps_script.specs.Files.{after_run, file_in, is_run_plan, is_source};
-ghost use Rattle.ps_script.specs.Forms.{form_of, is_built};
+ghost use Rattle.ps_script.specs.Forms.{form_of};
 ghost use Rattle.ps_script.specs.Lines.{IsOfForm, IsPlain, IsRead, bad, begins_nothing, cause_of, is_nothing, marks_of, place, with_run_plan};
 
 use super::commands::command_of;
@@ -150,16 +150,13 @@ fn read_good(
     tokens: &[Token],
 ) -> Result<Read, AllocError>
     requires fits { IsOfForm bytes.now form tokens.now }
-    requires built { is_built form ≡ true }
     ensures read { IfOk result (λ r. IsRead names.old bytes.now r names.new) }
     ensures err { OnErr result (Keeps names.old names.new) }
 {
     let words = lexemes_of(alloc, names, bytes, tokens)?;
     let trees = trees_of(alloc, &words)?;
-    match command_of(alloc, form, trees.as_slice())? {
-        Some(command) => Ok(Read::Line(Line::Good(command))),
-        None => unreachable!(),
-    }
+    let command = command_of(alloc, form, trees.as_slice())?;
+    Ok(Read::Line(Line::Good(command)))
 }
 
 /// Reads a line whose leading words are those of a form.
@@ -181,9 +178,6 @@ fn read_form(
         return Ok(bad(LineCause::Shape {
             at: place(bytes, tokens, i),
         }));
-    }
-    if !form.is_built() {
-        return Ok(bad(LineCause::NotBuilt));
     }
     read_good(alloc, names, bytes, form, tokens)
 }

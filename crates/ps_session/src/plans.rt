@@ -13,7 +13,8 @@ use ps_domain::Expert;
 use ps_machine::{By, Event, Query, Refusal};
 use ps_plan::timed;
 use ps_problem::Problem;
-use ps_solve::{Forward, Solver};
+use ps_plan::Solver;
+use ps_solve::Forward;
 use ps_world::Seq;
 use std::alloc::{AllocError, Global};
 

@@ -38,6 +38,6 @@ get-append [] u n lt = absurd (omega (arith, lt))
 get-append (x ∷ t) u zero lt = refl
 get-append (x ∷ t) u (suc n) lt = get-append t u n (omega (arith, lt))
 
-kept_interned : (t : Table) (name : List ℕ) → Keeps t (interned t name)
+pub kept_interned : (t : Table) (name : List ℕ) → Keeps t (interned t name)
 kept_interned t name n lt =
     elim (list_any (same_text name) t) as (λ b. slice_get (if b then t else t ++ name ∷ []) n ≡ slice_get t n) [ true ↦ refl | false ↦ get-append t (name ∷ []) n lt ]

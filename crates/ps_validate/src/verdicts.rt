@@ -5,9 +5,9 @@ ghost use Rattle.ps_plan.specs.PlanText.{plan_fault};
 ghost use Rattle.ps_text.specs.Names.{AreNames};
 ghost use Rattle.ps_validate.specs.Verdicts.{acts_of, plan_wrong, text_wrong, verdict};
 
-use ps_action::{Act, PlanRefusal, PlanStep};
+use ps_action::{Act, PlanRefusal, PlanStep, PlanTextRefusal};
 use ps_domain::Expert;
-use ps_plan::{PlanTextRefusal, check_plan, read_plan};
+use ps_plan::{check_plan, read_plan};
 use ps_problem::Problem;
 use ps_text::Names;
 use ps_world::Failure;

@@ -20,7 +20,9 @@ source ~ -> Command, bad Shape { at: 8 }: object
 run plan  -> Command, bad Shape { at: 9 }: object
 foo _a -> Command, bad Lex { at: 4 }: object
 foo 9a -> Command, bad Number { at: 4 }: object
-run -> Command, bad NotBuilt: object
+run -> Command, good: object run
+Run Action (Move leia) -> Command, good: object run action move leia
+get tree -> Command, good: object get tree
 (set -> Command, bad Command: object
 set instance leia -> Command, bad Shape { at: 17 }: object
  SET Predicate (at Leia hall) ;x -> Command, good: object set predicate at leia hall

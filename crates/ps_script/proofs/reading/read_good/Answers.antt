@@ -7,4 +7,4 @@ trees_of-requires c =
 
 pub returns-clause-read : goal.returns-clause-read
 returns-clause-read c =
-    good_read c.args.names.now c.args.bytes.now c.args.form c.args.tokens.now _ _ _ _ _ _ _ c.requires.fits c.in_ok-words.ensures.ok c.deref.ensures.value c.in_ok-trees.ensures c.as_slice.ensures c.in_ok-command.ensures c.in-Some.is
+    good_read c.args.names.now c.args.bytes.now c.args.form c.args.tokens.now _ _ _ _ _ _ c.requires.fits c.in_ok-words.ensures.ok c.deref.ensures.value c.in_ok-trees.ensures c.as_slice.ensures c.in_ok-command.ensures
