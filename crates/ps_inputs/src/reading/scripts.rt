@@ -7,10 +7,10 @@ ghost use Rattle.ps_machine.specs.declared.inputs.Line.{Line as LineView};
 
 use super::flatten::Flattened;
 use ps_machine::{Line, LineCause};
-use ps_plan::{PlanTextRefusal, read_plan};
+use ps_plan::read_plan;
 use ps_script::{Read, read_line};
 use ps_text::Names;
-use ps_world::Seq;
+use ps_world::{Failure, Seq};
 use std::alloc::{AllocError, Global};
 
 /// Puts the line that a line of the text is read as at the end of those before it, if it is one.
@@ -35,8 +35,8 @@ fn put_plan_names(alloc: Global, names: &mut Names, text: &[u8]) -> Result<(), A
     ensures { OnOk result (names.new ≡ table_after_plan names.old text.now) }
 {
     match read_plan(alloc, names, text) {
-        Err(PlanTextRefusal::OutOfMemory) => Err(AllocError),
-        _ => Ok(()),
+        Ok(_) | Err(Failure::Refused(_)) => Ok(()),
+        Err(Failure::OutOfMemory) => Err(AllocError),
     }
 }
 
