@@ -2,8 +2,8 @@
 ghost use Rattle.std.specs.Prelude.{◌≡◌, true, IfOk, OnOk};
 ghost use Rattle.ps_text.specs.Names.{folded, interned, is_name, place_of};
 
-use ps_text::{NameRefusal, Names};
-use ps_world::Name;
+use ps_text::Names;
+use ps_world::{Failure, Name};
 use std::alloc::{AllocError, Global};
 
 /// The name that a text is, put into the table. The only error is want of memory.
@@ -14,8 +14,8 @@ pub fn name_of(names: &mut Names, text: &[u8]) -> Result<Name, AllocError>
 {
     match names.intern(text) {
         Ok(name) => Ok(name),
-        Err(NameRefusal::OutOfMemory) => Err(AllocError),
-        Err(_) => unreachable!(),
+        Err(Failure::OutOfMemory) => Err(AllocError),
+        Err(Failure::Refused(_)) => unreachable!(),
     }
 }
 

@@ -1,6 +1,7 @@
 //! Names: the number and the text of each of a row that is put into a new table, or why it is no name.
 use super::tables::assert_told;
 use ps_text::Names;
+use ps_world::Failure;
 use std::alloc::{AllocError, Global};
 use std::str;
 use std::test::Fail;
@@ -21,7 +22,8 @@ fn push_name(told: &mut String, names: &mut Names, text: &str) -> Result<(), All
             let text = str::from_utf8(names.text(name)).unwrap_or("no text");
             write!(told, "{} {text}, ", name.0)
         }
-        Err(refusal) => write!(told, "{refusal:?}, "),
+        Err(Failure::Refused(refusal)) => write!(told, "{refusal:?}, "),
+        Err(Failure::OutOfMemory) => Err(AllocError),
     }
 }
 

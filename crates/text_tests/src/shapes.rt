@@ -7,17 +7,17 @@ use std::test::Fail;
 /// Texts, and why they aren't of a domain's shape.
 const DOMAINS: &str = "\
 ( define ( domain n ) ) -> Ok(())
-( define ( problem n ) ) -> Err(Unsupported { at: 3, what: Problem })
-( define ( at n ) ) -> Err(Unexpected { at: 3 })
- -> Err(Unexpected { at: 0 })
-( define ( domain n ) -> Err(Unexpected { at: 6 })
-( define ( domain n ) ) x -> Err(Unexpected { at: 7 })
-( define ( domain n ) ) #t -> Err(Unsupported { at: 7, what: Continuous })
+( define ( problem n ) ) -> Err(Refused(Unsupported { at: 3, what: Problem }))
+( define ( at n ) ) -> Err(Refused(Unexpected { at: 3 }))
+ -> Err(Refused(Unexpected { at: 0 }))
+( define ( domain n ) -> Err(Refused(Unexpected { at: 6 }))
+( define ( domain n ) ) x -> Err(Refused(Unexpected { at: 7 }))
+( define ( domain n ) ) #t -> Err(Refused(Unsupported { at: 7, what: Continuous }))
 ( define ( domain n ) ( :types a b - c d ) ( :predicates ( p ?x ?y - a ) ) ( :requirements :typing :action ) ) -> Ok(())
-( define ( domain n ) ( :types a - ( either a b ) ) ) -> Err(Unsupported { at: 11, what: Either })
-( define ( domain n ) ( :types a - ( a ) ) ) -> Err(Unexpected { at: 10 })
-( define ( domain n ) ( :action a ) ) -> Err(Unsupported { at: 7, what: Action })
-( define ( domain n ) ( :durative-action a :parameters ( ) :duration ( ) ) ) -> Err(Unsupported { at: 14, what: Duration })";
+( define ( domain n ) ( :types a - ( either a b ) ) ) -> Err(Refused(Unsupported { at: 11, what: Either }))
+( define ( domain n ) ( :types a - ( a ) ) ) -> Err(Refused(Unexpected { at: 10 }))
+( define ( domain n ) ( :action a ) ) -> Err(Refused(Unsupported { at: 7, what: Action }))
+( define ( domain n ) ( :durative-action a :parameters ( ) :duration ( ) ) ) -> Err(Refused(Unsupported { at: 14, what: Duration }))";
 
 /// Goals, and the first word that doesn't fit.
 const GOALS: &str = "\

@@ -1,7 +1,7 @@
 //! Tables: lines of a text, ` -> `, and what is told of it.
 use ps_forms::{Lexeme, lexemes_of};
 use ps_text::{LexRefusal, Names, tokens};
-use ps_world::Name;
+use ps_world::{Failure, Name};
 use std::alloc::{AllocError, Global};
 use std::process::Abort;
 use std::str;
@@ -48,12 +48,12 @@ pub fn bytes_of(alloc: Global, text: &str) -> Result<Vec<u8>, AllocError> {
 }
 
 /// The words of a text of a table, with the numbers of a new table of names.
-pub fn lexemes_in(alloc: Global, text: &str) -> Result<Vec<Lexeme>, LexRefusal> {
+pub fn lexemes_in(alloc: Global, text: &str) -> Result<Vec<Lexeme>, Failure<LexRefusal>> {
     let bytes = bytes_of(alloc, text)?;
     numbered(alloc, &bytes)
 }
 
-fn numbered(alloc: Global, bytes: &[u8]) -> Result<Vec<Lexeme>, LexRefusal> {
+fn numbered(alloc: Global, bytes: &[u8]) -> Result<Vec<Lexeme>, Failure<LexRefusal>> {
     let found = tokens(alloc, bytes)?;
     let mut names = Names::new(alloc)?;
     Ok(lexemes_of(alloc, &mut names, bytes, &found)?)

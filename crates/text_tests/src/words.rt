@@ -2,6 +2,7 @@
 use super::tables::{assert_told, bytes_of, lexemes_in};
 use ps_forms::Lexeme;
 use ps_text::{Token, Words, lines, tokens};
+use ps_world::Failure;
 use std::alloc::{AllocError, Global};
 use std::str;
 use std::test::Fail;
@@ -51,7 +52,8 @@ fn told_of_tokens(alloc: Global, text: &str) -> Result<String, AllocError> {
     let bytes = bytes_of(alloc, text)?;
     match tokens(alloc, &bytes) {
         Ok(found) => told_of_found(alloc, &found),
-        Err(refusal) => format!(in alloc; "{refusal:?}"),
+        Err(Failure::Refused(refusal)) => format!(in alloc; "{refusal:?}"),
+        Err(Failure::OutOfMemory) => Err(AllocError),
     }
 }
 
