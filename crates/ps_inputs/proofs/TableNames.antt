@@ -109,7 +109,7 @@ pub after_read : (t after : Table) (bytes : List ℕ) (read : Read Domain) → I
 after_read t after bytes read h n =
     elim h as (λ r a i. AreNames a) [
       | without_class at f ↦ n
-      | without_shape ls a f has refuses told ↦ after_words t a bytes ls has n
+      | without_shape ls a f has refuses ↦ after_words t a bytes ls has n
       | with_meaning ls a ts r has right shallow spelt means ↦ after_words t a bytes ls has n
     ]
 

@@ -1,5 +1,5 @@
 -- What is said of a text that is no domain. A text is a list of bytes.
-use Rattle.std.specs.Prelude.{ℕ, List, [], ◌++◌, codes}
+use Rattle.std.specs.Prelude.{ℕ, List, ◌++◌, codes}
 use Rattle.std.specs.Fmt.{decimal}
 use Rattle.ps_world.specs.Names.{Table, name_text}
 use Rattle.ps_shape.specs.declared.faults.Form.{Form}
@@ -7,7 +7,7 @@ use Rattle.ps_shape.specs.declared.faults.Form.TheVariants as form
 use Rattle.ps_pddl.specs.declared.refusals.Cap.{Cap}
 use Rattle.ps_pddl.specs.declared.refusals.Cap.TheVariants as cap
 use Rattle.ps_pddl.specs.declared.refusals.DomainRefusal.{DomainRefusal}
-use Rattle.ps_pddl.specs.declared.refusals.DomainRefusal.TheVariants.{Lex, Unexpected, Unsupported, Unknown, Twice, Arity, Kind, Cycle, Limit, OutOfMemory}
+use Rattle.ps_pddl.specs.declared.refusals.DomainRefusal.TheVariants.{Lex, Unexpected, Unsupported, Unknown, Twice, Arity, Kind, Cycle, Limit}
 
 -- the word for a form that isn't supported
 abbrev pub form_text : Form → List ℕ
@@ -40,8 +40,7 @@ at_place word at = word ++ (codes " " ++ decimal at)
 abbrev pub at_place_with : List ℕ → ℕ → List ℕ → List ℕ
 at_place_with word at more = at_place word at ++ (codes " " ++ more)
 
--- Why a text is no domain, with the byte, counted from 0, and the names of the table after reading.
--- Want of memory is no fault of a text, and has no words.
+-- why a text is no domain, with the byte, counted from 0, and the names of the table after reading
 abbrev pub cause_text : Table → DomainRefusal → List ℕ
 cause_text names (Lex at) = at_place (codes "Lex") at
 cause_text names (Unexpected at) = at_place (codes "Unexpected") at
@@ -52,4 +51,3 @@ cause_text names (Arity at) = at_place (codes "Arity") at
 cause_text names (Kind at) = at_place (codes "Kind") at
 cause_text names (Cycle name) = codes "Cycle " ++ name_text names name
 cause_text names (Limit at which) = at_place_with (codes "Limit") at (cap_text which)
-cause_text names OutOfMemory = []

@@ -1,7 +1,7 @@
 //! Why a text is no domain, in words.
-ghost use Rattle.std.specs.Prelude.{◌≡◌, ◌≢◌, ◌++◌, [], codes, IfOk, OnOk};
+ghost use Rattle.std.specs.Prelude.{◌≡◌, ◌++◌, [], codes, IfOk};
 ghost use Rattle.ps_inputs.specs.DomainFaults.{at_place, at_place_with, cap_text, cause_text, form_text};
-ghost use Rattle.ps_pddl.specs.declared.refusals.DomainRefusal.TheVariants.{Unsupported, OutOfMemory};
+ghost use Rattle.ps_pddl.specs.declared.refusals.DomainRefusal.TheVariants.{Unsupported};
 
 use ps_journal::{name_text, push_number};
 use ps_pddl::{Cap, DomainRefusal, Form};
@@ -79,14 +79,13 @@ fn cycle(alloc: Global, name: &[u8]) -> Result<Vec<u8>, AllocError>
     Ok(text)
 }
 
-/// Why a text is no domain, with the byte, counted from 0, and the names of this table. Want of memory has no words.
+/// Why a text is no domain, with the byte, counted from 0, and the names of this table.
 pub fn cause_text(
     alloc: Global,
     names: &Names,
     refusal: DomainRefusal,
 ) -> Result<Vec<u8>, AllocError>
-    ensures text { IfOk result (λ text. text.items ≡ cause_text names.now refusal) }
-    ensures memory { OnOk result (refusal ≢ OutOfMemory) }
+    ensures { IfOk result (λ text. text.items ≡ cause_text names.now refusal) }
 {
     match refusal {
         DomainRefusal::Lex { at } => at_place(alloc, b"Lex", at),
@@ -104,6 +103,5 @@ pub fn cause_text(
         DomainRefusal::Limit { at, which } => {
             at_place_with(alloc, b"Limit", at, cap_text(which))
         }
-        DomainRefusal::OutOfMemory => Err(AllocError),
     }
 }

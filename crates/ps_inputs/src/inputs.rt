@@ -12,11 +12,12 @@ ghost use Rattle.ps_inputs.specs.Faults.{word_texts, IsJudged, HasNoInput, Gives
 use super::causes::cause_text;
 use super::faults::{Fault, Stop};
 use super::reading::{Flattened, read_flat, read_script, read_text};
+use ps_journal::Broken;
 use ps_machine::Input;
 use ps_pddl::read_domain;
 use ps_text::{Files, Names};
 use ps_words::{Asked, Settings, read_words};
-use ps_world::Domain;
+use ps_world::{Domain, Failure};
 use std::alloc::Global;
 
 /// The word at a place, or nothing.
@@ -87,10 +88,11 @@ fn judge_domain(alloc: Global, names: &mut Names, text: &[u8]) -> Result<Domain,
 {
     match read_domain(alloc, names, text) {
         Ok(domain) => Ok(domain),
-        Err(refusal) => {
+        Err(Failure::Refused(refusal)) => {
             let cause = cause_text(alloc, names, refusal)?;
             Err(Stop::Due(Fault::NoDomain(cause)))
         }
+        Err(Failure::OutOfMemory) => Err(Stop::Broken(Broken::OutOfMemory)),
     }
 }
 

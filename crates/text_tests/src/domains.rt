@@ -113,10 +113,10 @@ const CANONICAL: &str = "(define (domain rooms)
 const NUMBERED: &str = "\
 (define (domain D) ; comment| (:types robot - Object) (:predicates (at ?r - ROBOT))) -> None: object define domain d robot at r
 (define (Domain d)) -> None: object define domain d
-(define (domain d) (:types a b a)) -> Some(Twice { at: 31, name: Name(4) }): object define domain d a b
-(define (domain d) (:types a - wheel)) -> Some(Unknown { at: 31, name: Name(5) }): object define domain d a wheel
-(define (domain d) x y -> Some(Unexpected { at: 19 }): object define domain d x y
-(define _ x) -> Some(Lex { at: 8 }): object";
+(define (domain d) (:types a b a)) -> Some(Refused(Twice { at: 31, name: Name(4) })): object define domain d a b
+(define (domain d) (:types a - wheel)) -> Some(Refused(Unknown { at: 31, name: Name(5) })): object define domain d a wheel
+(define (domain d) x y -> Some(Refused(Unexpected { at: 19 })): object define domain d x y
+(define _ x) -> Some(Refused(Lex { at: 8 })): object";
 
 /// Domains, and whether the text is the canonical one.
 const DOMAINS: [(&str, bool); 5] = [
