@@ -1,3 +1,4 @@
+pub mod Answered
 pub mod Bits
 pub mod Courses
 pub mod Depths

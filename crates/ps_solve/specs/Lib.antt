@@ -1,4 +1,3 @@
-pub mod Answers
 pub mod Apart
 pub mod Endings
 pub mod Laws

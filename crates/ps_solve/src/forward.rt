@@ -181,7 +181,6 @@ fn atoms_of(alloc: Global, problem: &Problem, light: &[GroundAction]) -> Result<
 
 impl Solver for Forward {
     ghost use Rattle.ps_action.specs.Search.{answer};
-    ghost use Rattle.ps_solve.specs.Answers.{answer_fits};
 
     ghost says = { λ s d k budget. answer d k budget };
 
@@ -204,6 +203,4 @@ impl Solver for Forward {
         let instances = problem.instances()?;
         question.answer(alloc, &instances)
     }
-
-    ghost fits = { λ s d k budget. answer_fits d k budget };
 }
