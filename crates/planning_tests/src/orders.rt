@@ -1,6 +1,7 @@
 //! Which ground actions keep their order.
 use super::worlds::{World, ground_of, world_of};
-use ps_arcs::{Arcs, arcs_of};
+use ps_action::Arcs;
+use ps_arcs::arcs_of;
 use std::alloc::Global;
 use std::process::Abort;
 use std::test::Fail;

@@ -1,7 +1,8 @@
 //! What conditions read, and what effects and edits change.
 use super::telling::push_listed;
 use super::worlds::{World, cond_of, edit_of, ground_of, world_of};
-use ps_eval::{Touched, changed_by, edited_by, reads};
+use ps_action::Touched;
+use ps_eval::{changed_by, edited_by, reads};
 use ps_text::Names;
 use ps_world::Conds;
 use std::alloc::Global;

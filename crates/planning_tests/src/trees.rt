@@ -1,8 +1,8 @@
 //! A tree of three acts, of which two wait for the first.
 ghost use Rattle.std.specs.Prelude.{◌≡◌, length, IfOk};
 
-use ps_arcs::Arcs;
-use ps_tree::{ActState, ActView, Status, Tree};
+use ps_action::{ActState, Arcs, Status};
+use ps_tree::{ActView, Tree};
 use std::alloc::{AllocError, Global};
 use std::process::Abort;
 use std::test::Fail;

@@ -8,3 +8,4 @@ pub mod Made
 pub mod MadeFacts
 pub mod MadeValues
 pub mod NoTypes
+pub mod ArcTables

@@ -1,3 +1,5 @@
+pub mod ArcTables
+pub mod Arcs
 pub mod Effects
 pub mod Grounding
 pub mod Laws
@@ -5,5 +7,7 @@ pub mod Plans
 pub mod Refusals
 pub mod Search
 pub mod Texts
+pub mod Touching
+pub mod Trees
 pub mod Truth
 pub mod Values

@@ -10,11 +10,11 @@ use Rattle.ps_action.specs.Effects.{effect}
 use Rattle.ps_action.specs.Truth.{all_true}
 use Rattle.ps_action.specs.declared.acts.GroundAction.{GroundAction}
 use Rattle.ps_action.specs.declared.refusals.EffectRefusal.{EffectRefusal}
-use Rattle.ps_eval.specs.declared.touched.Touched.{Touched}
-use Rattle.ps_eval.specs.declared.touched.Touched.TheVariants.{Fact, Value, Instance}
+use Rattle.ps_action.specs.declared.touched.Touched.{Touched}
+use Rattle.ps_action.specs.declared.touched.Touched.TheVariants.{Fact, Value, Instance}
 use Rattle.ps_eval.specs.Laws.{Agree}
 use Rattle.ps_orders.specs.Acts.{Acts, Acting, AreSame, IsCondition, IsEffect}
-use Rattle.ps_arcs.specs.Arcs.{changes, is_arc, reads, same_thing}
+use Rattle.ps_action.specs.Arcs.{changes, is_arc, reads, same_thing}
 use Rattle.ps_arcs.specs.Laws.{EndAlike, LeavesAlone, LeavesOthers}
 use Rattle.ps_arcs.proofs.Alike.{conditions_read_things, effects_leave_others, effects_read_things}
 use Rattle.ps_arcs.proofs.Alone.{no_arc_leaves_alone}

@@ -9,7 +9,7 @@ use Rattle.ps_action.specs.declared.refusals.EffectRefusal.{EffectRefusal}
 use Rattle.ps_orders.proofs.Going.{any_order}
 use Rattle.ps_orders.specs.Acts.{GoodPlan}
 use Rattle.ps_orders.specs.Orders.{AllHold as AllHolds, Event, begins, ends, GoesWell, IsOrder, Stage, running, ended, all_waiting, moved}
-use Rattle.ps_arcs.specs.Arcs.{is_arc}
+use Rattle.ps_action.specs.Arcs.{is_arc}
 use Rattle.ps_arcs.specs.Commuting.{AllHold, GoWell, IsGood, OrdersGoWell, TellTheSame}
 use Rattle.ps_arcs.proofs.Acting.{Told, SameAt, starts, lasts, closes, begun, finished, acts_of, acting}
 use Rattle.ps_arcs.proofs.Steps.{parts}

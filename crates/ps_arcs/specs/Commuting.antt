@@ -9,10 +9,10 @@ use Rattle.ps_action.specs.Effects.{effect}
 use Rattle.ps_action.specs.Grounding.{ground_act}
 use Rattle.ps_action.specs.Plans.{judged, step_of}
 use Rattle.ps_action.specs.Truth.{all_true}
-use Rattle.ps_eval.specs.declared.touched.Touched.{Touched}
+use Rattle.ps_action.specs.declared.touched.Touched.{Touched}
 use Rattle.ps_eval.specs.Laws.{Agree}
 use Rattle.ps_orders.specs.Orders.{Event, begins, ends, IsOrder, Stage, running, ended, all_waiting, moved}
-use Rattle.ps_arcs.specs.Arcs.{is_arc}
+use Rattle.ps_action.specs.Arcs.{is_arc}
 
 -- ---- a plan
 

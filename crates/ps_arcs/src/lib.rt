@@ -5,7 +5,7 @@ mod arcs;
 mod laws;
 mod touching;
 
-pub use arcs::{Arcs, arcs_of};
+pub use arcs::arcs_of;
 pub use laws::{
     arcs_are_listed, conditions_read_things, effects_leave_others, effects_read_things,
     judged_is_good, judged_is_grounded, no_arc_leaves_alone, orders_go_well,

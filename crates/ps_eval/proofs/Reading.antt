@@ -9,8 +9,8 @@ use Rattle.ps_world.specs.declared.domains.Domain.{Domain}
 use Rattle.ps_world.specs.declared.known.Knowledge.{Knowledge}
 use Rattle.ps_action.specs.Values.{value}
 use Rattle.ps_action.specs.Truth.{are_true, fits, is_true}
-use Rattle.ps_eval.specs.declared.touched.Touched.TheVariants.{Fact, Value, Instance}
-use Rattle.ps_eval.specs.Touching.{arguments, read_by, read_by_all, read_by_expr}
+use Rattle.ps_action.specs.declared.touched.Touched.TheVariants.{Fact, Value, Instance}
+use Rattle.ps_action.specs.Touching.{arguments, read_by, read_by_all, read_by_expr}
 use Rattle.ps_eval.specs.Laws.{Agree, TruthReadsWhatIsNamed}
 
 -- what holds of each of two lists in a row

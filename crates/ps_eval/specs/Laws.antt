@@ -5,9 +5,9 @@ use Rattle.ps_world.specs.Knowledge.{is_known, kind_of, value_in}
 use Rattle.ps_world.specs.declared.domains.Domain.{Domain}
 use Rattle.ps_world.specs.declared.known.Knowledge.{Knowledge}
 use Rattle.ps_action.specs.Truth.{all_true}
-use Rattle.ps_eval.specs.declared.touched.Touched.{Touched}
-use Rattle.ps_eval.specs.declared.touched.Touched.TheVariants.{Fact, Value, Instance}
-use Rattle.ps_eval.specs.Touching.{read_by_list}
+use Rattle.ps_action.specs.declared.touched.Touched.{Touched}
+use Rattle.ps_action.specs.declared.touched.Touched.TheVariants.{Fact, Value, Instance}
+use Rattle.ps_action.specs.Touching.{read_by_list}
 
 -- this thing is the same in both
 abbrev pub Agree : Knowledge → Knowledge → Touched → Type 0

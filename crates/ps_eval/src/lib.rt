@@ -7,4 +7,4 @@ mod touched;
 
 pub use evaluation::{apply, defined, duration, holds, holds_all};
 pub use laws::truth_reads_what_is_named;
-pub use touched::{Touched, changed_by, edited_by, reads};
+pub use touched::{changed_by, edited_by, reads};

@@ -3,24 +3,12 @@ ghost use Rattle.std.specs.Prelude.{◌≡◌, [], ◌∷◌, ◌++◌, map, IfO
 ghost use Rattle.ps_world.specs.CondViews.{cond_tree};
 ghost use Rattle.ps_world.specs.ExprViews.{expr_tree};
 ghost use Rattle.ps_world.specs.Knowledge.{name_of};
-ghost use Rattle.ps_eval.specs.declared.touched.Touched.TheVariants.{Instance};
-ghost use Rattle.ps_eval.specs.Touching.{arguments, changed_by_edit, changed_by_effect, read_by, read_by_expr, read_by_list};
+ghost use Rattle.ps_action.specs.declared.touched.Touched.TheVariants.{Instance};
+ghost use Rattle.ps_action.specs.Touching.{arguments, changed_by_edit, changed_by_effect, read_by, read_by_expr, read_by_list};
 
-use ps_world::{
-    BoxedCond, BoxedExpr, Cond, Conds, Edit, Effect, Expr, Fact as GroundFact, Lifted, Name, Term,
-};
+use ps_action::Touched;
+use ps_world::{BoxedCond, BoxedExpr, Cond, Conds, Edit, Effect, Expr, Lifted, Term};
 use std::alloc::{AllocError, Global};
-
-/// One thing that can change.
-#[derive(Clone, Copy, PartialEq, Eq)]
-pub enum Touched {
-    /// Whether the fact is known.
-    Fact(GroundFact),
-    /// The value of the function term.
-    Value(GroundFact),
-    /// Whether the name is an instance, and of which type.
-    Instance(Name),
-}
 
 fn push_name(term: &Term, all: &mut Vec<Touched>) -> Result<(), AllocError>
     ensures { OnOk result (all.new.items ≡ all.old.items ++ Instance (name_of term.now) ∷ []) }

@@ -3,9 +3,9 @@ use Rattle.std.proofs.Common.{◌≡◌, ◌≢◌, ℕ, zero, suc, ◌+◌, ◌
 use Rattle.std.specs.List.{list_all, list_any, range_with_len}
 use Rattle.std.proofs.lemmas.List.Folds.{list_all-append, list_any-append}
 use Rattle.std.proofs.lemmas.List.FromFn.{map-range_with_len_more}
-use Rattle.ps_tree.specs.declared.status.Status.{Status}
-use Rattle.ps_tree.specs.declared.status.Status.TheVariants.{Idle, Running, Success, Failure}
-use Rattle.ps_tree.specs.Trees.{in_parallel, is_failure, is_success}
+use Rattle.ps_action.specs.declared.states.Status.{Status}
+use Rattle.ps_action.specs.declared.states.Status.TheVariants.{Idle, Running, Success, Failure}
+use Rattle.ps_action.specs.Trees.{in_parallel, is_failure, is_success}
 
 -- the status of children in parallel, by whether one is a failure and whether all are successes
 abbrev by_tests : Bool → Bool → Status

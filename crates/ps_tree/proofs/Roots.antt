@@ -3,13 +3,13 @@ use Rattle.std.proofs.Common.{◌≡◌, ℕ, ◌<◌, Bool, true, false, if◌t
 use Rattle.std.specs.List.{range_with_len}
 use Rattle.std.proofs.lemmas.List.Elements.{All-head, All-tail}
 use Rattle.std.proofs.lemmas.List.FromFn.{get_or-map-range_with_len, length-map-range_with_len}
-use Rattle.ps_arcs.specs.Tables.{has_pair}
-use Rattle.ps_tree.specs.declared.status.ActState.{ActState}
-use Rattle.ps_tree.specs.declared.status.ActState.TheVariants.{Waiting, Active, Done, Failed, Cancelled}
-use Rattle.ps_tree.specs.declared.status.Status.{Status}
-use Rattle.ps_tree.specs.declared.status.Status.TheVariants.{Success}
+use Rattle.ps_action.specs.ArcTables.{has_pair}
+use Rattle.ps_action.specs.declared.states.ActState.{ActState}
+use Rattle.ps_action.specs.declared.states.ActState.TheVariants.{Waiting, Active, Done, Failed, Cancelled}
+use Rattle.ps_action.specs.declared.states.Status.{Status}
+use Rattle.ps_action.specs.declared.states.Status.TheVariants.{Success}
 use Rattle.ps_tree.specs.Laws.{AllDoneIsSuccess, IsUnharmed, UnharmedIsNoFailure}
-use Rattle.ps_tree.specs.Trees.{act_status, in_parallel, is_failure, is_success, sequence_status, state_at, wait_status, waits_at, waits_for, waits_of}
+use Rattle.ps_action.specs.Trees.{act_status, in_parallel, is_failure, is_success, sequence_status, state_at, wait_status, waits_at, waits_for, waits_of}
 use Rattle.ps_tree.proofs.Lists.{at_place, picked_below}
 use Rattle.ps_tree.proofs.Parallel.{all_succeed, no_failure}
 

@@ -3,8 +3,8 @@ use Rattle.std.proofs.Common.{◌≡◌, ℕ, ◌+◌, List, [], ◌∷◌, ◌+
 use Rattle.std.specs.List.{range_with_len}
 use Rattle.std.proofs.lemmas.List.{append-nil, append_assoc}
 use Rattle.std.proofs.lemmas.List.Concat.{flat_map-append}
-use Rattle.ps_tree.specs.declared.status.ActState.{ActState}
-use Rattle.ps_tree.specs.Trees.{Node, act_node, line, wait_node}
+use Rattle.ps_action.specs.declared.states.ActState.{ActState}
+use Rattle.ps_action.specs.Trees.{Node, act_node, line, wait_node}
 use Rattle.ps_arcs.proofs.Ranges.{flat_map-range_more}
 
 -- after its first line a sequence has those of the waits and that of the act

@@ -1,10 +1,10 @@
 -- What the root of a tree says of its acts, and the text of a tree of one act.
 use Rattle.std.specs.Prelude.{◌≡◌, ◌≢◌, List, [], ◌∷◌, All, codes, length}
-use Rattle.ps_arcs.specs.Tables.{Pairs}
-use Rattle.ps_tree.specs.declared.status.ActState.{ActState}
-use Rattle.ps_tree.specs.declared.status.ActState.TheVariants.{Done, Failed, Cancelled}
-use Rattle.ps_tree.specs.declared.status.Status.TheVariants.{Success, Failure}
-use Rattle.ps_tree.specs.Trees.{TreeView, root_status, tree_text, waits_of}
+use Rattle.ps_action.specs.ArcTables.{Pairs}
+use Rattle.ps_action.specs.declared.states.ActState.{ActState}
+use Rattle.ps_action.specs.declared.states.ActState.TheVariants.{Done, Failed, Cancelled}
+use Rattle.ps_action.specs.declared.states.Status.TheVariants.{Success, Failure}
+use Rattle.ps_action.specs.Trees.{TreeView, root_status, tree_text, waits_of}
 
 -- neither failed nor cancelled
 abbrev pub IsUnharmed : ActState → Type 0

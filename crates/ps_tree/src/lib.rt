@@ -8,5 +8,4 @@ mod tree;
 mod waits;
 
 pub use laws::{all_done_is_success, one_done_has_three_lines, unharmed_is_no_failure};
-pub use status::{ActState, Status};
 pub use tree::{ActView, Tree};

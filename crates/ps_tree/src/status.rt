@@ -1,34 +1,8 @@
-//! The states of acts, and the statuses of nodes.
+//! The statuses of nodes.
 ghost use Rattle.std.specs.Prelude.{◌≡◌, map};
-ghost use Rattle.ps_tree.specs.Trees.{act_status, is_success, is_waiting, sequence_status, state_at, wait_status};
+ghost use Rattle.ps_action.specs.Trees.{act_status, is_success, is_waiting, sequence_status, state_at, wait_status};
 
-/// How an act fares.
-#[derive(Clone, Copy, PartialEq, Eq, Debug)]
-pub enum ActState {
-    /// It has not begun.
-    Waiting,
-    /// It has begun.
-    Active,
-    /// It has ended well.
-    Done,
-    /// It has failed.
-    Failed,
-    /// It was cancelled.
-    Cancelled,
-}
-
-/// How a node of a tree fares.
-#[derive(Clone, Copy, PartialEq, Eq, Debug)]
-pub enum Status {
-    /// An act that waits.
-    Idle,
-    /// Neither a success nor a failure yet.
-    Running,
-    /// It has ended well.
-    Success,
-    /// It has failed.
-    Failure,
-}
+use ps_action::{ActState, Status};
 
 /// The state of an act; one that isn't there waits.
 pub fn state_at(states: &[ActState], act: u32) -> ActState

@@ -2,10 +2,11 @@
 ghost use Rattle.std.specs.Prelude.{◌≡◌, ℕ, ◌*◌, [], ◌∷◌, ◌++◌, codes, flat_map, length, map, replicate, OnOk};
 ghost use Rattle.std.specs.Fmt.{decimal};
 ghost use Rattle.std.specs.List.{range_with_len};
-ghost use Rattle.ps_tree.specs.Trees.{act_node, act_status, line, sequence_nodes, sequence_status, state_at, status_word, wait_node, wait_status, waits_at};
+ghost use Rattle.ps_action.specs.Trees.{act_node, act_status, line, sequence_nodes, sequence_status, state_at, status_word, wait_node, wait_status, waits_at};
 
-use super::status::{ActState, Status, act_status, sequence_status, state_at, wait_status};
+use super::status::{act_status, sequence_status, state_at, wait_status};
 use super::waits::{Waits, waits_at};
+use ps_action::{ActState, Status};
 use std::alloc::{AllocError, Global};
 
 /// A status, as a line says it.

@@ -1,21 +1,19 @@
 //! The tree of a plan.
 ghost use Rattle.std.specs.Prelude.{◌≡◌, ◌<◌, [], ◌∷◌, length, map, replicate, IfOk};
 ghost use Rattle.std.specs.List.{list_all, range_with_len};
-ghost use Rattle.ps_tree.specs.Trees.{in_parallel, is_ready, is_success, root_status, sequence_status, state_at, tree_text, wait_status, waits_at, waits_of};
+ghost use Rattle.ps_action.specs.Trees.{in_parallel, is_ready, is_success, root_status, sequence_status, state_at, tree_text, wait_status, waits_at, waits_of};
 
-use super::status::{
-    ActState, Status, is_success, is_waiting, sequence_status, state_at, wait_status,
-};
+use super::status::{is_success, is_waiting, sequence_status, state_at, wait_status};
 use super::text::{push_line, push_sequences};
 use super::waits::{Waits, waits_at, waits_of};
-use ps_arcs::Arcs;
+use ps_action::{ActState, Arcs, Status};
 use std::alloc::{AllocError, Global};
 use std::marker::Model;
 
 /// The states of acts, which contracts see as a list. Nothing here takes memory.
 pub trait ActView {
     ghost use Rattle.std.specs.Prelude.{List};
-    ghost use Rattle.ps_tree.specs.declared.status.ActState.{ActState};
+    ghost use Rattle.ps_action.specs.declared.states.ActState.{ActState};
 
     ghost states: { Self → List ActState };
 
@@ -36,7 +34,7 @@ pub struct Tree {
 
 impl Model for Tree {
     ghost use Rattle.std.specs.Prelude.{◌≡◌, length};
-    ghost use Rattle.ps_tree.specs.Trees.{TreeView};
+    ghost use Rattle.ps_action.specs.Trees.{TreeView};
 
     ghost Value = { TreeView };
 

@@ -1,8 +1,8 @@
 //! What acts wait for.
 ghost use Rattle.std.specs.Prelude.{◌≡◌, length, IfOk};
-ghost use Rattle.ps_tree.specs.Trees.{waits_at, waits_for, waits_of};
+ghost use Rattle.ps_action.specs.Trees.{waits_at, waits_for, waits_of};
 
-use ps_arcs::Arcs;
+use ps_action::Arcs;
 use std::alloc::{AllocError, Global};
 use std::marker::Model;
 

@@ -1,7 +1,7 @@
 use Rattle.std.proofs.Common.{◌≡◌, ◌+◌, ◌*◌, ◌++◌, map, drop}
 use Rattle.ps_world.specs.Trees.{cond_rank, conds_rank}
 use Rattle.ps_world.specs.CondViews.{cond_tree}
-use Rattle.ps_eval.specs.Touching.{read_by_list}
+use Rattle.ps_action.specs.Touching.{read_by_list}
 use Rattle.ps_eval.proofs.touched.+cond.Given as goal
 
 -- a condition stands below the list or the box that it is in

@@ -1,6 +1,6 @@
 use Rattle.std.proofs.Common.{◌≡◌, ◌++◌, map, take}
 use Rattle.ps_world.specs.Knowledge.{name_of}
-use Rattle.ps_eval.specs.declared.touched.Touched.TheVariants.{Instance}
+use Rattle.ps_action.specs.declared.touched.Touched.TheVariants.{Instance}
 use Rattle.ps_eval.proofs.touched.push_arguments.Given as goal
 
 abbrev pub invariant-loop-term : goal.invariant-loop-term

@@ -1,5 +1,5 @@
 use Rattle.std.proofs.Common.{◌≡◌, drop}
-use Rattle.ps_tree.specs.Trees.{sequence_status}
+use Rattle.ps_action.specs.Trees.{sequence_status}
 use Rattle.ps_tree.proofs.status.sequence_status.Given as goal
 
 -- the waits so far are successes

@@ -1,5 +1,5 @@
 use Rattle.std.proofs.Common.{◌≡◌, ℕ, List, [], ◌∷◌, ◌++◌, codes, flat_map, map, ap, ◌∙◌}
-use Rattle.ps_tree.specs.Trees.{act_node, line, sequence_status, status_word, wait_node}
+use Rattle.ps_action.specs.Trees.{act_node, line, sequence_status, status_word, wait_node}
 use Rattle.ps_tree.proofs.Texts.{sequence_lines}
 use Rattle.ps_tree.proofs.text.push_sequence.Goals as goal
 

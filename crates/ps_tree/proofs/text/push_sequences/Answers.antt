@@ -1,5 +1,5 @@
 use Rattle.std.proofs.Common.{◌++◌, flat_map, ◌∙◌}
-use Rattle.ps_tree.specs.Trees.{line, sequence_nodes, waits_at}
+use Rattle.ps_action.specs.Trees.{line, sequence_nodes, waits_at}
 use Rattle.ps_tree.proofs.Texts.{sequences_more}
 use Rattle.ps_tree.proofs.text.push_sequences.Goals as goal
 

@@ -1,6 +1,6 @@
 use Rattle.std.proofs.Common.{◌≡◌, ◌++◌, flat_map}
 use Rattle.std.specs.List.{range_with_len}
-use Rattle.ps_tree.specs.Trees.{line, sequence_nodes, waits_at}
+use Rattle.ps_action.specs.Trees.{line, sequence_nodes, waits_at}
 use Rattle.ps_tree.proofs.text.push_sequences.Given as goal
 
 abbrev pub invariant-loop-act : goal.invariant-loop-act

@@ -1,5 +1,5 @@
 use Rattle.std.proofs.Common.{◌≡◌, ◌++◌, flat_map, map, take}
-use Rattle.ps_tree.specs.Trees.{line, wait_node}
+use Rattle.ps_action.specs.Trees.{line, wait_node}
 use Rattle.ps_tree.proofs.text.push_waits.Given as goal
 
 abbrev pub invariant-loop-wait : goal.invariant-loop-wait

@@ -1,6 +1,6 @@
 use Rattle.std.proofs.Common.{◌≡◌, drop}
 use Rattle.std.specs.List.{list_all}
-use Rattle.ps_tree.specs.Trees.{is_success, state_at, wait_status}
+use Rattle.ps_action.specs.Trees.{is_success, state_at, wait_status}
 use Rattle.ps_tree.proofs.tree.are_done.Given as goal
 
 -- the acts so far are done

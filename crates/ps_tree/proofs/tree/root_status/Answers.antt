@@ -1,5 +1,5 @@
 use Rattle.std.proofs.Common.{◌≡◌, ℕ, [], ◌∷◌, List, ap, sym, ◌∙◌}
-use Rattle.ps_tree.specs.Trees.{in_parallel, sequence_status, waits_at}
+use Rattle.ps_action.specs.Trees.{in_parallel, sequence_status, waits_at}
 use Rattle.ps_tree.proofs.Parallel.{parallel_place_more}
 use Rattle.ps_tree.proofs.tree.root_status.Goals as goal
 

@@ -1,6 +1,6 @@
 use Rattle.std.proofs.Common.{◌≡◌, map}
 use Rattle.std.specs.List.{range_with_len}
-use Rattle.ps_tree.specs.Trees.{in_parallel, sequence_status, waits_at}
+use Rattle.ps_action.specs.Trees.{in_parallel, sequence_status, waits_at}
 use Rattle.ps_tree.proofs.tree.root_status.Given as goal
 
 abbrev pub invariant-loop-act : goal.invariant-loop-act

@@ -1,6 +1,6 @@
 use Rattle.std.proofs.Common.{arith}
 use Rattle.std.proofs.lemmas.List.FromFn.{map-range_with_len_more}
-use Rattle.ps_tree.specs.Trees.{waits_for}
+use Rattle.ps_action.specs.Trees.{waits_for}
 use Rattle.ps_tree.proofs.waits.waits_of.Goals as goal
 
 pub loop-act-preserved : goal.loop-act-preserved

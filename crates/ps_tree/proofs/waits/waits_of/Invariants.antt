@@ -1,6 +1,6 @@
 use Rattle.std.proofs.Common.{◌≡◌, map}
 use Rattle.std.specs.List.{range_with_len}
-use Rattle.ps_tree.specs.Trees.{waits_for}
+use Rattle.ps_action.specs.Trees.{waits_for}
 use Rattle.ps_tree.proofs.waits.waits_of.Given as goal
 
 abbrev pub invariant-loop-act : goal.invariant-loop-act

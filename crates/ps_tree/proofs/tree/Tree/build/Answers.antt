@@ -1,6 +1,6 @@
 use Rattle.std.proofs.Common.{List, length, ap, sym, ◌∙◌, rules}
 use Rattle.std.proofs.lemmas.List.FromFn.{length-map-range_with_len}
-use Rattle.ps_tree.specs.Trees.{waits_for}
+use Rattle.ps_action.specs.Trees.{waits_for}
 use Rattle.ps_tree.proofs.tree.Tree.build.Goals as goal
 
 pub invariant_of-result : goal.invariant_of-result

@@ -1,6 +1,6 @@
 use Rattle.std.proofs.Common.{true, false, List, [], ◌∷◌, ◌++◌, ap, sym, ◌∙◌}
 use Rattle.std.proofs.lemmas.List.{append-nil}
-use Rattle.ps_arcs.specs.Tables.{has_pair}
+use Rattle.ps_action.specs.ArcTables.{has_pair}
 use Rattle.ps_arcs.proofs.Ranges.{filter-range_more}
 use Rattle.ps_tree.proofs.waits.Waits.of.Goals as goal
 use Rattle.ps_tree.proofs.waits.Waits.of.Goals.{then-has+in_ok-push, else-has}

@@ -1,6 +1,6 @@
 use Rattle.std.proofs.Common.{◌≡◌, filter}
 use Rattle.std.specs.List.{range_with_len}
-use Rattle.ps_arcs.specs.Tables.{has_pair}
+use Rattle.ps_action.specs.ArcTables.{has_pair}
 use Rattle.ps_tree.proofs.waits.Waits.of.Given as goal
 
 abbrev pub invariant-loop-other : goal.invariant-loop-other

@@ -7,8 +7,8 @@ use Rattle.ps_world.specs.declared.actions.Effect.{Effect}
 use Rattle.ps_world.specs.declared.actions.Effect.TheVariants.{Add, Delete, Number}
 use Rattle.ps_world.specs.declared.edits.Edit.{Edit}
 use Rattle.ps_world.specs.declared.edits.Edit.TheVariants.{AddInstance, RemoveInstance, AddFact, RemoveFact, SetValue, RemoveValue, SetGoal, RemoveGoal}
-use Rattle.ps_eval.specs.declared.touched.Touched.{Touched}
-use Rattle.ps_eval.specs.declared.touched.Touched.TheVariants.{Fact, Value, Instance}
+use Rattle.ps_action.specs.declared.touched.Touched.{Touched}
+use Rattle.ps_action.specs.declared.touched.Touched.TheVariants.{Fact, Value, Instance}
 
 -- the instances that the arguments of a fact or a function term are
 abbrev pub arguments : Lifted → List Touched

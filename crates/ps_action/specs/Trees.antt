@@ -2,11 +2,11 @@
 use Rattle.std.specs.Prelude.{ℕ, ◌*◌, Bool, true, false, ◌&&◌, if◌then◌else◌, List, [], ◌∷◌, ◌++◌, codes, filter, flat_map, length, map, replicate, slice_index_or}
 use Rattle.std.specs.Fmt.{decimal}
 use Rattle.std.specs.List.{list_all, list_any, range_with_len}
-use Rattle.ps_arcs.specs.Tables.{Pairs, has_pair}
-use Rattle.ps_tree.specs.declared.status.ActState.{ActState}
-use Rattle.ps_tree.specs.declared.status.ActState.TheVariants.{Waiting, Active, Done, Failed, Cancelled}
-use Rattle.ps_tree.specs.declared.status.Status.{Status}
-use Rattle.ps_tree.specs.declared.status.Status.TheVariants.{Idle, Running, Success, Failure}
+use Rattle.ps_action.specs.ArcTables.{Pairs, has_pair}
+use Rattle.ps_action.specs.declared.states.ActState.{ActState}
+use Rattle.ps_action.specs.declared.states.ActState.TheVariants.{Waiting, Active, Done, Failed, Cancelled}
+use Rattle.ps_action.specs.declared.states.Status.{Status}
+use Rattle.ps_action.specs.declared.states.Status.TheVariants.{Idle, Running, Success, Failure}
 
 -- ---- what acts wait for
 
