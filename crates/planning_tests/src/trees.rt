@@ -65,12 +65,12 @@ const AFTER_THE_FIRST: &[u8] = b"parallel running
 #[test]
 fn writes_each_node(rt: HostRuntime) -> Result<(), Fail> {
     let mut tree = forked(rt.alloc())?;
-    assert!(rt; tree.text(rt.alloc())?.as_slice() == AT_FIRST);
+    assert!(rt; tree.text()?.as_slice() == AT_FIRST);
     ticked(
         &mut tree,
         [ActState::Done, ActState::Active, ActState::Waiting],
     );
-    assert!(rt; tree.text(rt.alloc())?.as_slice() == AFTER_THE_FIRST);
+    assert!(rt; tree.text()?.as_slice() == AFTER_THE_FIRST);
     Ok(())
 }
 

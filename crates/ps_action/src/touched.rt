@@ -2,7 +2,7 @@
 use ps_world::{Fact as GroundFact, Name};
 
 /// One thing that can change.
-#[derive(Clone, Copy, PartialEq, Eq)]
+#[derive(Clone, Copy, PartialEq, Eq, PartialOrd, Ord)]
 pub enum Touched {
     /// Whether the fact is known.
     Fact(GroundFact),

@@ -13,6 +13,7 @@ use Rattle.ps_action.specs.declared.touched.Touched.{Touched}
 use Rattle.ps_eval.specs.Laws.{Agree}
 use Rattle.ps_orders.specs.Orders.{Event, begins, ends, IsOrder, Stage, running, ended, all_waiting, moved}
 use Rattle.ps_action.specs.Arcs.{is_arc}
+use Rattle.ps_action.specs.ArcTables.{Pairs, has_pair}
 
 -- ---- a plan
 
@@ -70,4 +71,12 @@ OrdersGoWell =
     (d : Domain) (k last : Knowledge) (gs : List GroundAction) (es : List Event)
     → IsGood d k gs last
     → IsOrder (is_arc gs) (length gs) all_waiting es
+    → GoWell d gs last all_waiting k es
+
+-- from where ground actions are a good plan, each order that these arcs allow goes well, and comes to what the plan comes to
+abbrev pub EveryOrderGoesWell : List GroundAction → Pairs → Type 0
+EveryOrderGoesWell gs arcs =
+    (d : Domain) (k last : Knowledge) (es : List Event)
+    → IsGood d k gs last
+    → IsOrder (λ i j. has_pair i j arcs.pairs) (length gs) all_waiting es
     → GoWell d gs last all_waiting k es

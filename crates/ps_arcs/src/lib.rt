@@ -2,8 +2,10 @@
 #![tactic(auto)]
 
 mod arcs;
+mod index;
 mod laws;
 mod touching;
+mod users;
 
 pub use arcs::arcs_of;
 pub use laws::{

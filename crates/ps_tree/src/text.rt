@@ -1,8 +1,7 @@
 //! The text of a tree.
-ghost use Rattle.std.specs.Prelude.{◌≡◌, ℕ, ◌*◌, [], ◌∷◌, ◌++◌, codes, flat_map, length, map, replicate, OnOk};
-ghost use Rattle.std.specs.Fmt.{decimal};
-ghost use Rattle.std.specs.List.{range_with_len};
-ghost use Rattle.ps_action.specs.Trees.{act_node, act_status, line, sequence_nodes, sequence_status, state_at, status_word, wait_node, wait_status, waits_at};
+ghost use Rattle.std.specs.Prelude.{◌≡◌, ◌++◌, OnOk};
+ghost use Rattle.ps_action.specs.Trees.{act_node, line, status_word, wait_node};
+ghost use Rattle.ps_tree.specs.Parts.{act_lines, first_lines, line_end, numbered, wait_lines, worded};
 
 use super::status::{act_status, sequence_status, state_at, wait_status};
 use super::waits::{Waits, waits_at};
@@ -23,7 +22,7 @@ fn status_word(status: Status) -> &'static [u8]
 
 /// Adds a space, a status, and what ends the line. The only error is want of memory.
 fn push_status(status: Status, text: &mut Vec<u8>) -> Result<(), AllocError>
-    ensures { OnOk result (text.new.items ≡ text.old.items ++ (32 ∷ (status_word status ++ 10 ∷ []))) }
+    ensures { OnOk result (text.new.items ≡ text.old.items ++ line_end status) }
 {
     text.push(b' ')?;
     text.extend_from_slice(status_word(status))?;
@@ -33,7 +32,7 @@ fn push_status(status: Status, text: &mut Vec<u8>) -> Result<(), AllocError>
 
 /// Adds a line of words and a status. The only error is want of memory.
 pub fn push_line(words: &[u8], status: Status, text: &mut Vec<u8>) -> Result<(), AllocError>
-    ensures { OnOk result (text.new.items ≡ text.old.items ++ (words.now ++ (32 ∷ (status_word status ++ 10 ∷ [])))) }
+    ensures { OnOk result (text.new.items ≡ text.old.items ++ worded words.now status) }
 {
     text.extend_from_slice(words)?;
     push_status(status, text)?;
@@ -48,7 +47,7 @@ fn push_numbered(
     status: Status,
     text: &mut Vec<u8>,
 ) -> Result<(), AllocError>
-    ensures { OnOk result (text.new.items ≡ text.old.items ++ (words.now ++ (decimal number ++ (32 ∷ (status_word status ++ 10 ∷ []))))) }
+    ensures { OnOk result (text.new.items ≡ text.old.items ++ numbered words.now number status) }
 {
     text.extend_from_slice(words)?;
     let digits = number.to_string(alloc)?;
@@ -90,7 +89,7 @@ fn push_waits(
     waits: &[u32],
     text: &mut Vec<u8>,
 ) -> Result<(), AllocError>
-    ensures { OnOk result (text.new.items ≡ text.old.items ++ flat_map line (map (wait_node states.now) waits.now)) }
+    ensures { OnOk result (text.new.items ≡ text.old.items ++ wait_lines states.now waits.now) }
 {
     for wait in waits {
         push_wait(alloc, states, *wait, text)?;
@@ -107,7 +106,7 @@ fn push_sequence(
     act: u32,
     text: &mut Vec<u8>,
 ) -> Result<(), AllocError>
-    ensures { OnOk result (text.new.items ≡ text.old.items ++ flat_map line (sequence_nodes states.now waits.now act)) }
+    ensures { OnOk result (text.new.items ≡ text.old.items ++ act_lines states.now waits.now act) }
 {
     push_line(b"  sequence", sequence_status(states, waits, act), text)?;
     push_waits(alloc, states, waits, text)?;
@@ -123,7 +122,7 @@ pub fn push_sequences(
     acts: u32,
     text: &mut Vec<u8>,
 ) -> Result<(), AllocError>
-    ensures { OnOk result (text.new.items ≡ text.old.items ++ flat_map line (flat_map (λ j. sequence_nodes states.now (waits_at all.now j) j) (range_with_len 0 acts))) }
+    ensures { OnOk result (text.new.items ≡ text.old.items ++ first_lines states.now all.now acts) }
 {
     for act in 0..acts {
         push_sequence(alloc, states, waits_at(all, act), act, text)?;

@@ -1,7 +1,8 @@
 //! The tree of a plan.
-ghost use Rattle.std.specs.Prelude.{◌≡◌, ◌<◌, [], ◌∷◌, length, map, replicate, IfOk};
-ghost use Rattle.std.specs.List.{list_all, range_with_len};
-ghost use Rattle.ps_action.specs.Trees.{in_parallel, is_ready, is_success, root_status, sequence_status, state_at, tree_text, wait_status, waits_at, waits_of};
+ghost use Rattle.std.specs.Prelude.{◌≡◌, ◌<◌, [], ◌∷◌, length, IfOk};
+ghost use Rattle.std.specs.List.{list_all};
+ghost use Rattle.ps_action.specs.Trees.{in_parallel, is_ready, is_success, root_status, state_at, tree_text, wait_status, waits_of};
+ghost use Rattle.ps_tree.specs.Parts.{root_over, waiting_acts};
 
 use super::status::{is_success, is_waiting, sequence_status, state_at, wait_status};
 use super::text::{push_line, push_sequences};
@@ -27,6 +28,7 @@ pub trait ActView {
 /// for the act. Contracts see what each act waits for, and the states of the acts.
 #[derive(Drop)]
 pub struct Tree {
+    alloc: Global,
     acts: u32,
     waits: Vec<Waits>,
     states: Vec<ActState>,
@@ -47,12 +49,13 @@ impl Tree {
     /// The tree of these arcs, in which each act waits. The only error is want of memory.
     pub fn build(alloc: Global, arcs: &Arcs) -> Result<Tree, AllocError>
         ensures waits { IfOk result (λ tree. tree.waits ≡ waits_of arcs.now) }
-        ensures states { IfOk result (λ tree. tree.states ≡ replicate arcs.now.acts ActState.Waiting) }
+        ensures states { IfOk result (λ tree. tree.states ≡ waiting_acts arcs.now.acts) }
     {
         let acts = arcs.acts();
         let waits = waits_of(alloc, arcs)?;
         let states = vec![in alloc; ActState::Waiting; acts as usize]?;
         Ok(Tree {
+            alloc,
             acts,
             waits,
             states,
@@ -81,18 +84,18 @@ impl Tree {
     }
 
     /// The lines of all nodes, by the states of the last tick. The only error is want of memory.
-    pub fn text(&self, alloc: Global) -> Result<Vec<u8>, AllocError>
+    pub fn text(&self) -> Result<Vec<u8>, AllocError>
         ensures { IfOk result (λ text. text.items ≡ tree_text self.now) }
     {
         let states = self.states.as_slice();
         let waits = self.waits.as_slice();
-        let mut text = Vec::new(alloc);
+        let mut text = Vec::new(self.alloc);
         push_line(
             b"parallel",
             root_status(self.acts, states, waits),
             &mut text,
         )?;
-        push_sequences(alloc, states, waits, self.acts, &mut text)?;
+        push_sequences(self.alloc, states, waits, self.acts, &mut text)?;
         Ok(text)
     }
 }
@@ -133,7 +136,7 @@ fn joined(one: Status, other: Status) -> Status
 
 /// The status of the root over the sequences of so many acts.
 fn root_status(acts: u32, states: &[ActState], all: &[Waits]) -> Status
-    ensures { result ≡ in_parallel (map (λ j. sequence_status states.now (waits_at all.now j) j) (range_with_len 0 acts)) }
+    ensures { result ≡ root_over states.now all.now acts }
 {
     let mut status = Status::Success;
     for act in 0..acts {

@@ -1,7 +1,6 @@
-use Rattle.std.proofs.Common.{◌≡◌, ◌++◌, flat_map, map, take}
-use Rattle.ps_action.specs.Trees.{line, wait_node}
+use Rattle.std.proofs.Common.{◌≡◌, ◌++◌, take}
+use Rattle.ps_tree.specs.Parts.{wait_lines}
 use Rattle.ps_tree.proofs.text.push_waits.Given as goal
 
 abbrev pub invariant-loop-wait : goal.invariant-loop-wait
-invariant-loop-wait l =
-    l.text.items ≡ l.initial.text.items ++ flat_map line (map (wait_node l.states) (take l.wait-index l.waits))
+invariant-loop-wait l = l.text.items ≡ l.initial.text.items ++ wait_lines l.states (take l.wait-index l.waits)

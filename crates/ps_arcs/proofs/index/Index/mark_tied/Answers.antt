@@ -1,0 +1,40 @@
+use Rattle.std.proofs.Common.{List, length, ap, sym, ◌∙◌, subst}
+use Rattle.std.specs.List.{list_any}
+use Rattle.ps_action.specs.declared.acts.GroundAction.{GroundAction}
+use Rattle.ps_action.specs.Arcs.{changes, reads}
+use Rattle.ps_arcs.specs.Users.{Marks, is_tied, uses}
+use Rattle.ps_arcs.proofs.Noted.{users_within}
+use Rattle.ps_arcs.proofs.Tied.{tied_marked}
+use Rattle.ps_arcs.proofs.index.Index.mark_tied.Goals as goal
+
+pub mark_all-requires : goal.mark_all-requires
+mark_all-requires c =
+    let gs = c.self.inside.actions.now in
+    users_within changes gs c.self.inside.changers (length c.args.flags.now) (c.requires ∙ ap (λ (l : List GroundAction). length l) (sym c.self.view_is)) c.self.invariant.changed
+
+pub mark_all-requires-2 : goal.mark_all-requires-2
+mark_all-requires-2 c =
+    let gs = c.self.inside.actions.now in
+    users_within reads gs c.self.inside.readers (length c.mark_all.new.flags) (c.mark_all.ensures.0 ∙ c.requires ∙ ap (λ (l : List GroundAction). length l) (sym c.self.view_is)) c.self.invariant.read
+
+pub mark_all-requires-3 : goal.mark_all-requires-3
+mark_all-requires-3 c =
+    let gs = c.self.inside.actions.now in
+    users_within changes gs c.self.inside.changers (length c.mark_all-2.new.flags)
+    (c.mark_all-2.ensures.0 ∙ c.mark_all.ensures.0 ∙ c.requires ∙ ap (λ (l : List GroundAction). length l) (sym c.self.view_is)) c.self.invariant.changed
+
+pub returns : goal.returns
+returns c =
+    let gs = c.self.inside.actions.now in
+    let s = c.args.touching.now in
+    let readers = c.self.inside.readers in
+    let changers = c.self.inside.changers in
+    let first = c.args.flags.now in
+    let second = c.mark_all.new.flags in
+    let third = c.mark_all-2.new.flags in
+    let fourth = c.mark_all-3.new.flags in
+    subst (λ l. Marks first (is_tied l s) fourth) c.self.view_is
+    (tied_marked gs s readers changers first second third fourth c.self.invariant.read c.self.invariant.changed
+    (subst (λ ts. Marks first (λ j. list_any (λ t. uses changers t j) ts) second) c.reads.ensures c.mark_all.ensures)
+    (subst (λ ts. Marks second (λ j. list_any (λ t. uses readers t j) ts) third) c.changes.ensures c.mark_all-2.ensures)
+    (subst (λ ts. Marks third (λ j. list_any (λ t. uses changers t j) ts) fourth) c.changes-2.ensures c.mark_all-3.ensures))
