@@ -17,6 +17,6 @@ pub use lexing::{Class, LexRefusal, Token, tokens};
 pub use memory::{MemFiles, MemSink, SureFiles, SureSink, risen};
 pub use reads::{FileRefusal, Files};
 pub use sinks::{Sink, SinkRefusal, put};
-pub use spans::{Span, script_lines};
+pub use spans::{Span, lines, script_lines};
 pub use table::{LONGEST_NAME, NameRefusal, Names, is_name};
 pub use word_spans::{Words, is_blank};

@@ -1,6 +1,7 @@
 //! Spans of a text, and its lines.
 ghost use Rattle.std.specs.Prelude.{◌≡◌, ◌+◌, ◌-◌, ◌≤◌, ◌==◌, drop, length, position, IfOk, vec_len};
 ghost use Rattle.std.specs.List.{position_or_len};
+ghost use Rattle.ps_world.specs.Lines.{lines_of};
 ghost use Rattle.ps_text.specs.ScriptLines.{HasReturn, script_lines};
 ghost use Rattle.ps_text.specs.Words.{AreWithin, pieces};
 
@@ -27,6 +28,22 @@ pub(crate) fn line_end(bytes: &[u8], from: usize) -> usize
 {
     let rest = &bytes[from..];
     from + first_line_feed(rest).unwrap_or(rest.len())
+}
+
+/// The lines of a text, in order, each without the LF that ends it. A last line needs none. The only error is want of memory.
+pub fn lines(alloc: Global, bytes: &[u8]) -> Result<Vec<Span>, AllocError>
+    ensures lines { IfOk result (λ v. pieces bytes.now v.items ≡ lines_of bytes.now) }
+    ensures within { IfOk result (λ v. AreWithin bytes.now v.items) }
+    ensures few { IfOk result (λ v. vec_len v ≤ length bytes.now) }
+{
+    let mut spans = Vec::new(alloc);
+    let mut from = 0;
+    while from < bytes.len() {
+        let to = line_end(bytes, from);
+        spans.push(Span { from, to })?;
+        from = if to < bytes.len() { to + 1 } else { to };
+    }
+    Ok(spans)
 }
 
 /// Where a line ends that begins at one place and has its LF at another: one CR before the LF isn't of the line. The last line of a
