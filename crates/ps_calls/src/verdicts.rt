@@ -19,7 +19,7 @@ pub fn verdict_status(wrong: &Option<Invalid>) -> u8
     }
 }
 
-/// Adds why an act can't be grounded. Want of memory stands in no answer, and adds nothing.
+/// Adds why an act can't be grounded.
 fn push_ground_refusal(
     alloc: Global,
     names: &Names,
@@ -35,7 +35,6 @@ fn push_ground_refusal(
         GroundRefusal::WrongType { at } => {
             push_number_after(alloc, b"WrongType ", *at as u64, text)?;
         }
-        GroundRefusal::OutOfMemory => {}
     }
     Ok(())
 }
@@ -54,7 +53,6 @@ fn push_effect_refusal(
             push_number_after(alloc, b"Undefined ", *at as u64, text)
         }
         EffectRefusal::Range { at } => push_number_after(alloc, b"Range ", *at as u64, text),
-        EffectRefusal::OutOfMemory => Ok(()),
     }
 }
 
@@ -95,7 +93,6 @@ fn push_plan_refusal(
             push_effect_refusal(alloc, refusal, text)?;
         }
         PlanRefusal::GoalFalse => text.extend_from_slice(b"goal false")?,
-        PlanRefusal::OutOfMemory => {}
     }
     Ok(())
 }
@@ -112,7 +109,6 @@ fn push_text_refusal(
         PlanTextRefusal::Line { n } | PlanTextRefusal::Long { n } => {
             push_number_after(alloc, b"plan line ", *n as u64, text)
         }
-        PlanTextRefusal::OutOfMemory => Ok(()),
     }
 }
 
