@@ -18,20 +18,18 @@ abbrev pub verdict_status : Option Invalid → ℕ
 verdict_status None = 0
 verdict_status (Some wrong) = 7
 
--- why an act can't be grounded; want of memory stands in no verdict
+-- why an act can't be grounded
 abbrev pub ground_text : Table → GroundRefusal → List ℕ
 ground_text names ground.NoAction = codes "NoAction"
 ground_text names (ground.Arity want got) = codes "Arity " ++ (decimal want ++ (codes " " ++ decimal got))
 ground_text names (ground.NoInstance n) = codes "NoInstance " ++ name_text names n
 ground_text names (ground.WrongType at) = codes "WrongType " ++ decimal at
-ground_text names ground.OutOfMemory = codes ""
 
 -- why effects can't be made
 abbrev pub effect_text : EffectRefusal → List ℕ
 effect_text (effect.Clash at) = codes "Clash " ++ decimal at
 effect_text (effect.Undefined at) = codes "Undefined " ++ decimal at
 effect_text (effect.Range at) = codes "Range " ++ decimal at
-effect_text effect.OutOfMemory = codes ""
 
 -- a step with what fails of it
 abbrev pub step_text : ℕ → List ℕ → List ℕ
@@ -47,13 +45,11 @@ plan_text names (plan.OverAllFalse at) = step_text at (codes "OverAllFalse")
 plan_text names (plan.EndFalse at) = step_text at (codes "EndFalse")
 plan_text names (plan.EndEffect at r) = step_text at (codes "EndEffect " ++ effect_text r)
 plan_text names plan.GoalFalse = codes "goal false"
-plan_text names plan.OutOfMemory = codes ""
 
 -- the line of a plan's text that is at fault
 abbrev pub fault_text : PlanTextRefusal → List ℕ
 fault_text (text.Line n) = codes "plan line " ++ decimal n
 fault_text (text.Long n) = codes "plan line " ++ decimal n
-fault_text text.OutOfMemory = codes ""
 
 -- what is wrong
 abbrev pub wrong_text : Table → Invalid → List ℕ

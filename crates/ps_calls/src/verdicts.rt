@@ -18,7 +18,7 @@ pub fn verdict_status(wrong: &Option<Invalid>) -> u8
     }
 }
 
-/// Adds why an act can't be grounded. Want of memory stands in no answer, and adds nothing.
+/// Adds why an act can't be grounded.
 fn push_ground_refusal(
     alloc: Global,
     names: &Names,
@@ -34,7 +34,6 @@ fn push_ground_refusal(
         GroundRefusal::WrongType { at } => {
             push_number_after(alloc, b"WrongType ", *at as u64, text)?;
         }
-        GroundRefusal::OutOfMemory => {}
     }
     Ok(())
 }
@@ -53,7 +52,6 @@ fn push_effect_refusal(
             push_number_after(alloc, b"Undefined ", *at as u64, text)
         }
         EffectRefusal::Range { at } => push_number_after(alloc, b"Range ", *at as u64, text),
-        EffectRefusal::OutOfMemory => Ok(()),
     }
 }
 
@@ -94,7 +92,6 @@ fn push_plan_refusal(
             push_effect_refusal(alloc, refusal, text)?;
         }
         PlanRefusal::GoalFalse => text.extend_from_slice(b"goal false")?,
-        PlanRefusal::OutOfMemory => {}
     }
     Ok(())
 }
@@ -111,7 +108,6 @@ fn push_text_refusal(
         PlanTextRefusal::Line { n } | PlanTextRefusal::Long { n } => {
             push_number_after(alloc, b"plan line ", *n as u64, text)
         }
-        PlanTextRefusal::OutOfMemory => Ok(()),
     }
 }
 
