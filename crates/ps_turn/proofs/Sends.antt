@@ -19,6 +19,7 @@ use Rattle.ps_world.proofs.domains.Param.TheSendSync as param
 use Rattle.ps_world.proofs.domains.Decl.TheSendSync as decl
 use Rattle.ps_world.proofs.facts.Fact.TheSendSync as fact
 use Rattle.ps_world.proofs.lists.Seq.TheSendSync as seq
+use Rattle.ps_action.proofs.acts.Act.TheSendSync as act
 use Rattle.ps_machine.specs.contracts.inputs.Input as Input
 use Rattle.ps_machine.specs.contracts.inputs.Line as Line
 use Rattle.ps_machine.specs.contracts.journal.Entry as Entry
@@ -75,7 +76,7 @@ edit_sync = search (parts, cond_sync) depth 12
 
 -- ---- entries and inputs
 
-ruleset wholes = (sendable, crosses, domain_send, domain_sync, edit_send, edit_sync, seq.the_send, seq.the_sync, cause.the_field_send, cause.the_field_sync, query.the_field_send, query.the_field_sync, by.the_field_send, by.the_field_sync, refusal.the_field_send, refusal.the_field_sync)
+ruleset wholes = (sendable, crosses, domain_send, domain_sync, edit_send, edit_sync, seq.the_send, seq.the_sync, act.the_field_send, act.the_field_sync, cause.the_field_send, cause.the_field_sync, query.the_field_send, query.the_field_sync, by.the_field_send, by.the_field_sync, refusal.the_field_send, refusal.the_field_sync)
 
 pub entry_send : IsSend Entry.the_field.row
 entry_send = search wholes depth 12
