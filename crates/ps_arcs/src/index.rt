@@ -1,6 +1,6 @@
 //! Ground actions, found by the things that they read and change.
 ghost use Rattle.std.specs.Prelude.{◌≡◌, ◌≤◌, ◌<◌, nat_eq, [], length, All, IfOk, OnOk};
-ghost use Rattle.std.specs.List.{list_any};
+ghost use Rattle.std.specs.List.{list_all, list_any};
 ghost use Rattle.ps_action.specs.Arcs.{changes, reads};
 ghost use Rattle.ps_arcs.specs.Users.{AreTied, AreWithin, Enters, IsIndexed, Marks, is_tied, uses};
 
@@ -109,14 +109,24 @@ fn enter(
     Ok(())
 }
 
-/// Sets the flag of each act that uses one of these things.
+/// Sets the flag of each act that uses one of these things. Where all are set it stops.
 fn mark_all(flags: &mut [bool], things: &[Touched], users: &Users)
     requires { AreWithin (length flags.old) users.now }
     ensures { Marks flags.old (λ j. list_any (λ t. uses users.now t j) things.now) flags.new }
 {
     for thing in things {
+        if are_set(flags) {
+            return;
+        }
         mark(flags, users.of(thing));
     }
+}
+
+/// Whether each flag is set.
+fn are_set(flags: &[bool]) -> bool
+    ensures { result ≡ list_all (λ flag. flag) flags.now }
+{
+    flags.iter().all(|flag| *flag)
 }
 
 /// Sets the flags at these places.
