@@ -1,5 +1,5 @@
 -- What the answer for all acts says of how many ground actions there are.
-use Rattle.std.proofs.Common.{◌≡◌, ℕ, ◌<◌, ◌≤◌, Bool, true, false, nat_le, if◌then◌else◌, Result, Ok, Err, List, length, refl}
+use Rattle.std.proofs.Common.{◌≡◌, ◌<◌, ◌≤◌, Bool, true, false, nat_le, if◌then◌else◌, Result, Ok, Err, List, length, refl}
 use Rattle.std.proofs.lemmas.Bool.{leb-true, leb-false}
 use Rattle.ps_world.specs.declared.names.Name.{Name}
 use Rattle.ps_world.specs.declared.domains.Domain.{Domain}

@@ -12,7 +12,7 @@ use Rattle.ps_domain.specs.Places.{IsIndexOf, Notes}
 use Rattle.ps_domain.proofs.Lookups.{position-push}
 
 -- names tie where they are the same
-at_same : (n m : Name) → is_at (name_cmp n) m ≡ same_name n m
+pub at_same : (n m : Name) → is_at (name_cmp n) m ≡ same_name n m
 at_same n m = grind (arith, nat_tests)
 
 -- names are the same in either order

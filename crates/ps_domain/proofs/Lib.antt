@@ -2,6 +2,7 @@ pub mod AllActions
 pub mod Counts
 pub mod FewListed
 pub mod Indexes
+pub mod KnownChoices
 pub mod Listed
 pub mod Lookups
 pub mod Members

@@ -1,6 +1,7 @@
 //! The domain expert: what a session looks up in its domain.
 #![tactic(auto)]
 
+mod choosing;
 mod counting;
 mod declared;
 mod expert;

@@ -3,8 +3,9 @@ ghost use Rattle.std.specs.Prelude.{◌≡◌, ◌==◌, ◌+◌, ◌++◌, [], 
 ghost use Rattle.std.specs.List.{list_any};
 ghost use Rattle.ps_action.specs.Grounding.{by_name, picks, all_ground};
 ghost use Rattle.ps_domain.specs.Grounding.{GroundsAll};
-ghost use Rattle.ps_domain.specs.Listing.{choices_in, ground_with, ground_from, all_with};
+ghost use Rattle.ps_domain.specs.Listing.{choices_in, AreChoices, ground_with, ground_from, all_with};
 
+use super::choosing::{by_name, choices_of, known_choices};
 use super::counting::too_many;
 use super::expert::Expert;
 use super::grounding::grounded;
@@ -14,47 +15,20 @@ use ps_world::{ActionDef, Args, Failure, Name, Param, Seq};
 use std::alloc::{AllocError, Global};
 use std::collections::BTreeMap;
 
-/// The instances in the order of their names. One that stands twice has the type of its last place.
-fn by_name(alloc: Global, instances: &[(Name, Name)]) -> Result<BTreeMap<Name, Name>, AllocError>
-    ensures { IfOk result (λ sorted. sorted.entries ≡ by_name instances.now) }
-{
-    let mut sorted = BTreeMap::new(alloc);
-    for (name, kind) in instances {
-        sorted.insert(*name, *kind)?;
-    }
-    Ok(sorted)
-}
-
-/// The names that may stand for a parameter, rising.
-fn choices(
-    alloc: Global,
-    expert: &Expert,
-    sorted: &BTreeMap<Name, Name>,
-    param: &Param,
-) -> Result<Seq<Name>, AllocError>
-    ensures { IfOk result (λ names. names ≡ choices_in expert.now sorted.now.entries param.now) }
-{
-    let mut names = Seq::new(alloc);
-    for (name, kind) in sorted {
-        if expert.is_subtype(*kind, param.kind) {
-            names.push(*name)?;
-        }
-    }
-    Ok(names)
-}
-
 /// The names that may stand for each parameter.
 fn all_choices(
     alloc: Global,
     expert: &Expert,
     sorted: &BTreeMap<Name, Name>,
+    known: &BTreeMap<Name, Seq<Name>>,
     params: &[Param],
 ) -> Result<Vec<Seq<Name>>, AllocError>
+    requires { AreChoices expert.now sorted.now.entries known.now.entries }
     ensures { IfOk result (λ all. all.items ≡ map (choices_in expert.now sorted.now.entries) params.now) }
 {
     let mut all = Vec::new(alloc);
     for param in params {
-        all.push(choices(alloc, expert, sorted, param)?)?;
+        all.push(choices_of(alloc, expert, sorted, known, param)?)?;
     }
     Ok(all)
 }
@@ -114,12 +88,14 @@ fn push_all_of(
     alloc: Global,
     expert: &Expert,
     sorted: &BTreeMap<Name, Name>,
+    known: &BTreeMap<Name, Seq<Name>>,
     action: &ActionDef,
     all: &mut Vec<GroundAction>,
 ) -> Result<(), AllocError>
+    requires { AreChoices expert.now sorted.now.entries known.now.entries }
     ensures { OnOk result (all.new.items ≡ all.old.items ++ all_with expert.now sorted.now.entries action.now) }
 {
-    let choices = all_choices(alloc, expert, sorted, action.params.as_slice())?;
+    let choices = all_choices(alloc, expert, sorted, known, action.params.as_slice())?;
     // An earlier parameter's choices would be tried in vain.
     if has_empty(choices.as_slice()) {
         return Ok(());
@@ -132,13 +108,15 @@ fn all_ground(
     alloc: Global,
     expert: &Expert,
     instances: &[(Name, Name)],
+    known: &BTreeMap<Name, Seq<Name>>,
 ) -> Result<Vec<GroundAction>, AllocError>
+    requires { AreChoices expert.now (by_name instances.now) known.now.entries }
     ensures { IfOk result (λ all. all.items ≡ all_ground expert.now instances.now) }
 {
     let sorted = by_name(alloc, instances)?;
     let mut all = Vec::new(alloc);
     for action in expert.domain().actions.as_slice() {
-        push_all_of(alloc, expert, &sorted, action, &mut all)?;
+        push_all_of(alloc, expert, &sorted, known, action, &mut all)?;
     }
     Ok(all)
 }
@@ -154,9 +132,10 @@ impl Expert {
     ) -> Result<Vec<GroundAction>, Failure<GroundAllRefusal>>
         ensures { GroundsAll self.now instances.now result }
     {
-        if too_many(self, instances) {
+        let known = known_choices(self, instances);
+        if too_many(self, instances, &known) {
             return Err(Failure::Refused(GroundAllRefusal::TooMany));
         }
-        Ok(all_ground(self.alloc, self, instances)?)
+        Ok(all_ground(self.alloc, self, instances, &known)?)
     }
 }
