@@ -15,6 +15,9 @@ pub length-due_lines : (lines : List Line) → length (due_lines lines) ≤ leng
 length-due_lines [] = omega arith
 length-due_lines (Good (command.Edit edit) ∷ lines) = omega (arith, length-due_lines lines)
 length-due_lines (Good (command.Ask query) ∷ lines) = omega (arith, length-due_lines lines)
+length-due_lines (Good command.Run ∷ lines) = omega (arith, length-due_lines lines)
+length-due_lines (Good (command.RunAction act) ∷ lines) = omega (arith, length-due_lines lines)
+length-due_lines (Good command.RunPlan ∷ lines) = omega (arith, length-due_lines lines)
 length-due_lines (Good command.Quit ∷ lines) = omega arith
 length-due_lines (Bad cause ∷ lines) = omega (arith, length-due_lines lines)
 
@@ -29,5 +32,8 @@ module _ (P : Line → Type 0) where
       due-more (Good (command.Edit edit)) lines h (All-due_lines lines (All-tail P (Good (command.Edit edit)) lines h))
   All-due_lines (Good (command.Ask query) ∷ lines) h =
       due-more (Good (command.Ask query)) lines h (All-due_lines lines (All-tail P (Good (command.Ask query)) lines h))
+  All-due_lines (Good command.Run ∷ lines) h = due-more (Good command.Run) lines h (All-due_lines lines (All-tail P (Good command.Run) lines h))
+  All-due_lines (Good (command.RunAction act) ∷ lines) h = due-more (Good (command.RunAction act)) lines h (All-due_lines lines (All-tail P (Good (command.RunAction act)) lines h))
+  All-due_lines (Good command.RunPlan ∷ lines) h = due-more (Good command.RunPlan) lines h (All-due_lines lines (All-tail P (Good command.RunPlan) lines h))
   All-due_lines (Good command.Quit ∷ lines) h = All-cons P (Good command.Quit) [] (All-head P (Good command.Quit) lines h) (All-nil P)
   All-due_lines (Bad cause ∷ lines) h = due-more (Bad cause) lines h (All-due_lines lines (All-tail P (Bad cause) lines h))
