@@ -1,5 +1,5 @@
 //! The solver that looks forward.
-ghost use Rattle.std.specs.Prelude.{◌≡◌, ◌++◌, Some, filter_map, map, option_to_list, IfOk, OnOk};
+ghost use Rattle.std.specs.Prelude.{◌≡◌, ◌++◌, Some, filter_map, length, map, option_to_list, IfOk, OnOk};
 ghost use Rattle.std.specs.Result.{result_ok};
 ghost use Rattle.ps_action.specs.Grounding.{all_ground, ground_act};
 ghost use Rattle.ps_action.specs.Search.{answer};
@@ -78,7 +78,8 @@ fn grounds(
 
 /// The row of what is known. The only error is want of memory, as it always is where a fact is no atom.
 fn start_of(alloc: Global, atoms: &Atoms, problem: &Problem) -> Result<Row, AllocError>
-    ensures { IfOk result (λ row. plain_state atoms.now row ≡ state_of problem.now) }
+    ensures same { IfOk result (λ row. plain_state atoms.now row ≡ state_of problem.now) }
+    ensures wide { IfOk result (λ row. length row.flags.items ≡ length atoms.now) }
 {
     let facts = problem.facts()?;
     let values = problem.values()?;

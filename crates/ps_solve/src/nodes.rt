@@ -71,7 +71,7 @@ pub fn discover(
 }
 
 /// Puts in the row that a search begins with, as if the ground action at this place had led to it, and gives its level. The only error
-/// is want of memory, as it always is where the row doesn't have a flag for each atom.
+/// is want of memory.
 pub fn begin(
     alloc: Global,
     atoms: &Atoms,
@@ -80,13 +80,11 @@ pub fn begin(
     by: usize,
 ) -> Result<Vec<Reached>, AllocError>
     requires empty { seen.old.keys ≡ [] }
+    requires wide { length row.flags.items ≡ length atoms.now }
     ensures leads { IfOk result (λ level. map (plain_lead atoms.now) level.items ≡ record { node = record { state = plain_state atoms.now row; path = [] }; by = by } ∷ []) }
     ensures seen { OnOk result (map (plain_state atoms.now) seen.new.keys ≡ plain_state atoms.now row ∷ []) }
     ensures wide { OnOk result (AreWide atoms.now seen.new.keys) }
 {
-    if row.flags.as_slice().len() != atoms.as_slice().len() {
-        return Err(AllocError);
-    }
     let first = row.copy(alloc)?;
     seen.insert(first)?;
     let mut level = Vec::new(alloc);

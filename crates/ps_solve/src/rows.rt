@@ -63,7 +63,8 @@ impl Row {
         facts: &[Fact],
         values: &[(Fact, Num)],
     ) -> Result<Row, AllocError>
-        ensures { IfOk result (λ row. (facts_of atoms.now row.flags.items ≡ facts.now) × (row.values ≡ values.now)) }
+        ensures same { IfOk result (λ row. (facts_of atoms.now row.flags.items ≡ facts.now) × (row.values ≡ values.now)) }
+        ensures wide { IfOk result (λ row. length row.flags.items ≡ length atoms.now) }
     {
         let flags = flags_of(alloc, atoms, facts)?;
         let listed = list_of(alloc, atoms, &flags)?;
@@ -148,7 +149,9 @@ pub fn are_known(atoms: &Atoms, row: &Row, places: &[usize]) -> bool
 }
 
 /// Flags for the atoms, where these facts are set. The only error is want of memory, as it always is where a fact is no atom.
-fn flags_of(alloc: Global, atoms: &Atoms, facts: &[Fact]) -> Result<Vec<bool>, AllocError> {
+fn flags_of(alloc: Global, atoms: &Atoms, facts: &[Fact]) -> Result<Vec<bool>, AllocError>
+    ensures { IfOk result (λ flags. length flags.items ≡ length atoms.now) }
+{
     let mut flags = Vec::with_capacity(alloc, atoms.as_slice().len())?;
     for _ in atoms.as_slice() {
         flags.push(false)?;
@@ -230,7 +233,8 @@ fn forget(flags: &mut Vec<bool>, atoms: &Atoms, fact: &Fact)
 
 /// Sets the flag of a fact. The only error is want of memory, as it always is where the fact is no atom.
 fn learn(flags: &mut Vec<bool>, atoms: &Atoms, fact: &Fact) -> Result<(), AllocError>
-    ensures { OnOk result (facts_of atoms.now flags.new.items ≡ insert_key fact_cmp (facts_of atoms.now flags.old.items) fact.now) }
+    ensures set { OnOk result (facts_of atoms.now flags.new.items ≡ insert_key fact_cmp (facts_of atoms.now flags.old.items) fact.now) }
+    ensures wide { OnOk result (length flags.new.items ≡ length flags.old.items) }
 {
     match atoms.place_of(fact) {
         Some(place) if place < flags.as_slice().len() => {

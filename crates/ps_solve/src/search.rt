@@ -199,6 +199,7 @@ impl<'a, K: Known, T: Types> Search<'a, K, T> {
     /// The answer from a state on. The only error is want of memory.
     pub fn answer(&self, alloc: Global, start: Row, budget: u32) -> Result<Answer, AllocError>
         requires start { plain_state self.now.atoms.now start ≡ state_of (K.known self.now.given.now) }
+        requires wide { length start.flags.items ≡ length self.now.atoms.now }
         requires goal { (K.known self.now.given.now).goal ≡ Some self.now.goal.now }
         requires footprints { HaveFootprints self.now.actions.now }
         requires actions { (n : ReachedView) → leaps (T.types self.now.types.now) (K.known self.now.given.now) self.now.atoms.now self.now.actions.now (plain_node self.now.atoms.now n) ≡ moves (T.types self.now.types.now) (K.known self.now.given.now) (grounds (T.types self.now.types.now) (K.known self.now.given.now)) (plain_node self.now.atoms.now n) }
