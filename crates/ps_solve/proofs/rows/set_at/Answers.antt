@@ -2,8 +2,8 @@ use Rattle.std.proofs.Common.{◌<◌, Bool, List, length, ap, arith}
 use Rattle.ps_solve.proofs.FlagRows.{place_set}
 use Rattle.ps_solve.proofs.rows.set_at.Goals as goal
 
-pub returns-then-place-as_slice : goal.returns-then-place-as_slice
-returns-then-place-as_slice c =
+pub returns-then-place-as_slice-clause-facts : goal.returns-then-place-as_slice-clause-facts
+returns-then-place-as_slice-clause-facts c =
     let flags = c.args.flags.now.items in
     let same = ap (λ (l : List Bool). length l) c.as_slice.ensures.value in
     let within : c.args.place < length flags = omega (arith, same) in
