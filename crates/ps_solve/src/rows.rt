@@ -115,16 +115,15 @@ impl Row {
         }
     }
 
-    /// Sets the flags at these places. The only error is want of memory, as it always is where there is no flag, and then some of
-    /// the first may be set.
-    pub fn set_all(&mut self, atoms: &Atoms, places: &[usize]) -> Result<(), AllocError>
-        ensures state { OnOk result (plain_state atoms.now self.new ≡ record { facts = fold (with_at atoms.now) (plain_state atoms.now self.old).facts places.now; values = self.old.values }) }
-        ensures wide { OnOk result (length self.new.flags.items ≡ length self.old.flags.items) }
+    /// Sets the flags at these places.
+    pub fn set_all(&mut self, atoms: &Atoms, places: &[usize])
+        requires { length self.old.flags.items ≡ length atoms.now }
+        ensures state { plain_state atoms.now self.new ≡ record { facts = fold (with_at atoms.now) (plain_state atoms.now self.old).facts places.now; values = self.old.values } }
+        ensures wide { length self.new.flags.items ≡ length self.old.flags.items }
     {
         for place in places {
-            set_at(&mut self.flags, atoms, *place)?;
+            set_at(&mut self.flags, atoms, *place);
         }
-        Ok(())
     }
 }
 
@@ -211,17 +210,15 @@ fn clear_at(flags: &mut Vec<bool>, atoms: &Atoms, place: usize)
     }
 }
 
-/// Sets the flag at a place. The only error is want of memory, as it always is where there is no flag.
-fn set_at(flags: &mut Vec<bool>, atoms: &Atoms, place: usize) -> Result<(), AllocError>
-    ensures facts { OnOk result (facts_of atoms.now flags.new.items ≡ with_at atoms.now (facts_of atoms.now flags.old.items) place) }
-    ensures wide { OnOk result (length flags.new.items ≡ length flags.old.items) }
+/// Sets the flag at a place, if there is one.
+fn set_at(flags: &mut Vec<bool>, atoms: &Atoms, place: usize)
+    requires { length flags.old.items ≡ length atoms.now }
+    ensures facts { facts_of atoms.now flags.new.items ≡ with_at atoms.now (facts_of atoms.now flags.old.items) place }
+    ensures wide { length flags.new.items ≡ length flags.old.items }
 {
     let _atoms = atoms.as_slice();
     if place < flags.as_slice().len() {
         flags[place] = true;
-        Ok(())
-    } else {
-        Err(AllocError)
     }
 }
 
