@@ -1,5 +1,5 @@
 -- What is prepared leads to the same, and conditions that hold in no state over the atoms lead nowhere.
-use Rattle.std.proofs.Common.{◌≡◌, ℕ, zero, suc, ◌+◌, Bool, true, false, not, cond, ◌&&◌, ◌||◌, List, [], ◌∷◌, ◌++◌, Option, Some, None, option_map, option_and_then, option_to_list, drop, filter, filter_map, fold, map, refl, ap, sym, ◌∙◌}
+use Rattle.std.proofs.Common.{◌≡◌, ℕ, zero, suc, ◌+◌, Bool, true, false, not, cond, ◌&&◌, ◌||◌, List, [], ◌∷◌, ◌++◌, Option, Some, None, option_map, option_and_then, option_to_list, drop, filter, filter_map, flat_map, fold, map, refl, ap, sym, ◌∙◌, subst}
 use Rattle.std.specs.Prelude.{MatchOption, slice_get}
 use Rattle.std.specs.List.{cons_option, list_all, list_any}
 use Rattle.std.specs.Option.{option_map_or}
@@ -29,7 +29,7 @@ use Rattle.ps_solve.specs.States.{State, at, changed, ended, state_of, stepped, 
 use Rattle.ps_solve.specs.Nodes.{Node, move, moves}
 use Rattle.ps_solve.specs.Apart.{HaveFootprints, HasFootprint}
 use Rattle.ps_solve.specs.Prepared.{IsBareTest, is_number, known_at, landed, leap, leaps, leapt, passes, turned, with_at, without_at}
-use Rattle.ps_solve.specs.Rows.{AreAtoms, IsOver, plain_state}
+use Rattle.ps_solve.specs.Rows.{AreAtoms, IsOver, adds, plain_state}
 use Rattle.ps_solve.specs.declared.prepared.Prepared.{Prepared}
 use Rattle.ps_solve.specs.declared.prepared.Test.{Test}
 use Rattle.ps_solve.specs.declared.rows.Row.{Row}
@@ -98,9 +98,59 @@ other_atom f g (a ∷ atoms) (suc i) e gone = other_atom f g atoms i e (both (sa
 pub placed_atom : (f g : Fact) (atoms : List Fact) (i : ℕ) → slice_get atoms i ≡ Some g → list_any (same_fact f) atoms ≡ false → list_any (same_fact f) (g ∷ []) ≡ false
 placed_atom f g atoms i e gone = neither (same_fact f g) false (other_atom f g atoms i e gone) refl
 
-pub none_more : (p : Fact → Bool) (o : Option Fact) (fs : List Fact) → list_any p (option_to_list o) ≡ false → list_any p (cons_option o fs) ≡ list_any p fs
-none_more p None fs e = refl
-none_more p (Some f) fs e = ap (λ b. b || list_any p fs) (both (p f) false e).0
+none_in : (p : Fact → Bool) (o : Option Fact) (fs : List Fact) → list_any p (cons_option o fs) ≡ false → (list_any p (option_to_list o) ≡ false) × (list_any p fs ≡ false)
+none_in p None fs e = (refl, e)
+none_in p (Some f) fs e =
+    let w = both (p f) (list_any p fs) e in
+    (neither (p f) false w.0 refl, w.1)
+
+-- the first of some effects, and the others, add atoms alone where all do
+pub adds_split : (atoms : List Fact) (e : Effect) (es : List Effect) (i : ℕ) → drop i es ≡ e ∷ drop (i + 1) es → AddAtoms atoms (drop i es) → AreAtoms atoms (option_to_list (added_by e)) × AddAtoms atoms (drop (i + 1) es)
+adds_split atoms e es i split a =
+    let parts = λ (f : Fact) (gone : list_any (same_fact f) atoms ≡ false). none_in (same_fact f) (added_by e) (filter_map added_by (drop (i + 1) es)) (ap (λ (l : List Effect). list_any (same_fact f) (filter_map added_by l)) (sym split) ∙ a f gone) in
+    (λ f gone. (parts f gone).0, λ f gone. (parts f gone).1)
+
+none_of_both : (p : Fact → Bool) (fs gs : List Fact) → list_any p (fs ++ gs) ≡ false → (list_any p fs ≡ false) × (list_any p gs ≡ false)
+none_of_both p [] gs e = (refl, e)
+none_of_both p (f ∷ fs) gs e =
+    let w = both (p f) (list_any p (fs ++ gs)) e in
+    let rest = none_of_both p fs gs w.1 in
+    (neither (p f) (list_any p fs) w.0 rest.0, rest.1)
+
+-- where two lists together are atoms, each is
+pub atoms_of_both : (atoms fs gs : List Fact) → AreAtoms atoms (fs ++ gs) → AreAtoms atoms fs × AreAtoms atoms gs
+atoms_of_both atoms fs gs a = (λ f gone. (none_of_both (same_fact f) fs gs (a f gone)).0, λ f gone. (none_of_both (same_fact f) fs gs (a f gone)).1)
+
+-- a ground action that adds atoms alone does so at its start
+pub first_atoms : (atoms : List Fact) (g : GroundAction) → AreAtoms atoms (adds g) → AddAtoms atoms g.at_start
+first_atoms atoms g a = (atoms_of_both atoms (filter_map added_by g.at_start) (filter_map added_by g.at_end) a).0
+
+-- and at its end
+pub last_atoms : (atoms : List Fact) (g : GroundAction) → AreAtoms atoms (adds g) → AddAtoms atoms g.at_end
+last_atoms atoms g a = (atoms_of_both atoms (filter_map added_by g.at_start) (filter_map added_by g.at_end) a).1
+
+-- the first of some ground actions, and the others, add atoms alone where all do
+pub actions_split : (atoms : List Fact) (g : GroundAction) (gs : List GroundAction) (i : ℕ) → drop i gs ≡ g ∷ drop (i + 1) gs → AreAtoms atoms (flat_map adds (drop i gs)) → AreAtoms atoms (adds g) × AreAtoms atoms (flat_map adds (drop (i + 1) gs))
+actions_split atoms g gs i split a =
+    let P : List GroundAction → Type 0 = λ l. AreAtoms atoms (flat_map adds l) in
+    atoms_of_both atoms (adds g) (flat_map adds (drop (i + 1) gs)) (subst P split a)
+
+-- what is one of the atoms has a place
+pub no_place : {A : Type 0} (f : Fact) (atoms : List Fact) → list_any (same_fact f) atoms ≡ false → AreAtoms atoms (f ∷ []) → A
+no_place f atoms gone a =
+    let other = (both (same_fact f f) false (a f gone)).0 in
+    absurd (cc (other, (eq_by_cmp_equiv facts_total).refl f))
+
+none_was : (f : Fact) (xs fs : List Fact) → list_any (same_fact f) (fold (insert_key fact_cmp) fs xs) ≡ false → (list_any (same_fact f) fs ≡ false) × (list_any (same_fact f) xs ≡ false)
+none_was f [] fs e = (e, refl)
+none_was f (g ∷ xs) fs e =
+    let w = none_was f xs (insert_key fact_cmp fs g) e in
+    let v = both (same_fact f g) (list_any (same_fact f) fs) (sym (any-insert_key facts_total f g fs) ∙ w.0) in
+    (v.1, neither (same_fact f g) (list_any (same_fact f) xs) v.0 w.1)
+
+-- what is put among atoms is one of them
+pub are_put : (xs atoms : List Fact) → atoms ≡ fold (insert_key fact_cmp) [] xs → AreAtoms atoms xs
+are_put xs atoms e f gone = (none_was f xs [] (ap (λ (l : List Fact). list_any (same_fact f) l) (sym e) ∙ gone)).1
 
 module _ (k : Knowledge) (atoms : List Fact) where
   made_over : (s t : State) (es : List Effect) (ready : List (Fact × Num)) (fault : Option EffectRefusal) → IsOver atoms s → AddAtoms atoms es → option_map state_of (result_ok (unless fault (made (at k s) es ready))) ≡ Some t → IsOver atoms t

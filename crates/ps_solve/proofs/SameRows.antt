@@ -13,7 +13,8 @@ use Rattle.ps_world.specs.declared.facts.Fact.{Fact}
 use Rattle.ps_solve.specs.Orders.{exact_values, values_cmp}
 use Rattle.ps_solve.specs.States.{State}
 use Rattle.ps_solve.specs.Nodes.{is_met, same_state}
-use Rattle.ps_solve.specs.Rows.{AreWide, facts_of, plain_state, rows_equiv, same_flags, same_row}
+use Rattle.ps_solve.specs.Rows.{AreWide, HaveWide, facts_of, plain_state, rows_equiv, same_flags, same_row}
+use Rattle.ps_solve.specs.declared.nodes.Reached.{Reached}
 use Rattle.ps_solve.specs.declared.rows.Row.{Row}
 use Rattle.ps_solve.proofs.FlagRows.{flags_told}
 use Rattle.ps_solve.proofs.SameStates.{state_itself, state_same}
@@ -38,6 +39,10 @@ module _ (atoms : List Fact) where
   pub wide_more : (rows : List Row) (c : Row) → AreWide atoms rows → length c.flags.items ≡ length atoms → AreWide atoms (rows ++ c ∷ [])
   wide_more [] c w h = (h, tt)
   wide_more (r ∷ rows) c w h = (w.0, wide_more rows c w.1 h)
+
+  pub have_more : (ns : List Reached) (n : Reached) → HaveWide atoms ns → length n.row.flags.items ≡ length atoms → HaveWide atoms (ns ++ n ∷ [])
+  have_more [] n w h = (h, tt)
+  have_more (m ∷ ns) n w h = (w.0, have_more ns n w.1 h)
 
   module _ (rise : IsStrictlySortedBy fact_cmp atoms) where
     same_rows : (r s : Row) → length r.flags.items ≡ length atoms → length s.flags.items ≡ length atoms → same_row r s ≡ same_state (plain_state atoms r) (plain_state atoms s)

@@ -72,6 +72,11 @@ abbrev pub AreWide : List Fact → List Row → Type 0
 AreWide atoms [] = Unit {0}
 AreWide atoms (r ∷ rs) = (length r.flags.items ≡ length atoms) × AreWide atoms rs
 
+-- so has the row of each of these
+abbrev pub HaveWide : List Fact → List Reached → Type 0
+HaveWide atoms [] = Unit {0}
+HaveWide atoms (n ∷ ns) = (length n.row.flags.items ≡ length atoms) × HaveWide atoms ns
+
 -- the facts that a ground action adds, at its start and then at its end
 abbrev pub adds : GroundAction → List Fact
 adds g = filter_map added_by g.at_start ++ filter_map added_by g.at_end

@@ -1,6 +1,8 @@
 //! The solver that looks forward.
-ghost use Rattle.std.specs.Prelude.{◌≡◌, ◌++◌, Some, filter_map, map, option_to_list, IfOk, OnOk};
+ghost use Rattle.std.specs.Prelude.{◌≡◌, ◌++◌, Some, [], filter_map, flat_map, fold, length, map, option_to_list, IfOk, OnOk};
 ghost use Rattle.std.specs.Result.{result_ok};
+ghost use Rattle.std.specs.BTreeSet.{insert_key};
+ghost use Rattle.ps_world.specs.Facts.{fact_cmp};
 ghost use Rattle.ps_action.specs.Grounding.{all_ground, ground_act};
 ghost use Rattle.ps_action.specs.Search.{answer};
 ghost use Rattle.ps_solve.specs.Apart.{HaveFootprints};
@@ -8,7 +10,7 @@ ghost use Rattle.ps_solve.specs.Endings.{searched};
 ghost use Rattle.ps_solve.specs.States.{state_of};
 ghost use Rattle.ps_solve.specs.Nodes.{Node, grounds, moves};
 ghost use Rattle.ps_solve.specs.Prepared.{leaps};
-ghost use Rattle.ps_solve.specs.Rows.{plain_node, plain_state};
+ghost use Rattle.ps_solve.specs.Rows.{AreAtoms, adds, plain_node, plain_state};
 ghost use Rattle.ps_solve.specs.declared.nodes.Reached.{Reached as ReachedView};
 
 use super::atoms::Atoms;
@@ -78,7 +80,8 @@ fn grounds(
 
 /// The row of what is known. The only error is want of memory, as it always is where a fact is no atom.
 fn start_of(alloc: Global, atoms: &Atoms, problem: &Problem) -> Result<Row, AllocError>
-    ensures { IfOk result (λ row. plain_state atoms.now row ≡ state_of problem.now) }
+    ensures same { IfOk result (λ row. plain_state atoms.now row ≡ state_of problem.now) }
+    ensures wide { IfOk result (λ row. length row.flags.items ≡ length atoms.now) }
 {
     let facts = problem.facts()?;
     let values = problem.values()?;
@@ -143,6 +146,7 @@ impl<'a> Question<'a> {
     ) -> Result<Answer, AllocError>
         requires goal { self.now.problem.now.goal ≡ Some self.now.goal.now }
         requires moves { (n : Node) → moves self.now.expert.now self.now.problem.now light.now n ≡ moves self.now.expert.now self.now.problem.now (grounds self.now.expert.now self.now.problem.now) n }
+        requires atoms { AreAtoms atoms.now (flat_map adds light.now) }
         ensures { IfOk result (λ a. a ≡ searched self.now.expert.now self.now.problem.now self.now.budget) }
     {
         let actions = prepare_all(alloc, atoms, light)?;
@@ -174,7 +178,9 @@ impl<'a> Question<'a> {
 }
 
 /// The atoms of a search by these ground actions from what is known. The only error is want of memory.
-fn atoms_of(alloc: Global, problem: &Problem, light: &[GroundAction]) -> Result<Atoms, AllocError> {
+fn atoms_of(alloc: Global, problem: &Problem, light: &[GroundAction]) -> Result<Atoms, AllocError>
+    ensures { IfOk result (λ atoms. atoms ≡ fold (insert_key fact_cmp) [] (problem.now.facts ++ flat_map adds light.now)) }
+{
     let facts = problem.facts()?;
     Atoms::of(alloc, &facts, light)
 }

@@ -3,7 +3,7 @@ ghost use Rattle.std.specs.Prelude.{◌≡◌, List, [], ◌∷◌, ◌++◌, fa
 ghost use Rattle.std.specs.List.{list_any};
 ghost use Rattle.ps_world.specs.declared.facts.Fact.{Fact as FactView};
 ghost use Rattle.ps_solve.specs.Nodes.{met};
-ghost use Rattle.ps_solve.specs.Rows.{AreWide, plain_state, same_row};
+ghost use Rattle.ps_solve.specs.Rows.{AreWide, HaveWide, plain_state, same_row};
 ghost use Rattle.ps_solve.specs.Leads.{first_leads, plain_lead};
 
 use super::atoms::Atoms;
@@ -43,7 +43,7 @@ fn remember(alloc: Global, seen: &mut IndexSet<Row>, row: &Row) -> Result<(), Al
 }
 
 /// Puts a row at the end, with the acts before it, and the one that leads to it and its place, unless it was met. The only error is
-/// want of memory, as it always is where the row doesn't have a flag for each atom.
+/// want of memory.
 pub fn discover(
     alloc: Global,
     atoms: &Atoms,
@@ -55,13 +55,15 @@ pub fn discover(
     by: usize,
 ) -> Result<(), AllocError>
     requires wide { AreWide atoms.now seen.old.keys }
+    requires level { HaveWide atoms.now next.old.items }
+    requires row { length row.flags.items ≡ length atoms.now }
     ensures leads { OnOk result (map (plain_lead atoms.now) next.new.items ≡ map (plain_lead atoms.now) next.old.items ++ first_leads (map (plain_state atoms.now) seen.old.keys) (record { node = record { state = plain_state atoms.now row; path = before.now ++ act ∷ [] }; by = by } ∷ [])) }
     ensures seen { OnOk result (map (plain_state atoms.now) seen.new.keys ≡ met (map (plain_state atoms.now) seen.old.keys) (record { state = plain_state atoms.now row; path = before.now ++ act ∷ [] } ∷ [])) }
     ensures wide { OnOk result (AreWide atoms.now seen.new.keys) }
+    ensures level { OnOk result (HaveWide atoms.now next.new.items) }
 {
-    if row.flags.as_slice().len() != atoms.as_slice().len() {
-        return Err(AllocError);
-    }
+    // The atoms say with their slice that they rise.
+    let _atoms = atoms.as_slice();
     if !seen.contains(&row) {
         remember(alloc, seen, &row)?;
         let path = path_to(alloc, before, act)?;
@@ -71,7 +73,7 @@ pub fn discover(
 }
 
 /// Puts in the row that a search begins with, as if the ground action at this place had led to it, and gives its level. The only error
-/// is want of memory, as it always is where the row doesn't have a flag for each atom.
+/// is want of memory.
 pub fn begin(
     alloc: Global,
     atoms: &Atoms,
@@ -80,13 +82,12 @@ pub fn begin(
     by: usize,
 ) -> Result<Vec<Reached>, AllocError>
     requires empty { seen.old.keys ≡ [] }
+    requires wide { length row.flags.items ≡ length atoms.now }
     ensures leads { IfOk result (λ level. map (plain_lead atoms.now) level.items ≡ record { node = record { state = plain_state atoms.now row; path = [] }; by = by } ∷ []) }
     ensures seen { OnOk result (map (plain_state atoms.now) seen.new.keys ≡ plain_state atoms.now row ∷ []) }
     ensures wide { OnOk result (AreWide atoms.now seen.new.keys) }
+    ensures level { IfOk result (λ level. HaveWide atoms.now level.items) }
 {
-    if row.flags.as_slice().len() != atoms.as_slice().len() {
-        return Err(AllocError);
-    }
     let first = row.copy(alloc)?;
     seen.insert(first)?;
     let mut level = Vec::new(alloc);

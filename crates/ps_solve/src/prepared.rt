@@ -1,5 +1,5 @@
 //! Ground actions, prepared for steps from row to row.
-ghost use Rattle.std.specs.Prelude.{◌≡◌, ◌&&◌, List, false, filter, filter_map, fold, not, option_to_list, true, None, IfOk, IfSome, MatchOption};
+ghost use Rattle.std.specs.Prelude.{◌≡◌, ◌&&◌, List, false, filter, filter_map, flat_map, fold, not, option_to_list, true, None, IfOk, IfSome, MatchOption};
 ghost use Rattle.std.specs.List.{list_any};
 ghost use Rattle.std.specs.Option.{option_map_or};
 ghost use Rattle.std.specs.BTreeSet.{insert_key};
@@ -13,7 +13,7 @@ ghost use Rattle.ps_action.specs.Effects.{added_by, deletes};
 ghost use Rattle.ps_action.specs.Truth.{all_true, is_true};
 ghost use Rattle.ps_solve.specs.States.{State, at, changed, stepped};
 ghost use Rattle.ps_solve.specs.Nodes.{moves};
-ghost use Rattle.ps_solve.specs.Rows.{AreAtoms, IsOver, plain_node};
+ghost use Rattle.ps_solve.specs.Rows.{AreAtoms, IsOver, adds, plain_node};
 ghost use Rattle.ps_solve.specs.Prepared.{IsBare, IsBareTest, is_number, leaps, leapt, passes, turned, with_at, without_at};
 ghost use Rattle.ps_solve.specs.Apart.{HaveFootprints, HasFootprint};
 ghost use Rattle.ps_solve.specs.declared.nodes.Reached.{Reached as ReachedView};
@@ -166,40 +166,39 @@ fn all_deleted(alloc: Global, atoms: &Atoms, effects: &[Effect]) -> Result<Vec<u
     Ok(places)
 }
 
-/// The place of the atom that an effect adds, if it adds one. An error only where it adds a fact that is no atom.
-fn added(atoms: &Atoms, effect: &Effect) -> Result<Option<usize>, AllocError>
-    ensures put { IfOk result (λ place. (fs : List FactView) → option_map_or (with_at atoms.now fs) place fs ≡ fold (insert_key fact_cmp) fs (option_to_list (added_by effect.now))) }
-    ensures atoms { IfOk result (λ place. AreAtoms atoms.now (option_to_list (added_by effect.now))) }
+/// The place of the atom that an effect adds, if it adds one.
+fn added(atoms: &Atoms, effect: &Effect) -> Option<usize>
+    requires { AreAtoms atoms.now (option_to_list (added_by effect.now)) }
+    ensures { (fs : List FactView) → option_map_or (with_at atoms.now fs) result fs ≡ fold (insert_key fact_cmp) fs (option_to_list (added_by effect.now)) }
 {
     match effect {
         Effect::Add(lifted) => match atoms.place_of(&lifted.ground()) {
-            Some(place) => Ok(Some(place)),
-            None => Err(AllocError),
+            Some(place) => Some(place),
+            None => unreachable!(),
         },
-        Effect::Delete(_) => Ok(None),
-        Effect::Number(..) => Ok(None),
+        Effect::Delete(_) => None,
+        Effect::Number(..) => None,
     }
 }
 
-/// The places of the atoms that these effects add. The only error is want of memory, as it always is where a fact to be added is no
-/// atom.
+/// The places of the atoms that these effects add. The only error is want of memory.
 fn all_added(alloc: Global, atoms: &Atoms, effects: &[Effect]) -> Result<Vec<usize>, AllocError>
-    ensures put { IfOk result (λ places. (fs : List FactView) → fold (with_at atoms.now) fs places.items ≡ fold (insert_key fact_cmp) fs (filter_map added_by effects.now)) }
-    ensures atoms { IfOk result (λ places. AreAtoms atoms.now (filter_map added_by effects.now)) }
+    requires { AreAtoms atoms.now (filter_map added_by effects.now) }
+    ensures { IfOk result (λ places. (fs : List FactView) → fold (with_at atoms.now) fs places.items ≡ fold (insert_key fact_cmp) fs (filter_map added_by effects.now)) }
 {
     let mut places = Vec::new(alloc);
     for effect in effects {
-        if let Some(place) = added(atoms, effect)? {
+        if let Some(place) = added(atoms, effect) {
             places.push(place)?;
         }
     }
     Ok(places)
 }
 
-/// The change of a list of effects. The only error is want of memory, as it always is where a fact to be added is no atom.
+/// The change of a list of effects. The only error is want of memory.
 fn change_of(alloc: Global, atoms: &Atoms, effects: &Seq<Effect>) -> Result<Change, AllocError>
-    ensures same { IfOk result (λ change. (k : KnowledgeView) (s : State) → IsOver atoms.now s → turned k atoms.now change s ≡ changed k s effects.now) }
-    ensures atoms { IfOk result (λ change. AreAtoms atoms.now (filter_map added_by effects.now)) }
+    requires { AreAtoms atoms.now (filter_map added_by effects.now) }
+    ensures { IfOk result (λ change. (k : KnowledgeView) (s : State) → IsOver atoms.now s → turned k atoms.now change s ≡ changed k s effects.now) }
 {
     let set = all_added(alloc, atoms, effects.as_slice())?;
     if has_number(effects.as_slice()) {
@@ -210,14 +209,15 @@ fn change_of(alloc: Global, atoms: &Atoms, effects: &Seq<Effect>) -> Result<Chan
 }
 
 /// Prepares a ground action into a bare one, and answers whether it could: false only where it leads nowhere from any state over the
-/// atoms. The only error is want of memory, as it always is where a fact to be added is no atom.
+/// atoms. The only error is want of memory.
 fn fill(
     alloc: Global,
     atoms: &Atoms,
     action: &GroundAction,
     made: &mut Prepared,
 ) -> Result<bool, AllocError>
-    requires { IsBare made.old }
+    requires bare { IsBare made.old }
+    requires atoms { AreAtoms atoms.now (adds action.now) }
     ensures act { made.new.act ≡ made.old.act }
     ensures same { IfOk result (λ fits. fits ≡ true → (d : DomainView) (k : KnowledgeView) (s : State) → IsOver atoms.now s → leapt d k atoms.now s made.new ≡ stepped d k s action.now) }
     ensures vain { IfOk result (λ fits. fits ≡ false → (d : DomainView) (k : KnowledgeView) (s : State) → IsOver atoms.now s → stepped d k s action.now ≡ None) }
@@ -244,13 +244,13 @@ fn fill(
     Ok(true)
 }
 
-/// A ground action, prepared. None only where it leads nowhere from any state over the atoms. The only error is want of memory, as
-/// it always is where a fact to be added is no atom.
+/// A ground action, prepared. None only where it leads nowhere from any state over the atoms. The only error is want of memory.
 fn prepare(
     alloc: Global,
     atoms: &Atoms,
     action: &GroundAction,
 ) -> Result<Option<Prepared>, AllocError>
+    requires { AreAtoms atoms.now (adds action.now) }
     ensures same { IfOk result (λ made. MatchOption made ((d : DomainView) (k : KnowledgeView) (s : State) → IsOver atoms.now s → stepped d k s action.now ≡ None) (λ p. (p.act ≡ action.now.act) × ((d : DomainView) (k : KnowledgeView) (s : State) → IsOver atoms.now s → leapt d k atoms.now s p ≡ stepped d k s action.now))) }
     ensures footprints { IfOk result (λ made. IfSome made HasFootprint) }
 {
@@ -263,12 +263,13 @@ fn prepare(
 }
 
 /// These ground actions, prepared, in order, without those that lead nowhere from any state over the atoms: they lead to the same
-/// nodes. The only error is want of memory, as it always is where a fact to be added is no atom.
+/// nodes. The only error is want of memory.
 pub fn prepare_all(
     alloc: Global,
     atoms: &Atoms,
     actions: &[GroundAction],
 ) -> Result<Vec<Prepared>, AllocError>
+    requires { AreAtoms atoms.now (flat_map adds actions.now) }
     ensures same { IfOk result (λ all. (d : DomainView) (k : KnowledgeView) (r : ReachedView) → leaps d k atoms.now all.items (plain_node atoms.now r) ≡ moves d k actions.now (plain_node atoms.now r)) }
     ensures footprints { IfOk result (λ all. HaveFootprints all.items) }
 {

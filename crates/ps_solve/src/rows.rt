@@ -63,7 +63,8 @@ impl Row {
         facts: &[Fact],
         values: &[(Fact, Num)],
     ) -> Result<Row, AllocError>
-        ensures { IfOk result (λ row. (facts_of atoms.now row.flags.items ≡ facts.now) × (row.values ≡ values.now)) }
+        ensures same { IfOk result (λ row. (facts_of atoms.now row.flags.items ≡ facts.now) × (row.values ≡ values.now)) }
+        ensures wide { IfOk result (λ row. length row.flags.items ≡ length atoms.now) }
     {
         let flags = flags_of(alloc, atoms, facts)?;
         let listed = list_of(alloc, atoms, &flags)?;
@@ -96,7 +97,8 @@ impl Row {
         effects: &[Effect],
         ready: &[(Fact, Num)],
     ) -> Result<(), AllocError>
-        ensures { OnOk result (plain_state atoms.now self.new ≡ made_state (plain_state atoms.now self.old) effects.now ready.now) }
+        ensures state { OnOk result (plain_state atoms.now self.new ≡ made_state (plain_state atoms.now self.old) effects.now ready.now) }
+        ensures wide { OnOk result (length self.new.flags.items ≡ length self.old.flags.items) }
     {
         delete_all(&mut self.flags, atoms, effects);
         add_all(&mut self.flags, atoms, effects)?;
@@ -105,22 +107,23 @@ impl Row {
 
     /// Clears the flags at these places.
     pub fn clear_all(&mut self, atoms: &Atoms, places: &[usize])
-        ensures { plain_state atoms.now self.new ≡ record { facts = fold (without_at atoms.now) (plain_state atoms.now self.old).facts places.now; values = self.old.values } }
+        ensures state { plain_state atoms.now self.new ≡ record { facts = fold (without_at atoms.now) (plain_state atoms.now self.old).facts places.now; values = self.old.values } }
+        ensures wide { length self.new.flags.items ≡ length self.old.flags.items }
     {
         for place in places {
             clear_at(&mut self.flags, atoms, *place);
         }
     }
 
-    /// Sets the flags at these places. The only error is want of memory, as it always is where there is no flag, and then some of
-    /// the first may be set.
-    pub fn set_all(&mut self, atoms: &Atoms, places: &[usize]) -> Result<(), AllocError>
-        ensures { OnOk result (plain_state atoms.now self.new ≡ record { facts = fold (with_at atoms.now) (plain_state atoms.now self.old).facts places.now; values = self.old.values }) }
+    /// Sets the flags at these places.
+    pub fn set_all(&mut self, atoms: &Atoms, places: &[usize])
+        requires { length self.old.flags.items ≡ length atoms.now }
+        ensures state { plain_state atoms.now self.new ≡ record { facts = fold (with_at atoms.now) (plain_state atoms.now self.old).facts places.now; values = self.old.values } }
+        ensures wide { length self.new.flags.items ≡ length self.old.flags.items }
     {
         for place in places {
-            set_at(&mut self.flags, atoms, *place)?;
+            set_at(&mut self.flags, atoms, *place);
         }
-        Ok(())
     }
 }
 
@@ -148,7 +151,9 @@ pub fn are_known(atoms: &Atoms, row: &Row, places: &[usize]) -> bool
 }
 
 /// Flags for the atoms, where these facts are set. The only error is want of memory, as it always is where a fact is no atom.
-fn flags_of(alloc: Global, atoms: &Atoms, facts: &[Fact]) -> Result<Vec<bool>, AllocError> {
+fn flags_of(alloc: Global, atoms: &Atoms, facts: &[Fact]) -> Result<Vec<bool>, AllocError>
+    ensures { IfOk result (λ flags. length flags.items ≡ length atoms.now) }
+{
     let mut flags = Vec::with_capacity(alloc, atoms.as_slice().len())?;
     for _ in atoms.as_slice() {
         flags.push(false)?;
@@ -195,7 +200,8 @@ pub fn is_set(flags: &[bool], place: usize) -> bool
 
 /// Clears the flag at a place, if there is one.
 fn clear_at(flags: &mut Vec<bool>, atoms: &Atoms, place: usize)
-    ensures { facts_of atoms.now flags.new.items ≡ without_at atoms.now (facts_of atoms.now flags.old.items) place }
+    ensures facts { facts_of atoms.now flags.new.items ≡ without_at atoms.now (facts_of atoms.now flags.old.items) place }
+    ensures wide { length flags.new.items ≡ length flags.old.items }
 {
     // The atoms say with their slice that they rise.
     let _atoms = atoms.as_slice();
@@ -204,22 +210,22 @@ fn clear_at(flags: &mut Vec<bool>, atoms: &Atoms, place: usize)
     }
 }
 
-/// Sets the flag at a place. The only error is want of memory, as it always is where there is no flag.
-fn set_at(flags: &mut Vec<bool>, atoms: &Atoms, place: usize) -> Result<(), AllocError>
-    ensures { OnOk result (facts_of atoms.now flags.new.items ≡ with_at atoms.now (facts_of atoms.now flags.old.items) place) }
+/// Sets the flag at a place, if there is one.
+fn set_at(flags: &mut Vec<bool>, atoms: &Atoms, place: usize)
+    requires { length flags.old.items ≡ length atoms.now }
+    ensures facts { facts_of atoms.now flags.new.items ≡ with_at atoms.now (facts_of atoms.now flags.old.items) place }
+    ensures wide { length flags.new.items ≡ length flags.old.items }
 {
     let _atoms = atoms.as_slice();
     if place < flags.as_slice().len() {
         flags[place] = true;
-        Ok(())
-    } else {
-        Err(AllocError)
     }
 }
 
 /// Clears the flag of a fact, if it is an atom.
 fn forget(flags: &mut Vec<bool>, atoms: &Atoms, fact: &Fact)
-    ensures { facts_of atoms.now flags.new.items ≡ filter (λ f. not (same_fact fact.now f)) (facts_of atoms.now flags.old.items) }
+    ensures facts { facts_of atoms.now flags.new.items ≡ filter (λ f. not (same_fact fact.now f)) (facts_of atoms.now flags.old.items) }
+    ensures wide { length flags.new.items ≡ length flags.old.items }
 {
     if let Some(place) = atoms.place_of(fact) {
         if place < flags.as_slice().len() {
@@ -230,7 +236,8 @@ fn forget(flags: &mut Vec<bool>, atoms: &Atoms, fact: &Fact)
 
 /// Sets the flag of a fact. The only error is want of memory, as it always is where the fact is no atom.
 fn learn(flags: &mut Vec<bool>, atoms: &Atoms, fact: &Fact) -> Result<(), AllocError>
-    ensures { OnOk result (facts_of atoms.now flags.new.items ≡ insert_key fact_cmp (facts_of atoms.now flags.old.items) fact.now) }
+    ensures set { OnOk result (facts_of atoms.now flags.new.items ≡ insert_key fact_cmp (facts_of atoms.now flags.old.items) fact.now) }
+    ensures wide { OnOk result (length flags.new.items ≡ length flags.old.items) }
 {
     match atoms.place_of(fact) {
         Some(place) if place < flags.as_slice().len() => {
@@ -243,7 +250,8 @@ fn learn(flags: &mut Vec<bool>, atoms: &Atoms, fact: &Fact) -> Result<(), AllocE
 
 /// Clears the flags of every fact that one of these effects deletes.
 fn delete_all(flags: &mut Vec<bool>, atoms: &Atoms, effects: &[Effect])
-    ensures { facts_of atoms.now flags.new.items ≡ filter (λ f. not (list_any (deletes f) effects.now)) (facts_of atoms.now flags.old.items) }
+    ensures facts { facts_of atoms.now flags.new.items ≡ filter (λ f. not (list_any (deletes f) effects.now)) (facts_of atoms.now flags.old.items) }
+    ensures wide { length flags.new.items ≡ length flags.old.items }
 {
     for effect in effects {
         delete(flags, atoms, effect);
@@ -252,7 +260,8 @@ fn delete_all(flags: &mut Vec<bool>, atoms: &Atoms, effects: &[Effect])
 
 /// Clears the flag of the fact that an effect deletes, if it deletes one.
 fn delete(flags: &mut Vec<bool>, atoms: &Atoms, effect: &Effect)
-    ensures { facts_of atoms.now flags.new.items ≡ filter (λ f. not (deletes f effect.now)) (facts_of atoms.now flags.old.items) }
+    ensures facts { facts_of atoms.now flags.new.items ≡ filter (λ f. not (deletes f effect.now)) (facts_of atoms.now flags.old.items) }
+    ensures wide { length flags.new.items ≡ length flags.old.items }
 {
     match effect {
         Effect::Delete(lifted) => forget(flags, atoms, &lifted.ground()),
@@ -264,7 +273,8 @@ fn delete(flags: &mut Vec<bool>, atoms: &Atoms, effect: &Effect)
 /// Sets the flags of every fact that one of these effects adds. The only error is want of memory, as it always is where such a
 /// fact is no atom, and then some of the first may be set.
 fn add_all(flags: &mut Vec<bool>, atoms: &Atoms, effects: &[Effect]) -> Result<(), AllocError>
-    ensures { OnOk result (facts_of atoms.now flags.new.items ≡ fold (insert_key fact_cmp) (facts_of atoms.now flags.old.items) (filter_map added_by effects.now)) }
+    ensures facts { OnOk result (facts_of atoms.now flags.new.items ≡ fold (insert_key fact_cmp) (facts_of atoms.now flags.old.items) (filter_map added_by effects.now)) }
+    ensures wide { OnOk result (length flags.new.items ≡ length flags.old.items) }
 {
     for effect in effects {
         add(flags, atoms, effect)?;
@@ -275,7 +285,8 @@ fn add_all(flags: &mut Vec<bool>, atoms: &Atoms, effects: &[Effect]) -> Result<(
 /// Sets the flag of the fact that an effect adds, if it adds one. The only error is want of memory, as it always is where the fact
 /// is no atom.
 fn add(flags: &mut Vec<bool>, atoms: &Atoms, effect: &Effect) -> Result<(), AllocError>
-    ensures { OnOk result (facts_of atoms.now flags.new.items ≡ fold (insert_key fact_cmp) (facts_of atoms.now flags.old.items) (option_to_list (added_by effect.now))) }
+    ensures facts { OnOk result (facts_of atoms.now flags.new.items ≡ fold (insert_key fact_cmp) (facts_of atoms.now flags.old.items) (option_to_list (added_by effect.now))) }
+    ensures wide { OnOk result (length flags.new.items ≡ length flags.old.items) }
 {
     if let Effect::Add(lifted) = effect {
         learn(flags, atoms, &lifted.ground())?;

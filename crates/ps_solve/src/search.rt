@@ -9,7 +9,7 @@ ghost use Rattle.ps_solve.specs.Nodes.{grounds, met, moves, root};
 ghost use Rattle.ps_solve.specs.Apart.{HaveFootprints, is_spared};
 ghost use Rattle.ps_solve.specs.Leads.{AreSpared, IsSpared, first_leads, leads_from, plain_lead};
 ghost use Rattle.ps_solve.specs.Prepared.{leaps};
-ghost use Rattle.ps_solve.specs.Rows.{AreWide, plain_node, plain_state};
+ghost use Rattle.ps_solve.specs.Rows.{AreWide, HaveWide, plain_node, plain_state};
 ghost use Rattle.ps_solve.specs.declared.nodes.Reached.{Reached as ReachedView};
 
 use super::atoms::Atoms;
@@ -73,9 +73,12 @@ impl<'a, K: Known, T: Types> Search<'a, K, T> {
         next: &mut Vec<Reached>,
     ) -> Result<(), AllocError>
         requires wide { AreWide self.now.atoms.now seen.old.keys }
+        requires node { length node.now.row.flags.items ≡ length self.now.atoms.now }
+        requires level { HaveWide self.now.atoms.now next.old.items }
         ensures leads { OnOk result (map (plain_lead self.now.atoms.now) next.new.items ≡ map (plain_lead self.now.atoms.now) next.old.items ++ first_leads (map (plain_state self.now.atoms.now) seen.old.keys) (leads_from (T.types self.now.types.now) (K.known self.now.given.now) self.now.atoms.now place (action.now ∷ []) (plain_node self.now.atoms.now node.now))) }
         ensures seen { OnOk result (map (plain_state self.now.atoms.now) seen.new.keys ≡ met (map (plain_state self.now.atoms.now) seen.old.keys) (leaps (T.types self.now.types.now) (K.known self.now.given.now) self.now.atoms.now (action.now ∷ []) (plain_node self.now.atoms.now node.now))) }
         ensures wide { OnOk result (AreWide self.now.atoms.now seen.new.keys) }
+        ensures level { OnOk result (HaveWide self.now.atoms.now next.new.items) }
     {
         match step(alloc, self.given, self.types, self.atoms, &node.row, action)? {
             Some(row) => discover(
@@ -109,10 +112,13 @@ impl<'a, K: Known, T: Types> Search<'a, K, T> {
         next: &mut Vec<Reached>,
     ) -> Result<(), AllocError>
         requires wide { AreWide self.now.atoms.now seen.old.keys }
+        requires node { length node.now.row.flags.items ≡ length self.now.atoms.now }
+        requires level { HaveWide self.now.atoms.now next.old.items }
         requires spared { IsSpared (T.types self.now.types.now) (K.known self.now.given.now) self.now.atoms.now self.now.actions.now (map (plain_state self.now.atoms.now) seen.old.keys) (plain_lead self.now.atoms.now node.now) }
         ensures leads { OnOk result (map (plain_lead self.now.atoms.now) next.new.items ≡ map (plain_lead self.now.atoms.now) next.old.items ++ first_leads (map (plain_state self.now.atoms.now) seen.old.keys) (leads_from (T.types self.now.types.now) (K.known self.now.given.now) self.now.atoms.now 0 self.now.actions.now (plain_node self.now.atoms.now node.now))) }
         ensures seen { OnOk result (map (plain_state self.now.atoms.now) seen.new.keys ≡ met (map (plain_state self.now.atoms.now) seen.old.keys) (leaps (T.types self.now.types.now) (K.known self.now.given.now) self.now.atoms.now self.now.actions.now (plain_node self.now.atoms.now node.now))) }
         ensures wide { OnOk result (AreWide self.now.atoms.now seen.new.keys) }
+        ensures level { OnOk result (HaveWide self.now.atoms.now next.new.items) }
     {
         for (place, action) in self.actions.iter().enumerate() {
             if !self.is_spared(node.by, place, action) {
@@ -130,10 +136,12 @@ impl<'a, K: Known, T: Types> Search<'a, K, T> {
         seen: &mut IndexSet<Row>,
     ) -> Result<Vec<Reached>, AllocError>
         requires wide { AreWide self.now.atoms.now seen.old.keys }
+        requires level { HaveWide self.now.atoms.now level.now }
         requires spared { AreSpared (T.types self.now.types.now) (K.known self.now.given.now) self.now.atoms.now self.now.actions.now (map (plain_state self.now.atoms.now) seen.old.keys) (map (plain_lead self.now.atoms.now) level.now) }
         ensures leads { IfOk result (λ next. map (plain_lead self.now.atoms.now) next.items ≡ first_leads (map (plain_state self.now.atoms.now) seen.old.keys) (flat_map (leads_from (T.types self.now.types.now) (K.known self.now.given.now) self.now.atoms.now 0 self.now.actions.now) (map (plain_node self.now.atoms.now) level.now))) }
         ensures seen { OnOk result (map (plain_state self.now.atoms.now) seen.new.keys ≡ met (map (plain_state self.now.atoms.now) seen.old.keys) (flat_map (leaps (T.types self.now.types.now) (K.known self.now.given.now) self.now.atoms.now self.now.actions.now) (map (plain_node self.now.atoms.now) level.now))) }
         ensures wide { OnOk result (AreWide self.now.atoms.now seen.new.keys) }
+        ensures level { IfOk result (λ next. HaveWide self.now.atoms.now next.items) }
     {
         let mut next = Vec::new(alloc);
         for node in level {
@@ -180,6 +188,7 @@ impl<'a, K: Known, T: Types> Search<'a, K, T> {
         requires leads { map (plain_lead self.now.atoms.now) level.old.items ≡ record { node = root (K.known self.now.given.now); by = length self.now.actions.now } ∷ [] }
         requires seen { map (plain_state self.now.atoms.now) seen.old.keys ≡ state_of (K.known self.now.given.now) ∷ [] }
         requires wide { AreWide self.now.atoms.now seen.old.keys }
+        requires level { HaveWide self.now.atoms.now level.old.items }
         ensures { IfOk result (λ answer. answer ≡ searched (T.types self.now.types.now) (K.known self.now.given.now) budget) }
     {
         // The atoms say with their slice that they rise.
@@ -199,6 +208,7 @@ impl<'a, K: Known, T: Types> Search<'a, K, T> {
     /// The answer from a state on. The only error is want of memory.
     pub fn answer(&self, alloc: Global, start: Row, budget: u32) -> Result<Answer, AllocError>
         requires start { plain_state self.now.atoms.now start ≡ state_of (K.known self.now.given.now) }
+        requires wide { length start.flags.items ≡ length self.now.atoms.now }
         requires goal { (K.known self.now.given.now).goal ≡ Some self.now.goal.now }
         requires footprints { HaveFootprints self.now.actions.now }
         requires actions { (n : ReachedView) → leaps (T.types self.now.types.now) (K.known self.now.given.now) self.now.atoms.now self.now.actions.now (plain_node self.now.atoms.now n) ≡ moves (T.types self.now.types.now) (K.known self.now.given.now) (grounds (T.types self.now.types.now) (K.known self.now.given.now)) (plain_node self.now.atoms.now n) }

@@ -1,5 +1,5 @@
 //! Steps from a state to the next.
-ghost use Rattle.std.specs.Prelude.{◌≡◌, Some, None, if◌then◌else◌, option_and_then, option_map, IfOk};
+ghost use Rattle.std.specs.Prelude.{◌≡◌, Some, None, if◌then◌else◌, option_and_then, option_map, length, IfOk, IfSome, OnOk};
 ghost use Rattle.ps_solve.specs.States.{at, changed};
 ghost use Rattle.ps_solve.specs.Prepared.{landed, leapt, passes, turned};
 ghost use Rattle.ps_solve.specs.Rows.{plain_state};
@@ -50,7 +50,8 @@ fn change<K: Known>(
     row: &mut Row,
     effects: &[Effect],
 ) -> Result<bool, AllocError>
-    ensures { IfOk result (λ made. (if made then Some (plain_state atoms.now row.new) else None) ≡ changed (K.known given.now) (plain_state atoms.now row.old) effects.now) }
+    ensures state { IfOk result (λ made. (if made then Some (plain_state atoms.now row.new) else None) ≡ changed (K.known given.now) (plain_state atoms.now row.old) effects.now) }
+    ensures wide { OnOk result (length row.new.flags.items ≡ length row.old.flags.items) }
 {
     let here = At {
         given,
@@ -73,7 +74,7 @@ fn passes<K: Known, T: Types>(given: &K, types: &T, atoms: &Atoms, row: &Row, te
 }
 
 /// Makes a prepared change in a row, and answers whether it could: false where an effect has a fault. The only error is want of
-/// memory, as it always is where the row has no flag for an atom that is set, and then the row may have changed.
+/// memory, and then the row may have changed.
 fn turn<K: Known>(
     alloc: Global,
     given: &K,
@@ -81,12 +82,14 @@ fn turn<K: Known>(
     row: &mut Row,
     by: &Change,
 ) -> Result<bool, AllocError>
-    ensures { IfOk result (λ made. (if made then Some (plain_state atoms.now row.new) else None) ≡ turned (K.known given.now) atoms.now by.now (plain_state atoms.now row.old)) }
+    requires { length row.old.flags.items ≡ length atoms.now }
+    ensures state { IfOk result (λ made. (if made then Some (plain_state atoms.now row.new) else None) ≡ turned (K.known given.now) atoms.now by.now (plain_state atoms.now row.old)) }
+    ensures wide { OnOk result (length row.new.flags.items ≡ length row.old.flags.items) }
 {
     match by {
         Change::Flags { cleared, set } => {
             row.clear_all(atoms, cleared);
-            row.set_all(atoms, set)?;
+            row.set_all(atoms, set);
             Ok(true)
         }
         Change::Effects(effects) => change(alloc, given, atoms, row, effects.as_slice()),
@@ -103,7 +106,9 @@ fn end<K: Known, T: Types>(
     row: &mut Row,
     action: &Prepared,
 ) -> Result<bool, AllocError>
-    ensures { IfOk result (λ made. (if made then Some (plain_state atoms.now row.new) else None) ≡ landed (T.types types.now) (K.known given.now) atoms.now action.now (plain_state atoms.now row.old)) }
+    requires { length row.old.flags.items ≡ length atoms.now }
+    ensures state { IfOk result (λ made. (if made then Some (plain_state atoms.now row.new) else None) ≡ landed (T.types types.now) (K.known given.now) atoms.now action.now (plain_state atoms.now row.old)) }
+    ensures wide { OnOk result (length row.new.flags.items ≡ length row.old.flags.items) }
 {
     if !passes(given, types, atoms, row, &action.over)
         || !passes(given, types, atoms, row, &action.end)
@@ -123,7 +128,9 @@ fn go_on<K: Known, T: Types>(
     row: &mut Row,
     action: &Prepared,
 ) -> Result<bool, AllocError>
-    ensures { IfOk result (λ made. (if made then Some (plain_state atoms.now row.new) else None) ≡ option_and_then (landed (T.types types.now) (K.known given.now) atoms.now action.now) (turned (K.known given.now) atoms.now action.now.at_start (plain_state atoms.now row.old))) }
+    requires { length row.old.flags.items ≡ length atoms.now }
+    ensures state { IfOk result (λ made. (if made then Some (plain_state atoms.now row.new) else None) ≡ option_and_then (landed (T.types types.now) (K.known given.now) atoms.now action.now) (turned (K.known given.now) atoms.now action.now.at_start (plain_state atoms.now row.old))) }
+    ensures wide { OnOk result (length row.new.flags.items ≡ length row.old.flags.items) }
 {
     if turn(alloc, given, atoms, row, &action.at_start)? {
         end(alloc, given, types, atoms, row, action)
@@ -142,7 +149,9 @@ pub fn step<K: Known, T: Types>(
     row: &Row,
     action: &Prepared,
 ) -> Result<Option<Row>, AllocError>
-    ensures { IfOk result (λ next. option_map (plain_state atoms.now) next ≡ leapt (T.types types.now) (K.known given.now) atoms.now (plain_state atoms.now row.now) action.now) }
+    requires { length row.now.flags.items ≡ length atoms.now }
+    ensures state { IfOk result (λ next. option_map (plain_state atoms.now) next ≡ leapt (T.types types.now) (K.known given.now) atoms.now (plain_state atoms.now row.now) action.now) }
+    ensures wide { IfOk result (λ next. IfSome next (λ r. length r.flags.items ≡ length row.now.flags.items)) }
 {
     if !passes(given, types, atoms, row, &action.start) {
         return Ok(None);

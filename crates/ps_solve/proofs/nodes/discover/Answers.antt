@@ -1,13 +1,12 @@
-use Rattle.std.proofs.Common.{◌≡◌, ◌++◌, ◌∷◌, [], Bool, true, false, cond, List, length, map, ap, sym, ◌∙◌, arith}
+use Rattle.std.proofs.Common.{◌≡◌, ◌++◌, ◌∷◌, [], true, false, cond, List, map, ap, sym, ◌∙◌, subst}
 use Rattle.std.specs.List.{list_any}
 use Rattle.std.proofs.lemmas.List.{append-nil, map-append}
 use Rattle.ps_action.specs.declared.acts.Act.{Act}
-use Rattle.ps_world.specs.declared.facts.Fact.{Fact}
 use Rattle.ps_solve.specs.Nodes.{is_met}
 use Rattle.ps_solve.specs.Leads.{Lead, plain_lead}
-use Rattle.ps_solve.specs.Rows.{plain_state, same_row}
+use Rattle.ps_solve.specs.Rows.{HaveWide, plain_state, same_row}
 use Rattle.ps_solve.specs.declared.nodes.Reached.{Reached}
-use Rattle.ps_solve.proofs.SameRows.{met_rows}
+use Rattle.ps_solve.proofs.SameRows.{have_more, met_rows}
 use Rattle.ps_solve.proofs.nodes.discover.Goals as goal
 
 pub remember-requires : goal.remember-requires
@@ -18,11 +17,9 @@ returns-in_ok-push-clause-leads c =
     let atoms = c.args.atoms.now in
     let r = c.args.row in
     let rows = c.args.seen.now.keys in
-    let flags = ap (λ (l : List Bool). length l) c.as_slice.ensures.value in
-    let facts = ap (λ (l : List Fact). length l) c.as_slice-2.ensures.facts in
-    let wide : length r.flags.items ≡ length atoms = omega (arith, flags, facts, c.if-as_slice.false) in
+    let wide = c.requires.row in
     let new : list_any (same_row r) rows ≡ false = cc (c.if-not-contains.ensures, c.contains.ensures, c.if-not-contains.true) in
-    let unmet : is_met (map (plain_state atoms) rows) (plain_state atoms r) ≡ false = sym (met_rows atoms c.as_slice-2.ensures.rise r rows wide c.requires.wide) ∙ new in
+    let unmet : is_met (map (plain_state atoms) rows) (plain_state atoms r) ≡ false = sym (met_rows atoms c.as_slice-atoms.ensures.rise r rows wide c.requires.wide) ∙ new in
     let lead : List Act → Lead = λ p. record { node = record { state = plain_state atoms r; path = p }; by = c.args.by } in
     ap (λ (l : List Reached). map (plain_lead atoms) l) c.in_ok-push.ensures.items
     ∙ map-append (plain_lead atoms) c.args.next.now.items _
@@ -34,11 +31,9 @@ returns-in_ok-push-clause-seen c =
     let atoms = c.args.atoms.now in
     let r = c.args.row in
     let rows = c.args.seen.now.keys in
-    let flags = ap (λ (l : List Bool). length l) c.as_slice.ensures.value in
-    let facts = ap (λ (l : List Fact). length l) c.as_slice-2.ensures.facts in
-    let wide : length r.flags.items ≡ length atoms = omega (arith, flags, facts, c.if-as_slice.false) in
+    let wide = c.requires.row in
     let new : list_any (same_row r) rows ≡ false = cc (c.if-not-contains.ensures, c.contains.ensures, c.if-not-contains.true) in
-    let unmet : is_met (map (plain_state atoms) rows) (plain_state atoms r) ≡ false = sym (met_rows atoms c.as_slice-2.ensures.rise r rows wide c.requires.wide) ∙ new in
+    let unmet : is_met (map (plain_state atoms) rows) (plain_state atoms r) ≡ false = sym (met_rows atoms c.as_slice-atoms.ensures.rise r rows wide c.requires.wide) ∙ new in
     c.in_ok-remember.ensures.seen atoms
     ∙ ap (λ b. cond b (map (plain_state atoms) rows) (map (plain_state atoms) rows ++ plain_state atoms r ∷ [])) (sym unmet)
 
@@ -47,9 +42,7 @@ returns-in_ok-push-clause-wide c =
     let atoms = c.args.atoms.now in
     let r = c.args.row in
     let rows = c.args.seen.now.keys in
-    let flags = ap (λ (l : List Bool). length l) c.as_slice.ensures.value in
-    let facts = ap (λ (l : List Fact). length l) c.as_slice-2.ensures.facts in
-    let wide : length r.flags.items ≡ length atoms = omega (arith, flags, facts, c.if-as_slice.false) in
+    let wide = c.requires.row in
     c.in_ok-remember.ensures.wide atoms c.requires.wide wide
 
 pub returns-else-not-contains-clause-leads : goal.returns-else-not-contains-clause-leads
@@ -57,11 +50,9 @@ returns-else-not-contains-clause-leads c =
     let atoms = c.args.atoms.now in
     let r = c.args.row in
     let rows = c.args.seen.now.keys in
-    let flags = ap (λ (l : List Bool). length l) c.as_slice.ensures.value in
-    let facts = ap (λ (l : List Fact). length l) c.as_slice-2.ensures.facts in
-    let wide : length r.flags.items ≡ length atoms = omega (arith, flags, facts, c.if-as_slice.false) in
+    let wide = c.requires.row in
     let old : list_any (same_row r) rows ≡ true = cc (c.if-not-contains.ensures, c.contains.ensures, c.if-not-contains.false) in
-    let was_met : is_met (map (plain_state atoms) rows) (plain_state atoms r) ≡ true = sym (met_rows atoms c.as_slice-2.ensures.rise r rows wide c.requires.wide) ∙ old in
+    let was_met : is_met (map (plain_state atoms) rows) (plain_state atoms r) ≡ true = sym (met_rows atoms c.as_slice-atoms.ensures.rise r rows wide c.requires.wide) ∙ old in
     let lead : Lead = record { node = record { state = plain_state atoms r; path = c.args.before.now ++ c.args.act ∷ [] }; by = c.args.by } in
     sym (append-nil (map (plain_lead atoms) c.args.next.now.items))
     ∙ ap (λ b. map (plain_lead atoms) c.args.next.now.items ++ cond b [] (lead ∷ [])) (sym was_met)
@@ -71,9 +62,12 @@ returns-else-not-contains-clause-seen c =
     let atoms = c.args.atoms.now in
     let r = c.args.row in
     let rows = c.args.seen.now.keys in
-    let flags = ap (λ (l : List Bool). length l) c.as_slice.ensures.value in
-    let facts = ap (λ (l : List Fact). length l) c.as_slice-2.ensures.facts in
-    let wide : length r.flags.items ≡ length atoms = omega (arith, flags, facts, c.if-as_slice.false) in
+    let wide = c.requires.row in
     let old : list_any (same_row r) rows ≡ true = cc (c.if-not-contains.ensures, c.contains.ensures, c.if-not-contains.false) in
-    let was_met : is_met (map (plain_state atoms) rows) (plain_state atoms r) ≡ true = sym (met_rows atoms c.as_slice-2.ensures.rise r rows wide c.requires.wide) ∙ old in
+    let was_met : is_met (map (plain_state atoms) rows) (plain_state atoms r) ≡ true = sym (met_rows atoms c.as_slice-atoms.ensures.rise r rows wide c.requires.wide) ∙ old in
     ap (λ b. cond b (map (plain_state atoms) rows) (map (plain_state atoms) rows ++ plain_state atoms r ∷ [])) (sym was_met)
+
+pub returns-in_ok-push-clause-level : goal.returns-in_ok-push-clause-level
+returns-in_ok-push-clause-level c =
+    let P : List Reached → Type 0 = λ l. HaveWide c.args.atoms.now l in
+    subst P (sym c.in_ok-push.ensures.items) (have_more c.args.atoms.now c.args.next.now.items _ c.requires.level c.requires.row)

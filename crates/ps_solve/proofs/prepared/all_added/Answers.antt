@@ -1,16 +1,14 @@
 use Rattle.std.proofs.Common.{◌≡◌, ◌+◌, ◌∷◌, [], ℕ, Global, List, Option, Vec, filter_map, fold, drop, option_to_list, ap, sym, ◌∙◌, arith}
-use Rattle.std.specs.List.{list_any}
 use Rattle.std.specs.Option.{option_map_or}
 use Rattle.std.specs.BTreeSet.{insert_key}
 use Rattle.std.proofs.lemmas.List.{drop_more}
 use Rattle.std.proofs.lemmas.List.Sums.{fold-append}
 use Rattle.ps_world.specs.Facts.{fact_cmp}
-use Rattle.ps_world.specs.Knowledge.{same_fact}
 use Rattle.ps_world.specs.declared.actions.Effect.{Effect}
 use Rattle.ps_world.specs.declared.facts.Fact.{Fact}
 use Rattle.ps_action.specs.Effects.{added_by}
 use Rattle.ps_solve.specs.Prepared.{with_at}
-use Rattle.ps_solve.proofs.Preparing.{added_more, none_more}
+use Rattle.ps_solve.proofs.Preparing.{added_more, adds_split}
 use Rattle.ps_solve.proofs.prepared.all_added.Goals as goal
 use Rattle.ps_solve.proofs.prepared.all_added.Goals.{in-Some+in_ok-push, in_default}
 
@@ -24,12 +22,12 @@ loop-effect-preserved c =
     let split : drop i es ≡ e ∷ drop (i + 1) es = drop_more es i e (omega arith) ∙ ap (λ (x : Effect). x ∷ drop (i + 1) es) (sym c.effect-item.is) in
     let rest = λ (fs : List Fact). fold (insert_key fact_cmp) fs (filter_map added_by (drop (i + 1) es)) in
     record {
-      put = elim c.match-branch-2.branch [
+      put = elim c.match-added.branch [
         | in-Some+in_ok-push w ↦
             λ fs.
             let left = fold (with_at atoms) fs places in
             let now : with_at atoms left w.in-Some.place ≡ fold (insert_key fact_cmp) left (option_to_list (added_by e)) =
-            (sym (ap (λ (o : Option ℕ). option_map_or (with_at atoms left) o left) w.in-Some.is) ∙ c.in_ok-place.ensures.put left) in
+            (sym (ap (λ (o : Option ℕ). option_map_or (with_at atoms left) o left) w.in-Some.is) ∙ c.added.ensures left) in
             ap (λ (v : Vec ℕ Global). rest (fold (with_at atoms) fs v.items)) w.places-is
             ∙ ap (λ (l : List ℕ). rest (fold (with_at atoms) fs l)) w.in_ok-push.ensures.items
             ∙ ap rest (fold-append (with_at atoms) fs places (w.in-Some.place ∷ []) ∙ now)
@@ -38,13 +36,18 @@ loop-effect-preserved c =
             λ fs.
             let left = fold (with_at atoms) fs places in
             let now : left ≡ fold (insert_key fact_cmp) left (option_to_list (added_by e)) =
-            (sym (ap (λ (o : Option ℕ). option_map_or (with_at atoms left) o left) w.in_default.is) ∙ c.in_ok-place.ensures.put left) in
+            (sym (ap (λ (o : Option ℕ). option_map_or (with_at atoms left) o left) w.in_default.is) ∙ c.added.ensures left) in
             ap (λ (v : Vec ℕ Global). rest (fold (with_at atoms) fs v.items)) w.places-is
             ∙ ap rest now
             ∙ added_more es i e left split ∙ c.loop-effect.invariant.put fs
       ];
-      atoms = λ f gone.
-          c.loop-effect.invariant.atoms f gone
-          ∙ ap (λ (l : List Effect). list_any (same_fact f) (filter_map added_by l)) split
-          ∙ none_more (same_fact f) (added_by e) (filter_map added_by (drop (i + 1) es)) (c.in_ok-place.ensures.atoms f gone);
+      atoms = (adds_split atoms e es i split c.loop-effect.invariant.atoms).1;
     }
+
+pub added-requires : goal.added-requires
+added-requires c =
+    let es = c.args.effects.now in
+    let i = c.loop-effect.effect-index in
+    let e = c.effect-item.result in
+    let split : drop i es ≡ e ∷ drop (i + 1) es = drop_more es i e (omega arith) ∙ ap (λ (x : Effect). x ∷ drop (i + 1) es) (sym c.effect-item.is) in
+    (adds_split c.args.atoms.now e es i split c.loop-effect.invariant.atoms).0

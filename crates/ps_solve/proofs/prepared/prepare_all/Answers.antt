@@ -6,7 +6,7 @@ use Rattle.ps_solve.specs.Nodes.{moves}
 use Rattle.ps_solve.specs.Prepared.{leaps}
 use Rattle.ps_solve.specs.Rows.{plain_node}
 use Rattle.ps_solve.specs.declared.prepared.Prepared.{Prepared}
-use Rattle.ps_solve.proofs.Preparing.{idle_more, prepared_more, footprints_more, row_over}
+use Rattle.ps_solve.proofs.Preparing.{actions_split, idle_more, prepared_more, footprints_more, row_over}
 use Rattle.ps_solve.proofs.prepared.prepare_all.Goals as goal
 use Rattle.ps_solve.proofs.prepared.prepare_all.Goals.{in-Some+in_ok-push, in_default}
 
@@ -43,4 +43,13 @@ loop-action-preserved c =
         | in_default w ↦
             subst HaveFootprints (sym (ap (λ (v : Vec Prepared Global). v.items) w.all-is)) c.loop-action.invariant.footprints
       ];
+      atoms = (actions_split atoms a gs i split c.loop-action.invariant.atoms).1;
     }
+
+pub prepare-requires : goal.prepare-requires
+prepare-requires c =
+    let gs = c.args.actions.now in
+    let i = c.loop-action.action-index in
+    let a = c.action-item.result in
+    let split : drop i gs ≡ a ∷ drop (i + 1) gs = drop_more gs i a (omega arith) ∙ ap (λ (x : GroundAction). x ∷ drop (i + 1) gs) (sym c.action-item.is) in
+    (actions_split c.args.atoms.now a gs i split c.loop-action.invariant.atoms).0

@@ -1,4 +1,4 @@
-use Rattle.std.proofs.Common.{◌≡◌, fold, filter_map, drop}
+use Rattle.std.proofs.Common.{◌≡◌, fold, filter_map, length, drop}
 use Rattle.std.specs.BTreeSet.{insert_key}
 use Rattle.ps_world.specs.Facts.{fact_cmp}
 use Rattle.ps_action.specs.Effects.{added_by}
@@ -6,5 +6,7 @@ use Rattle.ps_solve.specs.Rows.{facts_of}
 use Rattle.ps_solve.proofs.rows.add_all.Given as goal
 
 abbrev pub invariant-loop-effect : goal.invariant-loop-effect
-invariant-loop-effect l =
-    fold (insert_key fact_cmp) (facts_of l.atoms l.flags.items) (filter_map added_by (drop l.effect-index l.effects)) ≡ fold (insert_key fact_cmp) (facts_of l.atoms l.initial.flags.items) (filter_map added_by l.effects)
+invariant-loop-effect l = record {
+  facts : fold (insert_key fact_cmp) (facts_of l.atoms l.flags.items) (filter_map added_by (drop l.effect-index l.effects)) ≡ fold (insert_key fact_cmp) (facts_of l.atoms l.initial.flags.items) (filter_map added_by l.effects);
+  wide : length l.flags.items ≡ length l.initial.flags.items;
+}

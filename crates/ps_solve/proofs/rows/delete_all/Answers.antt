@@ -15,14 +15,17 @@ loop-effect-preserved c =
     let e = c.effect-item.result in
     let facts = facts_of c.args.atoms.now c.loop-effect.flags.items in
     let split : drop i es ≡ e ∷ drop (i + 1) es = drop_more es i e (omega arith) ∙ ap (λ (x : Effect). x ∷ drop (i + 1) es) (sym c.effect-item.is) in
-    ap (λ (fs : List Fact). filter (λ f. not (list_any (deletes f) (drop (i + 1) es))) fs) c.delete.ensures
-    ∙ filter_either (λ f. deletes f e) (λ f. list_any (deletes f) (drop (i + 1) es)) facts
-    ∙ (λ j. filter (λ f. not (list_any (deletes f) (sym split j))) facts) ∙ c.loop-effect.invariant
+    record {
+      facts = ap (λ (fs : List Fact). filter (λ f. not (list_any (deletes f) (drop (i + 1) es))) fs) c.delete.ensures.facts
+          ∙ filter_either (λ f. deletes f e) (λ f. list_any (deletes f) (drop (i + 1) es)) facts
+          ∙ (λ j. filter (λ f. not (list_any (deletes f) (sym split j))) facts) ∙ c.loop-effect.invariant.facts;
+      wide = c.delete.ensures.wide ∙ c.loop-effect.invariant.wide;
+    }
 
-pub returns : goal.returns
-returns c =
+pub returns-clause-facts : goal.returns-clause-facts
+returns-clause-facts c =
     let es = c.args.effects.now in
     let i = c.loop-effect.effect-index in
     let facts = facts_of c.args.atoms.now c.loop-effect.flags.items in
     let gone : drop i es ≡ [] = drop_all i es (omega arith) in
-    sym (filter_all facts) ∙ (λ j. filter (λ f. not (list_any (deletes f) (sym gone j))) facts) ∙ c.loop-effect.invariant
+    sym (filter_all facts) ∙ (λ j. filter (λ f. not (list_any (deletes f) (sym gone j))) facts) ∙ c.loop-effect.invariant.facts

@@ -2,8 +2,8 @@ use Rattle.std.proofs.Common.{◌<◌, Bool, List, length, ap, arith}
 use Rattle.ps_solve.proofs.FlagRows.{flag_set}
 use Rattle.ps_solve.proofs.rows.learn.Goals as goal
 
-pub returns-in-Some : goal.returns-in-Some
-returns-in-Some c =
+pub returns-in-Some-clause-set : goal.returns-in-Some-clause-set
+returns-in-Some-clause-set c =
     let flags = c.args.flags.now.items in
     let same = ap (λ (l : List Bool). length l) c.as_slice.ensures.value in
     let within : c.in-Some.place < length flags = omega (arith, same) in

@@ -1,4 +1,4 @@
-use Rattle.std.proofs.Common.{◌≡◌, drop, fold}
+use Rattle.std.proofs.Common.{◌≡◌, drop, fold, length}
 use Rattle.ps_solve.specs.Prepared.{without_at}
 use Rattle.ps_solve.specs.Rows.{facts_of}
 use Rattle.ps_solve.proofs.rows.Row.clear_all.Given as goal
@@ -7,4 +7,5 @@ abbrev pub invariant-loop-place : goal.invariant-loop-place
 invariant-loop-place l = record {
   facts : fold (without_at l.atoms) (facts_of l.atoms l.self.flags.items) (drop l.place-index l.places) ≡ fold (without_at l.atoms) (facts_of l.atoms l.initial.self.flags.items) l.places;
   values : l.self.values ≡ l.initial.self.values;
+  wide : length l.self.flags.items ≡ length l.initial.self.flags.items;
 }

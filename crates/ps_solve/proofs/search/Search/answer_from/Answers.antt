@@ -33,6 +33,7 @@ loop-depth-init g c =
       closed = subst (λ ns. P seen ns) (sym is_level) (subst (λ ss. P ss (root k ∷ [])) (sym c.requires.seen) (λ s e. inl e));
       spared = subst (λ ls. Q seen ls) (sym c.requires.leads) (root_spared d k atoms ps seen (root k) (length ps) refl);
       wide = c.requires.wide;
+      level = c.requires.level;
       left = λ most e.
           let whole : most - 0 ≡ most = omega arith in
           ap (λ (m : ℕ). answer_from d k c.args.budget m 0) whole;
@@ -78,6 +79,7 @@ loop-depth-preserved g c =
       spared = spared_on d k atoms ps c.as_slice-atoms.ensures.rise c.requires.footprints ns next seen later c.loop-depth.invariant.closed is_next is_later;
       here = deepens_by d k goal Reached plain (leaps d k atoms ps) c.requires.actions n ns ns (map plain next) seen later c.loop-depth.invariant.here (none_found (found d k goal (map plain ns)) (map plain ns) (length seen) c.args.budget n none) refl are_next is_later;
       wide = c.in_ok-level.ensures.wide;
+      level = c.in_ok-level.ensures.level;
       left = λ most e.
           let below : n < most = omega arith in
           goes_on d k goal c.requires.goal n (map plain ns) (map (plain_state atoms) rows) c.args.budget most c.loop-depth.invariant.here (c.loop-depth.invariant.left most e) below none;

@@ -2,7 +2,7 @@ use Rattle.std.proofs.Common.{◌≡◌, ℕ, ◌-◌, map}
 use Rattle.ps_action.specs.Plans.{most_acts}
 use Rattle.ps_action.specs.Search.{answer_from}
 use Rattle.ps_solve.specs.Leads.{AreSpared, plain_lead}
-use Rattle.ps_solve.specs.Rows.{AreWide, plain_node, plain_state}
+use Rattle.ps_solve.specs.Rows.{AreWide, HaveWide, plain_node, plain_state}
 use Rattle.ps_solve.proofs.Depths.{IsAtDepth}
 use Rattle.ps_solve.proofs.Sparing.{IsClosed}
 use Rattle.ps_solve.proofs.search.Search.answer_from.Given as goal
@@ -20,5 +20,6 @@ invariant-loop-depth g l =
       closed : IsClosed d k atoms ps (map (plain_state atoms) l.seen.keys) (map (plain_node atoms) l.level.items);
       spared : AreSpared d k atoms ps (map (plain_state atoms) l.seen.keys) (map (plain_lead atoms) l.level.items);
       wide : AreWide atoms l.seen.keys;
+      level : HaveWide atoms l.level.items;
       left : (most : ℕ) → most ≡ most_acts → answer_from d k l.budget (most - l.depth) l.depth ≡ answer_from d k l.budget most 0;
     }

@@ -2,7 +2,7 @@ use Rattle.std.proofs.Common.{◌≡◌, ◌++◌, drop, map}
 use Rattle.ps_solve.specs.Leads.{IsSpared, first_leads, leads_from, plain_lead}
 use Rattle.ps_solve.specs.Nodes.{met}
 use Rattle.ps_solve.specs.Prepared.{leaps}
-use Rattle.ps_solve.specs.Rows.{AreWide, plain_node, plain_state}
+use Rattle.ps_solve.specs.Rows.{AreWide, HaveWide, plain_node, plain_state}
 use Rattle.ps_solve.proofs.search.Search.expand.Given as goal
 
 -- what was found, with what the actions that are left lead to, is what all lead to
@@ -18,4 +18,5 @@ invariant-loop-place g l =
       seen : met (map (plain_state atoms) l.seen.keys) (leaps d k atoms (drop l.place ps) n) ≡ met (map (plain_state atoms) l.initial.seen.keys) (leaps d k atoms ps n);
       spared : IsSpared d k atoms ps (map (plain_state atoms) l.seen.keys) (plain_lead atoms l.node);
       wide : AreWide atoms l.seen.keys;
+      level : HaveWide atoms l.next.items;
     }

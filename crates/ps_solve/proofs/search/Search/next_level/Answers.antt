@@ -4,7 +4,7 @@ use Rattle.std.proofs.lemmas.List.Folds.{flat_map-map}
 use Rattle.ps_solve.specs.Leads.{AreSpared, Lead, first_leads, leads_from, plain_lead}
 use Rattle.ps_solve.specs.Nodes.{Node, met}
 use Rattle.ps_solve.specs.Prepared.{leaps}
-use Rattle.ps_solve.specs.Rows.{plain_node, plain_state}
+use Rattle.ps_solve.specs.Rows.{HaveWide, plain_node, plain_state}
 use Rattle.ps_solve.specs.States.{State}
 use Rattle.ps_solve.specs.declared.nodes.Reached.{Reached}
 use Rattle.ps_solve.proofs.Expanding.{more_seen}
@@ -27,13 +27,25 @@ loop-node-preserved g c =
     let later = map (plain_state atoms) c.expand.new.seen.keys in
     let is_later : later ≡ met seen (led n) = c.in_ok-expand.ensures.seen in
     let P : List Reached → Type 0 = λ rs. AreSpared d k atoms ps seen (map (plain_lead atoms) rs) in
+    let L : List Reached → Type 0 = λ rs. HaveWide atoms rs in
     let Q : List State → Type 0 = λ ss. AreSpared d k atoms ps ss (map (plain_lead atoms) (drop (i + 1) ns)) in
     record {
       leads = more_leads d k atoms from ns i n split seen later (is_later ∙ ap (met seen) (sym (leads_are d k atoms 0 ps (plain_node atoms n)))) (map (plain_lead atoms) c.loop-node.next.items) (map (plain_lead atoms) c.expand.new.next.items) c.in_ok-expand.ensures.leads ∙ c.loop-node.invariant.leads;
       seen = more_seen led ns i n split seen later is_later ∙ c.loop-node.invariant.seen;
       spared = subst Q (sym is_later) (subst P split c.loop-node.invariant.spared).1;
       wide = c.in_ok-expand.ensures.wide;
+      level = c.in_ok-expand.ensures.level;
+      left = (subst L split c.loop-node.invariant.left).1;
     }
+
+pub expand-requires-clause-node : goal.expand-requires-clause-node
+expand-requires-clause-node g c =
+    let ns = c.args.level.now in
+    let i = c.loop-node.node-index in
+    let n = c.node-item.result in
+    let split : drop i ns ≡ n ∷ drop (i + 1) ns = drop_more ns i n (omega arith) ∙ ap (λ (x : Reached). x ∷ drop (i + 1) ns) (sym c.node-item.is) in
+    let L : List Reached → Type 0 = λ rs. HaveWide c.args.self.now.atoms.now rs in
+    (subst L split c.loop-node.invariant.left).0
 
 pub returns-clause-leads : goal.returns-clause-leads
 returns-clause-leads g c =

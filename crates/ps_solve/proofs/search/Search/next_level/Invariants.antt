@@ -2,7 +2,7 @@ use Rattle.std.proofs.Common.{◌≡◌, ◌++◌, List, drop, flat_map, map}
 use Rattle.ps_solve.specs.Leads.{AreSpared, Lead, first_leads, leads_from, plain_lead}
 use Rattle.ps_solve.specs.Nodes.{Node, met}
 use Rattle.ps_solve.specs.Prepared.{leaps}
-use Rattle.ps_solve.specs.Rows.{AreWide, plain_node, plain_state}
+use Rattle.ps_solve.specs.Rows.{AreWide, HaveWide, plain_node, plain_state}
 use Rattle.ps_solve.specs.declared.nodes.Reached.{Reached}
 use Rattle.ps_solve.proofs.search.Search.next_level.Given as goal
 
@@ -20,4 +20,6 @@ invariant-loop-node g l =
       seen : met (map (plain_state atoms) l.seen.keys) (flat_map led (drop l.node-index l.level)) ≡ met (map (plain_state atoms) l.initial.seen.keys) (flat_map led l.level);
       spared : AreSpared d k atoms ps (map (plain_state atoms) l.seen.keys) (map (plain_lead atoms) (drop l.node-index l.level));
       wide : AreWide atoms l.seen.keys;
+      level : HaveWide atoms l.next.items;
+      left : HaveWide atoms (drop l.node-index l.level);
     }
