@@ -125,7 +125,8 @@ impl Expert {
     /// All ground actions among these instances: the actions in the order of the domain's text, and the arguments of each
     /// in the order of their names. An instance that stands twice has the type of its last place.
     ///
-    /// `TooMany` where there are more than 50,000, which is found before any is made.
+    /// `TooMany` where there are more than 50,000, which is found before any is made. Memory is also said to be wanting for the
+    /// arguments of an action with more than 6 parameters, which no domain that is read has.
     pub fn ground_all(
         &self,
         instances: &[(Name, Name)],
