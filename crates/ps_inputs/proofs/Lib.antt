@@ -1,6 +1,3 @@
-pub mod Asked
-pub mod Flattening
-pub mod Given
 pub mod Later
 pub mod LinesNamed
 pub mod OneScript

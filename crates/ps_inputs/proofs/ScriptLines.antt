@@ -12,8 +12,8 @@ use Rattle.ps_script.specs.declared.reading.Read.{Read}
 use Rattle.ps_script.specs.declared.reading.Read.TheVariants as read
 use Rattle.ps_inputs.specs.Scripts.{Adds, IsScript, given_by}
 use Rattle.ps_inputs.specs.Scripts.IsScript.{nothing, one_more}
-use Rattle.ps_inputs.specs.declared.reading.flatten.Flattened.{Flattened}
-use Rattle.ps_inputs.specs.declared.reading.flatten.Flattened.TheVariants.{Text, Plan, TooDeep}
+use Rattle.ps_inputs.specs.Flats.{Flattened}
+use Rattle.ps_inputs.specs.Flats.Flattened.{plain, with_plan, too_deep}
 use Rattle.ps_inputs.proofs.Later.{line-later}
 use Rattle.ps_inputs.proofs.LinesNamed.{bad_named, named_after}
 use Rattle.ps_inputs.proofs.PlanNames.{after_plan}
@@ -35,10 +35,10 @@ one_at_most (read.RunPlan file) = omega arith
 
 -- a command line adds to a table of names, and its names are among those of the table after it
 adds_named : (table : Table) (one : Flattened) (new : List Line) (after : Table) → AreNames table → Adds table one new after → AreNames after × (length table ≤ length after) × All (IsLineOf (length after)) new × (length new ≤ 1)
-adds_named table (Text bytes) new after n h =
+adds_named table (plain bytes) new after n h =
     let own = named_after table bytes h.0 after n h.1 in
     (own.names, own.grows, subst (All (IsLineOf (length after))) (sym h.2) own.named, subst (λ (ls : List Line). length ls ≤ 1) (sym h.2) (one_at_most h.0))
-adds_named table (Plan bytes text) new after n h =
+adds_named table (with_plan bytes text) new after n h =
     let between = h.1 in
     let own = named_after table bytes h.0 between n h.2 in
     let last = after_plan between text own.names in
@@ -47,7 +47,7 @@ adds_named table (Plan bytes text) new after n h =
     let few : length new ≤ 1 = subst (λ (ls : List Line). length ls ≤ 1) (sym h.3) (one_at_most h.0) in
     let all : All (IsLineOf (length after)) new = All-weaker (IsLineOf (length between)) (IsLineOf (length after)) (line-later (length between) (length after) grows) new here in
     (subst AreNames (sym h.4) last.0, omega (arith, own.grows, grows), all, few)
-adds_named table TooDeep new after n h =
+adds_named table too_deep new after n h =
     rw (h.0, h.1) (n, omega arith, bad_named (length table) Nest, omega arith)
 
 pub left_after : (first : Table) (script : List Flattened) (lines : List Line) (after : Table) → AreNames first → IsScript first script lines after → IsLeft first after script lines

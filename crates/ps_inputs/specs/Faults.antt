@@ -1,22 +1,17 @@
--- What ends a call before its work: its status and its line.
-use Rattle.std.specs.Prelude.{◌≡◌, ℕ, ◌<◌, ◌≤◌, List, Option, IfSome, length, map, string_bytes}
+-- What ends a call before its work: the fault, its status and its line.
+use Rattle.std.specs.Prelude.{◌≡◌, ℕ, suc, ◌+◌, ◌<◌, Result, Ok, Err, IfOk, IfErr, Some, None, List, map, string_bytes}
 use Rattle.std.specs.declared.string.String.{String}
 use Rattle.std.specs.declared.alloc.Global.{Global}
-use Rattle.ps_world.specs.Names.{Table}
-use Rattle.ps_world.specs.declared.domains.Domain.{Domain}
-use Rattle.ps_machine.specs.declared.inputs.Input.{Input}
-use Rattle.ps_text.specs.Causes.{Rose}
-use Rattle.ps_inputs.specs.Input.{Outcome, IsDomain, IsNoDomain, IsInput, usage_line, domain_line, cannot_read_line}
-use Rattle.ps_inputs.specs.Flats.{Texts, Flat, MayBe, longest_file, most_lines, lines_line, too_long_line, without}
-use Rattle.ps_inputs.specs.Flats.Flat.{fault, missing}
-use Rattle.ps_inputs.specs.declared.reading.flatten.Flattened.{Flattened}
-use Rattle.ps_inputs.specs.Input.Outcome.{given, checked, validated, fault as at_fault, untold}
-use Rattle.ps_inputs.specs.Due.{IsDue}
+use Rattle.ps_world.specs.declared.failures.Failure.{Failure}
+use Rattle.ps_world.specs.declared.failures.Failure.TheVariants.{Refused, OutOfMemory}
+use Rattle.ps_text.specs.Outside.{FilesView, after, next}
+use Rattle.ps_words.specs.Words.{Request, asked_of}
+use Rattle.ps_inputs.specs.Reading.{Reading, MayBe, MayFail, MayGive, MayReadNext, longest_file, most_lines}
+use Rattle.ps_inputs.specs.Reading.FileFault.{too_long, too_many}
+use Rattle.ps_inputs.specs.Input.{IsAsked, IsNoDomain, IsWork, cannot_read_line, domain_line, domain_text_of, lines_line, reading_of, too_long_line, usage_line}
+use Rattle.ps_inputs.specs.declared.works.Work.{Work}
 use Rattle.ps_inputs.specs.declared.faults.Fault.{Fault}
 use Rattle.ps_inputs.specs.declared.faults.Fault.TheVariants.{Usage, NoDomain, TooLong, Lines, Unread}
-use Rattle.ps_inputs.specs.declared.faults.Stop.{Stop}
-use Rattle.ps_inputs.specs.declared.faults.Stop.TheVariants.{Due, Broken}
-use Rattle.ps_journal.specs.declared.broken.Broken.TheVariants.{Write, OutOfMemory}
 
 -- the bytes of each word
 abbrev pub word_texts : List (String Global) → List (List ℕ)
@@ -38,73 +33,65 @@ fault_line (TooLong file) = too_long_line file.items
 fault_line Lines = lines_line
 fault_line (Unread file) = cannot_read_line file.items
 
--- Why a file's text isn't had: it is told to be too long, or reading it failed, or memory is wanting.
-abbrev pub IsNotHad : List ℕ → Option (List ℕ) → ℕ → ℕ → Stop → Type 0
-IsNotHad file told before now (Due Usage) = ⊥
-IsNotHad file told before now (Due (NoDomain cause)) = ⊥
-IsNotHad file told before now (Due (TooLong other)) = (other.items ≡ file) × IfSome told (λ text. longest_file < length text)
-IsNotHad file told before now (Due Lines) = ⊥
-IsNotHad file told before now (Due (Unread other)) = (other.items ≡ file) × Rose before now
-IsNotHad file told before now (Broken Write) = ⊥
-IsNotHad file told before now (Broken OutOfMemory) = Unit {0}
+-- ---- reading part of the input
 
--- Why there is no room for a line more: there are too many, or memory is wanting.
-abbrev pub IsFull : List Flattened → Stop → Type 0
-IsFull before (Due Usage) = ⊥
-IsFull before (Due (NoDomain cause)) = ⊥
-IsFull before (Due (TooLong file)) = ⊥
-IsFull before (Due Lines) = most_lines ≤ length before
-IsFull before (Due (Unread file)) = ⊥
-IsFull before (Broken Write) = ⊥
-IsFull before (Broken OutOfMemory) = Unit {0}
+-- The last of the reads between these two moments is that of this file, and it is the one that comes there as far as the files tell.
+pub record IsLastRead {A : Type 0} (part : Reading A) (old new : FilesView) (file : List ℕ) : Type 0 where
+  pub before : ℕ
+  pub counted : new.reads ≡ after (suc before) old.reads
+  pub named : MayReadNext part before file
 
--- Why flattening is cut off, which these texts of files lead to: a fault that it comes to, or reading a file failed that it
--- comes to first of those that aren't told, or memory is wanting.
-abbrev pub IsCut : (Texts → Flat) → Texts → ℕ → ℕ → Stop → Type 0
-IsCut flat texts before now (Due Usage) = ⊥
-IsCut flat texts before now (Due (NoDomain cause)) = ⊥
-IsCut flat texts before now (Due (TooLong file)) = MayBe (flat texts) (fault 3 (too_long_line file.items))
-IsCut flat texts before now (Due Lines) = MayBe (flat texts) (fault 3 lines_line)
-IsCut flat texts before now (Due (Unread file)) = (flat (without file.items texts) ≡ missing) × Rose before now
-IsCut flat texts before now (Broken Write) = ⊥
-IsCut flat texts before now (Broken OutOfMemory) = Unit {0}
+-- A file is longer than it may be, which is what reading comes to as far as the files tell.
+pub record IsTooLong {A : Type 0} (part : Reading A) (file : List ℕ) : Type 0 where
+  pub length : ℕ
+  pub long : longest_file < length
+  pub told : MayFail part (too_long file length)
 
--- Why a domain's text gives no domain: it is none, or memory is wanting.
-abbrev pub IsJudged : List ℕ → Stop → Type 0
-IsJudged text (Due Usage) = ⊥
-IsJudged text (Due (NoDomain cause)) = IsNoDomain text (domain_line cause.items)
-IsJudged text (Due (TooLong file)) = ⊥
-IsJudged text (Due Lines) = ⊥
-IsJudged text (Due (Unread file)) = ⊥
-IsJudged text (Broken Write) = ⊥
-IsJudged text (Broken OutOfMemory) = Unit {0}
+-- Why reading part of the input was ended: by a fault of the files, or since memory ran out.
+abbrev pub IsEnded : {A : Type 0} → Reading A → FilesView → FilesView → Failure Fault → Type 0
+IsEnded part old new (Refused Usage) = ⊥
+IsEnded part old new (Refused (NoDomain cause)) = ⊥
+IsEnded part old new (Refused (TooLong file)) = IsTooLong part file.items
+IsEnded part old new (Refused Lines) = MayFail part (too_many (most_lines + 1))
+IsEnded part old new (Refused (Unread file)) = IsLastRead part old new file.items
+IsEnded part old new OutOfMemory = Unit {0}
 
--- Why there is nothing to work on: a fault is due, or memory is wanting.
-abbrev pub HasNoInput : Outcome → List (List ℕ) → (List ℕ → Option (List ℕ)) → ℕ → ℕ → Stop → Type 0
-HasNoInput outcome ws texts before now (Due f) = IsDue outcome ws texts before now (fault_status f) (fault_line f)
-HasNoInput outcome ws texts before now (Broken Write) = ⊥
-HasNoInput outcome ws texts before now (Broken OutOfMemory) = Unit {0}
+-- the count of failed reads after an answer
+abbrev pub failed_after : {B : Type 0} → Result B (Failure Fault) → ℕ → ℕ
+failed_after (Err (Refused (Unread file))) n = next n
+failed_after r n = n
 
--- the texts of a session are read as this input with this table, where they are told
-abbrev pub Gives : Outcome → Input → Table → Type 0
-Gives (given budget domain script) input table = IsInput budget domain script input table
-Gives (checked domain) input table = ⊥
-Gives (validated domain script plan) input table = ⊥
-Gives (at_fault s l) input table = ⊥
-Gives untold input table = Unit {0}
+-- Reading part of the input: the answer is this of what the definition gives, as far as the files tell, or says why reading was ended.
+-- Each read is counted, and so is one that fails; what the files tell stays.
+pub record ReadsPart {A B : Type 0} (part : Reading A) (old new : FilesView) (IsOf : A → B → Type 0) (r : Result B (Failure Fault)) : Type 0 where
+  pub given : IfOk r (λ b. (count : ℕ) × (a : A) × MayBe part count a × (new.reads ≡ after count old.reads) × IsOf a b)
+  pub ended : IfErr r (IsEnded part old new)
+  pub failed : new.failed ≡ failed_after r old.failed
+  pub same : new.told ≡ old.told
 
--- the text of a check is read as this domain with this table, where it is told
-abbrev pub GivesDomain : Outcome → Domain → Table → Type 0
-GivesDomain (given budget domain script) d table = ⊥
-GivesDomain (validated domain script plan) d table = ⊥
-GivesDomain (checked domain) d table = IsDomain domain d table
-GivesDomain (at_fault s l) d table = ⊥
-GivesDomain untold d table = Unit {0}
+-- ---- loading the work
 
--- the texts that are to be validated are read as this input with this table, and as this text of a plan, where they are told
-abbrev pub GivesPlan : Outcome → Input → Table → List ℕ → Type 0
-GivesPlan (given budget domain script) input table plan = ⊥
-GivesPlan (checked domain) input table plan = ⊥
-GivesPlan (validated domain script text) input table plan = IsInput input.budget domain script input table × (text ≡ plan)
-GivesPlan (at_fault s l) input table plan = ⊥
-GivesPlan untold input table plan = Unit {0}
+-- The first fault, in the order of the work: the words, the files as they are read, the domain's text.
+abbrev pub IsDue : List (List ℕ) → FilesView → FilesView → Fault → Type 0
+IsDue ws old new Usage = asked_of ws ≡ None
+IsDue ws old new (NoDomain cause) =
+    (r : Request) × (asked_of ws ≡ Some r) × MayGive (reading_of old.told r) (λ m. IsNoDomain (domain_text_of m) cause.items)
+IsDue ws old new fault = (r : Request) × (asked_of ws ≡ Some r) × IsEnded (reading_of old.told r) old new (Refused fault)
+
+-- why there is no work: a fault is due, or memory ran out
+abbrev pub IsRefused : List (List ℕ) → FilesView → FilesView → Failure Fault → Type 0
+IsRefused ws old new (Refused fault) = IsDue ws old new fault
+IsRefused ws old new OutOfMemory = Unit {0}
+
+-- the work is what the words ask for, with the texts of their files as far as these are told
+pub record IsLoaded (ws : List (List ℕ)) (old : FilesView) (w : Work) : Type 0 where
+  pub request : Request
+  pub asked : asked_of ws ≡ Some request
+  pub kind : IsAsked request w
+  pub texts : MayGive (reading_of old.told request) (λ m. IsWork m w)
+
+-- Loading: the work that these words and files give, or the first fault, unless memory ran out. A failed read is always told.
+pub record Loads (ws : List (List ℕ)) (old new : FilesView) (r : Result Work (Failure Fault)) : Type 0 where
+  pub loaded : IfOk r (IsLoaded ws old)
+  pub refused : IfErr r (IsRefused ws old new)
+  pub failed : new.failed ≡ failed_after r old.failed

@@ -3,7 +3,7 @@ use Rattle.std.specs.Prelude.{◌≡◌, List}
 use Rattle.ps_world.specs.Names.{Table}
 use Rattle.ps_machine.specs.declared.inputs.Line.{Line}
 use Rattle.ps_inputs.specs.Scripts.{IsScript}
-use Rattle.ps_inputs.specs.declared.reading.flatten.Flattened.{Flattened}
+use Rattle.ps_inputs.specs.Flats.{Flattened}
 
 -- The command lines of a script are read as one list of lines at most, with one table after them.
 abbrev pub ScriptsAreReadAsOne : Type 0

@@ -10,8 +10,8 @@ use Rattle.ps_action.specs.declared.refusals.PlanTextRefusal.{PlanTextRefusal}
 use Rattle.ps_script.specs.Lines.{IsRead}
 use Rattle.ps_script.specs.declared.reading.Read.{Read}
 use Rattle.ps_script.specs.declared.reading.Read.TheVariants as read
-use Rattle.ps_inputs.specs.declared.reading.flatten.Flattened.{Flattened}
-use Rattle.ps_inputs.specs.declared.reading.flatten.Flattened.TheVariants.{Text, Plan, TooDeep}
+use Rattle.ps_inputs.specs.Flats.{Flattened}
+use Rattle.ps_inputs.specs.Flats.Flattened.{plain, with_plan, too_deep}
 
 -- The lines that a line gives, by what it is read as: none where it says nothing, or where the lines of a file stand in its place.
 abbrev pub given_by : Read → List Line
@@ -31,9 +31,9 @@ table_after_plan table text = unless_faulty table text (plan_fault text)
 -- What a command line adds to those before it, with a table before it and the table after it. The text of a plan's file stands
 -- after the words of its line.
 abbrev pub Adds : Table → Flattened → List Line → Table → Type 0
-Adds table (Text bytes) new after = (r : Read) × IsRead table bytes r after × (new ≡ given_by r)
-Adds table (Plan bytes text) new after = (r : Read) × (between : Table) × IsRead table bytes r between × (new ≡ given_by r) × (after ≡ table_after_plan between text)
-Adds table TooDeep new after = (new ≡ Bad Nest ∷ []) × (after ≡ table)
+Adds table (plain bytes) new after = (r : Read) × IsRead table bytes r after × (new ≡ given_by r)
+Adds table (with_plan bytes text) new after = (r : Read) × (between : Table) × IsRead table bytes r between × (new ≡ given_by r) × (after ≡ table_after_plan between text)
+Adds table too_deep new after = (new ≡ Bad Nest ∷ []) × (after ≡ table)
 
 -- These command lines, read one after another, are these lines of the terminal: the first is read with the first table, each
 -- other one with the table after the line before it, and the last table is that after the last line.

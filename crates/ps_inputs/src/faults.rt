@@ -1,11 +1,9 @@
-//! What ends a call before its work, or breaks it off.
+//! What ends a call before its work.
 ghost use Rattle.std.specs.Prelude.{◌≡◌, IfOk};
-ghost use Rattle.ps_inputs.specs.Input.{domain_line, cannot_read_line};
-ghost use Rattle.ps_inputs.specs.Flats.{too_long_line};
+ghost use Rattle.ps_inputs.specs.Input.{cannot_read_line, domain_line, too_long_line};
 ghost use Rattle.ps_inputs.specs.Faults.{fault_line, fault_status};
 
-use ps_journal::Broken;
-use std::alloc::{AllocError, AllocFailed, Global};
+use std::alloc::{AllocError, Global};
 use thiserror::Error;
 
 /// What ends a call before its work. No text that is printed rests on what the errors show.
@@ -40,57 +38,6 @@ impl Fault {
             Fault::Lines => 3,
             Fault::Unread(_) => 4,
         }
-    }
-}
-
-/// Why the work isn't begun, or isn't done.
-#[derive(Debug, Drop)]
-pub enum Stop {
-    /// The work isn't begun.
-    Due(Fault),
-    /// The work was broken off, or memory is wanting before it.
-    Broken(Broken),
-}
-
-impl From<Fault> for Stop {
-    ghost use Rattle.ps_inputs.specs.declared.faults.Stop.TheVariants.{Due};
-
-    ghost from_gives = { λ fault stop. stop ≡ Due fault };
-
-    fn from(fault: Fault) -> Stop {
-        Stop::Due(fault)
-    }
-}
-
-impl From<Broken> for Stop {
-    ghost use Rattle.ps_inputs.specs.declared.faults.Stop.TheVariants.{Broken};
-
-    ghost from_gives = { λ broken stop. stop ≡ Broken broken };
-
-    fn from(broken: Broken) -> Stop {
-        Stop::Broken(broken)
-    }
-}
-
-impl From<AllocError> for Stop {
-    ghost use Rattle.ps_inputs.specs.declared.faults.Stop.TheVariants.{Broken};
-    ghost use Rattle.ps_journal.specs.declared.broken.Broken.TheVariants.{OutOfMemory};
-
-    ghost from_gives = { λ _ stop. stop ≡ Broken OutOfMemory };
-
-    fn from(_error: AllocError) -> Stop {
-        Stop::Broken(Broken::OutOfMemory)
-    }
-}
-
-impl<T: Drop> From<AllocFailed<T>> for Stop {
-    ghost use Rattle.ps_inputs.specs.declared.faults.Stop.TheVariants.{Broken};
-    ghost use Rattle.ps_journal.specs.declared.broken.Broken.TheVariants.{OutOfMemory};
-
-    ghost from_gives = { λ _ stop. stop ≡ Broken OutOfMemory };
-
-    fn from(_error: AllocFailed<T>) -> Stop {
-        Stop::Broken(Broken::OutOfMemory)
     }
 }
 

@@ -3,11 +3,11 @@
 
 mod causes;
 mod faults;
-mod inputs;
 mod laws;
-mod reading;
+mod loading;
+mod works;
 
-pub use faults::{Fault, Stop, fault_line};
-pub use inputs::{is_quiet, is_validation, read_checked, read_input, read_validated};
+pub use faults::{Fault, fault_line};
 pub use laws::scripts_are_read_as_one;
-pub use reading::Flattened;
+pub use loading::load;
+pub use works::{Session, Validation, Work};

@@ -1,5 +1,5 @@
 -- What a session writes.
-use Rattle.std.specs.Prelude.{◌≡◌, ℕ, List, Option, All}
+use Rattle.std.specs.Prelude.{◌≡◌, ℕ, List, Option, All, Result, IfOk, OnErr}
 use Rattle.std.specs.Io.KnownBytes.{Appends}
 use Rattle.ps_world.specs.Names.{Table}
 use Rattle.ps_machine.specs.History.{IsHistory, IsWhole, status_of}
@@ -8,7 +8,8 @@ use Rattle.ps_world.specs.declared.domains.Domain.{Domain}
 use Rattle.ps_machine.specs.declared.inputs.Line.{Line}
 use Rattle.ps_machine.specs.declared.inputs.Input.{Input}
 use Rattle.ps_machine.specs.declared.journal.Entry.{Entry}
-use Rattle.ps_text.specs.Causes.{AppendsFront}
+use Rattle.ps_text.specs.Outside.{AppendsPrefix, CountsWork, SinkView}
+use Rattle.ps_text.specs.declared.sinks.SinkRefusal.{SinkRefusal}
 
 -- the input of a domain and its lines, with a budget
 abbrev pub input_with : Domain → List Line → ℕ → Input
@@ -30,8 +31,15 @@ pub record IsSession (i : Input) (names : Table) (bytes : List ℕ) (status : �
 abbrev pub IsDone : Input → Table → Option (List ℕ) → Option (List ℕ) → ℕ → Type 0
 IsDone i names old new status = (bytes : List ℕ) × Appends old new bytes × IsSession i names bytes status
 
--- what a sink took is a front of the text of a history
+-- what a sink took is a prefix of the text of a history
 pub record IsCut (i : Input) (names : Table) (old new : Option (List ℕ)) : Type 0 where
   pub journal : List Entry
   pub history : IsHistory names i journal
-  pub text : AppendsFront old new (journal_text names i journal)
+  pub text : AppendsPrefix old new (journal_text names i journal)
+
+-- Doing a session: the sink took a whole one, which ends with the status that is answered, or, where a write was refused or memory
+-- ran out, a prefix of the text of a history.
+pub record Runs (i : Input) (names : Table) (old new : SinkView) (r : Result ℕ SinkRefusal) : Type 0 where
+  pub done : IfOk r (IsDone i names old.bytes new.bytes)
+  pub cut : OnErr r (IsCut i names old.bytes new.bytes)
+  pub counted : CountsWork old new r

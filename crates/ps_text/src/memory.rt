@@ -1,6 +1,6 @@
 //! Files and sinks in memory.
-ghost use Rattle.std.specs.Prelude.{◌≤◌};
-ghost use Rattle.ps_text.specs.Causes.{Rose};
+ghost use Rattle.std.specs.Prelude.{◌≡◌};
+ghost use Rattle.ps_text.specs.Outside.{next};
 
 mod failing;
 mod sure;
@@ -9,10 +9,9 @@ mod texts;
 pub use failing::{MemFiles, MemSink};
 pub use sure::{SureFiles, SureSink};
 
-/// A count of failures after one more. It stands still at its end.
+/// A count after one more. It stands still at its end.
 pub fn risen(count: u64) -> u64
-    ensures later { count ≤ result }
-    ensures rose { Rose count result }
+    ensures { result ≡ next count }
 {
     count.saturating_add(1)
 }

@@ -1,7 +1,6 @@
 //! Files, from which whole texts are read.
-ghost use Rattle.std.specs.Prelude.{◌≡◌, ℕ, List, Option, IfOk, IfSome};
-ghost use Rattle.ps_text.specs.Causes.{HasCause};
-ghost use Rattle.ps_text.specs.declared.reads.FileRefusal.TheVariants.{Failed, OutOfMemory};
+ghost use Rattle.std.specs.Prelude.{◌≡◌};
+ghost use Rattle.ps_text.specs.declared.reads.FileRefusal.TheVariants.{OutOfMemory};
 
 use std::alloc::{AllocError, AllocFailed, Global};
 
@@ -10,7 +9,7 @@ use std::alloc::{AllocError, AllocFailed, Global};
 pub enum FileRefusal {
     /// The file isn't there, or reading it failed.
     Failed,
-    /// Want of memory.
+    /// Memory ran out.
     OutOfMemory,
 }
 
@@ -32,15 +31,12 @@ impl<T: Drop> From<AllocFailed<T>> for FileRefusal {
 
 /// Texts by their names.
 pub trait Files {
-    /// The text under a name, where the files tell it.
-    ghost text_of: { Self → List ℕ → Option (List ℕ) };
+    ghost use Rattle.ps_text.specs.Outside.{Reads, FilesView};
 
-    /// How often a read has failed. The count stands still at 2^64 - 1.
-    ghost faults: { Self → ℕ };
+    /// What the files tell, and how their reads went.
+    ghost shown: { Self → FilesView };
 
-    /// The whole text under a name. It is `Failed` exactly with a fault, else `OutOfMemory`.
+    /// The whole text under a name. It is `Failed` where there is none or reading it failed.
     fn read(&mut self, alloc: Global, name: &str) -> Result<Vec<u8>, FileRefusal>
-        ensures whole { IfOk result (λ bytes. IfSome (text_of self.old name.now) (λ text. bytes.items ≡ text)) }
-        ensures same { (n : List ℕ) → text_of self.new n ≡ text_of self.old n }
-        ensures cause { HasCause Failed (faults self.old) (faults self.new) result };
+        ensures { Reads name.now (shown self.old) (shown self.new) result };
 }

@@ -1,8 +1,7 @@
 //! Sinks, which take bytes.
-ghost use Rattle.std.specs.Prelude.{◌≡◌, ℕ, ◌<◌, ◌≤◌, List, Option, length, IfOk, OnOk, OnErr};
-ghost use Rattle.std.specs.Io.KnownBytes.{Appends, WriteAppends};
-ghost use Rattle.ps_text.specs.Causes.{HasCause, HasRefusals, AppendsFront};
-ghost use Rattle.ps_text.specs.declared.sinks.SinkRefusal.TheVariants.{Failed, OutOfMemory};
+ghost use Rattle.std.specs.Prelude.{◌≡◌};
+ghost use Rattle.ps_text.specs.Outside.{Puts};
+ghost use Rattle.ps_text.specs.declared.sinks.SinkRefusal.TheVariants.{OutOfMemory};
 
 use std::alloc::{AllocError, AllocFailed};
 
@@ -11,7 +10,7 @@ use std::alloc::{AllocError, AllocFailed};
 pub enum SinkRefusal {
     /// Writing failed.
     Failed,
-    /// Want of memory.
+    /// Memory ran out.
     OutOfMemory,
 }
 
@@ -33,35 +32,26 @@ impl<T: Drop> From<AllocFailed<T>> for SinkRefusal {
 
 /// What takes bytes in order.
 pub trait Sink {
-    /// The bytes taken, where the sink tells them.
-    ghost taken: { Self → Option (List ℕ) };
+    ghost use Rattle.ps_text.specs.Outside.{SinkView, Writes};
 
-    /// How often a write has failed. The count stands still at 2^64 - 1.
-    ghost faults: { Self → ℕ };
+    /// What the sink took, and how its writes went.
+    ghost shown: { Self → SinkView };
 
-    /// How often a write was refused, for either cause. The count stands still at 2^64 - 1.
-    ghost refusals: { Self → ℕ };
-
-    /// Takes a front of the bytes, at least one if there is one, and answers how many. A refusal takes none.
+    /// Takes a prefix of the bytes, at least one if there is one, and answers how many. A refusal takes none.
     fn write(&mut self, bytes: &[u8]) -> Result<usize, SinkRefusal>
-        ensures bound { IfOk result (λ n. n ≤ length bytes.now) }
-        ensures some { IfOk result (λ n. 0 < length bytes.now → 0 < n) }
-        ensures bytes { WriteAppends (taken self.old) (taken self.new) result bytes.now }
-        ensures cause { HasCause Failed (faults self.old) (faults self.new) result }
-        ensures refused { HasRefusals (refusals self.old) (refusals self.new) result };
+        ensures { Writes bytes.now (shown self.old) (shown self.new) result };
 }
 
-/// Writes all of the bytes, by as many writes as it takes. The refusal is that of the write that was refused, after a front of the bytes.
+/// Writes all of the bytes, by as many writes as it takes. The refusal is that of the write that was refused, after a prefix of the bytes.
 pub fn put<S: Sink>(sink: &mut S, bytes: &[u8]) -> Result<(), SinkRefusal>
-    ensures ok { OnOk result (Appends (S.taken sink.old) (S.taken sink.new) bytes.now) }
-    ensures err { OnErr result (AppendsFront (S.taken sink.old) (S.taken sink.new) bytes.now) }
-    ensures cause { HasCause Failed (S.faults sink.old) (S.faults sink.new) result }
-    ensures refused { HasRefusals (S.refusals sink.old) (S.refusals sink.new) result }
+    ensures { Puts bytes.now (S.shown sink.old) (S.shown sink.new) result }
 {
     let mut rest = bytes;
     while !rest.is_empty() {
-        let count = sink.write(rest)?;
-        rest = &rest[count..];
+        match sink.write(rest) {
+            Ok(count) => rest = &rest[count..],
+            Err(refusal) => return Err(refusal),
+        }
     }
     Ok(())
 }

@@ -1,6 +1,6 @@
 //! Files and a sink in memory, of which chosen calls fail.
 ghost use Rattle.std.specs.Prelude.{◌≡◌, ◌++◌, ◌∷◌, [], ◌<◌, ℕ, List, None, OnErr, OnOk, Some};
-ghost use Rattle.ps_text.specs.Memory.{KeepsTexts, PutsText, text_in};
+ghost use Rattle.ps_text.specs.Memory.{KeepsTexts, PutsText, told_in, text_in};
 
 use super::risen;
 use super::texts::Texts;
@@ -14,7 +14,7 @@ pub struct MemFiles {
     texts: Texts,
     failing: Vec<u64>,
     calls: u64,
-    faults: u64,
+    failed: u64,
 }
 
 impl MemFiles {
@@ -23,23 +23,23 @@ impl MemFiles {
         ensures texts { (n : List ℕ) → text_in result.texts n ≡ None }
         ensures chosen { result.failing.items ≡ [] }
         ensures calls { result.calls ≡ 0 }
-        ensures faults { result.faults ≡ 0 }
+        ensures failed { result.failed ≡ 0 }
     {
         MemFiles {
             texts: Texts::new(alloc),
             failing: Vec::new(alloc),
             calls: 0,
-            faults: 0,
+            failed: 0,
         }
     }
 
-    /// Puts a text under a name, in place of one that is there. Want of memory changes nothing.
+    /// Puts a text under a name, in place of one that is there. Where memory runs out nothing changes.
     pub fn put_text(&mut self, name: &str, bytes: &[u8]) -> Result<(), AllocError>
-        ensures ok { OnOk result (PutsText (text_in self.old.texts) (text_in self.new.texts) name.now bytes.now) }
+        ensures ok { OnOk result (PutsText (text_in self.old.texts) (text_in self.new.texts) name.now (Some bytes.now)) }
         ensures err { OnErr result (KeepsTexts (text_in self.old.texts) (text_in self.new.texts)) }
         ensures chosen { self.new.failing.items ≡ self.old.failing.items }
         ensures calls { self.new.calls ≡ self.old.calls }
-        ensures faults { self.new.faults ≡ self.old.faults }
+        ensures failed { self.new.failed ≡ self.old.failed }
     {
         self.texts.put(name, bytes)
     }
@@ -50,24 +50,22 @@ impl MemFiles {
         ensures err { OnErr result (self.new.failing.items ≡ self.old.failing.items) }
         ensures calls { self.new.calls ≡ self.old.calls }
         ensures texts { KeepsTexts (text_in self.old.texts) (text_in self.new.texts) }
-        ensures faults { self.new.faults ≡ self.old.faults }
+        ensures failed { self.new.failed ≡ self.old.failed }
     {
         self.failing.push(call)?;
         Ok(())
     }
 
     /// How many reads have failed.
-    pub fn faults(&self) -> u64
-        ensures { result ≡ self.now.faults }
+    pub fn failed(&self) -> u64
+        ensures { result ≡ self.now.failed }
     {
-        self.faults
+        self.failed
     }
 }
 
 impl Files for MemFiles {
-    ghost text_of = { λ files. text_in files.texts };
-
-    ghost faults = { λ files. files.faults };
+    ghost shown = { λ files. record { told = told_in files.texts; reads = files.calls; failed = files.failed } };
 
     fn read(&mut self, alloc: Global, name: &str) -> Result<Vec<u8>, FileRefusal> {
         let chosen = self.failing.contains(&self.calls);
@@ -77,7 +75,7 @@ impl Files for MemFiles {
                 return Ok(Vec::from_slice(alloc, text)?);
             }
         }
-        self.faults = risen(self.faults);
+        self.failed = risen(self.failed);
         Err(FileRefusal::Failed)
     }
 }
@@ -89,6 +87,7 @@ pub struct MemSink {
     most: usize,
     failing: Vec<u64>,
     calls: u64,
+    failed: u64,
     refusals: u64,
     ghost some: { 0 < most },
 }
@@ -108,6 +107,7 @@ impl MemSink {
             most,
             failing: Vec::new(alloc),
             calls: 0,
+            failed: 0,
             refusals: 0,
         }
     }
@@ -140,16 +140,13 @@ impl MemSink {
 }
 
 impl Sink for MemSink {
-    ghost taken = { λ sink. Some sink.bytes.items };
-
-    ghost faults = { λ sink. sink.refusals };
-
-    ghost refusals = { λ sink. sink.refusals };
+    ghost shown = { λ sink. record { bytes = Some sink.bytes.items; failed = sink.failed; refused = sink.refusals } };
 
     fn write(&mut self, bytes: &[u8]) -> Result<usize, SinkRefusal> {
         let chosen = self.failing.contains(&self.calls);
         self.calls = risen(self.calls);
         if chosen {
+            self.failed = risen(self.failed);
             self.refusals = risen(self.refusals);
             return Err(SinkRefusal::Failed);
         }

@@ -1,5 +1,6 @@
-//! Files and a sink in memory that fail only where memory is wanting.
+//! Files and a sink in memory that fail only where memory runs out.
 ghost use Rattle.std.specs.Prelude.{◌≡◌, [], ℕ, List, None, OnErr, OnOk, Some};
+ghost use Rattle.ps_text.specs.Outside.Told.{text as is_text};
 ghost use Rattle.ps_text.specs.Memory.{KeepsTexts, PutsText, sure_text_in, text_in};
 
 use super::risen;
@@ -12,19 +13,21 @@ use std::alloc::{AllocError, AllocFailed, Global};
 #[derive(Drop)]
 pub struct SureFiles {
     texts: Texts,
+    calls: u64,
 }
 
 impl SureFiles {
     /// Files of which each has the empty text.
     pub fn new(alloc: Global) -> SureFiles
-        ensures { (n : List ℕ) → sure_text_in result.texts n ≡ Some [] }
+        ensures { (n : List ℕ) → sure_text_in result.texts n ≡ [] }
     {
         SureFiles {
             texts: Texts::new(alloc),
+            calls: 0,
         }
     }
 
-    /// Puts a text under a name, in place of one that is there. Want of memory changes nothing.
+    /// Puts a text under a name, in place of one that is there. Where memory runs out nothing changes.
     pub fn put_text(&mut self, name: &str, bytes: &[u8]) -> Result<(), AllocError>
         ensures ok { OnOk result (PutsText (sure_text_in self.old.texts) (sure_text_in self.new.texts) name.now bytes.now) }
         ensures err { OnErr result (KeepsTexts (sure_text_in self.old.texts) (sure_text_in self.new.texts)) }
@@ -34,11 +37,10 @@ impl SureFiles {
 }
 
 impl Files for SureFiles {
-    ghost text_of = { λ files. sure_text_in files.texts };
-
-    ghost faults = { λ _. 0 };
+    ghost shown = { λ files. record { told = λ n. is_text (sure_text_in files.texts n); reads = files.calls; failed = 0 } };
 
     fn read(&mut self, alloc: Global, name: &str) -> Result<Vec<u8>, FileRefusal> {
+        self.calls = risen(self.calls);
         match self.texts.get(name) {
             Some(text) => Ok(Vec::from_slice(alloc, text)?),
             None => Ok(Vec::new(alloc)),
@@ -72,7 +74,7 @@ impl SureSink {
         self.bytes.as_slice()
     }
 
-    /// How many writes were refused, each for want of memory.
+    /// How many writes were refused, each since memory ran out.
     pub fn refusals(&self) -> u64
         ensures { result ≡ self.now.refusals }
     {
@@ -81,11 +83,7 @@ impl SureSink {
 }
 
 impl Sink for SureSink {
-    ghost taken = { λ sink. Some sink.bytes.items };
-
-    ghost faults = { λ _. 0 };
-
-    ghost refusals = { λ sink. sink.refusals };
+    ghost shown = { λ sink. record { bytes = Some sink.bytes.items; failed = 0; refused = sink.refusals } };
 
     fn write(&mut self, bytes: &[u8]) -> Result<usize, SinkRefusal> {
         if self.bytes.extend_from_slice(bytes).is_err() {

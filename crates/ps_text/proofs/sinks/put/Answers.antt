@@ -1,18 +1,25 @@
-use Rattle.std.proofs.Common.{arith}
+use Rattle.std.proofs.Common.{ℕ, ◌∙◌}
 use Rattle.std.proofs.lemmas.List.{take_rest}
-use Rattle.std.proofs.lemmas.Result.{err_from_is_err_and}
-use Rattle.ps_text.proofs.Puts.{WroteFront-kept, WroteFront-more}
+use Rattle.ps_text.proofs.Puts.{Counts-since, WrotePrefix-kept, WrotePrefix-more}
 use Rattle.ps_text.proofs.sinks.put.Goals as goal
 
-pub returns-in_err-count-clause-err : goal.returns-in_err-count-clause-err
-returns-in_err-count-clause-err g c =
-    let p = err_from_is_err_and c.from_residual.result c.from_residual.ensures.1 in
-    rw p.1 (WroteFront-kept _ _ _ _ _ c.loop-rest.invariant.wrote c.in_err-count.ensures.bytes)
+pub returns-in-Err : goal.returns-in-Err
+returns-in-Err g c =
+    let before = c.loop-rest.invariant in
+    let write = c.in-Err.ensures in
+    record {
+      whole = tt;
+      prefix = WrotePrefix-kept _ _ _ _ _ before.wrote write.taken;
+      counted = Counts-since ℕ (Unit {0}) (g.S.Sink.shown c.args.sink.now) (g.S.Sink.shown c.loop-rest.sink)
+          (g.S.Sink.shown c.write.new.self) c.in-Err.refusal before.failed before.refused write.counted;
+    }
 
 pub loop-rest-preserved : goal.loop-rest-preserved
 loop-rest-preserved g c =
+    let before = c.loop-rest.invariant in
+    let write = c.in-Ok.ensures in
     record {
-      wrote = rw take_rest (WroteFront-more _ _ _ _ _ c.in_ok-count.count c.loop-rest.invariant.wrote c.in_ok-count.ensures.bytes);
-      faults = omega (arith, c.in_ok-count.ensures.cause.later);
-      refusals = omega (arith, c.in_ok-count.ensures.refused.later);
+      wrote = rw take_rest (WrotePrefix-more _ _ _ _ _ c.in-Ok.count before.wrote write.taken);
+      failed = write.counted.0 ∙ before.failed;
+      refused = write.counted.1 ∙ before.refused;
     }

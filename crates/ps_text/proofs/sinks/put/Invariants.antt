@@ -1,13 +1,13 @@
-use Rattle.std.proofs.Common.{◌≤◌, length}
-use Rattle.ps_text.proofs.Puts.{WroteFront}
+use Rattle.std.proofs.Common.{◌≡◌, length}
+use Rattle.ps_text.proofs.Puts.{WrotePrefix}
 use Rattle.ps_text.proofs.sinks.put.Given as goal
 
 abbrev pub invariant-loop-rest : goal.invariant-loop-rest
 invariant-loop-rest g l =
     record {
-      wrote : WroteFront (g.S.Sink.taken l.fn.sink) (g.S.Sink.taken l.sink) l.fn.bytes l.rest;
-      faults : g.S.Sink.faults l.fn.sink ≤ g.S.Sink.faults l.sink;
-      refusals : g.S.Sink.refusals l.fn.sink ≤ g.S.Sink.refusals l.sink;
+      wrote : WrotePrefix (g.S.Sink.shown l.fn.sink).bytes (g.S.Sink.shown l.sink).bytes l.fn.bytes l.rest;
+      failed : (g.S.Sink.shown l.sink).failed ≡ (g.S.Sink.shown l.fn.sink).failed;
+      refused : (g.S.Sink.shown l.sink).refused ≡ (g.S.Sink.shown l.fn.sink).refused;
     }
 
 abbrev pub decreases-loop-rest : goal.decreases-loop-rest

@@ -1,0 +1,40 @@
+//! The work that words and files give.
+ghost use Rattle.std.specs.Prelude.{◌<◌, ◌≤◌, ◌^◌, length, All};
+ghost use Rattle.ps_machine.specs.Tables.{IsLineOf};
+ghost use Rattle.ps_print.specs.CanonicalWords.{IsParamOf};
+
+use ps_machine::Input;
+use ps_text::Names;
+use ps_world::Domain;
+
+/// A session, with the table of all of its names.
+#[derive(Drop)]
+pub struct Session {
+    pub names: Names,
+    pub input: Input,
+    ghost few: { length input.lines < 2 ^ 32 },
+    ghost searches: { 1 ≤ input.budget },
+    ghost named: { All (IsLineOf (length names)) input.lines },
+    ghost constants: { All (IsParamOf (length names)) input.domain.constants },
+}
+
+/// A plan that is to be validated after the edits of an input, with the table of the input's names. It isn't read yet.
+#[derive(Drop)]
+pub struct Validation {
+    pub names: Names,
+    /// Its budget is 0, since no plan is searched for.
+    pub input: Input,
+    /// The text of the plan.
+    pub plan: Vec<u8>,
+}
+
+/// What a call is to do, with all that it is done on.
+#[derive(Drop)]
+pub enum Work {
+    /// To do the lines of a script.
+    Session(Session),
+    /// To write the canonical text of a domain, which has these names.
+    Check { names: Names, domain: Domain },
+    /// To judge a plan.
+    Validation(Validation),
+}
