@@ -72,7 +72,7 @@ fn reads_so(rt: &impl Abort, alloc: Global, names: &mut Names) -> Result<(), Fai
 
 fn all_changed(alloc: Global, world: &mut World) -> Result<Vec<Touched>, Fail> {
     let ground = ground_of(alloc, world, "(leave leia)")?;
-    Ok(changed_by(alloc, ground.at_end.as_slice())?)
+    Ok(changed_by(alloc, ground.effects.at_end.as_slice())?)
 }
 
 fn changes_so(rt: &impl Abort, alloc: Global, world: &mut World) -> Result<(), Fail> {

@@ -13,6 +13,8 @@ use Rattle.ps_world.specs.declared.schemas.Lifted.{Lifted}
 use Rattle.ps_world.specs.declared.expressions.Expr.{Expr}
 use Rattle.ps_world.specs.declared.expressions.Expr.TheVariants.{Num, Fun, Neg, Bin}
 use Rattle.ps_world.specs.declared.actions.ActionDef.{ActionDef}
+use Rattle.ps_world.specs.declared.actions.Conditions.{Conditions}
+use Rattle.ps_world.specs.declared.actions.Effects.{Effects}
 use Rattle.ps_world.specs.declared.actions.Effect.{Effect}
 use Rattle.ps_world.specs.declared.actions.Effect.TheVariants.{Add, Delete, Number}
 use Rattle.ps_world.specs.declared.domains.Param.{Param}
@@ -73,16 +75,25 @@ fitting params args = map (λ pair. is_a (Const pair.1) pair.0.kind) (zip params
 abbrev pub put_list : List Param → List Name → List CondTree → List CondTree
 put_list params args cs = fitting params args ++ map (put_cond args) cs
 
+-- an action's conditions with arguments put in
+abbrev pub put_conditions : List Param → List Name → Conditions → Conditions
+put_conditions params args c = record {
+  at_start = put_list params args c.at_start;
+  over_all = put_list params args c.over_all;
+  at_end = put_list params args c.at_end;
+}
+
+-- an action's effects with arguments put in
+abbrev pub put_all_effects : List Name → Effects → Effects
+put_all_effects args e = record { at_start = map (put_effect args) e.at_start; at_end = map (put_effect args) e.at_end }
+
 -- the ground action of an act of this action
 abbrev pub grounded : ActionDef → Act → GroundAction
 grounded a act = record {
   act = act;
   duration = put_expr act.args a.duration;
-  start = put_list a.params act.args a.start;
-  over = put_list a.params act.args a.over;
-  end = put_list a.params act.args a.end;
-  at_start = map (put_effect act.args) a.at_start;
-  at_end = map (put_effect act.args) a.at_end;
+  conditions = put_conditions a.params act.args a.conditions;
+  effects = put_all_effects act.args a.effects;
 }
 
 -- why a name of this type can't stand for a parameter of that one, if it can't

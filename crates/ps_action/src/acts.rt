@@ -1,5 +1,5 @@
 //! Acts, ground actions and the steps of plans.
-use ps_world::{Args, Conditions, Conds, Duplicate, Effect, Effects, Expr, Name, Num, Seq};
+use ps_world::{Args, Conditions, Duplicate, Effects, Expr, Name, Num};
 use std::alloc::{AllocError, Global};
 
 /// An action and its arguments.
@@ -15,34 +15,23 @@ impl Duplicate for Act {
     }
 }
 
-/// An action with arguments in place of its variables. Each list of conditions stands for all of its conditions, and begins
-/// with one for each parameter, that the argument is an instance that fits.
+/// An action with arguments in place of its variables. Each list of conditions begins with one for each parameter, that the
+/// argument is an instance that fits.
 #[derive(PartialEq, Eq, Drop)]
 pub struct GroundAction {
     pub act: Act,
     pub duration: Expr,
-    /// What has to hold when it starts.
-    pub start: Conds,
-    /// What has to hold while it runs.
-    pub over: Conds,
-    /// What has to hold when it ends.
-    pub end: Conds,
-    pub at_start: Seq<Effect>,
-    pub at_end: Seq<Effect>,
+    pub conditions: Conditions,
+    pub effects: Effects,
 }
 
 impl Duplicate for GroundAction {
     fn copy(&self, alloc: Global) -> Result<Self, AllocError> {
-        let effects = Effects::copied(alloc, &self.at_start, &self.at_end)?;
-        let conditions = Conditions::copied(alloc, &self.start, &self.over, &self.end)?;
         Ok(GroundAction {
             act: self.act,
             duration: self.duration.copy(alloc)?,
-            start: conditions.start,
-            over: conditions.over,
-            end: conditions.end,
-            at_start: effects.at_start,
-            at_end: effects.at_end,
+            conditions: self.conditions.copy(alloc)?,
+            effects: self.effects.copy(alloc)?,
         })
     }
 }

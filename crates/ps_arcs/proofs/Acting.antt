@@ -51,27 +51,27 @@ touched_at o x = read_at o x || changed_at o x
 -- whether the start condition is true, which it is where no ground action stands
 abbrev pub starts : Domain → Option GroundAction → Knowledge → Bool
 starts d None k = true
-starts d (Some a) k = all_true d k a.start
+starts d (Some a) k = all_true d k a.conditions.at_start
 
 -- the same of the over-all condition
 abbrev pub lasts : Domain → Option GroundAction → Knowledge → Bool
 lasts d None k = true
-lasts d (Some a) k = all_true d k a.over
+lasts d (Some a) k = all_true d k a.conditions.over_all
 
 -- the same of the end condition
 abbrev pub closes : Domain → Option GroundAction → Knowledge → Bool
 closes d None k = true
-closes d (Some a) k = all_true d k a.end
+closes d (Some a) k = all_true d k a.conditions.at_end
 
 -- the knowledge after the start effects, which is the same where no ground action stands
 abbrev pub begun : Option GroundAction → Knowledge → Option Knowledge
 begun None k = Some k
-begun (Some a) k = result_ok (effect k a.at_start)
+begun (Some a) k = result_ok (effect k a.effects.at_start)
 
 -- the same of the end effects
 abbrev pub finished : Option GroundAction → Knowledge → Option Knowledge
 finished None k = Some k
-finished (Some a) k = result_ok (effect k a.at_end)
+finished (Some a) k = result_ok (effect k a.effects.at_end)
 
 -- ground actions as acts by their places
 abbrev pub acts_of : Domain → List GroundAction → Acts Knowledge Told
@@ -233,13 +233,13 @@ no_effect = record {
 begun_effect : (o : Option GroundAction) → IsEffect SameAt (touched_at o) (changed_at o) (begun o)
 begun_effect None = no_effect
 begun_effect (Some a) =
-    is_effect a (λ k. effect k a.at_start) (λ k l same read changed. (effects_read_things k l a same read changed).0)
+    is_effect a (λ k. effect k a.effects.at_start) (λ k l same read changed. (effects_read_things k l a same read changed).0)
     (λ k. (effects_leave_others k a).0)
 
 finished_effect : (o : Option GroundAction) → IsEffect SameAt (touched_at o) (changed_at o) (finished o)
 finished_effect None = no_effect
 finished_effect (Some a) =
-    is_effect a (λ k. effect k a.at_end) (λ k l same read changed. (effects_read_things k l a same read changed).1)
+    is_effect a (λ k. effect k a.effects.at_end) (λ k l same read changed. (effects_read_things k l a same read changed).1)
     (λ k. (effects_leave_others k a).1)
 
 -- ---- no arc

@@ -117,7 +117,7 @@ module _ (d : Domain) (gs : List GroundAction) (last : Knowledge) where
         h.1,
         w.1,
         subst (λ p. starts d p k ≡ true) w.1 h.0,
-        is_ok (effect k (w.0).at_start) h.1 (subst (λ p. begun p k ≡ Some h.1) w.1 h.2),
+        is_ok (effect k (w.0).effects.at_start) h.1 (subst (λ p. begun p k ≡ Some h.1) w.1 h.2),
         holds_all (moved now i running) h.1 h.3,
         go_well es (moved now i running) h.1 l e o.3 h.4,
       )
@@ -127,7 +127,7 @@ module _ (d : Domain) (gs : List GroundAction) (last : Knowledge) where
         h.1,
         w.1,
         subst (λ p. closes d p k ≡ true) w.1 h.0,
-        is_ok (effect k (w.0).at_end) h.1 (subst (λ p. finished p k ≡ Some h.1) w.1 h.2),
+        is_ok (effect k (w.0).effects.at_end) h.1 (subst (λ p. finished p k ≡ Some h.1) w.1 h.2),
         holds_all (moved now i ended) h.1 h.3,
         go_well es (moved now i ended) h.1 l e o.2 h.4,
       )

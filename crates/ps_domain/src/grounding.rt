@@ -1,8 +1,8 @@
 //! Ground actions: an act's action with the arguments of the act put in.
-ghost use Rattle.std.specs.Prelude.{◌≡◌, length, map, IfOk};
+ghost use Rattle.std.specs.Prelude.{◌≡◌, length, IfOk};
 ghost use Rattle.std.specs.Map.{lookup};
 ghost use Rattle.ps_world.specs.Names.{same_name};
-ghost use Rattle.ps_action.specs.Grounding.{grounded, unfit, first_unfit, put_effect, put_list};
+ghost use Rattle.ps_action.specs.Grounding.{grounded, unfit, first_unfit, put_all_effects, put_conditions};
 ghost use Rattle.ps_domain.specs.Grounding.{Grounds};
 
 use super::expert::Expert;
@@ -62,29 +62,26 @@ fn first_unfit(
 
 fn put_conditions(
     alloc: Global,
+    params: &[Param],
     args: &[Name],
-    action: &ActionDef,
+    conditions: &Conditions,
 ) -> Result<Conditions, AllocError>
-    requires { length action.now.params ≡ length args.now }
-    ensures start { IfOk result (λ c. c.start ≡ put_list action.now.params args.now action.now.start) }
-    ensures over { IfOk result (λ c. c.over ≡ put_list action.now.params args.now action.now.over) }
-    ensures end { IfOk result (λ c. c.end ≡ put_list action.now.params args.now action.now.end) }
+    requires { length params.now ≡ length args.now }
+    ensures { IfOk result (λ c. c ≡ put_conditions params.now args.now conditions.now) }
 {
-    let params = action.params.as_slice();
     Ok(Conditions {
-        start: put_list(alloc, params, args, &action.start)?,
-        over: put_list(alloc, params, args, &action.over)?,
-        end: put_list(alloc, params, args, &action.end)?,
+        at_start: put_list(alloc, params, args, &conditions.at_start)?,
+        over_all: put_list(alloc, params, args, &conditions.over_all)?,
+        at_end: put_list(alloc, params, args, &conditions.at_end)?,
     })
 }
 
-fn put_all_effects(alloc: Global, args: &[Name], action: &ActionDef) -> Result<Effects, AllocError>
-    ensures at_start { IfOk result (λ e. e.at_start ≡ map (put_effect args.now) action.now.at_start) }
-    ensures at_end { IfOk result (λ e. e.at_end ≡ map (put_effect args.now) action.now.at_end) }
+fn put_all_effects(alloc: Global, args: &[Name], effects: &Effects) -> Result<Effects, AllocError>
+    ensures { IfOk result (λ e. e ≡ put_all_effects args.now effects.now) }
 {
     Ok(Effects {
-        at_start: put_effects(alloc, args, action.at_start.as_slice())?,
-        at_end: put_effects(alloc, args, action.at_end.as_slice())?,
+        at_start: put_effects(alloc, args, effects.at_start.as_slice())?,
+        at_end: put_effects(alloc, args, effects.at_end.as_slice())?,
     })
 }
 
@@ -94,16 +91,11 @@ pub fn grounded(alloc: Global, action: &ActionDef, act: &Act) -> Result<GroundAc
     ensures { IfOk result (λ g. g ≡ grounded action.now act.now) }
 {
     let args = act.args.as_slice();
-    let effects = put_all_effects(alloc, args, action)?;
-    let conditions = put_conditions(alloc, args, action)?;
     Ok(GroundAction {
         act: *act,
         duration: put_expr(alloc, args, &action.duration)?,
-        start: conditions.start,
-        over: conditions.over,
-        end: conditions.end,
-        at_start: effects.at_start,
-        at_end: effects.at_end,
+        conditions: put_conditions(alloc, action.params.as_slice(), args, &action.conditions)?,
+        effects: put_all_effects(alloc, args, &action.effects)?,
     })
 }
 

@@ -126,7 +126,7 @@ IsEndCond names ps c = IsTimed mark.At mark.End (IsCondForm names ps c)
 
 -- the parts of an action's condition, in order
 pub data AreConditionParts (names : Table) (a : ActionDef) : Nesteds → Type 0 where
-  condition_parts : (starts overs ends : Nesteds) → AreForms (IsStartCond names a.params) a.start starts → AreForms (IsOverCond names a.params) a.over overs → AreForms (IsEndCond names a.params) a.end ends → AreConditionParts names a (joined starts (joined overs ends))
+  condition_parts : (starts overs ends : Nesteds) → AreForms (IsStartCond names a.params) a.conditions.at_start starts → AreForms (IsOverCond names a.params) a.conditions.over_all overs → AreForms (IsEndCond names a.params) a.conditions.at_end ends → AreConditionParts names a (joined starts (joined overs ends))
 
 -- ---- effects
 
@@ -152,7 +152,7 @@ IsEndEffect names ps e = IsTimed mark.At mark.End (IsEffectForm names ps e)
 
 -- the parts of an action's effect, in order
 pub data AreEffectParts (names : Table) (a : ActionDef) : Nesteds → Type 0 where
-  effect_parts : (starts ends : Nesteds) → AreForms (IsStartEffect names a.params) a.at_start starts → AreForms (IsEndEffect names a.params) a.at_end ends → AreEffectParts names a (joined starts ends)
+  effect_parts : (starts ends : Nesteds) → AreForms (IsStartEffect names a.params) a.effects.at_start starts → AreForms (IsEndEffect names a.params) a.effects.at_end ends → AreEffectParts names a (joined starts ends)
 
 -- ---- lists of names
 

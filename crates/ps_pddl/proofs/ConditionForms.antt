@@ -9,7 +9,7 @@ use Rattle.ps_forms.specs.Nested.{nesteds}
 use Rattle.ps_forms.specs.NestedViews.{nested}
 use Rattle.ps_forms.specs.Places.{head, rest}
 use Rattle.ps_forms.specs.declared.lexemes.Lexeme.{Lexeme}
-use Rattle.ps_pddl.specs.declared.meaning.parts.Parts.{Parts}
+use Rattle.ps_world.specs.declared.actions.Conditions.{Conditions}
 use Rattle.ps_forms.specs.declared.trees.Tree.{Tree}
 
 pub with_one : (d : Domain) (ps : List Param) (l : Lexeme) (us : List Tree) → length us ≡ 1 → plain_condition d ps l (nesteds (map nested us)) ≡ stated d ps l (nesteds (map nested us))
@@ -26,7 +26,7 @@ pub plain : (d : Domain) (ps : List Param) (us : List Tree) → 1 ≤ length us 
 plain d ps [] h p q = absurd (omega (arith, h))
 plain d ps (t ∷ us) h p q = rw (p, q) refl
 
-pub no_form : (d : Domain) (ps : List Param) (l : Lexeme) (us : List Tree) (parts : Parts) → length us ≡ 1 → timed_form d ps l (nesteds (map nested us)) parts ≡ Ok parts
+pub no_form : (d : Domain) (ps : List Param) (l : Lexeme) (us : List Tree) (parts : Conditions) → length us ≡ 1 → timed_form d ps l (nesteds (map nested us)) parts ≡ Ok parts
 no_form d ps l [] parts h = refl
 no_form d ps l (t ∷ []) parts h = refl
 no_form d ps l (t ∷ u ∷ us) parts h = absurd (omega (arith, h))

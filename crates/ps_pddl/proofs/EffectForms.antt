@@ -10,7 +10,7 @@ use Rattle.ps_forms.specs.Nested.{nesteds}
 use Rattle.ps_forms.specs.NestedViews.{nested}
 use Rattle.ps_forms.specs.Places.{head, rest}
 use Rattle.ps_forms.specs.declared.lexemes.Lexeme.{Lexeme}
-use Rattle.ps_pddl.specs.declared.meaning.changes.Changes.{Changes}
+use Rattle.ps_world.specs.declared.actions.Effects.{Effects}
 use Rattle.ps_forms.specs.declared.trees.Tree.{Tree}
 
 pub with_one : (d : Domain) (ps : List Param) (l : Lexeme) (us : List Tree) (es : List Effect) → length us ≡ 1 → plain_effect d ps l (nesteds (map nested us)) es ≡ added d ps l (nesteds (map nested us)) es
@@ -18,7 +18,7 @@ with_one d ps l [] es h = absurd (omega (arith, h))
 with_one d ps l (t ∷ []) es h = refl
 with_one d ps l (t ∷ u ∷ us) es h = absurd (omega (arith, h))
 
-pub no_form : (d : Domain) (ps : List Param) (l : Lexeme) (us : List Tree) (changes : Changes) → length us ≡ 1 → timed_form d ps l (nesteds (map nested us)) changes ≡ Ok changes
+pub no_form : (d : Domain) (ps : List Param) (l : Lexeme) (us : List Tree) (changes : Effects) → length us ≡ 1 → timed_form d ps l (nesteds (map nested us)) changes ≡ Ok changes
 no_form d ps l [] changes h = refl
 no_form d ps l (t ∷ []) changes h = refl
 no_form d ps l (t ∷ u ∷ us) changes h = absurd (omega (arith, h))

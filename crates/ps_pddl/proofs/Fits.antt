@@ -63,11 +63,11 @@ FitParams names ps = All (λ p. IsVariableName names p.name) ps
 pub record FitsAction (names : Table) (a : ActionDef) : Type 0 where
   pub params : FitParams names a.params
   pub duration : FitsExpr 61 (expr_tree a.duration)
-  pub start : All (FitsCond names 60) a.start
-  pub over : All (FitsCond names 60) a.over
-  pub end : All (FitsCond names 60) a.end
-  pub at_start : All (FitsEffect names 60) a.at_start
-  pub at_end : All (FitsEffect names 60) a.at_end
+  pub start : All (FitsCond names 60) a.conditions.at_start
+  pub over : All (FitsCond names 60) a.conditions.over_all
+  pub end : All (FitsCond names 60) a.conditions.at_end
+  pub at_start : All (FitsEffect names 60) a.effects.at_start
+  pub at_end : All (FitsEffect names 60) a.effects.at_end
 
 -- a predicate, which has no name of a form
 pub record FitsPredicate (names : Table) (decl : Decl) : Type 0 where

@@ -125,8 +125,8 @@ module _ (names : Table) where
 
   condition_parts_grammatical : (a : ActionDef) (ts : Nesteds) → FitsAction names a → AreConditionParts names a ts → AreParts 61 ts
   condition_parts_grammatical a _ fit (condition_parts starts overs ends s o e) =
-      parts_joined 61 starts (joined overs ends) (starts_grammatical a.params 60 a.start starts fit.start s)
-      (parts_joined 61 overs ends (overs_grammatical a.params 60 a.over overs fit.over o) (ends_grammatical a.params 60 a.end ends fit.end e))
+      parts_joined 61 starts (joined overs ends) (starts_grammatical a.params 60 a.conditions.at_start starts fit.start s)
+      (parts_joined 61 overs ends (overs_grammatical a.params 60 a.conditions.over_all overs fit.over o) (ends_grammatical a.params 60 a.conditions.at_end ends fit.end e))
 
   -- ---- effects
 
@@ -157,7 +157,7 @@ module _ (names : Table) where
 
   effect_parts_grammatical : (a : ActionDef) (ts : Nesteds) → FitsAction names a → AreEffectParts names a ts → AreChanges 61 ts
   effect_parts_grammatical a _ fit (effect_parts starts ends s e) =
-      changes_joined 61 starts ends (start_effects_grammatical a.params 60 a.at_start starts fit.at_start s) (end_effects_grammatical a.params 60 a.at_end ends fit.at_end e)
+      changes_joined 61 starts ends (start_effects_grammatical a.params 60 a.effects.at_start starts fit.at_start s) (end_effects_grammatical a.params 60 a.effects.at_end ends fit.at_end e)
 
   -- ---- lists of names
 

@@ -19,9 +19,9 @@ use Rattle.ps_pddl.specs.Lists.{listed}
 use Rattle.ps_pddl.specs.Meaning as meaning
 use Rattle.ps_pddl.specs.Values.{value}
 use Rattle.ps_pddl.specs.WellFormed.{AreApart, AreTyped, IsAction}
-use Rattle.ps_pddl.specs.declared.meaning.changes.Changes.{Changes}
+use Rattle.ps_world.specs.declared.actions.Effects.{Effects}
 use Rattle.ps_pddl.specs.declared.meaning.lists.Listing.TheVariants.{Params}
-use Rattle.ps_pddl.specs.declared.meaning.parts.Parts.{Parts}
+use Rattle.ps_world.specs.declared.actions.Conditions.{Conditions}
 use Rattle.ps_pddl.specs.declared.refusals.Cap.{Cap}
 use Rattle.ps_pddl.specs.declared.refusals.Cap.TheVariants as cap
 use Rattle.ps_pddl.proofs.CanonicalForms.{joined, IsNamed, AreForms, no_items, more_items, AreParamForms, IsDeclForm, decl_form, AreConditionParts, condition_parts, AreEffectParts, effect_parts, IsActionForm, action_form}
@@ -82,21 +82,21 @@ action-head : (names : Table) (a : ActionDef) (t : Nested) → IsActionForm name
 action-head names _ _ (action_form a k n p u e q c f g i ps cs es x m w pm pw um em qm xw cm fm cw gm im ew) = rw m refl
 
 module _ (names : Table) (d : Domain) (acts : List ActionDef) (predicates : TakeFew d.predicates) (functions : TakeFew d.functions) (heads : HaveHeads names d.predicates) where
-  parts-mean : (a : ActionDef) (cs : Nesteds) → IsAction d a → AreConditionParts names a cs → condition.all_timed (acting d acts) a.params cs (record { start = []; over = []; end = [] }) ≡ Ok (record { start = a.start; over = a.over; end = a.end })
+  parts-mean : (a : ActionDef) (cs : Nesteds) → IsAction d a → AreConditionParts names a cs → condition.all_timed (acting d acts) a.params cs (record { at_start = []; over_all = []; at_end = [] }) ≡ Ok (record { at_start = a.conditions.at_start; over_all = a.conditions.over_all; at_end = a.conditions.at_end })
   parts-mean a _ h (condition_parts starts overs ends s o e) =
-      let first : Parts = record { start = a.start; over = []; end = [] } in
-      let second : Parts = record { start = a.start; over = a.over; end = [] } in
-      starts-mean names d acts a.params h.params.apart predicates functions heads a.start starts (joined overs ends) (record { start = []; over = []; end = [] }) h.start s
-      ∙ (overs-mean names d acts a.params h.params.apart predicates functions heads a.over overs ends first h.over o
+      let first : Conditions = record { at_start = a.conditions.at_start; over_all = []; at_end = [] } in
+      let second : Conditions = record { at_start = a.conditions.at_start; over_all = a.conditions.over_all; at_end = [] } in
+      starts-mean names d acts a.params h.params.apart predicates functions heads a.conditions.at_start starts (joined overs ends) (record { at_start = []; over_all = []; at_end = [] }) h.start s
+      ∙ (overs-mean names d acts a.params h.params.apart predicates functions heads a.conditions.over_all overs ends first h.over o
       ∙ (ap (λ ts. condition.all_timed (acting d acts) a.params ts second) (sym (joined-none ends))
-      ∙ ends-mean names d acts a.params h.params.apart predicates functions heads a.end ends none second h.end e))
+      ∙ ends-mean names d acts a.params h.params.apart predicates functions heads a.conditions.at_end ends none second h.end e))
 
-  changes-mean : (a : ActionDef) (es : Nesteds) → IsAction d a → AreEffectParts names a es → effect.all_timed (acting d acts) a.params es (record { at_start = []; at_end = [] }) ≡ Ok (record { at_start = a.at_start; at_end = a.at_end })
+  changes-mean : (a : ActionDef) (es : Nesteds) → IsAction d a → AreEffectParts names a es → effect.all_timed (acting d acts) a.params es (record { at_start = []; at_end = [] }) ≡ Ok (record { at_start = a.effects.at_start; at_end = a.effects.at_end })
   changes-mean a _ h (effect_parts starts ends s e) =
-      let first : Changes = record { at_start = a.at_start; at_end = [] } in
-      start_effects-mean names d acts a.params h.params.apart predicates functions heads a.at_start starts ends (record { at_start = []; at_end = [] }) h.at_start s
+      let first : Effects = record { at_start = a.effects.at_start; at_end = [] } in
+      start_effects-mean names d acts a.params h.params.apart predicates functions heads a.effects.at_start starts ends (record { at_start = []; at_end = [] }) h.at_start s
       ∙ (ap (λ ts. effect.all_timed (acting d acts) a.params ts first) (sym (joined-none ends))
-      ∙ end_effects-mean names d acts a.params h.params.apart predicates functions heads a.at_end ends none first h.at_end e)
+      ∙ end_effects-mean names d acts a.params h.params.apart predicates functions heads a.effects.at_end ends none first h.at_end e)
 
   action-means : (a : ActionDef) (before others : List ActionDef) (t : Nested) → length (before ++ a ∷ others) ≤ 256 → AreApart (λ a. a.name) (before ++ a ∷ others) → IsAction d a → IsActionForm names a t → meaning.action (acting d acts) (rest (items t)) before ≡ Ok (before ++ a ∷ [])
   action-means a before others _ few apart h (action_form _ k n p u e q c f g i ps cs es x m w pm pw um em qm xw cm fm cw gm im ew) =
@@ -108,9 +108,9 @@ module _ (names : Table) (d : Domain) (acts : List ActionDef) (predicates : Take
       let there = params_there n p u e q c f g i ps cs es x name pm um cm gm in
       let time_there = duration_there n p u e q c f g i ps cs es x name pm um cm gm in
       let parts_there = condition_there n p u e q c f g i ps cs es x name pm um cm gm in
-      let parts : meaning.parts (acting d acts) a.params (Some (group (more (word f) cs))) ≡ Ok (record { start = a.start; over = a.over; end = a.end }) = rw (fm, parts-mean a cs h cw) refl in
+      let parts : meaning.parts (acting d acts) a.params (Some (group (more (word f) cs))) ≡ Ok (record { at_start = a.conditions.at_start; over_all = a.conditions.over_all; at_end = a.conditions.at_end }) = rw (fm, parts-mean a cs h cw) refl in
       let changes_there = effect_there n p u e q c f g i ps cs es x name pm um cm gm in
-      let changes : meaning.changes (acting d acts) a.params (Some (group (more (word i) es))) ≡ Ok (record { at_start = a.at_start; at_end = a.at_end }) = rw (im, changes-mean a es h ew) refl in
+      let changes : meaning.changes (acting d acts) a.params (Some (group (more (word i) es))) ≡ Ok (record { at_start = a.effects.at_start; at_end = a.effects.at_end }) = rw (im, changes-mean a es h ew) refl in
       rw (free, there, params, time_there, time, parts_there, parts, changes_there, changes, w.name) refl
 
   pub actions-mean : (all before : List ActionDef) (ts : Nesteds) → length (before ++ all) ≤ 256 → AreApart (λ a. a.name) (before ++ all) → All (IsAction d) all → AreForms (IsActionForm names) all ts → meaning.actions (acting d acts) ts before ≡ Ok (before ++ all)

@@ -25,7 +25,7 @@ use Rattle.ps_forms.specs.declared.lexemes.Lexeme.{Lexeme}
 use Rattle.ps_pddl.specs.Conditions as condition
 use Rattle.ps_pddl.specs.Steps.{Read}
 use Rattle.ps_pddl.specs.WellFormed.{AreApart, AreConds, IsApplied, IsCond, IsExpr, IsFactOf}
-use Rattle.ps_pddl.specs.declared.meaning.parts.Parts.{Parts}
+use Rattle.ps_world.specs.declared.actions.Conditions.{Conditions}
 use Rattle.ps_pddl.proofs.CanonicalForms.{name_mark, rel_mark, joined, IsTermWord, IsExprForm, a_number, a_value, a_negation, an_operation, IsCondForm, all_form, not_form, fact_form, same_form, comparison_form, AreCondForms, no_forms, more_forms, timed, AreForms, no_items, more_items, IsStartCond, IsOverCond, IsEndCond}
 use Rattle.ps_pddl.proofs.CanonicalForms as form
 use Rattle.ps_pddl.proofs.MeanMarks.{name-isnt, predicate-isnt, rel_of-name}
@@ -148,17 +148,17 @@ module _ (names : Table) (d : Domain) (acts : List ActionDef) (ps : List Param) 
 
   -- ---- the parts of an action's condition
 
-  pub starts-mean : (cs : List CondTree) (ts us : Nesteds) (parts : Parts) → All (IsCond d ps) cs → AreForms (IsStartCond names ps) cs ts → condition.all_timed (acting d acts) ps (joined ts us) parts ≡ condition.all_timed (acting d acts) ps us (record parts { start = parts.start ++ cs })
+  pub starts-mean : (cs : List CondTree) (ts us : Nesteds) (parts : Conditions) → All (IsCond d ps) cs → AreForms (IsStartCond names ps) cs ts → condition.all_timed (acting d acts) ps (joined ts us) parts ≡ condition.all_timed (acting d acts) ps us (record parts { at_start = parts.at_start ++ cs })
   starts-mean _ _ us parts h no_items = rw append-nil refl
   starts-mean _ _ us parts h (more_items c cs _ ts (timed l m u a b k) rest) =
-      rw (a, b, condition-means c u (All-head (IsCond d ps) c cs h) k, cond_tree-uncond c, starts-mean cs ts us (record parts { start = parts.start ++ c ∷ [] }) (All-tail (IsCond d ps) c cs h) rest, append_assoc parts.start (c ∷ []) cs) refl
+      rw (a, b, condition-means c u (All-head (IsCond d ps) c cs h) k, cond_tree-uncond c, starts-mean cs ts us (record parts { at_start = parts.at_start ++ c ∷ [] }) (All-tail (IsCond d ps) c cs h) rest, append_assoc parts.at_start (c ∷ []) cs) refl
 
-  pub overs-mean : (cs : List CondTree) (ts us : Nesteds) (parts : Parts) → All (IsCond d ps) cs → AreForms (IsOverCond names ps) cs ts → condition.all_timed (acting d acts) ps (joined ts us) parts ≡ condition.all_timed (acting d acts) ps us (record parts { over = parts.over ++ cs })
+  pub overs-mean : (cs : List CondTree) (ts us : Nesteds) (parts : Conditions) → All (IsCond d ps) cs → AreForms (IsOverCond names ps) cs ts → condition.all_timed (acting d acts) ps (joined ts us) parts ≡ condition.all_timed (acting d acts) ps us (record parts { over_all = parts.over_all ++ cs })
   overs-mean _ _ us parts h no_items = rw append-nil refl
   overs-mean _ _ us parts h (more_items c cs _ ts (timed l m u a b k) rest) =
-      rw (a, condition-means c u (All-head (IsCond d ps) c cs h) k, cond_tree-uncond c, overs-mean cs ts us (record parts { over = parts.over ++ c ∷ [] }) (All-tail (IsCond d ps) c cs h) rest, append_assoc parts.over (c ∷ []) cs) refl
+      rw (a, condition-means c u (All-head (IsCond d ps) c cs h) k, cond_tree-uncond c, overs-mean cs ts us (record parts { over_all = parts.over_all ++ c ∷ [] }) (All-tail (IsCond d ps) c cs h) rest, append_assoc parts.over_all (c ∷ []) cs) refl
 
-  pub ends-mean : (cs : List CondTree) (ts us : Nesteds) (parts : Parts) → All (IsCond d ps) cs → AreForms (IsEndCond names ps) cs ts → condition.all_timed (acting d acts) ps (joined ts us) parts ≡ condition.all_timed (acting d acts) ps us (record parts { end = parts.end ++ cs })
+  pub ends-mean : (cs : List CondTree) (ts us : Nesteds) (parts : Conditions) → All (IsCond d ps) cs → AreForms (IsEndCond names ps) cs ts → condition.all_timed (acting d acts) ps (joined ts us) parts ≡ condition.all_timed (acting d acts) ps us (record parts { at_end = parts.at_end ++ cs })
   ends-mean _ _ us parts h no_items = rw append-nil refl
   ends-mean _ _ us parts h (more_items c cs _ ts (timed l m u a b k) rest) =
-      rw (a, b, condition-means c u (All-head (IsCond d ps) c cs h) k, cond_tree-uncond c, ends-mean cs ts us (record parts { end = parts.end ++ c ∷ [] }) (All-tail (IsCond d ps) c cs h) rest, append_assoc parts.end (c ∷ []) cs) refl
+      rw (a, b, condition-means c u (All-head (IsCond d ps) c cs h) k, cond_tree-uncond c, ends-mean cs ts us (record parts { at_end = parts.at_end ++ c ∷ [] }) (All-tail (IsCond d ps) c cs h) rest, append_assoc parts.at_end (c ∷ []) cs) refl

@@ -15,7 +15,7 @@ use Rattle.ps_forms.specs.Nested.{Nested, Nesteds, none, more}
 use Rattle.ps_forms.specs.declared.lexemes.Lexeme.{Lexeme}
 use Rattle.ps_pddl.specs.Effects as effect
 use Rattle.ps_pddl.specs.WellFormed.{AreApart, IsEffect}
-use Rattle.ps_pddl.specs.declared.meaning.changes.Changes.{Changes}
+use Rattle.ps_world.specs.declared.actions.Effects.{Effects}
 use Rattle.ps_pddl.proofs.CanonicalForms.{num_op_mark, joined, IsEffectForm, an_addition, a_deletion, a_change, timed, AreForms, no_items, more_items, IsStartEffect, IsEndEffect}
 use Rattle.ps_pddl.proofs.CanonicalForms as form
 use Rattle.ps_pddl.proofs.MeanConditions.{HaveHeads, fact-head}
@@ -63,12 +63,12 @@ module _ (names : Table) (d : Domain) (acts : List ActionDef) (ps : List Param) 
 
   -- ---- the parts of an action's effect
 
-  pub start_effects-mean : (es : List Effect) (ts us : Nesteds) (changes : Changes) → All (IsEffect d ps) es → AreForms (IsStartEffect names ps) es ts → effect.all_timed (acting d acts) ps (joined ts us) changes ≡ effect.all_timed (acting d acts) ps us (record changes { at_start = changes.at_start ++ es })
+  pub start_effects-mean : (es : List Effect) (ts us : Nesteds) (changes : Effects) → All (IsEffect d ps) es → AreForms (IsStartEffect names ps) es ts → effect.all_timed (acting d acts) ps (joined ts us) changes ≡ effect.all_timed (acting d acts) ps us (record changes { at_start = changes.at_start ++ es })
   start_effects-mean _ _ us changes h no_items = rw append-nil refl
   start_effects-mean _ _ us changes h (more_items e es _ ts (timed l m u a b k) rest) =
       rw (a, b, effect-means e u changes.at_start (All-head (IsEffect d ps) e es h) k, start_effects-mean es ts us (record changes { at_start = changes.at_start ++ e ∷ [] }) (All-tail (IsEffect d ps) e es h) rest, append_assoc changes.at_start (e ∷ []) es) refl
 
-  pub end_effects-mean : (es : List Effect) (ts us : Nesteds) (changes : Changes) → All (IsEffect d ps) es → AreForms (IsEndEffect names ps) es ts → effect.all_timed (acting d acts) ps (joined ts us) changes ≡ effect.all_timed (acting d acts) ps us (record changes { at_end = changes.at_end ++ es })
+  pub end_effects-mean : (es : List Effect) (ts us : Nesteds) (changes : Effects) → All (IsEffect d ps) es → AreForms (IsEndEffect names ps) es ts → effect.all_timed (acting d acts) ps (joined ts us) changes ≡ effect.all_timed (acting d acts) ps us (record changes { at_end = changes.at_end ++ es })
   end_effects-mean _ _ us changes h no_items = rw append-nil refl
   end_effects-mean _ _ us changes h (more_items e es _ ts (timed l m u a b k) rest) =
       rw (a, b, effect-means e u changes.at_end (All-head (IsEffect d ps) e es h) k, end_effects-mean es ts us (record changes { at_end = changes.at_end ++ e ∷ [] }) (All-tail (IsEffect d ps) e es h) rest, append_assoc changes.at_end (e ∷ []) es) refl

@@ -40,10 +40,10 @@ use Rattle.ps_pddl.specs.Terms.{argument, arguments, applied, fact, lifted, reso
 use Rattle.ps_pddl.specs.Types.{acyclic, is_cyclic, names_of, with_types}
 use Rattle.ps_pddl.specs.Values.{function_value, operated, operation, operator_of, plain_value, value}
 use Rattle.ps_forms.specs.declared.lexemes.Lexeme.{Lexeme}
-use Rattle.ps_pddl.specs.declared.meaning.changes.Changes.{Changes}
+use Rattle.ps_world.specs.declared.actions.Effects.{Effects}
 use Rattle.ps_pddl.specs.declared.meaning.lists.Listing.{Listing}
 use Rattle.ps_pddl.specs.declared.meaning.lists.Listing.TheVariants.{Types, Constants, Params}
-use Rattle.ps_pddl.specs.declared.meaning.parts.Parts.{Parts}
+use Rattle.ps_world.specs.declared.actions.Conditions.{Conditions}
 use Rattle.ps_pddl.specs.declared.refusals.Cap.{Cap}
 use Rattle.ps_pddl.specs.declared.refusals.Cap.TheVariants as cap
 use Rattle.ps_pddl.specs.declared.refusals.DomainRefusal.{DomainRefusal}
@@ -198,27 +198,27 @@ mutual
       then_own (condition.condition d ps c) (λ x. condition.conditions d ps cs (before ++ cond_tree x ∷ [])) (condition_own d ps c)
       (λ x. conditions_own d ps cs (before ++ cond_tree x ∷ []))
 
-timed_part_own : (d : Domain) (ps : List Param) (m moment : Mark) (t : Nested) (parts : Parts) → Own (condition.timed_part d ps m moment t parts)
+timed_part_own : (d : Domain) (ps : List Param) (m moment : Mark) (t : Nested) (parts : Conditions) → Own (condition.timed_part d ps m moment t parts)
 timed_part_own d ps mark.At moment t parts = then_own (condition.condition d ps t) (λ c. Ok (condition.at_time moment c parts)) (condition_own d ps t) (λ c. tt)
 timed_part_own d ps mark.Over moment t parts = then_own (condition.condition d ps t) (λ c. Ok (condition.over_all c parts)) (condition_own d ps t) (λ c. tt)
 timed_part_own d ps m moment t parts = tt
 
-timed_form_own : (d : Domain) (ps : List Param) (l : Lexeme) (ts : Nesteds) (parts : Parts) → Own (condition.timed_form d ps l ts parts)
+timed_form_own : (d : Domain) (ps : List Param) (l : Lexeme) (ts : Nesteds) (parts : Conditions) → Own (condition.timed_form d ps l ts parts)
 timed_form_own d ps l none parts = tt
 timed_form_own d ps l (more moment none) parts = tt
 timed_form_own d ps l (more moment (more t ts)) parts = timed_part_own d ps l.mark (word_of moment).mark t parts
 
 mutual
-  timed_own : (d : Domain) (ps : List Param) (t : Nested) (parts : Parts) → Own (condition.timed d ps t parts)
+  timed_own : (d : Domain) (ps : List Param) (t : Nested) (parts : Conditions) → Own (condition.timed d ps t parts)
   timed_own d ps (word l) parts = tt
   timed_own d ps (group ts) parts = timed_list_own d ps ts parts
 
-  timed_list_own : (d : Domain) (ps : List Param) (ts : Nesteds) (parts : Parts) → Own (condition.timed_list d ps ts parts)
+  timed_list_own : (d : Domain) (ps : List Param) (ts : Nesteds) (parts : Conditions) → Own (condition.timed_list d ps ts parts)
   timed_list_own d ps none parts = tt
   timed_list_own d ps (more f ts) parts =
       either_own (is mark.And (word_of f).mark) (condition.all_timed d ps ts parts) (condition.timed_form d ps (word_of f) ts parts) (all_timed_own d ps ts parts) (timed_form_own d ps (word_of f) ts parts)
 
-  all_timed_own : (d : Domain) (ps : List Param) (ts : Nesteds) (parts : Parts) → Own (condition.all_timed d ps ts parts)
+  all_timed_own : (d : Domain) (ps : List Param) (ts : Nesteds) (parts : Conditions) → Own (condition.all_timed d ps ts parts)
   all_timed_own d ps none parts = tt
   all_timed_own d ps (more t ts) parts = then_own (condition.timed d ps t parts) (λ x. condition.all_timed d ps ts x) (timed_own d ps t parts) (λ x. all_timed_own d ps ts x)
 
@@ -267,30 +267,30 @@ mutual
   effects_own d ps none before = tt
   effects_own d ps (more e es) before = then_own (effect.effect d ps e before) (λ x. effect.effects d ps es x) (effect_own d ps e before) (λ x. effects_own d ps es x)
 
-effect_time_own : (d : Domain) (ps : List Param) (m : Mark) (e : Nested) (changes : Changes) → Own (effect.at_time d ps m e changes)
+effect_time_own : (d : Domain) (ps : List Param) (m : Mark) (e : Nested) (changes : Effects) → Own (effect.at_time d ps m e changes)
 effect_time_own d ps mark.Start e changes = then_own (effect.effect d ps e changes.at_start) (λ es. Ok (effect.at_start changes es)) (effect_own d ps e changes.at_start) (λ es. tt)
 effect_time_own d ps m e changes = then_own (effect.effect d ps e changes.at_end) (λ es. Ok (effect.at_end changes es)) (effect_own d ps e changes.at_end) (λ es. tt)
 
-effect_part_own : (d : Domain) (ps : List Param) (m moment : Mark) (e : Nested) (changes : Changes) → Own (effect.timed_part d ps m moment e changes)
+effect_part_own : (d : Domain) (ps : List Param) (m moment : Mark) (e : Nested) (changes : Effects) → Own (effect.timed_part d ps m moment e changes)
 effect_part_own d ps mark.At moment e changes = effect_time_own d ps moment e changes
 effect_part_own d ps m moment e changes = tt
 
-timed_effect_own : (d : Domain) (ps : List Param) (l : Lexeme) (ts : Nesteds) (changes : Changes) → Own (effect.timed_form d ps l ts changes)
+timed_effect_own : (d : Domain) (ps : List Param) (l : Lexeme) (ts : Nesteds) (changes : Effects) → Own (effect.timed_form d ps l ts changes)
 timed_effect_own d ps l none changes = tt
 timed_effect_own d ps l (more moment none) changes = tt
 timed_effect_own d ps l (more moment (more e ts)) changes = effect_part_own d ps l.mark (word_of moment).mark e changes
 
 mutual
-  changes_own : (d : Domain) (ps : List Param) (t : Nested) (changes : Changes) → Own (effect.timed d ps t changes)
+  changes_own : (d : Domain) (ps : List Param) (t : Nested) (changes : Effects) → Own (effect.timed d ps t changes)
   changes_own d ps (word l) changes = tt
   changes_own d ps (group ts) changes = changes_list_own d ps ts changes
 
-  changes_list_own : (d : Domain) (ps : List Param) (ts : Nesteds) (changes : Changes) → Own (effect.timed_list d ps ts changes)
+  changes_list_own : (d : Domain) (ps : List Param) (ts : Nesteds) (changes : Effects) → Own (effect.timed_list d ps ts changes)
   changes_list_own d ps none changes = tt
   changes_list_own d ps (more f ts) changes =
       either_own (is mark.And (word_of f).mark) (effect.all_timed d ps ts changes) (effect.timed_form d ps (word_of f) ts changes) (all_changes_own d ps ts changes) (timed_effect_own d ps (word_of f) ts changes)
 
-  all_changes_own : (d : Domain) (ps : List Param) (ts : Nesteds) (changes : Changes) → Own (effect.all_timed d ps ts changes)
+  all_changes_own : (d : Domain) (ps : List Param) (ts : Nesteds) (changes : Effects) → Own (effect.all_timed d ps ts changes)
   all_changes_own d ps none changes = tt
   all_changes_own d ps (more t ts) changes = then_own (effect.timed d ps t changes) (λ x. effect.all_timed d ps ts x) (changes_own d ps t changes) (λ x. all_changes_own d ps ts x)
 
@@ -351,7 +351,7 @@ duration_own d ps (Some x) = value_own d ps x
 
 parts_own : (d : Domain) (ps : List Param) (t : Option Nested) → Own (meaning.parts d ps t)
 parts_own d ps None = tt
-parts_own d ps (Some t) = timed_own d ps t (record { start = []; over = []; end = [] })
+parts_own d ps (Some t) = timed_own d ps t (record { at_start = []; over_all = []; at_end = [] })
 
 both_changes_own : (d : Domain) (ps : List Param) (t : Option Nested) → Own (meaning.changes d ps t)
 both_changes_own d ps None = tt
@@ -359,15 +359,12 @@ both_changes_own d ps (Some t) = changes_own d ps t (record { at_start = []; at_
 
 action_body_own : (d : Domain) (n : Name) (ps : List Param) (ts : Nesteds) → Own (meaning.action_body d n ps ts)
 action_body_own d n ps ts =
-    let whole : Expr → Parts → Changes → ActionDef = λ time holds does. record {
+    let whole : Expr → Conditions → Effects → ActionDef = λ time holds does. record {
       name = n;
       params = ps;
       duration = time;
-      start = holds.start;
-      over = holds.over;
-      end = holds.end;
-      at_start = does.at_start;
-      at_end = does.at_end;
+      conditions = holds;
+      effects = does;
     } in
     let time = at (items_at (after mark.DurationKey ts)) 2 in
     let form = at (after mark.ConditionKey ts) 0 in

@@ -24,9 +24,9 @@ use Rattle.ps_pddl.specs.Lists.{listed}
 use Rattle.ps_pddl.specs.Meaning as meaning
 use Rattle.ps_pddl.specs.Steps.{◌>>=◌}
 use Rattle.ps_pddl.specs.Values.{value}
-use Rattle.ps_pddl.specs.declared.meaning.changes.Changes.{Changes}
+use Rattle.ps_world.specs.declared.actions.Effects.{Effects}
 use Rattle.ps_pddl.specs.declared.meaning.lists.Listing.TheVariants.{Params}
-use Rattle.ps_pddl.specs.declared.meaning.parts.Parts.{Parts}
+use Rattle.ps_world.specs.declared.actions.Conditions.{Conditions}
 use Rattle.ps_pddl.specs.declared.refusals.Cap.TheVariants as cap
 use Rattle.ps_pddl.specs.declared.refusals.DomainRefusal.TheVariants.{Limit, Twice}
 use Rattle.ps_pddl.proofs.Fits.{FitsAction, FitsCond, FitsEffect, fits_number}
@@ -113,7 +113,7 @@ module _ (after : Table) (first : 0 < length after) (d : Domain) where
 
   parts_here : (ps : List Param) (o : Option Nested) → Fits IsConditionThere o → Sound (ArePartsHere after first d ps 60) (meaning.parts d ps o)
   parts_here ps None h = (All-nil _, All-nil _, All-nil _)
-  parts_here ps (Some t) h = condition_form_here after first d ps 60 h.0 t (record { start = []; over = []; end = [] }) h.2 (omega (arith, h.1)) h.3 (All-nil _, All-nil _, All-nil _)
+  parts_here ps (Some t) h = condition_form_here after first d ps 60 h.0 t (record { at_start = []; over_all = []; at_end = [] }) h.2 (omega (arith, h.1)) h.3 (All-nil _, All-nil _, All-nil _)
 
   changes_here : (ps : List Param) (o : Option Nested) → Fits IsEffectThere o → Sound (AreChangesHere after first d ps 60) (meaning.changes d ps o)
   changes_here ps None h = (All-nil _, All-nil _)
@@ -125,15 +125,12 @@ module _ (after : Table) (first : 0 < length after) (d : Domain) where
 
   body_here : (n : Name) (ps : List Param) (ts : Nesteds) → n.0 < length after → AreParamsHere after first ps → Fits IsTimeThere (at (items_at (place.after mark.DurationKey ts)) 2) → Fits IsConditionThere (at (place.after mark.ConditionKey ts) 0) → Fits IsEffectThere (at (place.after mark.EffectKey ts) 0) → Sound IsActionHere (meaning.action_body d n ps ts)
   body_here n ps ts lt params time_form condition_form effect_form =
-      let made : Expr → Parts → Changes → ActionDef = λ time holds does. record {
+      let made : Expr → Conditions → Effects → ActionDef = λ time holds does. record {
         name = n;
         params = ps;
         duration = time;
-        start = holds.start;
-        over = holds.over;
-        end = holds.end;
-        at_start = does.at_start;
-        at_end = does.at_end;
+        conditions = holds;
+        effects = does;
       } in
       let time = at (items_at (place.after mark.DurationKey ts)) 2 in
       let form = at (place.after mark.ConditionKey ts) 0 in
@@ -152,18 +149,18 @@ module _ (after : Table) (first : 0 < length after) (d : Domain) where
           name = lt;
           params = params.0;
           duration = one.0;
-          conditions_at_start = All-weaker IsTree IsCond (λ c p. p.0) y.start two.0;
-          conditions_over_all = All-weaker IsTree IsCond (λ c p. p.0) y.over two.1;
-          conditions_at_end = All-weaker IsTree IsCond (λ c p. p.0) y.end two.2;
+          conditions_at_start = All-weaker IsTree IsCond (λ c p. p.0) y.at_start two.0;
+          conditions_over_all = All-weaker IsTree IsCond (λ c p. p.0) y.over_all two.1;
+          conditions_at_end = All-weaker IsTree IsCond (λ c p. p.0) y.at_end two.2;
           effects_at_start = All-weaker IsDone IsAct (λ e p. p.0) z.at_start three.0;
           effects_at_end = All-weaker IsDone IsAct (λ e p. p.0) z.at_end three.1;
         },
         record {
           params = params.1;
           duration = one.1;
-          start = All-weaker IsTree IsLow (λ c p. p.1) y.start two.0;
-          over = All-weaker IsTree IsLow (λ c p. p.1) y.over two.1;
-          end = All-weaker IsTree IsLow (λ c p. p.1) y.end two.2;
+          start = All-weaker IsTree IsLow (λ c p. p.1) y.at_start two.0;
+          over = All-weaker IsTree IsLow (λ c p. p.1) y.over_all two.1;
+          end = All-weaker IsTree IsLow (λ c p. p.1) y.at_end two.2;
           at_start = All-weaker IsDone IsShort (λ e p. p.1) z.at_start three.0;
           at_end = All-weaker IsDone IsShort (λ e p. p.1) z.at_end three.1;
         },

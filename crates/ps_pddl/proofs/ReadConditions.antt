@@ -27,7 +27,7 @@ use Rattle.ps_pddl.specs.Conditions as condition
 use Rattle.ps_pddl.specs.Steps.{Read, ◌>>=◌}
 use Rattle.ps_pddl.specs.Terms.{fact, resolved}
 use Rattle.ps_pddl.specs.Values.{value}
-use Rattle.ps_pddl.specs.declared.meaning.parts.Parts.{Parts}
+use Rattle.ps_world.specs.declared.actions.Conditions.{Conditions}
 use Rattle.ps_pddl.specs.declared.refusals.DomainRefusal.TheVariants.{Kind}
 use Rattle.ps_pddl.proofs.CanonicalForms.{name_mark}
 use Rattle.ps_pddl.proofs.Fits.{FitsExpr, fits_number, fits_value, fits_negation, fits_operation, FitsCond, fits_all, fits_not, fits_fact, fits_same, fits_comparison, FitConds, fit_none, fit_more}
@@ -183,23 +183,23 @@ module _ (after : Table) (first : 0 < length after) (d : Domain) (ps : List Para
 
   -- ---- the parts of an action's condition
 
-  abbrev pub ArePartsHere : ℕ → Parts → Type 0
-  ArePartsHere most parts = All (IsTreeHere most) parts.start × All (IsTreeHere most) parts.over × All (IsTreeHere most) parts.end
+  abbrev pub ArePartsHere : ℕ → Conditions → Type 0
+  ArePartsHere most parts = All (IsTreeHere most) parts.at_start × All (IsTreeHere most) parts.over_all × All (IsTreeHere most) parts.at_end
 
-  at_time_here : (most : ℕ) (moment : Mark) (c : Cond) (parts : Parts) → IsCondHere most c → ArePartsHere most parts → ArePartsHere most (condition.at_time moment c parts)
-  at_time_here most mark.Start c parts h k = (All-push (IsTreeHere most) parts.start (cond_tree c) k.0 h, k.1, k.2)
-  at_time_here most m c parts h k = (k.0, k.1, All-push (IsTreeHere most) parts.end (cond_tree c) k.2 h)
+  at_time_here : (most : ℕ) (moment : Mark) (c : Cond) (parts : Conditions) → IsCondHere most c → ArePartsHere most parts → ArePartsHere most (condition.at_time moment c parts)
+  at_time_here most mark.Start c parts h k = (All-push (IsTreeHere most) parts.at_start (cond_tree c) k.0 h, k.1, k.2)
+  at_time_here most m c parts h k = (k.0, k.1, All-push (IsTreeHere most) parts.at_end (cond_tree c) k.2 h)
 
-  timed_part_here : (most : ℕ) (m moment : Mark) (t : Nested) (parts : Parts) → Sound (IsCondHere most) (condition.condition d ps t) → ArePartsHere most parts → Sound (ArePartsHere most) (condition.timed_part d ps m moment t parts)
+  timed_part_here : (most : ℕ) (m moment : Mark) (t : Nested) (parts : Conditions) → Sound (IsCondHere most) (condition.condition d ps t) → ArePartsHere most parts → Sound (ArePartsHere most) (condition.timed_part d ps m moment t parts)
   timed_part_here most mark.At moment t parts h k =
       then_sound (IsCondHere most) (ArePartsHere most) (condition.condition d ps t) (λ c. Ok (condition.at_time moment c parts)) h (λ c one. at_time_here most moment c parts one k)
   timed_part_here most mark.Over moment t parts h k =
       then_sound (IsCondHere most) (ArePartsHere most) (condition.condition d ps t) (λ c. Ok (condition.over_all c parts)) h
-      (λ c one. (k.0, All-push (IsTreeHere most) parts.over (cond_tree c) k.1 one, k.2))
+      (λ c one. (k.0, All-push (IsTreeHere most) parts.over_all (cond_tree c) k.1 one, k.2))
   timed_part_here most m moment t parts h k = k
 
   -- what stands in a timed form has no more levels than are left
-  timed_condition_here : (most room : ℕ) (t : Nested) (parts : Parts) → IsTimedCondition room t → room ≤ most → AllTold after t → ArePartsHere most parts → Sound (ArePartsHere most) (condition.timed d ps t parts)
+  timed_condition_here : (most room : ℕ) (t : Nested) (parts : Conditions) → IsTimedCondition room t → room ≤ most → AllTold after t → ArePartsHere most parts → Sound (ArePartsHere most) (condition.timed d ps t parts)
   timed_condition_here most _ _ parts (grammar.at_moment room l m c first_word moment one) le h k =
       no_sound (ArePartsHere most) (is mark.And l.mark) (condition.all_timed d ps (more (word m) (more c none)) parts) (condition.timed_part d ps l.mark m.mark c parts) (ap (is mark.And) first_word)
       (timed_part_here most l.mark m.mark c parts (also_sound (IsCondHere room) (IsCondHere most) (condition.condition d ps c) (condition_here room c one h.1.1.0) (λ x p. (p.0, cond_fits_more after room most (cond_tree x) p.1 le))) k)
@@ -208,21 +208,21 @@ module _ (after : Table) (first : 0 < length after) (d : Domain) (ps : List Para
       (timed_part_here most l.mark m.mark c parts (also_sound (IsCondHere room) (IsCondHere most) (condition.condition d ps c) (condition_here room c one h.1.1.0) (λ x p. (p.0, cond_fits_more after room most (cond_tree x) p.1 le))) k)
 
   -- a list of parts, by its head
-  listed_parts : (most : ℕ) (l : Lexeme) (ts : Nesteds) (parts : Parts) → l.mark ≡ mark.And → Sound (ArePartsHere most) (condition.all_timed d ps ts parts) → Sound (ArePartsHere most) (condition.timed d ps (group (more (word l) ts)) parts)
+  listed_parts : (most : ℕ) (l : Lexeme) (ts : Nesteds) (parts : Conditions) → l.mark ≡ mark.And → Sound (ArePartsHere most) (condition.all_timed d ps ts parts) → Sound (ArePartsHere most) (condition.timed d ps (group (more (word l) ts)) parts)
   listed_parts most l ts parts m h = yes_sound (ArePartsHere most) (is mark.And l.mark) (condition.all_timed d ps ts parts) (condition.timed_form d ps l ts parts) (ap (is mark.And) m) h
 
   mutual
-    part_here : (most room : ℕ) (t : Nested) (parts : Parts) → IsPart room t → room ≤ suc most → AllTold after t → ArePartsHere most parts → Sound (ArePartsHere most) (condition.timed d ps t parts)
+    part_here : (most room : ℕ) (t : Nested) (parts : Conditions) → IsPart room t → room ≤ suc most → AllTold after t → ArePartsHere most parts → Sound (ArePartsHere most) (condition.timed d ps t parts)
     part_here most _ _ parts (grammar.empty_part room) le h k = k
     part_here most _ _ parts (grammar.all_parts room l ts m all) le h k = listed_parts most l ts parts m (parts_here most room ts parts all (omega (arith, le)) h.1 k)
     part_here most _ _ parts (grammar.timed_part room t one) le h k = timed_condition_here most room t parts one (omega (arith, le)) h k
 
-    parts_here : (most room : ℕ) (ts : Nesteds) (parts : Parts) → AreParts room ts → room ≤ suc most → AreTold after ts → ArePartsHere most parts → Sound (ArePartsHere most) (condition.all_timed d ps ts parts)
+    parts_here : (most room : ℕ) (ts : Nesteds) (parts : Conditions) → AreParts room ts → room ≤ suc most → AreTold after ts → ArePartsHere most parts → Sound (ArePartsHere most) (condition.all_timed d ps ts parts)
     parts_here most _ _ parts (grammar.no_part room) le h k = k
     parts_here most _ _ parts (grammar.one_part room t ts one all) le h k =
         then_sound (ArePartsHere most) (ArePartsHere most) (condition.timed d ps t parts) (λ x. condition.all_timed d ps ts x) (part_here most room t parts one le h.0 k) (λ x p. parts_here most room ts x all le h.1 p)
 
-  pub condition_form_here : (most room : ℕ) (t : Nested) (parts : Parts) → IsConditionForm room t → room ≤ suc (suc most) → AllTold after t → ArePartsHere most parts → Sound (ArePartsHere most) (condition.timed d ps t parts)
+  pub condition_form_here : (most room : ℕ) (t : Nested) (parts : Conditions) → IsConditionForm room t → room ≤ suc (suc most) → AllTold after t → ArePartsHere most parts → Sound (ArePartsHere most) (condition.timed d ps t parts)
   condition_form_here most _ _ parts (grammar.empty_condition room) le h k = k
   condition_form_here most _ _ parts (grammar.listed_condition room l ts m all) le h k = listed_parts most l ts parts m (parts_here most room ts parts all (omega (arith, le)) h.1 k)
   condition_form_here most _ _ parts (grammar.lone_condition room t one) le h k = timed_condition_here most room t parts one (omega (arith, le)) h k

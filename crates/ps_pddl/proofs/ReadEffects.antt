@@ -22,7 +22,7 @@ use Rattle.ps_pddl.specs.Effects as effect
 use Rattle.ps_pddl.specs.Steps.{Read, ◌>>=◌}
 use Rattle.ps_pddl.specs.Terms.{fact, value_of}
 use Rattle.ps_pddl.specs.Values.{value}
-use Rattle.ps_pddl.specs.declared.meaning.changes.Changes.{Changes}
+use Rattle.ps_world.specs.declared.actions.Effects.{Effects}
 use Rattle.ps_pddl.proofs.CanonicalForms.{name_mark}
 use Rattle.ps_pddl.proofs.Fits.{FitsEffect, fits_addition, fits_deletion, fits_change}
 use Rattle.ps_pddl.proofs.ReadConditions.{expr_fits_more}
@@ -120,40 +120,40 @@ module _ (after : Table) (first : 0 < length after) (d : Domain) (ps : List Para
 
   -- ---- the parts of an action's effect
 
-  abbrev pub AreChangesHere : Changes → Type 0
+  abbrev pub AreChangesHere : Effects → Type 0
   AreChangesHere changes = AreEffectsHere changes.at_start × AreEffectsHere changes.at_end
 
-  at_time_here : (room : ℕ) (moment : Mark) (t : Nested) (changes : Changes) → IsEffect room t → room ≤ most → AllTold after t → AreChangesHere changes → Sound AreChangesHere (effect.at_time d ps moment t changes)
+  at_time_here : (room : ℕ) (moment : Mark) (t : Nested) (changes : Effects) → IsEffect room t → room ≤ most → AllTold after t → AreChangesHere changes → Sound AreChangesHere (effect.at_time d ps moment t changes)
   at_time_here room mark.Start t changes one le h k =
       then_sound AreEffectsHere AreChangesHere (effect.effect d ps t changes.at_start) (λ es. Ok (effect.at_start changes es)) (effect_here room t changes.at_start one le h k.0) (λ es p. (p, k.1))
   at_time_here room m t changes one le h k =
       then_sound AreEffectsHere AreChangesHere (effect.effect d ps t changes.at_end) (λ es. Ok (effect.at_end changes es)) (effect_here room t changes.at_end one le h k.1) (λ es p. (k.0, p))
 
-  timed_part_here : (room : ℕ) (m moment : Mark) (t : Nested) (changes : Changes) → IsEffect room t → room ≤ most → AllTold after t → AreChangesHere changes → Sound AreChangesHere (effect.timed_part d ps m moment t changes)
+  timed_part_here : (room : ℕ) (m moment : Mark) (t : Nested) (changes : Effects) → IsEffect room t → room ≤ most → AllTold after t → AreChangesHere changes → Sound AreChangesHere (effect.timed_part d ps m moment t changes)
   timed_part_here room mark.At moment t changes one le h k = at_time_here room moment t changes one le h k
   timed_part_here room m moment t changes one le h k = k
 
-  timed_effect_here : (room : ℕ) (t : Nested) (changes : Changes) → IsTimedEffect room t → room ≤ most → AllTold after t → AreChangesHere changes → Sound AreChangesHere (effect.timed d ps t changes)
+  timed_effect_here : (room : ℕ) (t : Nested) (changes : Effects) → IsTimedEffect room t → room ≤ most → AllTold after t → AreChangesHere changes → Sound AreChangesHere (effect.timed d ps t changes)
   timed_effect_here _ _ changes (grammar.effect_at room l m e first_word moment one) le h k =
       no_sound AreChangesHere (is mark.And l.mark) (effect.all_timed d ps (more (word m) (more e none)) changes) (effect.timed_part d ps l.mark m.mark e changes) (ap (is mark.And) first_word)
       (timed_part_here room l.mark m.mark e changes one le h.1.1.0 k)
 
   -- a list of parts, by its head
-  listed_changes : (l : Lexeme) (ts : Nesteds) (changes : Changes) → l.mark ≡ mark.And → Sound AreChangesHere (effect.all_timed d ps ts changes) → Sound AreChangesHere (effect.timed d ps (group (more (word l) ts)) changes)
+  listed_changes : (l : Lexeme) (ts : Nesteds) (changes : Effects) → l.mark ≡ mark.And → Sound AreChangesHere (effect.all_timed d ps ts changes) → Sound AreChangesHere (effect.timed d ps (group (more (word l) ts)) changes)
   listed_changes l ts changes m h = yes_sound AreChangesHere (is mark.And l.mark) (effect.all_timed d ps ts changes) (effect.timed_form d ps l ts changes) (ap (is mark.And) m) h
 
   mutual
-    change_here : (room : ℕ) (t : Nested) (changes : Changes) → IsChange room t → room ≤ suc most → AllTold after t → AreChangesHere changes → Sound AreChangesHere (effect.timed d ps t changes)
+    change_here : (room : ℕ) (t : Nested) (changes : Effects) → IsChange room t → room ≤ suc most → AllTold after t → AreChangesHere changes → Sound AreChangesHere (effect.timed d ps t changes)
     change_here _ _ changes (grammar.empty_change room) le h k = k
     change_here _ _ changes (grammar.all_changes room l ts m all) le h k = listed_changes l ts changes m (changes_here room ts changes all (omega (arith, le)) h.1 k)
     change_here _ _ changes (grammar.timed_change room t one) le h k = timed_effect_here room t changes one (omega (arith, le)) h k
 
-    changes_here : (room : ℕ) (ts : Nesteds) (changes : Changes) → AreChanges room ts → room ≤ suc most → AreTold after ts → AreChangesHere changes → Sound AreChangesHere (effect.all_timed d ps ts changes)
+    changes_here : (room : ℕ) (ts : Nesteds) (changes : Effects) → AreChanges room ts → room ≤ suc most → AreTold after ts → AreChangesHere changes → Sound AreChangesHere (effect.all_timed d ps ts changes)
     changes_here _ _ changes (grammar.no_change room) le h k = k
     changes_here _ _ changes (grammar.one_change room t ts one all) le h k =
         then_sound AreChangesHere AreChangesHere (effect.timed d ps t changes) (λ x. effect.all_timed d ps ts x) (change_here room t changes one le h.0 k) (λ x p. changes_here room ts x all le h.1 p)
 
-  pub effect_form_here : (room : ℕ) (t : Nested) (changes : Changes) → IsEffectForm room t → room ≤ suc (suc most) → AllTold after t → AreChangesHere changes → Sound AreChangesHere (effect.timed d ps t changes)
+  pub effect_form_here : (room : ℕ) (t : Nested) (changes : Effects) → IsEffectForm room t → room ≤ suc (suc most) → AllTold after t → AreChangesHere changes → Sound AreChangesHere (effect.timed d ps t changes)
   effect_form_here _ _ changes (grammar.empty_effect room) le h k = k
   effect_form_here _ _ changes (grammar.listed_effect room l ts m all) le h k = listed_changes l ts changes m (changes_here room ts changes all (omega (arith, le)) h.1 k)
   effect_form_here _ _ changes (grammar.lone_effect room t one) le h k = timed_effect_here room t changes one (omega (arith, le)) h k

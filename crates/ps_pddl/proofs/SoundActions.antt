@@ -24,9 +24,9 @@ use Rattle.ps_forms.specs.Places.{after, at, head, items, items_at, rest, sectio
 use Rattle.ps_pddl.specs.Steps.{◌>>=◌}
 use Rattle.ps_pddl.specs.Types.{with_types}
 use Rattle.ps_pddl.specs.WellFormed.{AreApart, AreCounted, AreDeclared, AreTyped, IsAction, IsCounted, IsWellFormed}
-use Rattle.ps_pddl.specs.declared.meaning.changes.Changes.{Changes}
+use Rattle.ps_world.specs.declared.actions.Effects.{Effects}
 use Rattle.ps_pddl.specs.declared.meaning.lists.Listing.TheVariants.{Constants, Params}
-use Rattle.ps_pddl.specs.declared.meaning.parts.Parts.{Parts}
+use Rattle.ps_world.specs.declared.actions.Conditions.{Conditions}
 use Rattle.ps_pddl.specs.declared.refusals.Cap.{Cap}
 use Rattle.ps_pddl.specs.declared.refusals.Cap.TheVariants as cap
 use Rattle.ps_pddl.specs.declared.refusals.DomainRefusal.TheVariants.{Limit, Twice}
@@ -109,7 +109,7 @@ module _ (d : Domain) (acts : List ActionDef) where
 
   parts_sound : (ps : List Param) (t : Option Nested) → Fits IsCounted t → Sound (AreParts d acts ps) (meaning.parts d ps t)
   parts_sound ps None h = (none_all _, none_all _, none_all _)
-  parts_sound ps (Some t) h = timed_sound d acts ps t (record { start = []; over = []; end = [] }) h (none_all _, none_all _, none_all _)
+  parts_sound ps (Some t) h = timed_sound d acts ps t (record { at_start = []; over_all = []; at_end = [] }) h (none_all _, none_all _, none_all _)
 
   both_changes_sound : (ps : List Param) (t : Option Nested) → Fits IsCounted t → Sound (AreChanges d acts ps) (meaning.changes d ps t)
   both_changes_sound ps None h = (none_all _, none_all _)
@@ -121,15 +121,12 @@ module _ (d : Domain) (acts : List ActionDef) where
 
   action_body_sound : (n : Name) (ps : List Param) (ts : Nesteds) → AreCounted ts → AreTyped (acting d acts) 6 ps → Sound (IsNamed n) (meaning.action_body d n ps ts)
   action_body_sound n ps ts h k =
-      let made : Expr → Parts → Changes → ActionDef = λ time holds does. record {
+      let made : Expr → Conditions → Effects → ActionDef = λ time holds does. record {
         name = n;
         params = ps;
         duration = time;
-        start = holds.start;
-        over = holds.over;
-        end = holds.end;
-        at_start = does.at_start;
-        at_end = does.at_end;
+        conditions = holds;
+        effects = does;
       } in
       let time = at (items_at (after mark.DurationKey ts)) 2 in
       let form = at (after mark.ConditionKey ts) 0 in

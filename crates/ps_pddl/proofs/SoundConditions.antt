@@ -23,7 +23,7 @@ use Rattle.ps_pddl.specs.Terms.{fact, resolved}
 use Rattle.ps_pddl.specs.Values.{value}
 use Rattle.ps_pddl.specs.WellFormed.{AreConds, AreCounted, HasKind, IsCond, IsCounted, IsFactOf, IsTerm}
 use Rattle.ps_forms.specs.declared.lexemes.Lexeme.{Lexeme}
-use Rattle.ps_pddl.specs.declared.meaning.parts.Parts.{Parts}
+use Rattle.ps_world.specs.declared.actions.Conditions.{Conditions}
 use Rattle.ps_pddl.specs.declared.refusals.DomainRefusal.TheVariants.{Kind}
 use Rattle.ps_pddl.proofs.Sound.{Sound, then_sound, either_sound}
 use Rattle.ps_pddl.proofs.SoundTerms.{acting, IsValue, fact_sound, resolved_sound, value_sound}
@@ -103,38 +103,38 @@ module _ (d : Domain) (acts : List ActionDef) (ps : List Param) where
 
   -- ---- the parts of an action's condition
 
-  abbrev pub AreParts : Parts → Type 0
-  AreParts parts = All (IsCond (acting d acts) ps) parts.start × All (IsCond (acting d acts) ps) parts.over × All (IsCond (acting d acts) ps) parts.end
+  abbrev pub AreParts : Conditions → Type 0
+  AreParts parts = All (IsCond (acting d acts) ps) parts.at_start × All (IsCond (acting d acts) ps) parts.over_all × All (IsCond (acting d acts) ps) parts.at_end
 
-  at_time_held : (moment : Mark) (c : Cond) (parts : Parts) → IsHeld c → AreParts parts → AreParts (condition.at_time moment c parts)
-  at_time_held mark.Start c parts h k = (All-push (IsCond (acting d acts) ps) parts.start (cond_tree c) k.0 h, k.1, k.2)
-  at_time_held m c parts h k = (k.0, k.1, All-push (IsCond (acting d acts) ps) parts.end (cond_tree c) k.2 h)
+  at_time_held : (moment : Mark) (c : Cond) (parts : Conditions) → IsHeld c → AreParts parts → AreParts (condition.at_time moment c parts)
+  at_time_held mark.Start c parts h k = (All-push (IsCond (acting d acts) ps) parts.at_start (cond_tree c) k.0 h, k.1, k.2)
+  at_time_held m c parts h k = (k.0, k.1, All-push (IsCond (acting d acts) ps) parts.at_end (cond_tree c) k.2 h)
 
-  timed_part_sound : (m moment : Mark) (t : Nested) (parts : Parts) → IsCounted t → AreParts parts → Sound AreParts (condition.timed_part d ps m moment t parts)
+  timed_part_sound : (m moment : Mark) (t : Nested) (parts : Conditions) → IsCounted t → AreParts parts → Sound AreParts (condition.timed_part d ps m moment t parts)
   timed_part_sound mark.At moment t parts h k =
       then_sound IsHeld AreParts (condition.condition d ps t) (λ c. Ok (condition.at_time moment c parts)) (condition_sound t h) (λ c one. at_time_held moment c parts one k)
   timed_part_sound mark.Over moment t parts h k =
       then_sound IsHeld AreParts (condition.condition d ps t) (λ c. Ok (condition.over_all c parts)) (condition_sound t h)
-      (λ c one. (k.0, All-push (IsCond (acting d acts) ps) parts.over (cond_tree c) k.1 one, k.2))
+      (λ c one. (k.0, All-push (IsCond (acting d acts) ps) parts.over_all (cond_tree c) k.1 one, k.2))
   timed_part_sound m moment t parts h k = k
 
-  timed_form_sound : (l : Lexeme) (ts : Nesteds) (parts : Parts) → AreCounted ts → AreParts parts → Sound AreParts (condition.timed_form d ps l ts parts)
+  timed_form_sound : (l : Lexeme) (ts : Nesteds) (parts : Conditions) → AreCounted ts → AreParts parts → Sound AreParts (condition.timed_form d ps l ts parts)
   timed_form_sound l none parts h k = k
   timed_form_sound l (more moment none) parts h k = k
   timed_form_sound l (more moment (more t ts)) parts h k = timed_part_sound l.mark (word_of moment).mark t parts h.1.0 k
 
   mutual
-    pub timed_sound : (t : Nested) (parts : Parts) → IsCounted t → AreParts parts → Sound AreParts (condition.timed d ps t parts)
+    pub timed_sound : (t : Nested) (parts : Conditions) → IsCounted t → AreParts parts → Sound AreParts (condition.timed d ps t parts)
     timed_sound (word l) parts h k = k
     timed_sound (group ts) parts h k = timed_list_sound ts parts h k
 
-    timed_list_sound : (ts : Nesteds) (parts : Parts) → AreCounted ts → AreParts parts → Sound AreParts (condition.timed_list d ps ts parts)
+    timed_list_sound : (ts : Nesteds) (parts : Conditions) → AreCounted ts → AreParts parts → Sound AreParts (condition.timed_list d ps ts parts)
     timed_list_sound none parts h k = k
     timed_list_sound (more f ts) parts h k =
         either_sound AreParts (is mark.And (word_of f).mark) (condition.all_timed d ps ts parts) (condition.timed_form d ps (word_of f) ts parts)
         (λ e. all_timed_sound ts parts h.1 k) (λ e. timed_form_sound (word_of f) ts parts h.1 k)
 
-    all_timed_sound : (ts : Nesteds) (parts : Parts) → AreCounted ts → AreParts parts → Sound AreParts (condition.all_timed d ps ts parts)
+    all_timed_sound : (ts : Nesteds) (parts : Conditions) → AreCounted ts → AreParts parts → Sound AreParts (condition.all_timed d ps ts parts)
     all_timed_sound none parts h k = k
     all_timed_sound (more t ts) parts h k =
         then_sound AreParts AreParts (condition.timed d ps t parts) (λ x. condition.all_timed d ps ts x) (timed_sound t parts h.0 k) (λ x one. all_timed_sound ts x h.1 one)

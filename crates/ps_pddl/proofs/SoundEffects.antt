@@ -19,7 +19,7 @@ use Rattle.ps_pddl.specs.Terms.{fact, value_of}
 use Rattle.ps_pddl.specs.Values.{value}
 use Rattle.ps_pddl.specs.WellFormed.{AreCounted, IsCounted, IsEffect, IsFactOf, IsValueOf}
 use Rattle.ps_forms.specs.declared.lexemes.Lexeme.{Lexeme}
-use Rattle.ps_pddl.specs.declared.meaning.changes.Changes.{Changes}
+use Rattle.ps_world.specs.declared.actions.Effects.{Effects}
 use Rattle.ps_pddl.proofs.Sound.{Sound, then_sound, either_sound}
 use Rattle.ps_pddl.proofs.SoundTerms.{acting, IsValue, fact_sound, value_of_sound, value_sound}
 
@@ -78,36 +78,36 @@ module _ (d : Domain) (acts : List ActionDef) (ps : List Param) where
 
   -- ---- the parts of an action's effect
 
-  abbrev pub AreChanges : Changes → Type 0
+  abbrev pub AreChanges : Effects → Type 0
   AreChanges changes = AreEffects changes.at_start × AreEffects changes.at_end
 
-  at_time_sound : (moment : Mark) (t : Nested) (changes : Changes) → IsCounted t → AreChanges changes → Sound AreChanges (effect.at_time d ps moment t changes)
+  at_time_sound : (moment : Mark) (t : Nested) (changes : Effects) → IsCounted t → AreChanges changes → Sound AreChanges (effect.at_time d ps moment t changes)
   at_time_sound mark.Start t changes h k =
       then_sound AreEffects AreChanges (effect.effect d ps t changes.at_start) (λ es. Ok (effect.at_start changes es)) (effect_sound t changes.at_start h k.0) (λ es one. (one, k.1))
   at_time_sound m t changes h k =
       then_sound AreEffects AreChanges (effect.effect d ps t changes.at_end) (λ es. Ok (effect.at_end changes es)) (effect_sound t changes.at_end h k.1) (λ es one. (k.0, one))
 
-  timed_part_sound : (m moment : Mark) (t : Nested) (changes : Changes) → IsCounted t → AreChanges changes → Sound AreChanges (effect.timed_part d ps m moment t changes)
+  timed_part_sound : (m moment : Mark) (t : Nested) (changes : Effects) → IsCounted t → AreChanges changes → Sound AreChanges (effect.timed_part d ps m moment t changes)
   timed_part_sound mark.At moment t changes h k = at_time_sound moment t changes h k
   timed_part_sound m moment t changes h k = k
 
-  timed_form_sound : (l : Lexeme) (ts : Nesteds) (changes : Changes) → AreCounted ts → AreChanges changes → Sound AreChanges (effect.timed_form d ps l ts changes)
+  timed_form_sound : (l : Lexeme) (ts : Nesteds) (changes : Effects) → AreCounted ts → AreChanges changes → Sound AreChanges (effect.timed_form d ps l ts changes)
   timed_form_sound l none changes h k = k
   timed_form_sound l (more moment none) changes h k = k
   timed_form_sound l (more moment (more t ts)) changes h k = timed_part_sound l.mark (word_of moment).mark t changes h.1.0 k
 
   mutual
-    pub changes_sound : (t : Nested) (changes : Changes) → IsCounted t → AreChanges changes → Sound AreChanges (effect.timed d ps t changes)
+    pub changes_sound : (t : Nested) (changes : Effects) → IsCounted t → AreChanges changes → Sound AreChanges (effect.timed d ps t changes)
     changes_sound (word l) changes h k = k
     changes_sound (group ts) changes h k = change_list_sound ts changes h k
 
-    change_list_sound : (ts : Nesteds) (changes : Changes) → AreCounted ts → AreChanges changes → Sound AreChanges (effect.timed_list d ps ts changes)
+    change_list_sound : (ts : Nesteds) (changes : Effects) → AreCounted ts → AreChanges changes → Sound AreChanges (effect.timed_list d ps ts changes)
     change_list_sound none changes h k = k
     change_list_sound (more f ts) changes h k =
         either_sound AreChanges (is mark.And (word_of f).mark) (effect.all_timed d ps ts changes) (effect.timed_form d ps (word_of f) ts changes)
         (λ e. all_changes_sound ts changes h.1 k) (λ e. timed_form_sound (word_of f) ts changes h.1 k)
 
-    all_changes_sound : (ts : Nesteds) (changes : Changes) → AreCounted ts → AreChanges changes → Sound AreChanges (effect.all_timed d ps ts changes)
+    all_changes_sound : (ts : Nesteds) (changes : Effects) → AreCounted ts → AreChanges changes → Sound AreChanges (effect.all_timed d ps ts changes)
     all_changes_sound none changes h k = k
     all_changes_sound (more t ts) changes h k =
         then_sound AreChanges AreChanges (effect.timed d ps t changes) (λ x. effect.all_timed d ps ts x) (changes_sound t changes h.0 k) (λ x one. all_changes_sound ts x h.1 one)

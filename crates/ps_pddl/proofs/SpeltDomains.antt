@@ -152,16 +152,16 @@ module _ (names : Table) (good : AreNames names) where
     spelt_conditions =
         let R : CondTree → Type 0 = IsCondOf count (length a.params) in
         let each = spelt_cond names good a.params h.params fits.params in
-        all_first (spelt_timed (codes "at") (codes "start") mark.At mark.Start refl refl refl refl refl refl R (cond_words names a.params) (IsCondForm names a.params) each a.start h.conditions_at_start) (λ starts s.
-        all_first (spelt_timed (codes "over") (codes "all") mark.Over mark.All refl refl refl refl refl refl R (cond_words names a.params) (IsCondForm names a.params) each a.over h.conditions_over_all) (λ overs o.
-        all_last (spelt_timed (codes "at") (codes "end") mark.At mark.End refl refl refl refl refl refl R (cond_words names a.params) (IsCondForm names a.params) each a.end h.conditions_at_end) (λ ends e. condition_parts starts overs ends s o e)))
+        all_first (spelt_timed (codes "at") (codes "start") mark.At mark.Start refl refl refl refl refl refl R (cond_words names a.params) (IsCondForm names a.params) each a.conditions.at_start h.conditions_at_start) (λ starts s.
+        all_first (spelt_timed (codes "over") (codes "all") mark.Over mark.All refl refl refl refl refl refl R (cond_words names a.params) (IsCondForm names a.params) each a.conditions.over_all h.conditions_over_all) (λ overs o.
+        all_last (spelt_timed (codes "at") (codes "end") mark.At mark.End refl refl refl refl refl refl R (cond_words names a.params) (IsCondForm names a.params) each a.conditions.at_end h.conditions_at_end) (λ ends e. condition_parts starts overs ends s o e)))
 
     spelt_effects : AllSpelt names (effects_words names a) (AreEffectParts names a)
     spelt_effects =
         let R : Effect → Type 0 = IsEffectOf count (length a.params) in
         let each = spelt_effect names good a.params h.params fits.params in
-        all_first (spelt_timed (codes "at") (codes "start") mark.At mark.Start refl refl refl refl refl refl R (effect_words names a.params) (IsEffectForm names a.params) each a.at_start h.effects_at_start) (λ starts s.
-        all_last (spelt_timed (codes "at") (codes "end") mark.At mark.End refl refl refl refl refl refl R (effect_words names a.params) (IsEffectForm names a.params) each a.at_end h.effects_at_end) (λ ends e. effect_parts starts ends s e))
+        all_first (spelt_timed (codes "at") (codes "start") mark.At mark.Start refl refl refl refl refl refl R (effect_words names a.params) (IsEffectForm names a.params) each a.effects.at_start h.effects_at_start) (λ starts s.
+        all_last (spelt_timed (codes "at") (codes "end") mark.At mark.End refl refl refl refl refl refl R (effect_words names a.params) (IsEffectForm names a.params) each a.effects.at_end h.effects_at_end) (λ ends e. effect_parts starts ends s e))
 
     spelt_duration : AllSpelt names (codes "=" ∷ codes "?duration" ∷ expr_words names a.params (expr_tree a.duration)) (IsDurationForm names a)
     spelt_duration =

@@ -282,16 +282,16 @@ module _ (names : Table) (good : AreNames names) where
     classed_conditions =
         let each = classed_cond a.params h.params in
         let P : CondTree → Type 0 = IsCondOf count (length a.params) in
-        classed_parts (classed_timed P (cond_words names a.params) each at_start (classed_two (codes "at") (codes "start") refl refl) a.start h.conditions_at_start)
-        (classed_parts (classed_timed P (cond_words names a.params) each over_all (classed_two (codes "over") (codes "all") refl refl) a.over h.conditions_over_all)
-        (classed_timed P (cond_words names a.params) each at_end (classed_two (codes "at") (codes "end") refl refl) a.end h.conditions_at_end))
+        classed_parts (classed_timed P (cond_words names a.params) each at_start (classed_two (codes "at") (codes "start") refl refl) a.conditions.at_start h.conditions_at_start)
+        (classed_parts (classed_timed P (cond_words names a.params) each over_all (classed_two (codes "over") (codes "all") refl refl) a.conditions.over_all h.conditions_over_all)
+        (classed_timed P (cond_words names a.params) each at_end (classed_two (codes "at") (codes "end") refl refl) a.conditions.at_end h.conditions_at_end))
 
     classed_effects : Classed (effects_words names a)
     classed_effects =
         let each = classed_effect a.params h.params in
         let P : Effect → Type 0 = IsEffectOf count (length a.params) in
-        classed_parts (classed_timed P (effect_words names a.params) each at_start (classed_two (codes "at") (codes "start") refl refl) a.at_start h.effects_at_start)
-        (classed_timed P (effect_words names a.params) each at_end (classed_two (codes "at") (codes "end") refl refl) a.at_end h.effects_at_end)
+        classed_parts (classed_timed P (effect_words names a.params) each at_start (classed_two (codes "at") (codes "start") refl refl) a.effects.at_start h.effects_at_start)
+        (classed_timed P (effect_words names a.params) each at_end (classed_two (codes "at") (codes "end") refl refl) a.effects.at_end h.effects_at_end)
 
     classed_action : Classed (action_words names a)
     classed_action =

@@ -15,7 +15,7 @@ use Rattle.ps_pddl.specs.Terms.{fact, value_of}
 use Rattle.ps_pddl.specs.Values.{value}
 use Rattle.ps_pddl.specs.Steps.{Read, ◌>>=◌}
 use Rattle.ps_forms.specs.declared.lexemes.Lexeme.{Lexeme}
-use Rattle.ps_pddl.specs.declared.meaning.changes.Changes.{Changes}
+use Rattle.ps_world.specs.declared.actions.Effects.{Effects}
 
 -- how the head of an effect changes a number
 abbrev pub change_of : Mark → Option NumOp
@@ -76,41 +76,41 @@ abbrev mutual
   effects d ps (more e es) before = effect d ps e before >>= λ before. effects d ps es before
 
 -- changes with these at the start or at the end
-abbrev pub at_start : Changes → List Effect → Changes
+abbrev pub at_start : Effects → List Effect → Effects
 at_start changes es = record changes { at_start = es }
 
-abbrev pub at_end : Changes → List Effect → Changes
+abbrev pub at_end : Effects → List Effect → Effects
 at_end changes es = record changes { at_end = es }
 
 -- the changes with an effect, by the word after its `at`
-abbrev pub at_time : Domain → List Param → Mark → Nested → Changes → Read Changes
+abbrev pub at_time : Domain → List Param → Mark → Nested → Effects → Read Effects
 at_time d ps Start e changes = effect d ps e changes.at_start >>= λ es. Ok (at_start changes es)
 at_time d ps m e changes = effect d ps e changes.at_end >>= λ es. Ok (at_end changes es)
 
 -- (at start E) | (at end E), by the first word and what follows it
-abbrev pub timed_part : Domain → List Param → Mark → Mark → Nested → Changes → Read Changes
+abbrev pub timed_part : Domain → List Param → Mark → Mark → Nested → Effects → Read Effects
 timed_part d ps At moment e changes = at_time d ps moment e changes
 timed_part d ps m moment e changes = Ok changes
 
 -- the same of a list
-abbrev pub timed_form : Domain → List Param → Lexeme → Nesteds → Changes → Read Changes
+abbrev pub timed_form : Domain → List Param → Lexeme → Nesteds → Effects → Read Effects
 timed_form d ps l none changes = Ok changes
 timed_form d ps l (more moment none) changes = Ok changes
 timed_form d ps l (more moment (more e ts)) changes = timed_part d ps l.mark (word_of moment).mark e changes
 
 abbrev mutual
   -- TE: () | (and TE*) | (at start E) | (at end E), whose effects follow those before; `and` is flattened
-  pub timed : Domain → List Param → Nested → Changes → Read Changes
+  pub timed : Domain → List Param → Nested → Effects → Read Effects
   timed d ps (word l) changes = Ok changes
   timed d ps (group ts) changes = timed_list d ps ts changes
 
   -- a head and what follows it
-  pub timed_list : Domain → List Param → Nesteds → Changes → Read Changes
+  pub timed_list : Domain → List Param → Nesteds → Effects → Read Effects
   timed_list d ps none changes = Ok changes
   timed_list d ps (more f ts) changes =
       if is And (word_of f).mark then all_timed d ps ts changes else timed_form d ps (word_of f) ts changes
 
   -- the changes of several forms
-  pub all_timed : Domain → List Param → Nesteds → Changes → Read Changes
+  pub all_timed : Domain → List Param → Nesteds → Effects → Read Effects
   all_timed d ps none changes = Ok changes
   all_timed d ps (more t ts) changes = timed d ps t changes >>= λ changes. all_timed d ps ts changes

@@ -22,8 +22,8 @@ use Rattle.ps_pddl.specs.Steps.{Read, ◌>>=◌, unless}
 use Rattle.ps_pddl.specs.declared.refusals.Cap.{Cap}
 use Rattle.ps_pddl.specs.declared.refusals.Cap.TheVariants as cap
 use Rattle.ps_pddl.specs.declared.meaning.lists.Listing.TheVariants.{Constants, Params}
-use Rattle.ps_pddl.specs.declared.meaning.parts.Parts.{Parts}
-use Rattle.ps_pddl.specs.declared.meaning.changes.Changes.{Changes}
+use Rattle.ps_world.specs.declared.actions.Conditions.{Conditions}
+use Rattle.ps_world.specs.declared.actions.Effects.{Effects}
 
 -- ---- predicates and functions
 
@@ -61,12 +61,12 @@ duration d ps None = Ok (Num (pos 0))
 duration d ps (Some x) = value d ps x
 
 -- the parts of a condition, of which there are none where no condition is written
-abbrev pub parts : Domain → List Param → Option Nested → Read Parts
-parts d ps None = Ok (record { start = []; over = []; end = [] })
-parts d ps (Some form) = condition.timed d ps form (record { start = []; over = []; end = [] })
+abbrev pub parts : Domain → List Param → Option Nested → Read Conditions
+parts d ps None = Ok (record { at_start = []; over_all = []; at_end = [] })
+parts d ps (Some form) = condition.timed d ps form (record { at_start = []; over_all = []; at_end = [] })
 
 -- the same of an effect
-abbrev pub changes : Domain → List Param → Option Nested → Read Changes
+abbrev pub changes : Domain → List Param → Option Nested → Read Effects
 changes d ps None = Ok (record { at_start = []; at_end = [] })
 changes d ps (Some form) = effect.timed d ps form (record { at_start = []; at_end = [] })
 
@@ -80,11 +80,8 @@ action_body d name ps ts =
       name = name;
       params = ps;
       duration = time;
-      start = condition.start;
-      over = condition.over;
-      end = condition.end;
-      at_start = effect.at_start;
-      at_end = effect.at_end;
+      conditions = condition;
+      effects = effect;
     })
 
 -- ACTION: (:durative-action NAME :parameters (VLIST) :duration (= ?duration X) [:condition TC] [:effect TE])

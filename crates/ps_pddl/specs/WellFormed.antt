@@ -103,11 +103,11 @@ IsEffect d ps (effect.Number how l x) = IsValueOf d ps l × IsExpr d ps (expr_tr
 pub record IsAction (d : Domain) (a : ActionDef) : Type 0 where
   pub params : AreTyped d 6 a.params
   pub duration : IsExpr d a.params (expr_tree a.duration)
-  pub start : All (IsCond d a.params) a.start
-  pub over : All (IsCond d a.params) a.over
-  pub end : All (IsCond d a.params) a.end
-  pub at_start : All (IsEffect d a.params) a.at_start
-  pub at_end : All (IsEffect d a.params) a.at_end
+  pub start : All (IsCond d a.params) a.conditions.at_start
+  pub over : All (IsCond d a.params) a.conditions.over_all
+  pub end : All (IsCond d a.params) a.conditions.at_end
+  pub at_start : All (IsEffect d a.params) a.effects.at_start
+  pub at_end : All (IsEffect d a.params) a.effects.at_end
 
 -- a domain as reading gives it
 pub record IsWellFormed (d : Domain) : Type 0 where

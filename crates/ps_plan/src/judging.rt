@@ -53,19 +53,19 @@ pub(crate) fn take_ground_step(
 ) -> Result<(), Failure<PlanRefusal>>
     ensures { Gives (λ done. problem.new) result (step_of expert.now problem.old at action.now) }
 {
-    if !holds_all(problem, expert, &action.start) {
+    if !holds_all(problem, expert, &action.conditions.at_start) {
         return Err(Failure::Refused(PlanRefusal::StartFalse(at)));
     }
-    if let Err(failure) = apply(alloc, problem, action.at_start.as_slice()) {
+    if let Err(failure) = apply(alloc, problem, action.effects.at_start.as_slice()) {
         return Err(start_fault(at, failure));
     }
-    if !holds_all(problem, expert, &action.over) {
+    if !holds_all(problem, expert, &action.conditions.over_all) {
         return Err(Failure::Refused(PlanRefusal::OverAllFalse(at)));
     }
-    if !holds_all(problem, expert, &action.end) {
+    if !holds_all(problem, expert, &action.conditions.at_end) {
         return Err(Failure::Refused(PlanRefusal::EndFalse(at)));
     }
-    if let Err(failure) = apply(alloc, problem, action.at_end.as_slice()) {
+    if let Err(failure) = apply(alloc, problem, action.effects.at_end.as_slice()) {
         return Err(end_fault(at, failure));
     }
     Ok(())

@@ -262,14 +262,14 @@ module _ (names : Table) (good : AreNames names) where
 
     all_conditions : Later (text.conditions_text names a) (canonical.conditions_words names a)
     all_conditions =
-        later_later (timed_condition (codes "at start") canonical.at_start start_time a.start h.conditions_at_start)
-        (later_later (timed_condition (codes "over all") canonical.over_all all_time a.over h.conditions_over_all)
-        (timed_condition (codes "at end") canonical.at_end end_time a.end h.conditions_at_end))
+        later_later (timed_condition (codes "at start") canonical.at_start start_time a.conditions.at_start h.conditions_at_start)
+        (later_later (timed_condition (codes "over all") canonical.over_all all_time a.conditions.over_all h.conditions_over_all)
+        (timed_condition (codes "at end") canonical.at_end end_time a.conditions.at_end h.conditions_at_end))
 
     all_effects : Later (text.effects_text names a) (canonical.effects_words names a)
     all_effects =
-        later_later (timed_effect (codes "at start") canonical.at_start start_time a.at_start h.effects_at_start)
-        (timed_effect (codes "at end") canonical.at_end end_time a.at_end h.effects_at_end)
+        later_later (timed_effect (codes "at start") canonical.at_start start_time a.effects.at_start h.effects_at_start)
+        (timed_effect (codes "at end") canonical.at_end end_time a.effects.at_end h.effects_at_end)
 
     -- the five lines
     first_line : Writes (codes "(:durative-action " ++ name_text names a.name) (codes "(" ∷ codes ":durative-action" ∷ name_text names a.name ∷ [])

@@ -89,15 +89,15 @@ at_end = codes "at" ∷ codes "end" ∷ []
 -- the parts of an action's condition
 abbrev pub conditions_words : Table → ActionDef → List (List ℕ)
 conditions_words names a =
-    timed_words at_start (map (cond_words names a.params) a.start)
-    ++ (timed_words over_all (map (cond_words names a.params) a.over)
-    ++ timed_words at_end (map (cond_words names a.params) a.end))
+    timed_words at_start (map (cond_words names a.params) a.conditions.at_start)
+    ++ (timed_words over_all (map (cond_words names a.params) a.conditions.over_all)
+    ++ timed_words at_end (map (cond_words names a.params) a.conditions.at_end))
 
 -- the parts of an action's effect
 abbrev pub effects_words : Table → ActionDef → List (List ℕ)
 effects_words names a =
-    timed_words at_start (map (effect_words names a.params) a.at_start)
-    ++ timed_words at_end (map (effect_words names a.params) a.at_end)
+    timed_words at_start (map (effect_words names a.params) a.effects.at_start)
+    ++ timed_words at_end (map (effect_words names a.params) a.effects.at_end)
 
 -- an action
 abbrev pub action_words : Table → ActionDef → List (List ℕ)
@@ -180,11 +180,11 @@ pub record IsActionOf (count : ℕ) (a : ActionDef) : Type 0 where
   pub name : IsNameOf count a.name
   pub params : All (IsParamOf count) a.params
   pub duration : IsExprOf count (length a.params) (expr_tree a.duration)
-  pub conditions_at_start : All (IsCondOf count (length a.params)) a.start
-  pub conditions_over_all : All (IsCondOf count (length a.params)) a.over
-  pub conditions_at_end : All (IsCondOf count (length a.params)) a.end
-  pub effects_at_start : All (IsEffectOf count (length a.params)) a.at_start
-  pub effects_at_end : All (IsEffectOf count (length a.params)) a.at_end
+  pub conditions_at_start : All (IsCondOf count (length a.params)) a.conditions.at_start
+  pub conditions_over_all : All (IsCondOf count (length a.params)) a.conditions.over_all
+  pub conditions_at_end : All (IsCondOf count (length a.params)) a.conditions.at_end
+  pub effects_at_start : All (IsEffectOf count (length a.params)) a.effects.at_start
+  pub effects_at_end : All (IsEffectOf count (length a.params)) a.effects.at_end
 
 -- each name of a domain is one of so many, each variable one of the parameters, and no condition says that an instance has a type
 pub record IsDomainOf (count : ℕ) (d : Domain) : Type 0 where

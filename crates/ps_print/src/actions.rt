@@ -61,9 +61,10 @@ fn push_conditions_of(
     ensures { OnOk result (text.new.items ≡ text.old.items ++ conditions_text names.now action.now) }
 {
     let params = action.params.as_slice();
-    push_timed_conditions(text, names, params, b"at start", &action.start)?;
-    push_timed_conditions(text, names, params, b"over all", &action.over)?;
-    push_timed_conditions(text, names, params, b"at end", &action.end)?;
+    let conditions = &action.conditions;
+    push_timed_conditions(text, names, params, b"at start", &conditions.at_start)?;
+    push_timed_conditions(text, names, params, b"over all", &conditions.over_all)?;
+    push_timed_conditions(text, names, params, b"at end", &conditions.at_end)?;
     Ok(())
 }
 
@@ -72,8 +73,10 @@ fn push_effects_of(text: &mut Vec<u8>, names: &Names, action: &ActionDef) -> Res
     ensures { OnOk result (text.new.items ≡ text.old.items ++ effects_text names.now action.now) }
 {
     let params = action.params.as_slice();
-    push_timed_effects(text, names, params, b"at start", action.at_start.as_slice())?;
-    push_timed_effects(text, names, params, b"at end", action.at_end.as_slice())?;
+    let at_start = action.effects.at_start.as_slice();
+    let at_end = action.effects.at_end.as_slice();
+    push_timed_effects(text, names, params, b"at start", at_start)?;
+    push_timed_effects(text, names, params, b"at end", at_end)?;
     Ok(())
 }
 

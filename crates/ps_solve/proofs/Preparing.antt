@@ -122,12 +122,12 @@ pub atoms_of_both : (atoms fs gs : List Fact) → AreAtoms atoms (fs ++ gs) → 
 atoms_of_both atoms fs gs a = (λ f gone. (none_of_both (same_fact f) fs gs (a f gone)).0, λ f gone. (none_of_both (same_fact f) fs gs (a f gone)).1)
 
 -- a ground action that adds atoms alone does so at its start
-pub first_atoms : (atoms : List Fact) (g : GroundAction) → AreAtoms atoms (adds g) → AddAtoms atoms g.at_start
-first_atoms atoms g a = (atoms_of_both atoms (filter_map added_by g.at_start) (filter_map added_by g.at_end) a).0
+pub first_atoms : (atoms : List Fact) (g : GroundAction) → AreAtoms atoms (adds g) → AddAtoms atoms g.effects.at_start
+first_atoms atoms g a = (atoms_of_both atoms (filter_map added_by g.effects.at_start) (filter_map added_by g.effects.at_end) a).0
 
 -- and at its end
-pub last_atoms : (atoms : List Fact) (g : GroundAction) → AreAtoms atoms (adds g) → AddAtoms atoms g.at_end
-last_atoms atoms g a = (atoms_of_both atoms (filter_map added_by g.at_start) (filter_map added_by g.at_end) a).1
+pub last_atoms : (atoms : List Fact) (g : GroundAction) → AreAtoms atoms (adds g) → AddAtoms atoms g.effects.at_end
+last_atoms atoms g a = (atoms_of_both atoms (filter_map added_by g.effects.at_start) (filter_map added_by g.effects.at_end) a).1
 
 -- the first of some ground actions, and the others, add atoms alone where all do
 pub actions_split : (atoms : List Fact) (g : GroundAction) (gs : List GroundAction) (i : ℕ) → drop i gs ≡ g ∷ drop (i + 1) gs → AreAtoms atoms (flat_map adds (drop i gs)) → AreAtoms atoms (adds g) × AreAtoms atoms (flat_map adds (drop (i + 1) gs))
@@ -187,25 +187,25 @@ module _ (d : Domain) (k : Knowledge) (atoms : List Fact) (g : GroundAction) whe
   abbrev pub AreVain : List CondTree → Type 0
   AreVain cs = (s : State) → IsOver atoms s → all_true d (at k s) cs ≡ false
 
-  no_end : ((t : State) → IsOver atoms t → ended d k g t ≡ None) → AddAtoms atoms g.at_start → (s : State) → IsOver atoms s → stepped d k s g ≡ None
+  no_end : ((t : State) → IsOver atoms t → ended d k g t ≡ None) → AddAtoms atoms g.effects.at_start → (s : State) → IsOver atoms s → stepped d k s g ≡ None
   no_end h a s o =
-      goes_alike k atoms (all_true d (at k s) g.start) s g.at_start (ended d k g) (λ t. None) o a h
-      ∙ nowhere_after (where_so (all_true d (at k s) g.start) (changed k s g.at_start))
+      goes_alike k atoms (all_true d (at k s) g.conditions.at_start) s g.effects.at_start (ended d k g) (λ t. None) o a h
+      ∙ nowhere_after (where_so (all_true d (at k s) g.conditions.at_start) (changed k s g.effects.at_start))
 
   -- an over-all condition that fails after each start
-  pub no_over : AreVain g.over → AddAtoms atoms g.at_start → (s : State) → IsOver atoms s → stepped d k s g ≡ None
-  no_over v = no_end (λ t o. ap (λ b. where_so b (where_so (all_true d (at k t) g.end) (changed k t g.at_end))) (v t o))
+  pub no_over : AreVain g.conditions.over_all → AddAtoms atoms g.effects.at_start → (s : State) → IsOver atoms s → stepped d k s g ≡ None
+  no_over v = no_end (λ t o. ap (λ b. where_so b (where_so (all_true d (at k t) g.conditions.at_end) (changed k t g.effects.at_end))) (v t o))
 
   -- an end condition that does
-  pub no_last : AreVain g.end → AddAtoms atoms g.at_start → (s : State) → IsOver atoms s → stepped d k s g ≡ None
+  pub no_last : AreVain g.conditions.at_end → AddAtoms atoms g.effects.at_start → (s : State) → IsOver atoms s → stepped d k s g ≡ None
   no_last v =
-      no_end (λ t o. ap (λ b. where_so (all_true d (at k t) g.over) (where_so b (changed k t g.at_end))) (v t o) ∙ nowhere (all_true d (at k t) g.over))
+      no_end (λ t o. ap (λ b. where_so (all_true d (at k t) g.conditions.over_all) (where_so b (changed k t g.effects.at_end))) (v t o) ∙ nowhere (all_true d (at k t) g.conditions.over_all))
 
   -- a ground action whose parts were prepared
-  pub leads_alike : (p : Prepared) → ((s : State) → passes d k atoms p.start s ≡ all_true d (at k s) g.start) → ((s : State) → passes d k atoms p.over s ≡ all_true d (at k s) g.over) → ((s : State) → passes d k atoms p.end s ≡ all_true d (at k s) g.end) → ((s : State) → IsOver atoms s → turned k atoms p.at_start s ≡ changed k s g.at_start) → ((s : State) → IsOver atoms s → turned k atoms p.at_end s ≡ changed k s g.at_end) → AddAtoms atoms g.at_start → (s : State) → IsOver atoms s → leapt d k atoms s p ≡ stepped d k s g
+  pub leads_alike : (p : Prepared) → ((s : State) → passes d k atoms p.start s ≡ all_true d (at k s) g.conditions.at_start) → ((s : State) → passes d k atoms p.over s ≡ all_true d (at k s) g.conditions.over_all) → ((s : State) → passes d k atoms p.end s ≡ all_true d (at k s) g.conditions.at_end) → ((s : State) → IsOver atoms s → turned k atoms p.at_start s ≡ changed k s g.effects.at_start) → ((s : State) → IsOver atoms s → turned k atoms p.at_end s ≡ changed k s g.effects.at_end) → AddAtoms atoms g.effects.at_start → (s : State) → IsOver atoms s → leapt d k atoms s p ≡ stepped d k s g
   leads_alike p start over end at_start at_end a s o =
       (λ i. option_and_then (landed d k atoms p) (where_so (start s i) (at_start s o i)))
-      ∙ goes_alike k atoms (all_true d (at k s) g.start) s g.at_start (landed d k atoms p) (ended d k g) o a (λ t q i. where_so (over t i) (where_so (end t i) (at_end t q i)))
+      ∙ goes_alike k atoms (all_true d (at k s) g.conditions.at_start) s g.effects.at_start (landed d k atoms p) (ended d k g) o a (λ t q i. where_so (over t i) (where_so (end t i) (at_end t q i)))
 
 -- ---- tests
 

@@ -56,15 +56,15 @@ module _ (d : Domain) (k : Knowledge) where
   then_where true o f = refl
   then_where false o f = refl
 
-  ended_at : (s : State) (i : ℕ) (g : GroundAction) → result_ok (where_true (all_true d (at k s) g.over) (OverAllFalse i) (where_true (all_true d (at k s) g.end) (EndFalse i) (and_then (EndEffect i) (effect (at k s) g.at_end) (λ l. Ok l)))) ≡ option_map (at k) (ended d k g s)
+  ended_at : (s : State) (i : ℕ) (g : GroundAction) → result_ok (where_true (all_true d (at k s) g.conditions.over_all) (OverAllFalse i) (where_true (all_true d (at k s) g.conditions.at_end) (EndFalse i) (and_then (EndEffect i) (effect (at k s) g.effects.at_end) (λ l. Ok l)))) ≡ option_map (at k) (ended d k g s)
   ended_at s i g =
-      where_at k (all_true d (at k s) g.over) (OverAllFalse i) _ (where_so (all_true d (at k s) g.end) (changed k s g.at_end)) (where_at k (all_true d (at k s) g.end) (EndFalse i) _ (changed k s g.at_end) (ok_after k (EndEffect i) (effect (at k s) g.at_end) ∙ effect_changes k s g.at_end))
+      where_at k (all_true d (at k s) g.conditions.over_all) (OverAllFalse i) _ (where_so (all_true d (at k s) g.conditions.at_end) (changed k s g.effects.at_end)) (where_at k (all_true d (at k s) g.conditions.at_end) (EndFalse i) _ (changed k s g.effects.at_end) (ok_after k (EndEffect i) (effect (at k s) g.effects.at_end) ∙ effect_changes k s g.effects.at_end))
 
   -- a step of a ground action, whatever its place
   pub stepped_at : (s : State) (i : ℕ) (g : GroundAction) → result_ok (step_of d (at k s) i g) ≡ option_map (at k) (stepped d k s g)
   stepped_at s i g =
-      where_at k (all_true d (at k s) g.start) (StartFalse i) _ (option_and_then (ended d k g) (changed k s g.at_start)) (then_at k (StartEffect i) (effect (at k s) g.at_start) (changed k s g.at_start) (λ during. where_true (all_true d during g.over) (OverAllFalse i) (where_true (all_true d during g.end) (EndFalse i) (and_then (EndEffect i) (effect during g.at_end) (λ l. Ok l)))) (ended d k g) (effect_changes k s g.at_start) (λ t. ended_at t i g))
-      ∙ ap (option_map (at k)) (then_where (all_true d (at k s) g.start) (changed k s g.at_start) (ended d k g))
+      where_at k (all_true d (at k s) g.conditions.at_start) (StartFalse i) _ (option_and_then (ended d k g) (changed k s g.effects.at_start)) (then_at k (StartEffect i) (effect (at k s) g.effects.at_start) (changed k s g.effects.at_start) (λ during. where_true (all_true d during g.conditions.over_all) (OverAllFalse i) (where_true (all_true d during g.conditions.at_end) (EndFalse i) (and_then (EndEffect i) (effect during g.effects.at_end) (λ l. Ok l)))) (ended d k g) (effect_changes k s g.effects.at_start) (λ t. ended_at t i g))
+      ∙ ap (option_map (at k)) (then_where (all_true d (at k s) g.conditions.at_start) (changed k s g.effects.at_start) (ended d k g))
 
   -- the state after an act, if it can be grounded and no part of its step fails
   abbrev pub next : State → Act → Option State

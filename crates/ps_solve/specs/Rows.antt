@@ -79,7 +79,7 @@ HaveWide atoms (n ∷ ns) = (length n.row.flags.items ≡ length atoms) × HaveW
 
 -- the facts that a ground action adds, at its start and then at its end
 abbrev pub adds : GroundAction → List Fact
-adds g = filter_map added_by g.at_start ++ filter_map added_by g.at_end
+adds g = filter_map added_by g.effects.at_start ++ filter_map added_by g.effects.at_end
 
 -- each of these facts is an atom
 abbrev pub AreAtoms : List Fact → List Fact → Type 0

@@ -31,11 +31,8 @@ move = record {
   name = name 4;
   params = record { name = name 9; kind = name 2 } ∷ record { name = name 10; kind = name 2 } ∷ [];
   duration = Num (pos 1000);
-  start = cond_tree (Holds (at_parameter 0)) ∷ [];
-  over = [];
-  end = [];
-  at_start = Delete (at_parameter 0) ∷ [];
-  at_end = Add (at_parameter 1) ∷ [];
+  conditions = record { at_start = cond_tree (Holds (at_parameter 0)) ∷ []; over_all = []; at_end = [] };
+  effects = record { at_start = Delete (at_parameter 0) ∷ []; at_end = Add (at_parameter 1) ∷ [] };
 }
 
 abbrev pub rooms : Domain

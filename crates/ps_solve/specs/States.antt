@@ -43,11 +43,11 @@ where_so holds s = if holds then s else None
 
 -- the state after the start of a ground action, if that doesn't fail
 abbrev pub begun : Domain → Knowledge → State → GroundAction → Option State
-begun d k s g = where_so (all_true d (at k s) g.start) (changed k s g.at_start)
+begun d k s g = where_so (all_true d (at k s) g.conditions.at_start) (changed k s g.effects.at_start)
 
 -- the state after its end
 abbrev pub ended : Domain → Knowledge → GroundAction → State → Option State
-ended d k g s = where_so (all_true d (at k s) g.over) (where_so (all_true d (at k s) g.end) (changed k s g.at_end))
+ended d k g s = where_so (all_true d (at k s) g.conditions.over_all) (where_so (all_true d (at k s) g.conditions.at_end) (changed k s g.effects.at_end))
 
 -- the state after a step of a ground action, if no part of it fails
 abbrev pub stepped : Domain → Knowledge → State → GroundAction → Option State

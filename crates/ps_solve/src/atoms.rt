@@ -83,8 +83,8 @@ fn add_each(facts: &mut BTreeSet<Fact>, actions: &[GroundAction]) -> Result<(), 
     ensures { OnOk result (facts.new.keys ≡ fold (insert_key fact_cmp) facts.old.keys (flat_map adds actions.now)) }
 {
     for action in actions {
-        add_all(facts, action.at_start.as_slice())?;
-        add_all(facts, action.at_end.as_slice())?;
+        add_all(facts, action.effects.at_start.as_slice())?;
+        add_all(facts, action.effects.at_end.as_slice())?;
     }
     Ok(())
 }

@@ -60,8 +60,8 @@ pub fn lighten<K: Known, T: Types>(
 ) -> Result<(), AllocError>
     ensures { OnOk result ((n : Node) → move (T.types types.now) (K.known given.now) n action.new ≡ move (T.types types.now) (K.known given.now) n action.old) }
 {
-    lighten_conds(alloc, given, types, &mut action.start)?;
-    lighten_conds(alloc, given, types, &mut action.over)?;
-    lighten_conds(alloc, given, types, &mut action.end)?;
+    lighten_conds(alloc, given, types, &mut action.conditions.at_start)?;
+    lighten_conds(alloc, given, types, &mut action.conditions.over_all)?;
+    lighten_conds(alloc, given, types, &mut action.conditions.at_end)?;
     Ok(())
 }

@@ -223,17 +223,17 @@ fn fill(
     ensures vain { IfOk result (λ fits. fits ≡ false → (d : DomainView) (k : KnowledgeView) (s : State) → IsOver atoms.now s → stepped d k s action.now ≡ None) }
     ensures footprint { IfOk result (λ fits. fits ≡ true → HasFootprint made.new) }
 {
-    if !take_all(alloc, atoms, &action.start, &mut made.start)? {
+    if !take_all(alloc, atoms, &action.conditions.at_start, &mut made.start)? {
         return Ok(false);
     }
-    made.at_start = change_of(alloc, atoms, &action.at_start)?;
-    if !take_all(alloc, atoms, &action.over, &mut made.over)? {
+    made.at_start = change_of(alloc, atoms, &action.effects.at_start)?;
+    if !take_all(alloc, atoms, &action.conditions.over_all, &mut made.over)? {
         return Ok(false);
     }
-    if !take_all(alloc, atoms, &action.end, &mut made.end)? {
+    if !take_all(alloc, atoms, &action.conditions.at_end, &mut made.end)? {
         return Ok(false);
     }
-    made.at_end = change_of(alloc, atoms, &action.at_end)?;
+    made.at_end = change_of(alloc, atoms, &action.effects.at_end)?;
     made.footprint = Footprint::of(
         &made.start,
         &made.over,

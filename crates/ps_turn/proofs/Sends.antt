@@ -6,6 +6,8 @@ use Rattle.ps_world.specs.contracts.expressions.Expr as Expr
 use Rattle.ps_world.specs.contracts.conditions.Conds as Conds
 use Rattle.ps_world.specs.contracts.conditions.Cond as Cond
 use Rattle.ps_world.specs.contracts.actions.Effect as Effect
+use Rattle.ps_world.specs.contracts.actions.Conditions as Conditions
+use Rattle.ps_world.specs.contracts.actions.Effects as Effects
 use Rattle.ps_world.specs.contracts.actions.ActionDef as ActionDef
 use Rattle.ps_world.specs.contracts.domains.Domain as Domain
 use Rattle.ps_world.specs.contracts.edits.Edit as Edit
@@ -44,8 +46,14 @@ cond_send = search (parts, expr_send, conds_send, cond.send-BoxedCond, cond.send
 effect_send : IsSend Effect.the_field.row
 effect_send = search (parts, expr_send) depth 12
 
+conditions_send : IsSend Conditions.the_field.row
+conditions_send = search (parts, conds_send) depth 12
+
+effects_send : IsSend Effects.the_field.row
+effects_send = search (parts, effect_send) depth 12
+
 action_send : IsSend ActionDef.the_field.row
-action_send = search (parts, expr_send, conds_send, effect_send) depth 12
+action_send = search (parts, expr_send, conditions_send, effects_send) depth 12
 
 domain_send : IsSend Domain.the_field.row
 domain_send = search (parts, action_send) depth 12
@@ -65,8 +73,14 @@ cond_sync = search (parts, expr_sync, conds_sync, cond.sync-BoxedCond, cond.sync
 effect_sync : IsSync Effect.the_field.row
 effect_sync = search (parts, expr_sync) depth 12
 
+conditions_sync : IsSync Conditions.the_field.row
+conditions_sync = search (parts, conds_sync) depth 12
+
+effects_sync : IsSync Effects.the_field.row
+effects_sync = search (parts, effect_sync) depth 12
+
 action_sync : IsSync ActionDef.the_field.row
-action_sync = search (parts, expr_sync, conds_sync, effect_sync) depth 12
+action_sync = search (parts, expr_sync, conditions_sync, effects_sync) depth 12
 
 domain_sync : IsSync Domain.the_field.row
 domain_sync = search (parts, action_sync) depth 12

@@ -208,17 +208,17 @@ module _ (names : Table) (named : AreLines names) where
   is_line-conditions a =
       let text = cond_text names a.params in
       let one = is_line-cond a.params in
-      is_line-append (timed_text (codes "at start") (map text a.start)) (timed_text (codes "over all") (map text a.over) ++ timed_text (codes "at end") (map text a.end))
-      (is_line-timed (codes "at start") text a.start refl one)
-      (is_line-append (timed_text (codes "over all") (map text a.over)) (timed_text (codes "at end") (map text a.end))
-      (is_line-timed (codes "over all") text a.over refl one) (is_line-timed (codes "at end") text a.end refl one))
+      is_line-append (timed_text (codes "at start") (map text a.conditions.at_start)) (timed_text (codes "over all") (map text a.conditions.over_all) ++ timed_text (codes "at end") (map text a.conditions.at_end))
+      (is_line-timed (codes "at start") text a.conditions.at_start refl one)
+      (is_line-append (timed_text (codes "over all") (map text a.conditions.over_all)) (timed_text (codes "at end") (map text a.conditions.at_end))
+      (is_line-timed (codes "over all") text a.conditions.over_all refl one) (is_line-timed (codes "at end") text a.conditions.at_end refl one))
 
   is_line-effects : (a : ActionDef) → is_line (effects_text names a) ≡ true
   is_line-effects a =
       let text = effect_text names a.params in
       let one = is_line-effect a.params in
-      is_line-append (timed_text (codes "at start") (map text a.at_start)) (timed_text (codes "at end") (map text a.at_end))
-      (is_line-timed (codes "at start") text a.at_start refl one) (is_line-timed (codes "at end") text a.at_end refl one)
+      is_line-append (timed_text (codes "at start") (map text a.effects.at_start)) (timed_text (codes "at end") (map text a.effects.at_end))
+      (is_line-timed (codes "at start") text a.effects.at_start refl one) (is_line-timed (codes "at end") text a.effects.at_end refl one)
 
   are_lines-acted : (a : ActionDef) → are_lines (action_lines names a) ≡ true
   are_lines-acted a =

@@ -126,15 +126,15 @@ timed_text time parts = flat_map (λ part. codes " (" ++ (time ++ (codes " " ++ 
 -- the parts of an action's condition: those of the start, those over all, and those of the end
 abbrev pub conditions_text : Table → ActionDef → List ℕ
 conditions_text names a =
-    timed_text (codes "at start") (map (cond_text names a.params) a.start)
-    ++ (timed_text (codes "over all") (map (cond_text names a.params) a.over)
-    ++ timed_text (codes "at end") (map (cond_text names a.params) a.end))
+    timed_text (codes "at start") (map (cond_text names a.params) a.conditions.at_start)
+    ++ (timed_text (codes "over all") (map (cond_text names a.params) a.conditions.over_all)
+    ++ timed_text (codes "at end") (map (cond_text names a.params) a.conditions.at_end))
 
 -- the parts of an action's effect: those of the start, and those of the end
 abbrev pub effects_text : Table → ActionDef → List ℕ
 effects_text names a =
-    timed_text (codes "at start") (map (effect_text names a.params) a.at_start)
-    ++ timed_text (codes "at end") (map (effect_text names a.params) a.at_end)
+    timed_text (codes "at start") (map (effect_text names a.params) a.effects.at_start)
+    ++ timed_text (codes "at end") (map (effect_text names a.params) a.effects.at_end)
 
 -- the five lines of an action
 abbrev pub action_lines : Table → ActionDef → List (List ℕ)

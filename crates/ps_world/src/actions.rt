@@ -1,6 +1,4 @@
 //! Actions and their effects.
-ghost use Rattle.std.specs.Prelude.{◌≡◌, IfOk};
-
 use super::conditions::Conds;
 use super::domains::Param;
 use super::expressions::Expr;
@@ -38,88 +36,61 @@ impl Duplicate for Effect {
     }
 }
 
-/// A declared action. It has at most 6 parameters. Each list of conditions stands for all of its conditions.
+/// The conditions of an action. Each list of conditions stands for all of its conditions.
 #[derive(PartialEq, Eq, Drop)]
-pub struct ActionDef {
-    pub name: Name,
-    pub params: Seq<Param>,
-    pub duration: Expr,
+pub struct Conditions {
     /// What has to hold when it starts.
-    pub start: Conds,
+    pub at_start: Conds,
     /// What has to hold while it runs.
-    pub over: Conds,
+    pub over_all: Conds,
     /// What has to hold when it ends.
-    pub end: Conds,
-    pub at_start: Seq<Effect>,
-    pub at_end: Seq<Effect>,
+    pub at_end: Conds,
 }
 
-/// The conditions of an action.
-#[derive(Drop)]
-pub struct Conditions {
-    pub start: Conds,
-    pub over: Conds,
-    pub end: Conds,
+impl Duplicate for Conditions {
+    fn copy(&self, alloc: Global) -> Result<Self, AllocError> {
+        Ok(Conditions {
+            at_start: self.at_start.copy(alloc)?,
+            over_all: self.over_all.copy(alloc)?,
+            at_end: self.at_end.copy(alloc)?,
+        })
+    }
 }
 
 /// The effects of an action.
-#[derive(Drop)]
+#[derive(PartialEq, Eq, Drop)]
 pub struct Effects {
     pub at_start: Seq<Effect>,
     pub at_end: Seq<Effect>,
 }
 
-impl Conditions {
-    /// Copies of these conditions. The only error is want of memory.
-    pub fn copied(
-        alloc: Global,
-        start: &Conds,
-        over: &Conds,
-        end: &Conds,
-    ) -> Result<Conditions, AllocError>
-        ensures start { IfOk result (λ c. c.start ≡ start.now) }
-        ensures over { IfOk result (λ c. c.over ≡ over.now) }
-        ensures end { IfOk result (λ c. c.end ≡ end.now) }
-    {
-        Ok(Conditions {
-            start: start.copy(alloc)?,
-            over: over.copy(alloc)?,
-            end: end.copy(alloc)?,
+impl Duplicate for Effects {
+    fn copy(&self, alloc: Global) -> Result<Self, AllocError> {
+        Ok(Effects {
+            at_start: self.at_start.copy(alloc)?,
+            at_end: self.at_end.copy(alloc)?,
         })
     }
 }
 
-impl Effects {
-    /// Copies of these effects. The only error is want of memory.
-    pub fn copied(
-        alloc: Global,
-        at_start: &Seq<Effect>,
-        at_end: &Seq<Effect>,
-    ) -> Result<Effects, AllocError>
-        ensures at_start { IfOk result (λ e. e.at_start ≡ at_start.now) }
-        ensures at_end { IfOk result (λ e. e.at_end ≡ at_end.now) }
-    {
-        Ok(Effects {
-            at_start: at_start.copy(alloc)?,
-            at_end: at_end.copy(alloc)?,
-        })
-    }
+/// A declared action. It has at most 6 parameters.
+#[derive(PartialEq, Eq, Drop)]
+pub struct ActionDef {
+    pub name: Name,
+    pub params: Seq<Param>,
+    pub duration: Expr,
+    pub conditions: Conditions,
+    pub effects: Effects,
 }
 
 impl Duplicate for ActionDef {
     fn copy(&self, alloc: Global) -> Result<Self, AllocError> {
-        let params = self.params.copy(alloc)?;
-        let effects = Effects::copied(alloc, &self.at_start, &self.at_end)?;
-        let conditions = Conditions::copied(alloc, &self.start, &self.over, &self.end)?;
         Ok(ActionDef {
             name: self.name,
-            params,
+            params: self.params.copy(alloc)?,
             duration: self.duration.copy(alloc)?,
-            start: conditions.start,
-            over: conditions.over,
-            end: conditions.end,
-            at_start: effects.at_start,
-            at_end: effects.at_end,
+            conditions: self.conditions.copy(alloc)?,
+            effects: self.effects.copy(alloc)?,
         })
     }
 }

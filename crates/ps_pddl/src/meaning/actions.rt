@@ -8,16 +8,16 @@ ghost use Rattle.ps_shape.specs.Marks.{is};
 ghost use Rattle.ps_pddl.specs.Meaning.{action, action_body, actions, changes, condition_in, duration, duration_in, effect_in, parts};
 ghost use Rattle.ps_pddl.specs.Forms.{forms};
 
-use super::changes::{Changes, timed as timed_effect};
+use super::changes::timed as timed_effect;
 use super::lists::{Listing, fault_of_new, listed};
-use super::parts::{Parts, timed as timed_condition};
+use super::parts::timed as timed_condition;
 use super::terms::MOST_PARAMS;
 use super::values::value;
 use crate::refusals::{Cap, DomainRefusal};
 use ps_domain::Declared;
 use ps_forms::{Tree, after, at, head, items, items_at, rest};
 use ps_shape::Mark;
-use ps_world::{ActionDef, Conds, Expr, Failure, Name, Num, Param, Seq};
+use ps_world::{ActionDef, Conditions, Conds, Effects, Expr, Failure, Name, Num, Param, Seq};
 use std::alloc::Global;
 
 /// How many actions a domain has at most.
@@ -45,14 +45,14 @@ fn parts(
     d: &Declared,
     params: &[Param],
     trees: &[Tree],
-) -> Result<Parts, Failure<DomainRefusal>>
+) -> Result<Conditions, Failure<DomainRefusal>>
     requires { length params.now ≤ MOST_PARAMS }
     ensures { Gives (λ p. p) result (parts d.now params.now (condition_in (forms trees.now))) }
 {
-    let mut all = Parts {
-        start: Conds::new(alloc),
-        over: Conds::new(alloc),
-        end: Conds::new(alloc),
+    let mut all = Conditions {
+        at_start: Conds::new(alloc),
+        over_all: Conds::new(alloc),
+        at_end: Conds::new(alloc),
     };
     match at(after(Mark::ConditionKey, trees), 0) {
         Some(tree) => {
@@ -69,11 +69,11 @@ fn changes(
     d: &Declared,
     params: &[Param],
     trees: &[Tree],
-) -> Result<Changes, Failure<DomainRefusal>>
+) -> Result<Effects, Failure<DomainRefusal>>
     requires { length params.now ≤ MOST_PARAMS }
     ensures { Gives (λ c. c) result (changes d.now params.now (effect_in (forms trees.now))) }
 {
-    let mut all = Changes {
+    let mut all = Effects {
         at_start: Seq::new(alloc),
         at_end: Seq::new(alloc),
     };
@@ -98,17 +98,14 @@ fn action_body(
     ensures { Gives (λ a. a) result (action_body d.now name params.items (forms trees.now)) }
 {
     let duration = duration(alloc, d, &params, trees)?;
-    let Parts { start, over, end } = parts(alloc, d, &params, trees)?;
-    let Changes { at_start, at_end } = changes(alloc, d, &params, trees)?;
+    let conditions = parts(alloc, d, &params, trees)?;
+    let effects = changes(alloc, d, &params, trees)?;
     Ok(ActionDef {
         name,
         params: Seq::of(params),
         duration,
-        start,
-        over,
-        end,
-        at_start,
-        at_end,
+        conditions,
+        effects,
     })
 }
 

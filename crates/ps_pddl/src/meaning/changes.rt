@@ -12,17 +12,8 @@ use crate::refusals::DomainRefusal;
 use ps_domain::Declared;
 use ps_forms::{Lexeme, Tree, head, rest, word_of};
 use ps_shape::Mark;
-use ps_world::{Effect, Failure, Param, Seq};
+use ps_world::{Effects, Failure, Param};
 use std::alloc::Global;
-
-/// The parts of an action's effect.
-#[derive(Drop)]
-pub struct Changes {
-    /// The effects when the action starts.
-    pub at_start: Seq<Effect>,
-    /// The effects when it ends.
-    pub at_end: Seq<Effect>,
-}
 
 /// Puts an effect with the word after its `at`.
 fn add_at(
@@ -31,7 +22,7 @@ fn add_at(
     params: &[Param],
     time: Mark,
     tree: &Tree,
-    all: &mut Changes,
+    all: &mut Effects,
 ) -> Result<(), Failure<DomainRefusal>>
     requires { length params.now ≤ MOST_PARAMS }
     ensures { Gives (λ _. all.new) result
@@ -51,7 +42,7 @@ fn timed_part(
     word: Mark,
     time: Mark,
     tree: &Tree,
-    all: &mut Changes,
+    all: &mut Effects,
 ) -> Result<(), Failure<DomainRefusal>>
     requires { length params.now ≤ MOST_PARAMS }
     ensures { Gives (λ _. all.new) result
@@ -70,7 +61,7 @@ fn timed_form(
     params: &[Param],
     word: Lexeme,
     trees: &[Tree],
-    all: &mut Changes,
+    all: &mut Effects,
 ) -> Result<(), Failure<DomainRefusal>>
     requires { length params.now ≤ MOST_PARAMS }
     ensures { Gives (λ _. all.new) result
@@ -90,7 +81,7 @@ fn all_timed(
     d: &Declared,
     params: &[Param],
     trees: &[Tree],
-    all: &mut Changes,
+    all: &mut Effects,
 ) -> Result<(), Failure<DomainRefusal>>
     requires { length params.now ≤ MOST_PARAMS }
     ensures { Gives (λ _. all.new) result (all_timed d.now params.now (forms trees.now) all.old) }
@@ -108,7 +99,7 @@ fn timed_list(
     d: &Declared,
     params: &[Param],
     trees: &[Tree],
-    all: &mut Changes,
+    all: &mut Effects,
 ) -> Result<(), Failure<DomainRefusal>>
     requires { length params.now ≤ MOST_PARAMS }
     ensures { Gives (λ _. all.new) result (timed_list d.now params.now (forms trees.now) all.old) }
@@ -130,7 +121,7 @@ pub fn timed(
     d: &Declared,
     params: &[Param],
     tree: &Tree,
-    all: &mut Changes,
+    all: &mut Effects,
 ) -> Result<(), Failure<DomainRefusal>>
     requires { length params.now ≤ MOST_PARAMS }
     ensures { Gives (λ _. all.new) result (timed d.now params.now (nested tree.now) all.old) }

@@ -11,35 +11,24 @@ use crate::refusals::DomainRefusal;
 use ps_domain::Declared;
 use ps_forms::{Lexeme, Tree, head, rest, word_of};
 use ps_shape::Mark;
-use ps_world::{Cond, Conds, Failure, Param};
+use ps_world::{Cond, Conditions, Failure, Param};
 use std::alloc::{AllocError, Global};
 
-/// The parts of an action's condition.
-#[derive(Drop)]
-pub struct Parts {
-    /// What has to hold when the action starts.
-    pub start: Conds,
-    /// What has to hold while it runs.
-    pub over: Conds,
-    /// What has to hold when it ends.
-    pub end: Conds,
-}
-
 /// Puts a part with the word after its `at`.
-fn add_at(all: &mut Parts, time: Mark, cond: Cond) -> Result<(), AllocError>
+fn add_at(all: &mut Conditions, time: Mark, cond: Cond) -> Result<(), AllocError>
     ensures { OnOk result (all.new ≡ at_time time cond all.old) }
 {
     match time {
-        Mark::Start => all.start.push(cond),
-        _ => all.end.push(cond),
+        Mark::Start => all.at_start.push(cond),
+        _ => all.at_end.push(cond),
     }
 }
 
 /// Puts a part that has to hold over all.
-fn add_over(all: &mut Parts, cond: Cond) -> Result<(), AllocError>
+fn add_over(all: &mut Conditions, cond: Cond) -> Result<(), AllocError>
     ensures { OnOk result (all.new ≡ over_all cond all.old) }
 {
-    all.over.push(cond)
+    all.over_all.push(cond)
 }
 
 /// Puts a part, by its first word and what follows it.
@@ -50,7 +39,7 @@ fn timed_part(
     word: Mark,
     time: Mark,
     tree: &Tree,
-    all: &mut Parts,
+    all: &mut Conditions,
 ) -> Result<(), Failure<DomainRefusal>>
     requires { length params.now ≤ MOST_PARAMS }
     ensures { Gives (λ _. all.new) result
@@ -78,7 +67,7 @@ fn timed_form(
     params: &[Param],
     word: Lexeme,
     trees: &[Tree],
-    all: &mut Parts,
+    all: &mut Conditions,
 ) -> Result<(), Failure<DomainRefusal>>
     requires { length params.now ≤ MOST_PARAMS }
     ensures { Gives (λ _. all.new) result
@@ -98,7 +87,7 @@ fn all_timed(
     d: &Declared,
     params: &[Param],
     trees: &[Tree],
-    all: &mut Parts,
+    all: &mut Conditions,
 ) -> Result<(), Failure<DomainRefusal>>
     requires { length params.now ≤ MOST_PARAMS }
     ensures { Gives (λ _. all.new) result (all_timed d.now params.now (forms trees.now) all.old) }
@@ -116,7 +105,7 @@ fn timed_list(
     d: &Declared,
     params: &[Param],
     trees: &[Tree],
-    all: &mut Parts,
+    all: &mut Conditions,
 ) -> Result<(), Failure<DomainRefusal>>
     requires { length params.now ≤ MOST_PARAMS }
     ensures { Gives (λ _. all.new) result (timed_list d.now params.now (forms trees.now) all.old) }
@@ -138,7 +127,7 @@ pub fn timed(
     d: &Declared,
     params: &[Param],
     tree: &Tree,
-    all: &mut Parts,
+    all: &mut Conditions,
 ) -> Result<(), Failure<DomainRefusal>>
     requires { length params.now ≤ MOST_PARAMS }
     ensures { Gives (λ _. all.new) result (timed d.now params.now (nested tree.now) all.old) }

@@ -8,7 +8,7 @@ use Rattle.ps_solve.proofs.prepared.fill.Goals as goal
 pub returns-then-not-branch-clause-vain : goal.returns-then-not-branch-clause-vain
 returns-then-not-branch-clause-vain c =
     let g = c.args.action.now in
-    λ no d k s o. ap (λ b. option_and_then (ended d k g) (where_so b (changed k s g.at_start))) (c.in_ok-take_all.ensures.vain c.if-not-branch.true d k s o)
+    λ no d k s o. ap (λ b. option_and_then (ended d k g) (where_so b (changed k s g.effects.at_start))) (c.in_ok-take_all.ensures.vain c.if-not-branch.true d k s o)
 
 pub returns-then-not-branch-2-clause-vain : goal.returns-then-not-branch-2-clause-vain
 returns-then-not-branch-2-clause-vain c =
