@@ -34,8 +34,8 @@ made_state s es ready = record {
 }
 
 -- the state after a list of effects, unless one has a fault
-abbrev pub changed : Knowledge → State → List Effect → Option State
-changed k s es = option_map state_of (result_ok (effect (at k s) es))
+abbrev pub changed : Domain → Knowledge → State → List Effect → Option State
+changed d k s es = option_map state_of (result_ok (effect d (at k s) es))
 
 -- this state where a condition holds
 abbrev pub where_so : Bool → Option State → Option State
@@ -43,11 +43,11 @@ where_so holds s = if holds then s else None
 
 -- the state after the start of a ground action, if that doesn't fail
 abbrev pub begun : Domain → Knowledge → State → GroundAction → Option State
-begun d k s g = where_so (all_true d (at k s) g.start) (changed k s g.at_start)
+begun d k s g = where_so (all_true d (at k s) g.start) (changed d k s g.at_start)
 
 -- the state after its end
 abbrev pub ended : Domain → Knowledge → GroundAction → State → Option State
-ended d k g s = where_so (all_true d (at k s) g.over) (where_so (all_true d (at k s) g.end) (changed k s g.at_end))
+ended d k g s = where_so (all_true d (at k s) g.over) (where_so (all_true d (at k s) g.end) (changed d k s g.at_end))
 
 -- the state after a step of a ground action, if no part of it fails
 abbrev pub stepped : Domain → Knowledge → State → GroundAction → Option State
