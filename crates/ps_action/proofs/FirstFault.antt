@@ -12,7 +12,7 @@ use Rattle.ps_world.specs.declared.known.Knowledge.{Knowledge}
 use Rattle.ps_action.specs.declared.refusals.EffectRefusal.{EffectRefusal}
 use Rattle.ps_action.specs.declared.refusals.EffectRefusal.TheVariants.{Clash, Undefined, Range}
 use Rattle.ps_action.specs.Values.{in_range}
-use Rattle.ps_action.specs.Effects.{count_after, count_fault, range_fault, fault_of_effect, faults_from, fault_of_effects, sets}
+use Rattle.ps_action.specs.Effects.{count_after, count_fault, range_fault, fault_of_effect, faults_from, fault_of_flat, sets}
 use Rattle.ps_action.specs.Laws.{IsOfPlace, IsFirstFault}
 
 -- ---- the place that a fault has
@@ -97,7 +97,7 @@ from_none i = omega arith
 from_start : (k : Knowledge) (es : List Effect) (i : ℕ) (e : Effect) → fault_at k [] es i e ≡ fault_of_effect k (take i es) i (get_or es i e)
 from_start k es i e = ap (λ at. fault_of_effect k (take i es) at (get_or es i e)) (from_none i)
 
-pub first_fault : (k : Knowledge) (es : List Effect) (r : EffectRefusal) → fault_of_effects k es ≡ Some r → IsFirstFault k es r
+pub first_fault : (k : Knowledge) (es : List Effect) (r : EffectRefusal) → fault_of_flat k es ≡ Some r → IsFirstFault k es r
 first_fault k es r e =
     let w = first_of k [] es r e in
     record {

@@ -17,10 +17,17 @@ use Rattle.ps_world.specs.declared.actions.NumOp.{NumOp}
 use Rattle.ps_world.specs.declared.actions.NumOp.TheVariants.{Assign, Increase, Decrease, ScaleUp, ScaleDown}
 use Rattle.ps_world.specs.declared.actions.Effect.{Effect}
 use Rattle.ps_world.specs.declared.actions.Effect.TheVariants.{Add, Delete, Number}
+use Rattle.ps_world.specs.declared.domains.Domain.{Domain}
 use Rattle.ps_world.specs.declared.known.Knowledge.{Knowledge}
 use Rattle.ps_action.specs.declared.refusals.EffectRefusal.{EffectRefusal}
 use Rattle.ps_action.specs.declared.refusals.EffectRefusal.TheVariants.{Clash, Undefined, Range}
 use Rattle.ps_action.specs.Values.{in_range, of_both, product, quotient, value}
+
+-- ---- the effects of a list
+
+-- the effects that a list stands for in a state
+abbrev pub flat : Domain → Knowledge → List Effect → List Effect
+flat d k es = es
 
 -- ---- the new value that a numeric effect gives
 
@@ -41,6 +48,14 @@ abbrev pub value_set : Knowledge → Effect → Option (Fact × Num)
 value_set k (Add l) = None
 value_set k (Delete l) = None
 value_set k (Number how l x) = option_map (λ n. (ground l, n)) (option_and_then in_range (count_after k how (ground l) (expr_tree x)))
+
+-- the function terms that flat effects give values, each with its value
+abbrev pub values_of_flat : Knowledge → List Effect → List (Fact × Num)
+values_of_flat k es = filter_map (value_set k) es
+
+-- the same of a list of effects
+abbrev pub values_set : Domain → Knowledge → List Effect → List (Fact × Num)
+values_set d k es = values_of_flat k (flat d k es)
 
 -- ---- what is at fault
 
@@ -72,9 +87,13 @@ abbrev pub faults_from : Knowledge → List Effect → List Effect → Option Ef
 faults_from k before [] = None
 faults_from k before (e ∷ es) = option_or (fault_of_effect k before (length before) e) (faults_from k (before ++ e ∷ []) es)
 
--- the first fault of a list of effects: all new values are those in this knowledge
-abbrev pub fault_of_effects : Knowledge → List Effect → Option EffectRefusal
-fault_of_effects k es = faults_from k [] es
+-- the first fault of flat effects: all new values are those in this knowledge
+abbrev pub fault_of_flat : Knowledge → List Effect → Option EffectRefusal
+fault_of_flat k es = faults_from k [] es
+
+-- the first fault of a list of effects, by its place among those that the list stands for
+abbrev pub fault_of_effects : Domain → Knowledge → List Effect → Option EffectRefusal
+fault_of_effects d k es = fault_of_flat k (flat d k es)
 
 -- ---- the change
 
@@ -94,7 +113,7 @@ added_by (Number how l x) = None
 abbrev pub with_value : List (Fact × Num) → Fact × Num → List (Fact × Num)
 with_value values v = insert_entry fact_cmp values v.0 v.1
 
--- Knowledge with the deletes of a list of effects made, then its adds, then these values put in.
+-- Knowledge with the deletes of flat effects made, then their adds, then these values put in.
 abbrev pub made : Knowledge → List Effect → List (Fact × Num) → Knowledge
 made k es ready = record k {
   facts = fold (insert_key fact_cmp) (filter (λ f. not (list_any (deletes f) es)) k.facts) (filter_map added_by es);
@@ -106,11 +125,15 @@ abbrev pub unless : {R A : Type 0} → Option R → A → Result A R
 unless (Some fault) new = Err fault
 unless None new = Ok new
 
+-- the knowledge after flat effects, or their first fault
+abbrev pub effect_flat : Knowledge → List Effect → Result Knowledge EffectRefusal
+effect_flat k es = unless (fault_of_flat k es) (made k es (values_of_flat k es))
+
 -- the knowledge after a list of effects, or its first fault
-abbrev pub effect : Knowledge → List Effect → Result Knowledge EffectRefusal
-effect k es = unless (fault_of_effects k es) (made k es (filter_map (value_set k) es))
+abbrev pub effect : Domain → Knowledge → List Effect → Result Knowledge EffectRefusal
+effect d k es = effect_flat k (flat d k es)
 
 -- the answer to a list of effects: the knowledge after it, or its first fault, unless memory ran out, which only effects with no fault meet
-pub record Applies (k : Knowledge) (es : List Effect) (r : Result Knowledge (Failure EffectRefusal)) : Type 0 where
-  pub gives : Gives (λ new. new) r (effect k es)
-  pub memory : r ≡ Err OutOfMemory → IsOk (effect k es)
+pub record Applies (d : Domain) (k : Knowledge) (es : List Effect) (r : Result Knowledge (Failure EffectRefusal)) : Type 0 where
+  pub gives : Gives (λ new. new) r (effect d k es)
+  pub memory : r ≡ Err OutOfMemory → IsOk (effect d k es)

@@ -13,11 +13,12 @@ use Rattle.ps_world.specs.declared.facts.Fact.{Fact}
 use Rattle.ps_world.specs.declared.actions.NumOp.{NumOp}
 use Rattle.ps_world.specs.declared.actions.Effect.{Effect}
 use Rattle.ps_world.specs.declared.actions.Effect.TheVariants.{Add, Delete, Number}
+use Rattle.ps_world.specs.declared.domains.Domain.{Domain}
 use Rattle.ps_world.specs.declared.known.Knowledge.{Knowledge}
 use Rattle.ps_action.specs.declared.refusals.EffectRefusal.{EffectRefusal}
 use Rattle.ps_action.specs.declared.refusals.EffectRefusal.TheVariants.{Clash, Undefined, Range}
 use Rattle.ps_action.specs.Values.{in_range}
-use Rattle.ps_action.specs.Effects.{count_after, fault_of_effect, fault_of_effects, effect}
+use Rattle.ps_action.specs.Effects.{count_after, fault_of_effect, fault_of_effects, flat, effect}
 
 -- ---- what effects change
 
@@ -33,8 +34,8 @@ IsDeleted es f = (l : Lifted) × Contains es (Delete l) × (ground l ≡ f)
 abbrev pub IsNotSet : List Effect → Fact → Type 0
 IsNotSet es f = (how : NumOp) (l : Lifted) (x : Expr) → Contains es (Number how l x) → ground l ≢ f
 
--- A fact is there afterwards where an effect adds it, or where it was there and no effect deletes it. The value of a term that an
--- effect sets is what the effect gives in the knowledge before, and every other value stays. The lists rise where they rose.
+-- A fact is there after flat effects where an effect adds it, or where it was there and no effect deletes it. The value of a term
+-- that an effect sets is what the effect gives in the knowledge before, and every other value stays. The lists rise where they rose.
 pub record AreMade (old : Knowledge) (es : List Effect) (new : Knowledge) : Type 0 where
   pub facts : (f : Fact) → Contains new.facts f ↔ (IsAdded es f ⊎ (Contains old.facts f × (¬ (IsDeleted es f))))
   pub values : (how : NumOp) (l : Lifted) (x : Expr) → Contains es (Number how l x) → (n : Num) × (value_in new (ground l) ≡ Some n) × (option_and_then in_range (count_after old how (ground l) (expr_tree x)) ≡ Some n)
@@ -46,7 +47,7 @@ pub record AreMade (old : Knowledge) (es : List Effect) (new : Knowledge) : Type
 
 -- effects without a fault change what they say, and nothing else
 abbrev pub EffectsChange : Type 0
-EffectsChange = (old : Knowledge) (es : List Effect) (new : Knowledge) → effect old es ≡ Ok new → AreMade old es new
+EffectsChange = (d : Domain) (old : Knowledge) (es : List Effect) (new : Knowledge) → effect d old es ≡ Ok new → AreMade old (flat d old es) new
 
 -- ---- what is at fault
 
@@ -56,7 +57,7 @@ IsOfPlace i (Clash at) = at ≡ i
 IsOfPlace i (Undefined at) = at ≡ i
 IsOfPlace i (Range at) = at ≡ i
 
--- it is the fault of the effect at its place, and no effect before that one has a fault
+-- it is the fault of the flat effect at its place, and no effect before that one has a fault
 pub record IsFirstFault (k : Knowledge) (es : List Effect) (r : EffectRefusal) : Type 0 where
   pub at : ℕ
   pub place : IsOfPlace at r
@@ -67,5 +68,5 @@ pub record IsFirstFault (k : Knowledge) (es : List Effect) (r : EffectRefusal) :
 -- effects are refused exactly where something is at fault, and for the first fault
 abbrev pub EffectsAreAtFault : Type 0
 EffectsAreAtFault =
-    (k : Knowledge) (es : List Effect) (r : EffectRefusal)
-    → ((effect k es ≡ Err r) ↔ (fault_of_effects k es ≡ Some r)) × (effect k es ≡ Err r → IsFirstFault k es r)
+    (d : Domain) (k : Knowledge) (es : List Effect) (r : EffectRefusal)
+    → ((effect d k es ≡ Err r) ↔ (fault_of_effects d k es ≡ Some r)) × (effect d k es ≡ Err r → IsFirstFault k (flat d k es) r)

@@ -33,10 +33,10 @@ where_true holds why next = if holds then next else Err why
 abbrev pub step_of : Domain → Knowledge → ℕ → GroundAction → Result Knowledge PlanRefusal
 step_of d k i g =
     where_true (all_true d k g.conditions.at_start) (StartFalse i)
-    (and_then (StartEffect i) (effect k g.effects.at_start) (λ during.
+    (and_then (StartEffect i) (effect d k g.effects.at_start) (λ during.
     where_true (all_true d during g.conditions.over_all) (OverAllFalse i)
     (where_true (all_true d during g.conditions.at_end) (EndFalse i)
-    (and_then (EndEffect i) (effect during g.effects.at_end) Ok))))
+    (and_then (EndEffect i) (effect d during g.effects.at_end) Ok))))
 
 -- the same of an act, which has to be grounded first
 abbrev pub step : Domain → Knowledge → ℕ → Act → Result Knowledge PlanRefusal

@@ -3,14 +3,15 @@ use Rattle.std.specs.Prelude.{Bool, true, false, not, ◌&&◌, int_lt, int_le, 
 use Rattle.std.specs.Ordering.{int_eq}
 use Rattle.ps_world.specs.Names.{same_name, object}
 use Rattle.ps_world.specs.Trees.{CondTree, CondTrees, all_of, no, holds, same, compares, is_a, none, more, cond_trees}
-use Rattle.ps_world.specs.Knowledge.{ground, is_known, kind_of, is_below, name_of}
+use Rattle.ps_world.specs.Bound.{ground_in, name_in}
+use Rattle.ps_world.specs.Knowledge.{is_known, kind_of, is_below}
 use Rattle.ps_world.specs.declared.names.Name.{Name}
 use Rattle.ps_world.specs.declared.numbers.Num.{Num}
 use Rattle.ps_world.specs.declared.conditions.Rel.{Rel}
 use Rattle.ps_world.specs.declared.conditions.Rel.TheVariants.{Lt, Le, Eq, Ge, Gt}
 use Rattle.ps_world.specs.declared.domains.Domain.{Domain}
 use Rattle.ps_world.specs.declared.known.Knowledge.{Knowledge}
-use Rattle.ps_action.specs.Values.{value}
+use Rattle.ps_action.specs.Values.{value_with}
 
 -- whether two numbers compare so
 abbrev pub related : Rel → ℤ → ℤ → Bool
@@ -31,23 +32,35 @@ fits d None kind = false
 fits d (Some have) kind = is_below d have kind
 
 abbrev mutual
-  -- whether a condition holds; the domain counts for types alone
-  pub is_true : Domain → Knowledge → CondTree → Bool
-  is_true d k (all_of cs) = are_true d k cs
-  is_true d k (no c) = not (is_true d k c)
-  is_true d k (holds l) = is_known k (ground l)
-  is_true d k (same s t) = same_name (name_of s) (name_of t)
-  is_true d k (compares rel x y) = compare_so rel (value k x) (value k y)
-  is_true d k (is_a t kind) = fits d (kind_of k (name_of t)) kind
+  -- whether a condition holds, where variables stand for these names; the domain counts for types alone
+  pub is_true_with : Domain → Knowledge → List Name → CondTree → Bool
+  is_true_with d k env (all_of cs) = are_true_with d k env cs
+  is_true_with d k env (no c) = not (is_true_with d k env c)
+  is_true_with d k env (holds l) = is_known k (ground_in env l)
+  is_true_with d k env (same s t) = same_name (name_in env s) (name_in env t)
+  is_true_with d k env (compares rel x y) = compare_so rel (value_with k env x) (value_with k env y)
+  is_true_with d k env (is_a t kind) = fits d (kind_of k (name_in env t)) kind
 
   -- whether each of several does
-  pub are_true : Domain → Knowledge → CondTrees → Bool
-  are_true d k none = true
-  are_true d k (more c cs) = is_true d k c && are_true d k cs
+  pub are_true_with : Domain → Knowledge → List Name → CondTrees → Bool
+  are_true_with d k env none = true
+  are_true_with d k env (more c cs) = is_true_with d k env c && are_true_with d k env cs
 
--- whether each condition of a list holds
+-- whether a condition holds where no variable stands for a name
+abbrev pub is_true : Domain → Knowledge → CondTree → Bool
+is_true d k c = is_true_with d k [] c
+
+-- whether each of several does
+abbrev pub are_true : Domain → Knowledge → CondTrees → Bool
+are_true d k cs = are_true_with d k [] cs
+
+-- whether each condition of a list holds, where variables stand for these names
+abbrev pub all_true_with : Domain → Knowledge → List Name → List CondTree → Bool
+all_true_with d k env cs = are_true_with d k env (cond_trees cs)
+
+-- whether each condition of a list holds where no variable stands for a name
 abbrev pub all_true : Domain → Knowledge → List CondTree → Bool
-all_true d k cs = are_true d k (cond_trees cs)
+all_true d k cs = all_true_with d k [] cs
 
 abbrev mutual
   -- no condition in it says that an instance has a type

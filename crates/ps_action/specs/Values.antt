@@ -1,8 +1,10 @@
 -- The numbers of a session: what an expression is worth.
-use Rattle.std.specs.Prelude.{◌^◌, ℤ, pos, ◌+ℤ◌, ◌-ℤ◌, ◌*ℤ◌, neg_ℤ, int_div, unsigned_abs, nat_le, if◌then◌else◌, Option, Some, None, option_map, option_and_then}
+use Rattle.std.specs.Prelude.{◌^◌, ℤ, pos, ◌+ℤ◌, ◌-ℤ◌, ◌*ℤ◌, neg_ℤ, int_div, unsigned_abs, nat_le, if◌then◌else◌, Option, Some, None, option_map, option_and_then, List, []}
 use Rattle.std.specs.Ordering.{int_eq}
 use Rattle.ps_world.specs.Trees.{ExprTree, number, value_of, negated, operated}
-use Rattle.ps_world.specs.Knowledge.{ground, value_in}
+use Rattle.ps_world.specs.Bound.{ground_in}
+use Rattle.ps_world.specs.Knowledge.{value_in}
+use Rattle.ps_world.specs.declared.names.Name.{Name}
 use Rattle.ps_world.specs.declared.numbers.Num.{Num}
 use Rattle.ps_world.specs.declared.expressions.Op.{Op}
 use Rattle.ps_world.specs.declared.expressions.Op.TheVariants.{Add, Sub, Mul, Div}
@@ -36,9 +38,13 @@ abbrev pub of_both : {A : Type 0} → (ℤ → ℤ → Option A) → Option Num 
 of_both f (Some a) (Some b) = f a b
 of_both f a b = None
 
--- what an expression is worth: none where a part of it isn't defined
+-- what an expression is worth, where variables stand for these names: none where a part of it isn't defined
+abbrev pub value_with : Knowledge → List Name → ExprTree → Option Num
+value_with k env (number n) = Some n
+value_with k env (value_of l) = value_in k (ground_in env l)
+value_with k env (negated x) = option_map neg_ℤ (value_with k env x)
+value_with k env (operated op x y) = of_both (computed op) (value_with k env x) (value_with k env y)
+
+-- what an expression is worth where no variable stands for a name
 abbrev pub value : Knowledge → ExprTree → Option Num
-value k (number n) = Some n
-value k (value_of l) = value_in k (ground l)
-value k (negated x) = option_map neg_ℤ (value k x)
-value k (operated op x y) = of_both (computed op) (value k x) (value k y)
+value k x = value_with k [] x

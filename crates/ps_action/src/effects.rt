@@ -1,10 +1,10 @@
 //! What effects give, and what is at fault with them.
-ghost use Rattle.std.specs.Prelude.{◌≡◌, filter_map, IfOk};
+ghost use Rattle.std.specs.Prelude.{◌≡◌, IfOk};
 ghost use Rattle.std.specs.List.{list_any};
 ghost use Rattle.ps_world.specs.ExprViews.{expr_tree};
-ghost use Rattle.ps_action.specs.Effects.{count_after, count_fault, fault_of_effect, fault_of_effects, new_count, sets, value_set};
+ghost use Rattle.ps_action.specs.Effects.{count_after, count_fault, fault_of_effect, fault_of_effects, fault_of_flat, new_count, sets, value_set, values_of_flat, values_set};
 
-use crate::known::Known;
+use crate::known::{Known, Types};
 use crate::refusals::EffectRefusal;
 use crate::values::{in_range, product, quotient, value_of};
 use ps_world::{Effect, Expr, Fact, Num, NumOp};
@@ -83,10 +83,9 @@ fn fault_of_effect<K: Known>(
     }
 }
 
-/// The first fault of a list of effects, if it has one. All new values are those in what is known now. For each effect in order:
-/// `Clash` where an earlier one gives the same term a value, `Undefined`, `Range`. It takes no memory.
-pub fn fault_of_effects<K: Known>(known: &K, effects: &[Effect]) -> Option<EffectRefusal>
-    ensures { result ≡ fault_of_effects (K.known known.now) effects.now }
+/// The first fault of flat effects, if they have one.
+fn fault_of_flat<K: Known>(known: &K, effects: &[Effect]) -> Option<EffectRefusal>
+    ensures { result ≡ fault_of_flat (K.known known.now) effects.now }
 {
     for (at, effect) in effects.iter().enumerate() {
         if let Some(fault) = fault_of_effect(known, &effects[..at], at, effect) {
@@ -94,6 +93,18 @@ pub fn fault_of_effects<K: Known>(known: &K, effects: &[Effect]) -> Option<Effec
         }
     }
     None
+}
+
+/// The first fault of a list of effects, if it has one. All new values are those in what is known now. For each effect in order:
+/// `Clash` where an earlier one gives the same term a value, `Undefined`, `Range`. It takes no memory.
+pub fn fault_of_effects<K: Known, T: Types>(
+    known: &K,
+    types: &T,
+    effects: &[Effect],
+) -> Option<EffectRefusal>
+    ensures { result ≡ fault_of_effects (T.types types.now) (K.known known.now) effects.now }
+{
+    fault_of_flat(known, effects)
 }
 
 /// The function term that an effect gives a value, with that value. None where it gives none, or where that isn't defined or is out
@@ -112,13 +123,13 @@ fn value_set<K: Known>(known: &K, effect: &Effect) -> Option<(Fact, Num)>
     }
 }
 
-/// The function terms that effects give values, each with its value. The only error is want of memory.
-pub fn values_set<K: Known>(
+/// The function terms that flat effects give values, each with its value. The only error is want of memory.
+fn values_of_flat<K: Known>(
     alloc: Global,
     known: &K,
     effects: &[Effect],
 ) -> Result<Vec<(Fact, Num)>, AllocError>
-    ensures { IfOk result (λ v. v.items ≡ filter_map (value_set (K.known known.now)) effects.now) }
+    ensures { IfOk result (λ v. v.items ≡ values_of_flat (K.known known.now) effects.now) }
 {
     let mut all = Vec::new(alloc);
     for effect in effects {
@@ -127,4 +138,16 @@ pub fn values_set<K: Known>(
         }
     }
     Ok(all)
+}
+
+/// The function terms that a list of effects gives values, each with its value. The only error is want of memory.
+pub fn values_set<K: Known, T: Types>(
+    alloc: Global,
+    known: &K,
+    types: &T,
+    effects: &[Effect],
+) -> Result<Vec<(Fact, Num)>, AllocError>
+    ensures { IfOk result (λ v. v.items ≡ values_set (T.types types.now) (K.known known.now) effects.now) }
+{
+    values_of_flat(alloc, known, effects)
 }

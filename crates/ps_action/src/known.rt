@@ -1,5 +1,5 @@
 //! What conditions and effects ask of what is known.
-ghost use Rattle.std.specs.Prelude.{◌≡◌};
+ghost use Rattle.std.specs.Prelude.{◌≡◌, slice_get};
 ghost use Rattle.std.specs.List.{list_any};
 ghost use Rattle.std.specs.Map.{lookup};
 ghost use Rattle.ps_world.specs.Names.{same_name};
@@ -24,6 +24,11 @@ pub trait Known {
     /// The type of an instance. None exactly where the name is no instance.
     fn kind_of(&self, name: Name) -> Option<Name>
         ensures { result ≡ kind_of (known self.now) name };
+
+    /// The instance at a place of their list, with its type. The names of what is well known rise there. None exactly where there
+    /// are no more instances than that.
+    fn instance_at(&self, i: u32) -> Option<(Name, Name)>
+        ensures { result ≡ slice_get (known self.now).instances i };
 }
 
 /// The types of a domain, which contracts see as `types` of it.
@@ -81,6 +86,10 @@ impl Known for Knowledge {
 
     fn kind_of(&self, name: Name) -> Option<Name> {
         kind_among(self.instances.as_slice(), name)
+    }
+
+    fn instance_at(&self, i: u32) -> Option<(Name, Name)> {
+        self.instances.as_slice().get(i as usize).copied()
     }
 }
 

@@ -12,7 +12,7 @@ use crate::effects::{fault_of_effects, values_set};
 use crate::known::Types;
 use crate::refusals::EffectRefusal;
 use crate::truth::is_true;
-use ps_world::{Cond, Duplicate, Effect, Fact, Failure, Knowledge, Name, Num, Seq};
+use ps_world::{Cond, Domain, Duplicate, Effect, Fact, Failure, Knowledge, Name, Num, Seq};
 use std::alloc::{AllocError, Global};
 
 /// The types of a domain that declares nothing, where each type stands below itself alone.
@@ -42,19 +42,20 @@ pub fn holds_plain(known: &Knowledge, cond: &Cond) -> bool
 /// `Clash` where an earlier effect gives the same term a value, `Undefined`, `Range`.
 pub fn apply_plain(
     alloc: Global,
+    domain: &Domain,
     known: &Knowledge,
     effects: &[Effect],
 ) -> Result<Knowledge, Failure<EffectRefusal>>
-    ensures { Applies known.now effects.now result }
+    ensures { Applies domain.now known.now effects.now result }
 {
-    if let Some(fault) = fault_of_effects(known, effects) {
+    if let Some(fault) = fault_of_effects(known, domain, effects) {
         return Err(Failure::Refused(fault));
     }
-    let ready = values_set(alloc, known, effects)?;
+    let ready = values_set(alloc, known, domain, effects)?;
     Ok(make(alloc, known, effects, &ready)?)
 }
 
-/// What is known, copied, with the deletes of effects made, then their adds, then these values put in.
+/// What is known, copied, with the deletes of flat effects made, then their adds, then these values put in.
 fn make(
     alloc: Global,
     known: &Knowledge,

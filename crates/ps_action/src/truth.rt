@@ -1,10 +1,10 @@
 //! Whether conditions hold.
 ghost use Rattle.std.specs.Prelude.{◌≡◌};
 ghost use Rattle.ps_world.specs.CondViews.{cond_tree};
-ghost use Rattle.ps_action.specs.Truth.{all_true, compare_so, fits, is_true, related};
+ghost use Rattle.ps_action.specs.Truth.{all_true, all_true_with, compare_so, fits, is_true, is_true_with, related};
 
 use crate::known::{Known, Types};
-use crate::values::value_of;
+use crate::values::value_with;
 use ps_world::{BoxedCond, Cond, Conds, Name, Num, Rel};
 
 /// Whether two numbers compare so.
@@ -42,36 +42,57 @@ fn fits<T: Types>(types: &T, kind: Option<Name>, want: Name) -> bool
 
 /// Whether a condition holds (PDDL 2.1, section 4): a comparison with a side that isn't defined is false, and an empty `and` is
 /// true. A variable counts as `object`. It takes no memory.
-#[cycle(truth)]
 pub fn is_true<K: Known, T: Types>(known: &K, types: &T, cond: &Cond) -> bool
     ensures { result ≡ is_true (T.types types.now) (K.known known.now) (cond_tree cond.now) }
 {
+    is_true_with(known, types, &[], cond)
+}
+
+/// Whether each condition of a list holds. It takes no memory.
+pub fn all_true<K: Known, T: Types>(known: &K, types: &T, conds: &Conds) -> bool
+    ensures { result ≡ all_true (T.types types.now) (K.known known.now) conds.now }
+{
+    all_true_with(known, types, &[], conds)
+}
+
+/// Whether a condition holds, where variables stand for these names.
+#[cycle(truth)]
+fn is_true_with<K: Known, T: Types>(known: &K, types: &T, env: &[Name], cond: &Cond) -> bool
+    ensures { result ≡ is_true_with (T.types types.now) (K.known known.now) env.now (cond_tree cond.now) }
+{
     match cond {
-        Cond::And(parts) => all_true(known, types, parts),
-        Cond::Not(inner) => !is_boxed_true(known, types, inner),
-        Cond::Holds(lifted) => known.has(&lifted.ground()),
-        Cond::Same(one, other) => one.name() == other.name(),
+        Cond::And(parts) => all_true_with(known, types, env, parts),
+        Cond::Not(inner) => !is_boxed_true_with(known, types, env, inner),
+        Cond::Holds(lifted) => known.has(&lifted.ground_in(env)),
+        Cond::Same(one, other) => one.name_in(env) == other.name_in(env),
         Cond::Cmp(rel, left, right) => {
-            compare_so(*rel, value_of(known, left), value_of(known, right))
+            let left = value_with(known, env, left);
+            let right = value_with(known, env, right);
+            compare_so(*rel, left, right)
         }
-        Cond::IsA(term, kind) => fits(types, known.kind_of(term.name()), *kind),
+        Cond::IsA(term, kind) => fits(types, known.kind_of(term.name_in(env)), *kind),
     }
 }
 
 #[cycle(truth)]
-fn is_boxed_true<K: Known, T: Types>(known: &K, types: &T, cond: &BoxedCond) -> bool
-    ensures { result ≡ is_true (T.types types.now) (K.known known.now) cond.now }
+fn is_boxed_true_with<K: Known, T: Types>(
+    known: &K,
+    types: &T,
+    env: &[Name],
+    cond: &BoxedCond,
+) -> bool
+    ensures { result ≡ is_true_with (T.types types.now) (K.known known.now) env.now cond.now }
 {
-    is_true(known, types, cond.get())
+    is_true_with(known, types, env, cond.get())
 }
 
-/// Whether each condition of a list holds. It takes no memory.
+/// Whether each condition of a list holds, where variables stand for these names.
 #[cycle(truth)]
-pub fn all_true<K: Known, T: Types>(known: &K, types: &T, conds: &Conds) -> bool
-    ensures { result ≡ all_true (T.types types.now) (K.known known.now) conds.now }
+fn all_true_with<K: Known, T: Types>(known: &K, types: &T, env: &[Name], conds: &Conds) -> bool
+    ensures { result ≡ all_true_with (T.types types.now) (K.known known.now) env.now conds.now }
 {
     for cond in conds.as_slice() {
-        if !is_true(known, types, cond) {
+        if !is_true_with(known, types, env, cond) {
             return false;
         }
     }

@@ -1,11 +1,11 @@
 //! What expressions are worth.
 ghost use Rattle.std.specs.Prelude.{◌≡◌, neg_ℤ};
 ghost use Rattle.ps_world.specs.ExprViews.{expr_tree};
-ghost use Rattle.ps_action.specs.Values.{computed, in_range, product, quotient, value};
+ghost use Rattle.ps_action.specs.Values.{computed, in_range, product, quotient, value, value_with};
 ghost use Rattle.ps_action.specs.Plans.{duration_of};
 
 use crate::known::Known;
-use ps_world::{BoxedExpr, Expr, Num, Op};
+use ps_world::{BoxedExpr, Expr, Name, Num, Op};
 
 /// The number of a count of thousandths, or None exactly where it is out of range.
 pub(crate) fn in_range(milli: i128) -> Option<Num>
@@ -61,19 +61,29 @@ fn negated(number: Num) -> Num
 
 /// What an expression is worth (PDDL 2.1, section 4). None exactly where a part of it isn't defined: a function has no value,
 /// a divisor is zero, or a result is out of range. It takes no memory.
-#[cycle(value)]
 pub fn value_of<K: Known>(known: &K, expr: &Expr) -> Option<Num>
     ensures { result ≡ value (K.known known.now) (expr_tree expr.now) }
 {
+    value_with(known, &[], expr)
+}
+
+/// What an expression is worth, where variables stand for these names.
+#[cycle(value)]
+pub(crate) fn value_with<K: Known>(known: &K, env: &[Name], expr: &Expr) -> Option<Num>
+    ensures { result ≡ value_with (K.known known.now) env.now (expr_tree expr.now) }
+{
     match expr {
         Expr::Num(number) => Some(*number),
-        Expr::Fun(lifted) => known.value(&lifted.ground()),
-        Expr::Neg(inner) => match value_of_boxed(known, inner) {
+        Expr::Fun(lifted) => known.value(&lifted.ground_in(env)),
+        Expr::Neg(inner) => match boxed_value_with(known, env, inner) {
             Some(number) => Some(negated(number)),
             None => None,
         },
         Expr::Bin(op, left, right) => {
-            match (value_of_boxed(known, left), value_of_boxed(known, right)) {
+            match (
+                boxed_value_with(known, env, left),
+                boxed_value_with(known, env, right),
+            ) {
                 (Some(a), Some(b)) => computed(*op, a, b),
                 _ => None,
             }
@@ -82,10 +92,10 @@ pub fn value_of<K: Known>(known: &K, expr: &Expr) -> Option<Num>
 }
 
 #[cycle(value)]
-fn value_of_boxed<K: Known>(known: &K, expr: &BoxedExpr) -> Option<Num>
-    ensures { result ≡ value (K.known known.now) expr.now }
+fn boxed_value_with<K: Known>(known: &K, env: &[Name], expr: &BoxedExpr) -> Option<Num>
+    ensures { result ≡ value_with (K.known known.now) env.now expr.now }
 {
-    value_of(known, expr.get())
+    value_with(known, env, expr.get())
 }
 
 /// How long an expression of a duration says: what it is worth, but zero where it isn't defined or negative. It takes no memory.

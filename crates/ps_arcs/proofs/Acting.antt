@@ -64,14 +64,14 @@ closes d None k = true
 closes d (Some a) k = all_true d k a.conditions.at_end
 
 -- the knowledge after the start effects, which is the same where no ground action stands
-abbrev pub begun : Option GroundAction → Knowledge → Option Knowledge
-begun None k = Some k
-begun (Some a) k = result_ok (effect k a.effects.at_start)
+abbrev pub begun : Domain → Option GroundAction → Knowledge → Option Knowledge
+begun d None k = Some k
+begun d (Some a) k = result_ok (effect d k a.effects.at_start)
 
 -- the same of the end effects
-abbrev pub finished : Option GroundAction → Knowledge → Option Knowledge
-finished None k = Some k
-finished (Some a) k = result_ok (effect k a.effects.at_end)
+abbrev pub finished : Domain → Option GroundAction → Knowledge → Option Knowledge
+finished d None k = Some k
+finished d (Some a) k = result_ok (effect d k a.effects.at_end)
 
 -- ground actions as acts by their places
 abbrev pub acts_of : Domain → List GroundAction → Acts Knowledge Told
@@ -79,8 +79,8 @@ acts_of d gs = record {
   start = λ i. starts d (slice_get gs i);
   over = λ i. lasts d (slice_get gs i);
   end = λ i. closes d (slice_get gs i);
-  begin = λ i. begun (slice_get gs i);
-  finish = λ i. finished (slice_get gs i);
+  begin = λ i. begun d (slice_get gs i);
+  finish = λ i. finished d (slice_get gs i);
   reads = λ i. read_at (slice_get gs i);
   changes = λ i. changed_at (slice_get gs i);
   arc = is_arc gs;
@@ -230,17 +230,17 @@ no_effect = record {
   others = λ k m e x c. let same : k ≡ m = cc in subst (λ l. SameAt k l x) same (itself k x);
 }
 
-begun_effect : (o : Option GroundAction) → IsEffect SameAt (touched_at o) (changed_at o) (begun o)
-begun_effect None = no_effect
-begun_effect (Some a) =
-    is_effect a (λ k. effect k a.effects.at_start) (λ k l same read changed. (effects_read_things k l a same read changed).0)
-    (λ k. (effects_leave_others k a).0)
+begun_effect : (d : Domain) (o : Option GroundAction) → IsEffect SameAt (touched_at o) (changed_at o) (begun d o)
+begun_effect d None = no_effect
+begun_effect d (Some a) =
+    is_effect a (λ k. effect d k a.effects.at_start) (λ k l same read changed. (effects_read_things d k l a same read changed).0)
+    (λ k. (effects_leave_others d k a).0)
 
-finished_effect : (o : Option GroundAction) → IsEffect SameAt (touched_at o) (changed_at o) (finished o)
-finished_effect None = no_effect
-finished_effect (Some a) =
-    is_effect a (λ k. effect k a.effects.at_end) (λ k l same read changed. (effects_read_things k l a same read changed).1)
-    (λ k. (effects_leave_others k a).1)
+finished_effect : (d : Domain) (o : Option GroundAction) → IsEffect SameAt (touched_at o) (changed_at o) (finished d o)
+finished_effect d None = no_effect
+finished_effect d (Some a) =
+    is_effect a (λ k. effect d k a.effects.at_end) (λ k l same read changed. (effects_read_things d k l a same read changed).1)
+    (λ k. (effects_leave_others d k a).1)
 
 -- ---- no arc
 
@@ -279,7 +279,7 @@ acting d gs n = record {
   start = λ i l. starts_read d (slice_get gs i);
   over = λ i l. lasts_read d (slice_get gs i);
   end = λ i l. closes_read d (slice_get gs i);
-  begin = λ i l. begun_effect (slice_get gs i);
-  finish = λ i l. finished_effect (slice_get gs i);
+  begin = λ i l. begun_effect d (slice_get gs i);
+  finish = λ i l. finished_effect d (slice_get gs i);
   apart = λ i j below within e x. apart_at gs i j below e (slice_get gs i) (slice_get gs j) refl refl x;
 }

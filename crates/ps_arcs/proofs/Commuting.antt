@@ -45,7 +45,7 @@ module _ (d : Domain) (last : Knowledge) where
   starts_at (a ∷ gs) k g zero = (parts d 0 a k g.0 g.1).start
   starts_at (a ∷ gs) k g (suc i) = starts_at gs g.0 g.2 i
 
-  begins_at : (gs : List GroundAction) (k : Knowledge) (g : IsGood d k gs last) (i : ℕ) → begun (slice_get gs i) (before_at gs k g i) ≡ Some (within_at gs k g i)
+  begins_at : (gs : List GroundAction) (k : Knowledge) (g : IsGood d k gs last) (i : ℕ) → begun d (slice_get gs i) (before_at gs k g i) ≡ Some (within_at gs k g i)
   unfolding before_at within_at
   begins_at [] k g i = refl
   begins_at (a ∷ gs) k g zero = ap result_ok (parts d 0 a k g.0 g.1).begin
@@ -63,7 +63,7 @@ module _ (d : Domain) (last : Knowledge) where
   closes_at (a ∷ gs) k g zero = (parts d 0 a k g.0 g.1).end
   closes_at (a ∷ gs) k g (suc i) = closes_at gs g.0 g.2 i
 
-  finishes_at : (gs : List GroundAction) (k : Knowledge) (g : IsGood d k gs last) (i : ℕ) → finished (slice_get gs i) (within_at gs k g i) ≡ Some (before_at gs k g (suc i))
+  finishes_at : (gs : List GroundAction) (k : Knowledge) (g : IsGood d k gs last) (i : ℕ) → finished d (slice_get gs i) (within_at gs k g i) ≡ Some (before_at gs k g (suc i))
   unfolding before_at within_at
   finishes_at [] k g i = refl
   finishes_at (a ∷ gs) k g zero =
@@ -117,7 +117,7 @@ module _ (d : Domain) (gs : List GroundAction) (last : Knowledge) where
         h.1,
         w.1,
         subst (λ p. starts d p k ≡ true) w.1 h.0,
-        is_ok (effect k (w.0).effects.at_start) h.1 (subst (λ p. begun p k ≡ Some h.1) w.1 h.2),
+        is_ok (effect d k (w.0).effects.at_start) h.1 (subst (λ p. begun d p k ≡ Some h.1) w.1 h.2),
         holds_all (moved now i running) h.1 h.3,
         go_well es (moved now i running) h.1 l e o.3 h.4,
       )
@@ -127,7 +127,7 @@ module _ (d : Domain) (gs : List GroundAction) (last : Knowledge) where
         h.1,
         w.1,
         subst (λ p. closes d p k ≡ true) w.1 h.0,
-        is_ok (effect k (w.0).effects.at_end) h.1 (subst (λ p. finished p k ≡ Some h.1) w.1 h.2),
+        is_ok (effect d k (w.0).effects.at_end) h.1 (subst (λ p. finished d p k ≡ Some h.1) w.1 h.2),
         holds_all (moved now i ended) h.1 h.3,
         go_well es (moved now i ended) h.1 l e o.2 h.4,
       )

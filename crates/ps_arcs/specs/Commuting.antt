@@ -59,10 +59,10 @@ AllHold d gs now k = (i : ℕ) (a : GroundAction) → slice_get gs i ≡ Some a 
 abbrev pub GoWell : Domain → List GroundAction → Knowledge → (ℕ → Stage) → Knowledge → List Event → Type 0
 GoWell d gs last now k [] = TellTheSame k last
 GoWell d gs last now k (begins i ∷ es) =
-    (a : GroundAction) × (next : Knowledge) × (slice_get gs i ≡ Some a) × (all_true d k a.conditions.at_start ≡ true) × (effect k a.effects.at_start ≡ Ok next)
+    (a : GroundAction) × (next : Knowledge) × (slice_get gs i ≡ Some a) × (all_true d k a.conditions.at_start ≡ true) × (effect d k a.effects.at_start ≡ Ok next)
     × AllHold d gs (moved now i running) next × GoWell d gs last (moved now i running) next es
 GoWell d gs last now k (ends i ∷ es) =
-    (a : GroundAction) × (next : Knowledge) × (slice_get gs i ≡ Some a) × (all_true d k a.conditions.at_end ≡ true) × (effect k a.effects.at_end ≡ Ok next)
+    (a : GroundAction) × (next : Knowledge) × (slice_get gs i ≡ Some a) × (all_true d k a.conditions.at_end ≡ true) × (effect d k a.effects.at_end ≡ Ok next)
     × AllHold d gs (moved now i ended) next × GoWell d gs last (moved now i ended) next es
 
 -- from where ground actions are a good plan, each order that their arcs allow goes well, and comes to what the plan comes to

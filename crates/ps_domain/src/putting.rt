@@ -8,15 +8,15 @@ use ps_world::{
 };
 use std::alloc::{AllocError, Global};
 
-/// The argument that stands for a variable: `object` where there is none.
+/// A term with its argument in place of a variable. A variable that has no argument stays.
 fn put_term(args: &[Name], term: Term) -> Term
     ensures { result ≡ put_term args.now term }
 {
     match term {
-        Term::Var(i) => {
-            let arg = args.get(usize::from(i)).copied();
-            Term::Const(arg.unwrap_or(Name::OBJECT))
-        }
+        Term::Var(i) => match args.get(usize::from(i)) {
+            Some(name) => Term::Const(*name),
+            None => Term::Var(i),
+        },
         Term::Const(name) => Term::Const(name),
     }
 }

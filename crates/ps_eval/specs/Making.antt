@@ -2,6 +2,7 @@
 use Rattle.std.specs.Prelude.{◌≡◌, ◌≢◌, ◌↔◌, Bool, IsTrue, Result, Err, IsOk, IfOk, OnErr, List}
 use Rattle.ps_world.specs.Failures.{Gives}
 use Rattle.ps_world.specs.declared.actions.Effect.{Effect}
+use Rattle.ps_world.specs.declared.domains.Domain.{Domain}
 use Rattle.ps_world.specs.declared.failures.Failure.{Failure}
 use Rattle.ps_world.specs.declared.failures.Failure.TheVariants.{OutOfMemory}
 use Rattle.ps_world.specs.declared.known.Knowledge.{Knowledge}
@@ -10,8 +11,8 @@ use Rattle.ps_action.specs.declared.refusals.EffectRefusal.{EffectRefusal}
 
 -- The answer to effects made in what is known: what `effect` gives is known afterwards, or nothing has changed, unless memory ran out,
 -- which it does only for effects without a fault.
-pub record Makes (es : List Effect) (old : Knowledge) (r : Result Bool (Failure EffectRefusal)) (new : Knowledge) : Type 0 where
-  pub gives : Gives (λ changed. new) r (effect old es)
+pub record Makes (d : Domain) (es : List Effect) (old : Knowledge) (r : Result Bool (Failure EffectRefusal)) (new : Knowledge) : Type 0 where
+  pub gives : Gives (λ changed. new) r (effect d old es)
   pub changed : IfOk r (λ changed. IsTrue changed ↔ (new ≢ old))
   pub kept : OnErr r (new ≡ old)
-  pub memory : r ≡ Err OutOfMemory → IsOk (effect old es)
+  pub memory : r ≡ Err OutOfMemory → IsOk (effect d old es)

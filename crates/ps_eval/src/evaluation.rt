@@ -11,7 +11,6 @@ use ps_action::{EffectRefusal, all_true, duration_of, fault_of_effects, is_true,
 use ps_domain::Expert;
 use ps_problem::Problem;
 use ps_world::{Cond, Conds, Effect, Expr, Failure, Num};
-use std::alloc::Global;
 
 /// Whether a condition holds (PDDL 2.1, section 4): a comparison with a side that isn't defined is false, and an empty `and` is
 /// true. A variable counts as `object`. It takes no memory.
@@ -35,25 +34,25 @@ pub fn holds_all(problem: &Problem, expert: &Expert, conds: &Conds) -> bool
 /// come in this order: `Clash` where an earlier effect gives the same function term a value; `Undefined` where the new value isn't
 /// defined; `Range` where its absolute value passes 10^15 thousandths.
 pub fn apply(
-    alloc: Global,
     problem: &mut Problem,
+    expert: &Expert,
     effects: &[Effect],
 ) -> Result<bool, Failure<EffectRefusal>>
-    ensures { Makes effects.now problem.old result problem.new }
+    ensures { Makes expert.now effects.now problem.old result problem.new }
 {
-    if let Some(fault) = fault_of_effects(problem, effects) {
+    if let Some(fault) = fault_of_effects(problem, expert, effects) {
         return Err(Failure::Refused(fault));
     }
-    let ready = values_set(alloc, problem, effects)?;
+    let ready = values_set(problem.allocator(), problem, expert, effects)?;
     let changed = problem.put(effects, &ready)?;
     Ok(changed)
 }
 
 /// Whether a list of effects has no fault. It takes no memory.
-pub fn defined(problem: &Problem, effects: &[Effect]) -> bool
-    ensures { result ≡ is_ok (effect problem.now effects.now) }
+pub fn defined(problem: &Problem, expert: &Expert, effects: &[Effect]) -> bool
+    ensures { result ≡ is_ok (effect expert.now problem.now effects.now) }
 {
-    fault_of_effects(problem, effects).is_none()
+    fault_of_effects(problem, expert, effects).is_none()
 }
 
 /// How long an expression of a duration says: what it is worth, but zero where it isn't defined or negative. It takes no memory.

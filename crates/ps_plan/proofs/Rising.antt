@@ -108,24 +108,24 @@ where_ok false why other one two next h p = cc
 during_of : Domain → ℕ → GroundAction → Knowledge → Result Knowledge PlanRefusal
 during_of d i g during =
     where_true (all_true d during g.conditions.over_all) (OverAllFalse i)
-    (where_true (all_true d during g.conditions.at_end) (EndFalse i) (and_then (EndEffect i) (effect during g.effects.at_end) Ok))
+    (where_true (all_true d during g.conditions.at_end) (EndFalse i) (and_then (EndEffect i) (effect d during g.effects.at_end) Ok))
 
 during_ok : (d : Domain) (i j : ℕ) (g : GroundAction) (next during : Knowledge) → during_of d i g during ≡ Ok next → during_of d j g during ≡ Ok next
 unfolding during_of
 during_ok d i j g next during =
     where_ok (all_true d during g.conditions.over_all) (OverAllFalse i) (OverAllFalse j)
-    (where_true (all_true d during g.conditions.at_end) (EndFalse i) (and_then (EndEffect i) (effect during g.effects.at_end) Ok))
-    (where_true (all_true d during g.conditions.at_end) (EndFalse j) (and_then (EndEffect j) (effect during g.effects.at_end) Ok)) next
-    (where_ok (all_true d during g.conditions.at_end) (EndFalse i) (EndFalse j) (and_then (EndEffect i) (effect during g.effects.at_end) Ok) (and_then (EndEffect j) (effect during g.effects.at_end) Ok) next
-    (then_ok (effect during g.effects.at_end) (EndEffect i) (EndEffect j) Ok Ok next (λ a e. e)))
+    (where_true (all_true d during g.conditions.at_end) (EndFalse i) (and_then (EndEffect i) (effect d during g.effects.at_end) Ok))
+    (where_true (all_true d during g.conditions.at_end) (EndFalse j) (and_then (EndEffect j) (effect d during g.effects.at_end) Ok)) next
+    (where_ok (all_true d during g.conditions.at_end) (EndFalse i) (EndFalse j) (and_then (EndEffect i) (effect d during g.effects.at_end) Ok) (and_then (EndEffect j) (effect d during g.effects.at_end) Ok) next
+    (then_ok (effect d during g.effects.at_end) (EndEffect i) (EndEffect j) Ok Ok next (λ a e. e)))
 
 -- a good step is good at each place
 step_ok : (d : Domain) (k : Knowledge) (i j : ℕ) (g : GroundAction) (next : Knowledge) → step_of d k i g ≡ Ok next → step_of d k j g ≡ Ok next
 unfolding during_of
 step_ok d k i j g next =
     where_ok (all_true d k g.conditions.at_start) (StartFalse i) (StartFalse j)
-    (and_then (StartEffect i) (effect k g.effects.at_start) (during_of d i g)) (and_then (StartEffect j) (effect k g.effects.at_start) (during_of d j g)) next
-    (then_ok (effect k g.effects.at_start) (StartEffect i) (StartEffect j) (during_of d i g) (during_of d j g) next (during_ok d i j g next))
+    (and_then (StartEffect i) (effect d k g.effects.at_start) (during_of d i g)) (and_then (StartEffect j) (effect d k g.effects.at_start) (during_of d j g)) next
+    (then_ok (effect d k g.effects.at_start) (StartEffect i) (StartEffect j) (during_of d i g) (during_of d j g) next (during_ok d i j g next))
 
 module _ (d : Domain) (acts : List Act) (each : (k : Knowledge) (i : ℕ) (time : Num) → IsOk (after_steps d k i acts) → map (λ s. s.act) (timed_from d k time acts) ≡ acts) where
   whole_after : (k : Knowledge) (i : ℕ) (time : Num) (g : GroundAction) (o : Result Knowledge PlanRefusal) → step_of d k i g ≡ o → IsOk (and_then (λ r. r) o (λ next. after_steps d next (i + 1) acts)) → map (λ s. s.act) (on_ok (step_of d k 0 g) (λ next. timed_from d next time acts)) ≡ acts

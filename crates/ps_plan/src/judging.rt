@@ -11,7 +11,6 @@ use ps_domain::Expert;
 use ps_eval::{apply, holds, holds_all};
 use ps_problem::Problem;
 use ps_world::{Cond, Failure};
-use std::alloc::Global;
 
 /// Why the act of a step isn't grounded, as a failure of the plan.
 fn ground_fault(at: u32, failure: Failure<GroundRefusal>) -> Failure<PlanRefusal>
@@ -45,7 +44,6 @@ fn end_fault(at: u32, failure: Failure<EffectRefusal>) -> Failure<PlanRefusal>
 
 /// Makes a step of a ground action. After a refusal the problem may have changed.
 pub(crate) fn take_ground_step(
-    alloc: Global,
     expert: &Expert,
     problem: &mut Problem,
     at: u32,
@@ -56,7 +54,7 @@ pub(crate) fn take_ground_step(
     if !holds_all(problem, expert, &action.conditions.at_start) {
         return Err(Failure::Refused(PlanRefusal::StartFalse(at)));
     }
-    if let Err(failure) = apply(alloc, problem, action.effects.at_start.as_slice()) {
+    if let Err(failure) = apply(problem, expert, action.effects.at_start.as_slice()) {
         return Err(start_fault(at, failure));
     }
     if !holds_all(problem, expert, &action.conditions.over_all) {
@@ -65,7 +63,7 @@ pub(crate) fn take_ground_step(
     if !holds_all(problem, expert, &action.conditions.at_end) {
         return Err(Failure::Refused(PlanRefusal::EndFalse(at)));
     }
-    if let Err(failure) = apply(alloc, problem, action.effects.at_end.as_slice()) {
+    if let Err(failure) = apply(problem, expert, action.effects.at_end.as_slice()) {
         return Err(end_fault(at, failure));
     }
     Ok(())
@@ -85,7 +83,6 @@ pub(crate) fn ground(
 
 /// Makes a step. After a refusal the problem may have changed.
 fn take_step(
-    alloc: Global,
     expert: &Expert,
     problem: &mut Problem,
     at: u32,
@@ -94,14 +91,13 @@ fn take_step(
     ensures { Gives (λ done. problem.new) result (step expert.now problem.old at act.now) }
 {
     match ground(expert, problem, act) {
-        Ok(action) => take_ground_step(alloc, expert, problem, at, &action),
+        Ok(action) => take_ground_step(expert, problem, at, &action),
         Err(failure) => Err(ground_fault(at, failure)),
     }
 }
 
 /// Makes the steps of a plan, one after another. After a refusal the problem may have changed.
 fn take_steps(
-    alloc: Global,
     expert: &Expert,
     problem: &mut Problem,
     acts: &[Act],
@@ -111,7 +107,7 @@ fn take_steps(
 {
     let mut at = 0;
     for act in acts {
-        take_step(alloc, expert, problem, at, act)?;
+        take_step(expert, problem, at, act)?;
         at += 1;
     }
     Ok(())
@@ -119,7 +115,6 @@ fn take_steps(
 
 /// Makes the steps of a plan, and looks at the goal after the last. After a refusal the problem may have changed.
 fn reach(
-    alloc: Global,
     expert: &Expert,
     problem: &mut Problem,
     goal: &Cond,
@@ -128,7 +123,7 @@ fn reach(
     requires { length acts.now ≤ most_acts }
     ensures { Gives (λ done. problem.new) result (judged_by expert.now problem.old (Some goal.now) acts.now) }
 {
-    take_steps(alloc, expert, problem, acts)?;
+    take_steps(expert, problem, acts)?;
     if holds(problem, expert, goal) {
         Ok(())
     } else {
@@ -142,7 +137,6 @@ fn reach(
 /// `OverAllFalse` and `EndFalse` after the start effects, `EndEffect`; `GoalFalse`. Steps are counted from 0. Memory may run
 /// out in place of any answer.
 pub fn check_plan(
-    alloc: Global,
     expert: &Expert,
     problem: &Problem,
     acts: &[Act],
@@ -154,7 +148,7 @@ pub fn check_plan(
         None => Err(Failure::Refused(PlanRefusal::NoGoal)),
         Some(goal) => {
             let mut last = problem.copy()?;
-            reach(alloc, expert, &mut last, goal, acts)
+            reach(expert, &mut last, goal, acts)
         }
     }
 }

@@ -30,7 +30,6 @@ fn time_after(time: Num, lasting: Num) -> Num
 /// Puts the step of a ground action at the end and makes it. The answer is the time of a step after it, or None where it fails.
 /// The only error is want of memory.
 fn push_ground_step(
-    alloc: Global,
     expert: &Expert,
     problem: &mut Problem,
     time: Num,
@@ -49,7 +48,7 @@ fn push_ground_step(
         duration: lasting,
     };
     steps.push(step)?;
-    match take_ground_step(alloc, expert, problem, 0, action) {
+    match take_ground_step(expert, problem, 0, action) {
         Ok(()) => Ok(Some(time_after(time, lasting))),
         Err(Failure::Refused(_)) => Ok(None),
         Err(Failure::OutOfMemory) => Err(AllocError),
@@ -58,7 +57,6 @@ fn push_ground_step(
 
 /// The same of an act, which has to be grounded first.
 fn push_step(
-    alloc: Global,
     expert: &Expert,
     problem: &mut Problem,
     time: Num,
@@ -70,7 +68,7 @@ fn push_step(
     ensures in_range { OnOk result (All IsInRange steps.old.items → All IsInRange steps.new.items) }
 {
     match ground(expert, problem, act) {
-        Ok(action) => push_ground_step(alloc, expert, problem, time, act, &action, steps),
+        Ok(action) => push_ground_step(expert, problem, time, act, &action, steps),
         Err(Failure::Refused(_)) => Ok(None),
         Err(Failure::OutOfMemory) => Err(AllocError),
     }
@@ -78,7 +76,6 @@ fn push_step(
 
 /// Puts the steps of acts at the end, from the time 0 on, as far as no step fails. The only error is want of memory.
 fn push_steps(
-    alloc: Global,
     expert: &Expert,
     problem: &mut Problem,
     acts: &[Act],
@@ -89,7 +86,7 @@ fn push_steps(
 {
     let mut time = Num::ZERO;
     for act in acts {
-        match push_step(alloc, expert, problem, time, act, steps)? {
+        match push_step(expert, problem, time, act, steps)? {
             Some(next) => time = next,
             None => return Ok(()),
         }
@@ -108,7 +105,7 @@ fn steps_of(
     ensures in_range { IfOk result (λ v. All IsInRange v.items) }
 {
     let mut steps = Vec::new(alloc);
-    push_steps(alloc, expert, problem, acts, &mut steps)?;
+    push_steps(expert, problem, acts, &mut steps)?;
     Ok(steps)
 }
 

@@ -59,6 +59,11 @@ impl Problem {
         })
     }
 
+    /// The allocator that it takes memory from.
+    pub fn allocator(&self) -> Global {
+        self.alloc
+    }
+
     /// An equal problem. The only error is want of memory.
     pub fn copy(&self) -> Result<Problem, AllocError>
         ensures { IfOk result (λ p. p ≡ self.now) }

@@ -19,7 +19,7 @@ use Rattle.ps_world.specs.declared.domains.Domain.{Domain}
 use Rattle.ps_world.specs.declared.facts.Fact.{Fact}
 use Rattle.ps_world.specs.declared.known.Knowledge.{Knowledge}
 use Rattle.ps_world.specs.declared.numbers.Num.{Num}
-use Rattle.ps_action.specs.Effects.{added_by, deletes, fault_of_effects, faults_from, made, unless, value_set}
+use Rattle.ps_action.specs.Effects.{added_by, deletes, fault_of_effects, faults_from, made, unless, value_set, values_set}
 use Rattle.ps_action.specs.Truth.{all_true, is_true}
 use Rattle.ps_action.specs.declared.acts.GroundAction.{GroundAction}
 use Rattle.ps_action.specs.declared.refusals.EffectRefusal.{EffectRefusal}
@@ -152,7 +152,7 @@ none_was f (g ∷ xs) fs e =
 pub are_put : (xs atoms : List Fact) → atoms ≡ fold (insert_key fact_cmp) [] xs → AreAtoms atoms xs
 are_put xs atoms e f gone = (none_was f xs [] (ap (λ (l : List Fact). list_any (same_fact f) l) (sym e) ∙ gone)).1
 
-module _ (k : Knowledge) (atoms : List Fact) where
+module _ (d : Domain) (k : Knowledge) (atoms : List Fact) where
   made_over : (s t : State) (es : List Effect) (ready : List (Fact × Num)) (fault : Option EffectRefusal) → IsOver atoms s → AddAtoms atoms es → option_map state_of (result_ok (unless fault (made (at k s) es ready))) ≡ Some t → IsOver atoms t
   made_over s t es ready (Some r) o a e = absurd (cc)
   made_over s t es ready None o a e =
@@ -162,12 +162,12 @@ module _ (k : Knowledge) (atoms : List Fact) where
       ∙ none_put f (filter_map added_by es) (filter (λ g. not (list_any (deletes g) es)) s.facts) (a f gone) (none_left (same_fact f) (λ g. not (list_any (deletes g) es)) s.facts (o f gone))
 
   -- effects that add atoms alone lead to a state over the atoms
-  pub changed_over : (s t : State) (es : List Effect) → IsOver atoms s → AddAtoms atoms es → changed k s es ≡ Some t → IsOver atoms t
-  changed_over s t es o a e = made_over s t es (filter_map (value_set (at k s)) es) (fault_of_effects (at k s) es) o a e
+  pub changed_over : (s t : State) (es : List Effect) → IsOver atoms s → AddAtoms atoms es → changed d k s es ≡ Some t → IsOver atoms t
+  changed_over s t es o a e = made_over s t es (values_set d (at k s) es) (fault_of_effects d (at k s) es) o a e
 
   -- what is the same over the atoms leads to the same from a state that effects that add atoms alone lead to
-  pub goes_alike : (b : Bool) (s : State) (es : List Effect) (f g : State → Option State) → IsOver atoms s → AddAtoms atoms es → ((t : State) → IsOver atoms t → f t ≡ g t) → option_and_then f (where_so b (changed k s es)) ≡ option_and_then g (where_so b (changed k s es))
-  goes_alike b s es f g o a h = by b (changed k s es) (λ t e. h t (changed_over s t es o a e))
+  pub goes_alike : (b : Bool) (s : State) (es : List Effect) (f g : State → Option State) → IsOver atoms s → AddAtoms atoms es → ((t : State) → IsOver atoms t → f t ≡ g t) → option_and_then f (where_so b (changed d k s es)) ≡ option_and_then g (where_so b (changed d k s es))
+  goes_alike b s es f g o a h = by b (changed d k s es) (λ t e. h t (changed_over s t es o a e))
     where
       by : (b : Bool) (c : Option State) → ((t : State) → c ≡ Some t → f t ≡ g t) → option_and_then f (where_so b c) ≡ option_and_then g (where_so b c)
       by true None h = refl
@@ -189,23 +189,23 @@ module _ (d : Domain) (k : Knowledge) (atoms : List Fact) (g : GroundAction) whe
 
   no_end : ((t : State) → IsOver atoms t → ended d k g t ≡ None) → AddAtoms atoms g.effects.at_start → (s : State) → IsOver atoms s → stepped d k s g ≡ None
   no_end h a s o =
-      goes_alike k atoms (all_true d (at k s) g.conditions.at_start) s g.effects.at_start (ended d k g) (λ t. None) o a h
-      ∙ nowhere_after (where_so (all_true d (at k s) g.conditions.at_start) (changed k s g.effects.at_start))
+      goes_alike d k atoms (all_true d (at k s) g.conditions.at_start) s g.effects.at_start (ended d k g) (λ t. None) o a h
+      ∙ nowhere_after (where_so (all_true d (at k s) g.conditions.at_start) (changed d k s g.effects.at_start))
 
   -- an over-all condition that fails after each start
   pub no_over : AreVain g.conditions.over_all → AddAtoms atoms g.effects.at_start → (s : State) → IsOver atoms s → stepped d k s g ≡ None
-  no_over v = no_end (λ t o. ap (λ b. where_so b (where_so (all_true d (at k t) g.conditions.at_end) (changed k t g.effects.at_end))) (v t o))
+  no_over v = no_end (λ t o. ap (λ b. where_so b (where_so (all_true d (at k t) g.conditions.at_end) (changed d k t g.effects.at_end))) (v t o))
 
   -- an end condition that does
   pub no_last : AreVain g.conditions.at_end → AddAtoms atoms g.effects.at_start → (s : State) → IsOver atoms s → stepped d k s g ≡ None
   no_last v =
-      no_end (λ t o. ap (λ b. where_so (all_true d (at k t) g.conditions.over_all) (where_so b (changed k t g.effects.at_end))) (v t o) ∙ nowhere (all_true d (at k t) g.conditions.over_all))
+      no_end (λ t o. ap (λ b. where_so (all_true d (at k t) g.conditions.over_all) (where_so b (changed d k t g.effects.at_end))) (v t o) ∙ nowhere (all_true d (at k t) g.conditions.over_all))
 
   -- a ground action whose parts were prepared
-  pub leads_alike : (p : Prepared) → ((s : State) → passes d k atoms p.start s ≡ all_true d (at k s) g.conditions.at_start) → ((s : State) → passes d k atoms p.over s ≡ all_true d (at k s) g.conditions.over_all) → ((s : State) → passes d k atoms p.end s ≡ all_true d (at k s) g.conditions.at_end) → ((s : State) → IsOver atoms s → turned k atoms p.at_start s ≡ changed k s g.effects.at_start) → ((s : State) → IsOver atoms s → turned k atoms p.at_end s ≡ changed k s g.effects.at_end) → AddAtoms atoms g.effects.at_start → (s : State) → IsOver atoms s → leapt d k atoms s p ≡ stepped d k s g
+  pub leads_alike : (p : Prepared) → ((s : State) → passes d k atoms p.start s ≡ all_true d (at k s) g.conditions.at_start) → ((s : State) → passes d k atoms p.over s ≡ all_true d (at k s) g.conditions.over_all) → ((s : State) → passes d k atoms p.end s ≡ all_true d (at k s) g.conditions.at_end) → ((s : State) → IsOver atoms s → turned d k atoms p.at_start s ≡ changed d k s g.effects.at_start) → ((s : State) → IsOver atoms s → turned d k atoms p.at_end s ≡ changed d k s g.effects.at_end) → AddAtoms atoms g.effects.at_start → (s : State) → IsOver atoms s → leapt d k atoms s p ≡ stepped d k s g
   leads_alike p start over end at_start at_end a s o =
       (λ i. option_and_then (landed d k atoms p) (where_so (start s i) (at_start s o i)))
-      ∙ goes_alike k atoms (all_true d (at k s) g.conditions.at_start) s g.effects.at_start (landed d k atoms p) (ended d k g) o a (λ t q i. where_so (over t i) (where_so (end t i) (at_end t q i)))
+      ∙ goes_alike d k atoms (all_true d (at k s) g.conditions.at_start) s g.effects.at_start (landed d k atoms p) (ended d k g) o a (λ t q i. where_so (over t i) (where_so (end t i) (at_end t q i)))
 
 -- ---- tests
 
@@ -286,12 +286,12 @@ no_values k (Add l ∷ es) e = no_values k es e
 no_values k (Delete l ∷ es) e = no_values k es e
 no_values k (Number how l x ∷ es) e = absurd (cc)
 
-module _ (k : Knowledge) (s : State) (es : List Effect) (none : list_any is_number es ≡ false) where
-  plainly : changed k s es ≡ Some (record { facts = fold (insert_key fact_cmp) (filter (λ f. not (list_any (deletes f) es)) s.facts) (filter_map added_by es); values = s.values })
+module _ (d : Domain) (k : Knowledge) (s : State) (es : List Effect) (none : list_any is_number es ≡ false) where
+  plainly : changed d k s es ≡ Some (record { facts = fold (insert_key fact_cmp) (filter (λ f. not (list_any (deletes f) es)) s.facts) (filter_map added_by es); values = s.values })
   plainly = λ i. option_map state_of (result_ok (unless (no_fault (at k s) [] es none i) (made (at k s) es (no_values (at k s) es none i))))
 
   -- places that are cleared and set make these effects
-  pub flagged : (atoms : List Fact) (cleared set : List ℕ) → IsOver atoms s → ((fs : List Fact) → AreAtoms atoms fs → fold (without_at atoms) fs cleared ≡ filter (λ f. not (list_any (deletes f) es)) fs) → ((fs : List Fact) → fold (with_at atoms) fs set ≡ fold (insert_key fact_cmp) fs (filter_map added_by es)) → Some (record { facts = fold (with_at atoms) (fold (without_at atoms) s.facts cleared) set; values = s.values }) ≡ changed k s es
+  pub flagged : (atoms : List Fact) (cleared set : List ℕ) → IsOver atoms s → ((fs : List Fact) → AreAtoms atoms fs → fold (without_at atoms) fs cleared ≡ filter (λ f. not (list_any (deletes f) es)) fs) → ((fs : List Fact) → fold (with_at atoms) fs set ≡ fold (insert_key fact_cmp) fs (filter_map added_by es)) → Some (record { facts = fold (with_at atoms) (fold (without_at atoms) s.facts cleared) set; values = s.values }) ≡ changed d k s es
   flagged atoms cleared set o del put =
       (λ i. Some (record { facts = (put (fold (without_at atoms) s.facts cleared) ∙ ap (λ fs. fold (insert_key fact_cmp) fs (filter_map added_by es)) (del s.facts o)) i; values = s.values }))
       ∙ sym plainly

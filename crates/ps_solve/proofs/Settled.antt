@@ -30,4 +30,4 @@ module _ (d : Domain) (k : Knowledge) where
   pub alike_moves : (g h : GroundAction) → g.act ≡ h.act → AlikeConds g.conditions.at_start h.conditions.at_start → AlikeConds g.conditions.over_all h.conditions.over_all → AlikeConds g.conditions.at_end h.conditions.at_end → g.effects.at_start ≡ h.effects.at_start → g.effects.at_end ≡ h.effects.at_end → (n : Node) → move d k n g ≡ move d k n h
   alike_moves g h act start over end at_start at_end n =
       λ i. option_map (λ s. record { state = s; path = n.path ++ act i ∷ [] })
-      (option_and_then (λ s. where_so (over s i) (where_so (end s i) (changed k s (at_end i)))) (where_so (start n.state i) (changed k n.state (at_start i))))
+      (option_and_then (λ s. where_so (over s i) (where_so (end s i) (changed d k s (at_end i)))) (where_so (start n.state i) (changed d k n.state (at_start i))))

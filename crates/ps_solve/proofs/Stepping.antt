@@ -12,7 +12,7 @@ use Rattle.ps_action.specs.declared.refusals.EffectRefusal.{EffectRefusal}
 use Rattle.ps_action.specs.declared.refusals.GroundRefusal.{GroundRefusal}
 use Rattle.ps_action.specs.declared.refusals.PlanRefusal.{PlanRefusal}
 use Rattle.ps_action.specs.declared.refusals.PlanRefusal.TheVariants.{Ground, StartFalse, StartEffect, OverAllFalse, EndFalse, EndEffect}
-use Rattle.ps_action.specs.Effects.{effect, fault_of_effects, made, unless, value_set}
+use Rattle.ps_action.specs.Effects.{effect, fault_of_effects, flat, made, unless, values_set}
 use Rattle.ps_action.specs.Grounding.{ground_act}
 use Rattle.ps_action.specs.Plans.{after_steps, and_then, step, step_of, where_true}
 use Rattle.ps_action.specs.Truth.{all_true}
@@ -24,8 +24,8 @@ module _ (k : Knowledge) where
   effect_at s es ready (Some fault) = refl
 
   -- effects change facts and values alone
-  effect_changes : (s : State) (es : List Effect) → result_ok (effect (at k s) es) ≡ option_map (at k) (changed k s es)
-  effect_changes s es = effect_at s es (filter_map (value_set (at k s)) es) (fault_of_effects (at k s) es)
+  effect_changes : (d : Domain) (s : State) (es : List Effect) → result_ok (effect d (at k s) es) ≡ option_map (at k) (changed d k s es)
+  effect_changes d s es = effect_at s (flat d (at k s) es) (values_set d (at k s) es) (fault_of_effects d (at k s) es)
 
 module _ {E : Type 0} (k : Knowledge) where
   where_at : (b : Bool) (why : E) (r : Result Knowledge E) (o : Option State) → result_ok r ≡ option_map (at k) o → result_ok (where_true b why r) ≡ option_map (at k) (where_so b o)
@@ -56,15 +56,15 @@ module _ (d : Domain) (k : Knowledge) where
   then_where true o f = refl
   then_where false o f = refl
 
-  ended_at : (s : State) (i : ℕ) (g : GroundAction) → result_ok (where_true (all_true d (at k s) g.conditions.over_all) (OverAllFalse i) (where_true (all_true d (at k s) g.conditions.at_end) (EndFalse i) (and_then (EndEffect i) (effect (at k s) g.effects.at_end) (λ l. Ok l)))) ≡ option_map (at k) (ended d k g s)
+  ended_at : (s : State) (i : ℕ) (g : GroundAction) → result_ok (where_true (all_true d (at k s) g.conditions.over_all) (OverAllFalse i) (where_true (all_true d (at k s) g.conditions.at_end) (EndFalse i) (and_then (EndEffect i) (effect d (at k s) g.effects.at_end) (λ l. Ok l)))) ≡ option_map (at k) (ended d k g s)
   ended_at s i g =
-      where_at k (all_true d (at k s) g.conditions.over_all) (OverAllFalse i) _ (where_so (all_true d (at k s) g.conditions.at_end) (changed k s g.effects.at_end)) (where_at k (all_true d (at k s) g.conditions.at_end) (EndFalse i) _ (changed k s g.effects.at_end) (ok_after k (EndEffect i) (effect (at k s) g.effects.at_end) ∙ effect_changes k s g.effects.at_end))
+      where_at k (all_true d (at k s) g.conditions.over_all) (OverAllFalse i) _ (where_so (all_true d (at k s) g.conditions.at_end) (changed d k s g.effects.at_end)) (where_at k (all_true d (at k s) g.conditions.at_end) (EndFalse i) _ (changed d k s g.effects.at_end) (ok_after k (EndEffect i) (effect d (at k s) g.effects.at_end) ∙ effect_changes k d s g.effects.at_end))
 
   -- a step of a ground action, whatever its place
   pub stepped_at : (s : State) (i : ℕ) (g : GroundAction) → result_ok (step_of d (at k s) i g) ≡ option_map (at k) (stepped d k s g)
   stepped_at s i g =
-      where_at k (all_true d (at k s) g.conditions.at_start) (StartFalse i) _ (option_and_then (ended d k g) (changed k s g.effects.at_start)) (then_at k (StartEffect i) (effect (at k s) g.effects.at_start) (changed k s g.effects.at_start) (λ during. where_true (all_true d during g.conditions.over_all) (OverAllFalse i) (where_true (all_true d during g.conditions.at_end) (EndFalse i) (and_then (EndEffect i) (effect during g.effects.at_end) (λ l. Ok l)))) (ended d k g) (effect_changes k s g.effects.at_start) (λ t. ended_at t i g))
-      ∙ ap (option_map (at k)) (then_where (all_true d (at k s) g.conditions.at_start) (changed k s g.effects.at_start) (ended d k g))
+      where_at k (all_true d (at k s) g.conditions.at_start) (StartFalse i) _ (option_and_then (ended d k g) (changed d k s g.effects.at_start)) (then_at k (StartEffect i) (effect d (at k s) g.effects.at_start) (changed d k s g.effects.at_start) (λ during. where_true (all_true d during g.conditions.over_all) (OverAllFalse i) (where_true (all_true d during g.conditions.at_end) (EndFalse i) (and_then (EndEffect i) (effect d during g.effects.at_end) (λ l. Ok l)))) (ended d k g) (effect_changes k d s g.effects.at_start) (λ t. ended_at t i g))
+      ∙ ap (option_map (at k)) (then_where (all_true d (at k s) g.conditions.at_start) (changed d k s g.effects.at_start) (ended d k g))
 
   -- the state after an act, if it can be grounded and no part of its step fails
   abbrev pub next : State → Act → Option State

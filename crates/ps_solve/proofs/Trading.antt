@@ -242,7 +242,7 @@ module _ (d : Domain) (k : Knowledge) (atoms : List Fact) where
       let wanted = all_known atoms s.facts t.wanted.items in
       ap (λ b. wanted && b) (none_other d (at k s) t.others e) ∙ and_true wanted
 
-  plain_turned : (c : Change) (s : State) → is_plain_change c ≡ true → turned k atoms c s ≡ Some (record { facts = altered atoms c s.facts; values = s.values })
+  plain_turned : (c : Change) (s : State) → is_plain_change c ≡ true → turned d k atoms c s ≡ Some (record { facts = altered atoms c s.facts; values = s.values })
   plain_turned (Flags cleared set) s e = refl
   plain_turned (Effects es) s e = absurd (cc)
 

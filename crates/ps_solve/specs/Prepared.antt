@@ -46,17 +46,17 @@ abbrev pub with_at : List Fact → List Fact → ℕ → List Fact
 with_at atoms fs i = option_map_or (insert_key fact_cmp fs) (slice_get atoms i) fs
 
 -- the state after a prepared change, unless an effect has a fault
-abbrev pub turned : Knowledge → List Fact → Change → State → Option State
-turned k atoms (Flags cleared set) s = Some (record { facts = fold (with_at atoms) (fold (without_at atoms) s.facts cleared.items) set.items; values = s.values })
-turned k atoms (Effects es) s = changed k s es
+abbrev pub turned : Domain → Knowledge → List Fact → Change → State → Option State
+turned d k atoms (Flags cleared set) s = Some (record { facts = fold (with_at atoms) (fold (without_at atoms) s.facts cleared.items) set.items; values = s.values })
+turned d k atoms (Effects es) s = changed d k s es
 
 -- the state after the end of a prepared ground action, if that doesn't fail
 abbrev pub landed : Domain → Knowledge → List Fact → Prepared → State → Option State
-landed d k atoms p s = where_so (passes d k atoms p.over s) (where_so (passes d k atoms p.end s) (turned k atoms p.at_end s))
+landed d k atoms p s = where_so (passes d k atoms p.over s) (where_so (passes d k atoms p.end s) (turned d k atoms p.at_end s))
 
 -- the state after its step
 abbrev pub leapt : Domain → Knowledge → List Fact → State → Prepared → Option State
-leapt d k atoms s p = option_and_then (landed d k atoms p) (where_so (passes d k atoms p.start s) (turned k atoms p.at_start s))
+leapt d k atoms s p = option_and_then (landed d k atoms p) (where_so (passes d k atoms p.start s) (turned d k atoms p.at_start s))
 
 -- the node that it leads to from a node
 abbrev pub leap : Domain → Knowledge → List Fact → Node → Prepared → Option Node

@@ -198,7 +198,7 @@ fn all_added(alloc: Global, atoms: &Atoms, effects: &[Effect]) -> Result<Vec<usi
 /// The change of a list of effects. The only error is want of memory.
 fn change_of(alloc: Global, atoms: &Atoms, effects: &Seq<Effect>) -> Result<Change, AllocError>
     requires { AreAtoms atoms.now (filter_map added_by effects.now) }
-    ensures { IfOk result (λ change. (k : KnowledgeView) (s : State) → IsOver atoms.now s → turned k atoms.now change s ≡ changed k s effects.now) }
+    ensures { IfOk result (λ change. (d : DomainView) (k : KnowledgeView) (s : State) → IsOver atoms.now s → turned d k atoms.now change s ≡ changed d k s effects.now) }
 {
     let set = all_added(alloc, atoms, effects.as_slice())?;
     if has_number(effects.as_slice()) {

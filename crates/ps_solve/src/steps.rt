@@ -39,18 +39,23 @@ impl<'a, K: Known> Known for At<'a, K> {
     fn kind_of(&self, name: Name) -> Option<Name> {
         self.given.kind_of(name)
     }
+
+    fn instance_at(&self, i: u32) -> Option<(Name, Name)> {
+        self.given.instance_at(i)
+    }
 }
 
 /// Makes a list of effects in a state, and answers whether it could: false where one has a fault. The only error is want of memory,
 /// and then the row may have changed.
-fn change<K: Known>(
+fn change<K: Known, T: Types>(
     alloc: Global,
     given: &K,
+    types: &T,
     atoms: &Atoms,
     row: &mut Row,
     effects: &[Effect],
 ) -> Result<bool, AllocError>
-    ensures state { IfOk result (λ made. (if made then Some (plain_state atoms.now row.new) else None) ≡ changed (K.known given.now) (plain_state atoms.now row.old) effects.now) }
+    ensures state { IfOk result (λ made. (if made then Some (plain_state atoms.now row.new) else None) ≡ changed (T.types types.now) (K.known given.now) (plain_state atoms.now row.old) effects.now) }
     ensures wide { OnOk result (length row.new.flags.items ≡ length row.old.flags.items) }
 {
     let here = At {
@@ -58,10 +63,10 @@ fn change<K: Known>(
         atoms,
         row: &*row,
     };
-    if fault_of_effects(&here, effects).is_some() {
+    if fault_of_effects(&here, types, effects).is_some() {
         return Ok(false);
     }
-    let ready = values_set(alloc, &here, effects)?;
+    let ready = values_set(alloc, &here, types, effects)?;
     row.put(atoms, effects, &ready)?;
     Ok(true)
 }
@@ -75,15 +80,16 @@ fn passes<K: Known, T: Types>(given: &K, types: &T, atoms: &Atoms, row: &Row, te
 
 /// Makes a prepared change in a row, and answers whether it could: false where an effect has a fault. The only error is want of
 /// memory, and then the row may have changed.
-fn turn<K: Known>(
+fn turn<K: Known, T: Types>(
     alloc: Global,
     given: &K,
+    types: &T,
     atoms: &Atoms,
     row: &mut Row,
     by: &Change,
 ) -> Result<bool, AllocError>
     requires { length row.old.flags.items ≡ length atoms.now }
-    ensures state { IfOk result (λ made. (if made then Some (plain_state atoms.now row.new) else None) ≡ turned (K.known given.now) atoms.now by.now (plain_state atoms.now row.old)) }
+    ensures state { IfOk result (λ made. (if made then Some (plain_state atoms.now row.new) else None) ≡ turned (T.types types.now) (K.known given.now) atoms.now by.now (plain_state atoms.now row.old)) }
     ensures wide { OnOk result (length row.new.flags.items ≡ length row.old.flags.items) }
 {
     match by {
@@ -92,7 +98,7 @@ fn turn<K: Known>(
             row.set_all(atoms, set);
             Ok(true)
         }
-        Change::Effects(effects) => change(alloc, given, atoms, row, effects.as_slice()),
+        Change::Effects(effects) => change(alloc, given, types, atoms, row, effects.as_slice()),
     }
 }
 
@@ -115,7 +121,7 @@ fn end<K: Known, T: Types>(
     {
         return Ok(false);
     }
-    turn(alloc, given, atoms, row, &action.at_end)
+    turn(alloc, given, types, atoms, row, &action.at_end)
 }
 
 /// Makes a step of a prepared ground action in a row where it may start, and answers whether it could. The only error is want of
@@ -129,10 +135,10 @@ fn go_on<K: Known, T: Types>(
     action: &Prepared,
 ) -> Result<bool, AllocError>
     requires { length row.old.flags.items ≡ length atoms.now }
-    ensures state { IfOk result (λ made. (if made then Some (plain_state atoms.now row.new) else None) ≡ option_and_then (landed (T.types types.now) (K.known given.now) atoms.now action.now) (turned (K.known given.now) atoms.now action.now.at_start (plain_state atoms.now row.old))) }
+    ensures state { IfOk result (λ made. (if made then Some (plain_state atoms.now row.new) else None) ≡ option_and_then (landed (T.types types.now) (K.known given.now) atoms.now action.now) (turned (T.types types.now) (K.known given.now) atoms.now action.now.at_start (plain_state atoms.now row.old))) }
     ensures wide { OnOk result (length row.new.flags.items ≡ length row.old.flags.items) }
 {
-    if turn(alloc, given, atoms, row, &action.at_start)? {
+    if turn(alloc, given, types, atoms, row, &action.at_start)? {
         end(alloc, given, types, atoms, row, action)
     } else {
         Ok(false)

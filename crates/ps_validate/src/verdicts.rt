@@ -44,7 +44,7 @@ fn plan_wrong(
     ensures { IfOk result (λ wrong. wrong ≡ plan_wrong expert.now problem.now steps.now) }
 {
     let acts = acts_of(alloc, steps)?;
-    match check_plan(alloc, expert, problem, &acts) {
+    match check_plan(expert, problem, &acts) {
         Ok(()) => Ok(None),
         Err(Failure::Refused(fault)) => Ok(Some(Invalid::Plan(fault))),
         Err(Failure::OutOfMemory) => Err(AllocError),

@@ -1,4 +1,5 @@
 pub mod Args
+pub mod Bound
 pub mod Codes
 pub mod CondFalls
 pub mod CondViews

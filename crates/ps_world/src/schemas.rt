@@ -1,6 +1,7 @@
 //! Facts with parameters in them, as conditions and effects speak of them.
 ghost use Rattle.std.specs.Prelude.{◌≡◌, ◌==◌, ◌<◌, ◌≤◌, length, map, slice_index_or};
 ghost use Rattle.std.specs.Option.{SomeIff};
+ghost use Rattle.ps_world.specs.Bound.{ground_in, name_in};
 ghost use Rattle.ps_world.specs.Knowledge.{ground, name_of};
 
 use super::facts::Fact;
@@ -25,6 +26,16 @@ impl Term {
     {
         match self {
             Term::Var(_) => Name::OBJECT,
+            Term::Const(name) => *name,
+        }
+    }
+
+    /// The name that the term is, where a variable stands for the name at its place, and for `object` where there is none.
+    pub fn name_in(&self, env: &[Name]) -> Name
+        ensures { result ≡ name_in env.now self.now }
+    {
+        match self {
+            Term::Var(i) => env.get(usize::from(*i)).copied().unwrap_or(Name::OBJECT),
             Term::Const(name) => *name,
         }
     }
@@ -134,10 +145,17 @@ impl Terms {
     pub fn names(&self) -> Args
         ensures { result ≡ map name_of self.now }
     {
+        self.names_in(&[])
+    }
+
+    /// The names that the terms are, in order, where variables stand for these names. It takes no memory.
+    pub fn names_in(&self, env: &[Name]) -> Args
+        ensures { result ≡ map (name_in env.now) self.now }
+    {
         let terms = &self.terms[..self.count];
         let mut names = [Name::OBJECT; MOST_ARGUMENTS];
         for i in 0..terms.len() {
-            names[i] = terms[i].name();
+            names[i] = terms[i].name_in(env);
         }
         match Args::of(&names[..terms.len()]) {
             Some(args) => args,
@@ -185,9 +203,16 @@ impl Lifted {
     pub fn ground(&self) -> Fact
         ensures { result ≡ ground self.now }
     {
+        self.ground_in(&[])
+    }
+
+    /// The fact that this is, where variables stand for these names. It takes no memory.
+    pub fn ground_in(&self, env: &[Name]) -> Fact
+        ensures { result ≡ ground_in env.now self.now }
+    {
         Fact {
             head: self.head,
-            args: self.terms.names(),
+            args: self.terms.names_in(env),
         }
     }
 }

@@ -1,5 +1,5 @@
 //! What is known, for those who ask.
-ghost use Rattle.std.specs.Prelude.{◌≡◌, ◌↔◌, IfOk, IsTrue, filter, map};
+ghost use Rattle.std.specs.Prelude.{◌≡◌, ◌↔◌, IfOk, IsTrue, filter, map, slice_get};
 ghost use Rattle.std.specs.List.{Contains};
 ghost use Rattle.std.specs.Option.{option_copied};
 ghost use Rattle.ps_world.specs.Names.{same_name};
@@ -32,6 +32,21 @@ impl Problem {
         ensures { result ≡ kind_of self.now name }
     {
         self.instances.get(&name).copied()
+    }
+
+    /// The instance at a place in the order of their names, with its type. None exactly where there are no more instances than that.
+    /// It takes no memory.
+    pub fn instance_at(&self, i: u32) -> Option<(Name, Name)>
+        ensures { result ≡ slice_get self.now.instances i }
+    {
+        let mut at = 0;
+        for (name, kind) in &self.instances {
+            if at == i {
+                return Some((*name, *kind));
+            }
+            at += 1;
+        }
+        None
     }
 
     /// The goal. None exactly where there is none.
@@ -100,5 +115,9 @@ impl Known for Problem {
 
     fn kind_of(&self, name: Name) -> Option<Name> {
         Problem::kind_of(self, name)
+    }
+
+    fn instance_at(&self, i: u32) -> Option<(Name, Name)> {
+        Problem::instance_at(self, i)
     }
 }

@@ -13,8 +13,8 @@ pub returns : goal.returns
 returns c =
     let es = c.args.effects.now in
     let none : list_any is_number es ≡ false = ap (λ (l : List Effect). list_any is_number l) (sym c.as_slice-2.ensures) ∙ sym c.has_number.ensures ∙ c.if-has_number.false in
-    λ k s o.
-    flagged k s es none c.args.atoms.now c.in_ok-cleared.cleared.items c.in_ok-set.set.items o
+    λ d k s o.
+    flagged d k s es none c.args.atoms.now c.in_ok-cleared.cleared.items c.in_ok-set.set.items o
     (λ fs a. c.in_ok-cleared.ensures fs a ∙ ap (λ (l : List Effect). filter (λ f. not (list_any (deletes f) l)) fs) c.as_slice-3.ensures)
     (λ fs. c.in_ok-set.ensures fs ∙ ap (λ (l : List Effect). fold (insert_key fact_cmp) fs (filter_map added_by l)) c.as_slice.ensures)
 
