@@ -39,14 +39,10 @@ impl Problem {
     pub fn instance_at(&self, i: u32) -> Option<(Name, Name)>
         ensures { result ≡ slice_get self.now.instances i }
     {
-        let mut at = 0;
-        for (name, kind) in &self.instances {
-            if at == i {
-                return Some((*name, *kind));
-            }
-            at += 1;
+        match self.instances.iter().nth(i as usize) {
+            Some((name, kind)) => Some((*name, *kind)),
+            None => None,
         }
-        None
     }
 
     /// The goal. None exactly where there is none.
