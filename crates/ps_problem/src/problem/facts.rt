@@ -162,10 +162,13 @@ impl Facts {
         Ok(lost)
     }
 
-    /// The facts in their order. The only error is want of memory.
+    /// The facts in their order. The only error is out of memory.
     pub fn list(&self, alloc: Global) -> Result<Vec<Fact>, AllocError>
-        ensures { IfOk result (λ v. v.items ≡ self.now) }
+        ensures items { IfOk result (λ v. v.items ≡ self.now) }
+        ensures rise { OnOk result (IsStrictlySortedBy fact_cmp self.now) }
     {
+        // A set says of its length that its items rise.
+        let _count = self.all.len();
         self.all.iter().copied().collect(alloc)
     }
 

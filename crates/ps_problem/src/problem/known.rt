@@ -1,7 +1,10 @@
 //! What is known, for those who ask.
-ghost use Rattle.std.specs.Prelude.{◌≡◌, ◌↔◌, IfOk, IsTrue, filter, map, slice_get};
+ghost use Rattle.std.specs.Prelude.{◌≡◌, ◌↔◌, IfOk, OnOk, IsTrue, filter, map, slice_get};
 ghost use Rattle.std.specs.List.{Contains};
+ghost use Rattle.std.specs.List.Sorted.{IsStrictlySortedBy};
+ghost use Rattle.std.specs.Map.{keys_of};
 ghost use Rattle.std.specs.Option.{option_copied};
+ghost use Rattle.ps_world.specs.Facts.{fact_cmp};
 ghost use Rattle.ps_world.specs.Names.{same_name};
 ghost use Rattle.ps_world.specs.Knowledge.{is_below, is_known, kind_of, value_in};
 
@@ -63,16 +66,18 @@ impl Problem {
         Ok(all)
     }
 
-    /// The facts in their order. The only error is want of memory.
+    /// The facts in their order, each once. The only error is out of memory.
     pub fn facts(&self) -> Result<Vec<Fact>, AllocError>
-        ensures { IfOk result (λ v. v.items ≡ self.now.facts) }
+        ensures items { IfOk result (λ v. v.items ≡ self.now.facts) }
+        ensures rise { OnOk result (IsStrictlySortedBy fact_cmp self.now.facts) }
     {
         self.facts.list(self.alloc)
     }
 
-    /// The functions at their arguments with their values, in the order of the first. The only error is want of memory.
+    /// The functions at their arguments, in their order and each once, with their values. The only error is out of memory.
     pub fn values(&self) -> Result<Vec<(Fact, Num)>, AllocError>
-        ensures { IfOk result (λ v. v.items ≡ self.now.values) }
+        ensures items { IfOk result (λ v. v.items ≡ self.now.values) }
+        ensures rise { OnOk result (IsStrictlySortedBy fact_cmp (keys_of self.now.values)) }
     {
         self.values.list(self.alloc)
     }

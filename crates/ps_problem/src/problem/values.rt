@@ -166,9 +166,10 @@ impl Values {
         }
     }
 
-    /// The functions at their arguments with their values, in order. The only error is want of memory.
+    /// The functions at their arguments with their values, in order. The only error is out of memory.
     pub fn list(&self, alloc: Global) -> Result<Vec<(Fact, Num)>, AllocError>
-        ensures { IfOk result (λ v. v.items ≡ self.now) }
+        ensures items { IfOk result (λ v. v.items ≡ self.now) }
+        ensures rise { OnOk result (IsStrictlySortedBy fact_cmp (keys_of self.now)) }
     {
         let mut all = Vec::with_capacity(alloc, self.all.len())?;
         for (fact, number) in &self.all {
