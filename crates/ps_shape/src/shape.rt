@@ -36,8 +36,10 @@ pub fn first_fault(
     marks: &[Mark],
 ) -> Result<Option<usize>, AllocError>
     requires { length start.now ≤ 8 }
-    ensures none { result ≡ Ok None → Derives start.now marks.now × IsShallowFrom start.now marks.now }
-    ensures fault { IfOk result (λ place. IfSome place (λ at. IsFirstFaultFrom start.now marks.now at)) }
+    ensures none { result ≡ Ok None
+        → Derives start.now marks.now × IsShallowFrom start.now marks.now }
+    ensures fault { IfOk result (λ place. IfSome place
+        (λ at. IsFirstFaultFrom start.now marks.now at)) }
 {
     let mut wanted = Wanted::these(alloc, start)?;
     for (at, mark) in marks.iter().enumerate() {

@@ -106,7 +106,8 @@ impl Wanted {
 
     /// Takes the first symbol away.
     pub fn pop(&mut self) -> Option<Symbol>
-        ensures { MatchOption result ((self.old ≡ []) × (self.new ≡ [])) (λ s. self.old ≡ s ∷ self.new) }
+        ensures { MatchOption result ((self.old ≡ []) × (self.new ≡ []))
+            (λ s. self.old ≡ s ∷ self.new) }
     {
         let symbol = self.items.pop()?;
         self.depth -= symbol.weight();
@@ -136,8 +137,10 @@ impl Wanted {
 
     /// What the mark leads to, if it fits.
     pub fn fitting(&self, mark: Mark) -> Option<Then>
-        ensures fits { MatchOption result (next_wanted self.now mark ≡ None) (λ next. next_wanted self.now mark ≡ Some (symbols next ++ drop 1 self.now)) }
-        ensures few { IfSome result (λ next. level (symbols next ++ drop 1 self.now) ≤ level self.now + 1) }
+        ensures fits { MatchOption result (next_wanted self.now mark ≡ None)
+            (λ next. next_wanted self.now mark ≡ Some (symbols next ++ drop 1 self.now)) }
+        ensures few { IfSome result
+            (λ next. level (symbols next ++ drop 1 self.now) ≤ level self.now + 1) }
     {
         step(self.first()?, mark)
     }

@@ -1,5 +1,5 @@
 //! The table of names.
-ghost use Rattle.std.specs.Prelude.{◌≡◌, ◌<◌, ◌∷◌, [], None, Some, codes, length, not, position, slice_get, take, IfOk, OnOk, OnErr};
+ghost use Rattle.std.specs.Prelude.{◌≡◌, ◌<◌, ◌∷◌, [], None, Some, codes, length, not, position, slice_get, take, true, IfOk, OnOk, OnErr};
 ghost use Rattle.ps_world.specs.Failures.{refusal_of};
 ghost use Rattle.ps_text.specs.Names.{AreNames, bad_place, folded, interned, is_name, is_name_byte, name_fault, place_of};
 
@@ -105,6 +105,19 @@ impl Names {
         })
     }
 
+    /// The name that this text is, put at the end of the table if it is new. The only error is out of memory, which changes nothing.
+    pub fn intern_name(&mut self, text: &[u8]) -> Result<Name, AllocError>
+        requires { is_name text.now ≡ true }
+        ensures ok { IfOk result (λ n. n.0 ≡ place_of self.old (folded text.now)) }
+        ensures table { OnOk result (self.new ≡ interned self.old (folded text.now)) }
+        ensures within { IfOk result (λ n. n.0 < length self.new) }
+        ensures err { OnErr result (self.new ≡ self.old) }
+    {
+        let folded = lower_case(*self.texts.allocator(), text)?;
+        let (place, _) = self.texts.insert_full(folded)?;
+        Ok(Name(place as u64))
+    }
+
     /// The name with this text, put at the end of the table if it is new. An error changes nothing.
     ///
     /// The errors, in this order: `Empty`; `BadByte`; `Long`; memory ran out.
@@ -118,9 +131,7 @@ impl Names {
         if let Some(refusal) = fault(text) {
             return Err(Failure::Refused(refusal));
         }
-        let folded = lower_case(*self.texts.allocator(), text)?;
-        let (place, _) = self.texts.insert_full(folded)?;
-        Ok(Name(place as u64))
+        Ok(self.intern_name(text)?)
     }
 
     /// Keeps the first `len` names, and drops the others.

@@ -84,7 +84,8 @@ fn word_start(bytes: &[u8], mut from: usize) -> usize
 /// The span of the next word from a place on, or None where there is no word.
 pub(crate) fn next_word(bytes: &[u8], from: usize) -> Option<Span>
     requires { from ≤ length bytes.now }
-    ensures { MatchOption result (IsGap bytes.now from (length bytes.now)) (IsNextWord bytes.now from) }
+    ensures { MatchOption result
+        (IsGap bytes.now from (length bytes.now)) (IsNextWord bytes.now from) }
 {
     let from = word_start(bytes, from);
     if from == bytes.len() {

@@ -2,7 +2,7 @@ use Rattle.std.proofs.Common.{◌∙◌, [], ap, map, rules}
 use Rattle.ps_text.specs.Names.{folded, interned, place_of}
 use Rattle.ps_text.proofs.Folds.{IsNameText-folded}
 use Rattle.ps_text.proofs.Tables.{AreNames-interned, interned-view, place_of-view}
-use Rattle.ps_text.proofs.table.Names.intern.Goals as goal
+use Rattle.ps_text.proofs.table.Names.intern_name.Goals as goal
 
 pub returns-clause-ok : goal.returns-clause-ok
 returns-clause-ok c =
