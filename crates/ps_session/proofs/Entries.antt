@@ -1,5 +1,5 @@
 -- Writing an entry.
-use Rattle.std.proofs.Common.{◌≡◌, ℕ, Bool, List, Option, Ok, Err, refl, ap, ◌∙◌, subst}
+use Rattle.std.proofs.Common.{◌≡◌, ℕ, Bool, List, Ok, Err, refl, ap, ◌∙◌, subst}
 use Rattle.std.specs.Io.KnownBytes.{Appends}
 use Rattle.ps_world.specs.Names.{Table}
 use Rattle.ps_world.specs.declared.domains.Domain.{Domain}

@@ -10,7 +10,7 @@ use Rattle.ps_world.proofs.Tables.{GivesOf, edited-of}
 use Rattle.ps_action.specs.Search.{answer as answered_by}
 use Rattle.ps_action.specs.declared.answers.Answer.{Answer}
 use Rattle.ps_action.specs.declared.answers.Answer.TheVariants as answer
-use Rattle.ps_machine.specs.History.{known_after, refusal_of_plan, refusal_of_query, unplanned}
+use Rattle.ps_machine.specs.History.{known_after, refusal_of_query, unplanned}
 use Rattle.ps_machine.specs.Tables.{IsEventOf, IsLineOf, IsQueryOf, IsRefusalOf}
 use Rattle.ps_machine.specs.declared.inputs.Query.{Query}
 use Rattle.ps_machine.specs.declared.inputs.Query.TheVariants as query

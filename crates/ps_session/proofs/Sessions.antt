@@ -35,12 +35,12 @@ use Rattle.ps_machine.specs.declared.journal.Event.TheVariants as event
 use Rattle.ps_machine.specs.declared.journal.Entry.{Entry}
 use Rattle.ps_machine.proofs.Journals.{know-push, answered-push, journal_text-push, hands-history}
 use Rattle.ps_machine.proofs.ReadBack.{AreEntriesIn-journal_text}
-use Rattle.ps_text.specs.Outside.{AppendsPrefix, CountsWork, Puts, SinkView}
+use Rattle.ps_text.specs.Outside.{AppendsPrefix, Puts, SinkView}
 use Rattle.ps_text.specs.declared.sinks.SinkRefusal.{SinkRefusal}
 use Rattle.ps_text.specs.declared.sinks.SinkRefusal.TheVariants as sink
 use Rattle.ps_journal.specs.Steps.{told_steps}
 use Rattle.ps_session.specs.Events.{by_terminal, edit_event, event_of, query_event}
-use Rattle.ps_session.specs.Answers.{AnswersLine, WritesEntry, with_steps}
+use Rattle.ps_session.specs.Answers.{AnswersLine, WritesEntry}
 use Rattle.ps_session.specs.Session.{IsCut, IsDone, IsSession, Runs}
 use Rattle.ps_session.specs.declared.plans.Answered.{Answered}
 use Rattle.ps_session.proofs.Entries.{counts-work, work-since}

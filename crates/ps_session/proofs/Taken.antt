@@ -1,5 +1,5 @@
 -- Bytes that a sink took, one piece after another.
-use Rattle.std.proofs.Common.{◌≡◌, ℕ, ◌+◌, List, ◌++◌, Option, take, length, sym, subst}
+use Rattle.std.proofs.Common.{ℕ, ◌+◌, List, ◌++◌, Option, take, length, sym, subst}
 use Rattle.std.proofs.Math.Seq.{take-append-add, take-length}
 use Rattle.std.proofs.KnownBytes.{Appends-nil, Appends-trans}
 use Rattle.std.specs.Io.KnownBytes.{Appends}

@@ -42,7 +42,16 @@ pub fn run<S: Solver, O: Sink>(
         (O.shown out.old) (O.shown out.new) result }
 {
     let mut problem = Problem::new(alloc, expert)?;
-    write_journal(alloc, names, expert, solver, &mut problem, budget, lines, out)
+    write_journal(
+        alloc,
+        names,
+        expert,
+        solver,
+        &mut problem,
+        budget,
+        lines,
+        out,
+    )
 }
 
 /// Writes the journal of these lines, of which none is answered yet, and gives the status.
