@@ -1,5 +1,5 @@
 //! Files of which chosen reads run out of memory.
-use ps_text::{FileRefusal, Files};
+use ps_text::{FileRefusal, Files, risen};
 use std::alloc::{AllocError, Global};
 
 /// Files of which chosen reads run out of memory.
@@ -29,13 +29,11 @@ impl<F: Files> Starving<F> {
 }
 
 impl<F: Files> Files for Starving<F> {
-    ghost text_of = { λ starving. F.text_of starving.files };
-
-    ghost faults = { λ starving. F.faults starving.files };
+    ghost shown = { λ starving. record (F.shown starving.files) { reads = starving.calls } };
 
     fn read(&mut self, alloc: Global, name: &str) -> Result<Vec<u8>, FileRefusal> {
         let starved = self.starved.contains(&self.calls);
-        self.calls = self.calls.saturating_add(1);
+        self.calls = risen(self.calls);
         if starved {
             return Err(FileRefusal::OutOfMemory);
         }

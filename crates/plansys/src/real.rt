@@ -1,5 +1,6 @@
-//! The files and the streams of the system. They tell no content, and count their failures.
+//! The files and the streams of the system. They tell no content, and count their reads and failures.
 ghost use Rattle.std.specs.Prelude.{None};
+ghost use Rattle.ps_text.specs.Outside.Told.{untold};
 ghost use Rattle.std.specs.Io.{WritesAtMost};
 
 use ps_text::{FileRefusal, Files, Sink, SinkRefusal, risen};
@@ -15,12 +16,17 @@ const MOST_READ: u64 = 1_048_577;
 #[derive(Drop)]
 pub struct RealFiles<R> {
     rt: R,
-    faults: u64,
+    reads: u64,
+    failed: u64,
 }
 
 impl<R> RealFiles<R> {
     pub fn new(rt: R) -> Self {
-        RealFiles { rt, faults: 0 }
+        RealFiles {
+            rt,
+            reads: 0,
+            failed: 0,
+        }
     }
 }
 
@@ -33,16 +39,15 @@ fn read_file<R: rt::Files>(rt: &R, alloc: Global, name: &str) -> io::Result<Vec<
 }
 
 impl<R: rt::Files> Files for RealFiles<R> {
-    ghost text_of = { λ _ _. None };
-
-    ghost faults = { λ files. files.faults };
+    ghost shown = { λ f. record { told = λ _. untold; reads = f.reads; failed = f.failed } };
 
     fn read(&mut self, alloc: Global, name: &str) -> Result<Vec<u8>, FileRefusal> {
+        self.reads = risen(self.reads);
         match read_file(&self.rt, alloc, name) {
             Ok(bytes) => Ok(bytes),
             Err(error) if error.kind() == ErrorKind::OutOfMemory => Err(FileRefusal::OutOfMemory),
             Err(_) => {
-                self.faults = risen(self.faults);
+                self.failed = risen(self.failed);
                 Err(FileRefusal::Failed)
             }
         }
@@ -53,16 +58,16 @@ impl<R: rt::Files> Files for RealFiles<R> {
 #[derive(Drop)]
 pub struct RealSink<W> {
     writer: W,
-    faults: u64,
+    failed: u64,
 }
 
 impl<W: Write> RealSink<W> {
     pub fn new(writer: W) -> Self {
-        RealSink { writer, faults: 0 }
+        RealSink { writer, failed: 0 }
     }
 }
 
-/// Takes a front of the bytes. A write that was interrupted is tried again.
+/// Takes a prefix of the bytes. A write that was interrupted is tried again.
 fn write_some<W: Write>(writer: &mut W, bytes: &[u8]) -> io::Result<usize>
     ensures { WritesAtMost result bytes.now }
 {
@@ -76,17 +81,13 @@ fn write_some<W: Write>(writer: &mut W, bytes: &[u8]) -> io::Result<usize>
 }
 
 impl<W: Write> Sink for RealSink<W> {
-    ghost taken = { λ _. None };
-
-    ghost faults = { λ sink. sink.faults };
-
-    ghost refusals = { λ sink. sink.faults };
+    ghost shown = { λ sink. record { bytes = None; failed = sink.failed; refused = sink.failed } };
 
     fn write(&mut self, bytes: &[u8]) -> Result<usize, SinkRefusal> {
         match write_some(&mut self.writer, bytes) {
             Ok(count) if count > 0 || bytes.is_empty() => Ok(count),
             _ => {
-                self.faults = risen(self.faults);
+                self.failed = risen(self.failed);
                 Err(SinkRefusal::Failed)
             }
         }

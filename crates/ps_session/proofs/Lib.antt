@@ -1,4 +1,5 @@
 pub mod DueLines
-pub mod Edits
+pub mod Entries
+pub mod Named
 pub mod Sessions
 pub mod Taken

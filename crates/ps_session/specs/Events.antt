@@ -32,10 +32,18 @@ abbrev pub query_event : By → Query → Option Refusal → Event
 query_event by q None = event.Ask q
 query_event by q (Some why) = event.Refused by why
 
+-- the event that answers an edit, where k is known
+abbrev pub event_of_edit : Domain → Knowledge → By → Edit → Event
+event_of_edit d k by edit = edit_event by edit (edited d k edit)
+
+-- the event that answers a query, where k is known
+abbrev pub event_of_query : Domain → ℕ → Knowledge → By → Query → Event
+event_of_query d budget k by q = query_event by q (refusal_of_query d budget k q)
+
 -- the event that answers the line with number n, where k is known
 abbrev pub event_of : Domain → ℕ → Knowledge → ℕ → Line → Event
-event_of d budget k n (Good (command.Edit edit)) = edit_event (Terminal n) edit (edited d k edit)
-event_of d budget k n (Good (command.Ask q)) = query_event (Terminal n) q (refusal_of_query d budget k q)
+event_of d budget k n (Good (command.Edit edit)) = event_of_edit d k (Terminal n) edit
+event_of d budget k n (Good (command.Ask q)) = event_of_query d budget k (Terminal n) q
 event_of d budget k n (Good command.Run) = event.Refused (Terminal n) refusal.NotBuilt
 event_of d budget k n (Good (command.RunAction act)) = event.Refused (Terminal n) refusal.NotBuilt
 event_of d budget k n (Good command.RunPlan) = event.Refused (Terminal n) refusal.NotBuilt

@@ -1,79 +1,85 @@
 //! The session: each line of the terminal in turn, with its entry and its reply lines.
-ghost use Rattle.std.specs.Prelude.{◌≡◌, ◌<◌, ◌≤◌, ◌^◌, ℕ, length, IfOk, OnOk, OnErr, All};
-ghost use Rattle.std.specs.Io.KnownBytes.{Appends};
+ghost use Rattle.std.specs.Prelude.{◌≡◌, ◌<◌, ◌≤◌, ◌^◌, length, IfOk, OnErr, All};
 ghost use Rattle.ps_text.specs.Names.{AreNames};
-ghost use Rattle.ps_text.specs.Causes.{HasCause, AppendsFront};
-ghost use Rattle.ps_world.specs.Knowledge.{edited, opening};
-ghost use Rattle.ps_machine.specs.History.{due_lines, known_after, is_refusal};
-ghost use Rattle.ps_machine.specs.Journal.{entry_text};
-ghost use Rattle.ps_world.specs.Tables.{IsEditOf, IsKnownOf};
+ghost use Rattle.ps_world.specs.Knowledge.{opening};
+ghost use Rattle.ps_machine.specs.History.{due_lines, known_after};
+ghost use Rattle.ps_world.specs.Tables.{IsKnownOf};
 ghost use Rattle.ps_machine.specs.Tables.{IsLineOf, IsEventOf};
 ghost use Rattle.ps_print.specs.CanonicalWords.{IsParamOf};
-ghost use Rattle.ps_journal.specs.Steps.{told_steps};
-ghost use Rattle.ps_session.specs.Events.{by_terminal, edit_event, event_of};
-ghost use Rattle.ps_session.specs.Session.{IsDone, IsCut, input_with};
-ghost use Rattle.ps_journal.specs.declared.broken.Broken.TheVariants.{Write};
+ghost use Rattle.ps_session.specs.Events.{by_terminal, event_of_edit};
+ghost use Rattle.ps_session.specs.Answers.{AnswersLine, GivesLeast, WritesEntry};
+ghost use Rattle.ps_session.specs.Session.{Runs, input_with};
 
 use super::plans::{Answered, answer_query};
 use ps_action::PlanStep;
 use ps_domain::Expert;
-use ps_journal::{Broken, entry_text};
+use ps_journal::entry_text;
 use ps_machine::{By, Command, Entry, Event, Line, Refusal};
+use ps_plan::Solver;
 use ps_problem::Problem;
-use ps_text::{Names, Sink, put};
+use ps_text::{Names, Sink, SinkRefusal, put};
 use ps_world::{Duplicate, Edit, Failure};
 use std::alloc::{AllocError, AllocFailed, Global};
 
-/// Does the session of these lines up to the first `quit`, and gives its status: 1 where a line was refused, else 0. A solver looks
+/// Does the session of these lines up to the first `quit`, and gives its status: 1 where a line was refused, else 0. The solver looks
 /// at no more knowledges than the budget says.
-pub fn run<O: Sink>(
+pub fn run<S: Solver, O: Sink>(
     alloc: Global,
     names: &Names,
     expert: &Expert,
+    solver: &S,
     budget: u32,
     lines: &[Line],
     out: &mut O,
-) -> Result<u8, Broken>
+) -> Result<u8, SinkRefusal>
+    requires solver { GivesLeast (S.says solver.now) }
     requires few { length lines.now < 2 ^ 32 }
     requires budget { 1 ≤ budget }
     requires named { All (IsLineOf (length names.now)) lines.now }
     requires constants { All (IsParamOf (length names.now)) expert.now.constants }
     requires names { AreNames names.now }
-    ensures small { IfOk result (λ status. status < 2) }
-    ensures done { IfOk result (λ status. IsDone (input_with expert.now lines.now budget) names.now (O.taken out.old) (O.taken out.new) status) }
-    ensures cut { OnErr result (IsCut (input_with expert.now lines.now budget) names.now (O.taken out.old) (O.taken out.new)) }
-    ensures cause { HasCause Write (O.faults out.old) (O.faults out.new) result }
+    ensures { Runs (input_with expert.now lines.now budget) names.now
+        (O.shown out.old) (O.shown out.new) result }
 {
     let mut problem = Problem::new(alloc, expert)?;
-    write_journal(alloc, names, expert, &mut problem, budget, lines, out)
+    write_journal(
+        alloc,
+        names,
+        expert,
+        solver,
+        &mut problem,
+        budget,
+        lines,
+        out,
+    )
 }
 
 /// Writes the journal of these lines, of which none is answered yet, and gives the status.
-fn write_journal<O: Sink>(
+fn write_journal<S: Solver, O: Sink>(
     alloc: Global,
     names: &Names,
     expert: &Expert,
+    solver: &S,
     problem: &mut Problem,
     budget: u32,
     lines: &[Line],
     out: &mut O,
-) -> Result<u8, Broken>
+) -> Result<u8, SinkRefusal>
+    requires solver { GivesLeast (S.says solver.now) }
     requires few { length lines.now < 2 ^ 32 }
     requires budget { 1 ≤ budget }
     requires named { All (IsLineOf (length names.now)) lines.now }
     requires constants { All (IsParamOf (length names.now)) expert.now.constants }
     requires names { AreNames names.now }
     requires opening { problem.old ≡ opening expert.now }
-    ensures small { IfOk result (λ status. status < 2) }
-    ensures done { IfOk result (λ status. IsDone (input_with expert.now lines.now budget) names.now (O.taken out.old) (O.taken out.new) status) }
-    ensures cut { OnErr result (IsCut (input_with expert.now lines.now budget) names.now (O.taken out.old) (O.taken out.new)) }
-    ensures cause { HasCause Write (O.faults out.old) (O.faults out.new) result }
+    ensures { Runs (input_with expert.now lines.now budget) names.now
+        (O.shown out.old) (O.shown out.new) result }
 {
     put(out, b"plansys-journal 1\n")?;
     let mut refused = false;
     for (i, line) in due_lines(lines).iter().enumerate() {
         let number = i as u32 + 1;
-        let answered = answer(alloc, expert, problem, budget, number, line)?;
+        let answered = answer(alloc, expert, solver, problem, budget, number, line)?;
         let refuses = write_answered(alloc, names, expert, problem, answered, out)?;
         refused |= refuses;
     }
@@ -101,15 +107,11 @@ fn write_answered<O: Sink>(
     problem: &Problem,
     answered: Answered,
     out: &mut O,
-) -> Result<bool, Broken>
+) -> Result<bool, SinkRefusal>
     requires event { IsEventOf (length names.now) answered.what }
     requires known { IsKnownOf (length names.now) problem.now }
-    ensures refuses { IfOk result (λ refused. refused ≡ is_refusal answered.what) }
-    ensures text { OnOk result ((budget : ℕ) → answered.steps ≡ told_steps expert.now budget problem.now answered.what
-        → Appends (O.taken out.old) (O.taken out.new) (entry_text names.now expert.now budget problem.now (by_terminal answered.what))) }
-    ensures cut { OnErr result ((budget : ℕ) → answered.steps ≡ told_steps expert.now budget problem.now answered.what
-        → AppendsFront (O.taken out.old) (O.taken out.new) (entry_text names.now expert.now budget problem.now (by_terminal answered.what))) }
-    ensures cause { HasCause Write (O.faults out.old) (O.faults out.new) result }
+    ensures { WritesEntry names.now expert.now problem.now (by_terminal answered.what)
+        answered.steps (O.shown out.old) (O.shown out.new) result }
 {
     let Answered { what, steps } = answered;
     let entry = Entry { hand: 0, what };
@@ -126,35 +128,28 @@ fn write_entry<O: Sink>(
     entry: &Entry,
     steps: &[PlanStep],
     out: &mut O,
-) -> Result<bool, Broken>
-    ensures refuses { IfOk result (λ refused. refused ≡ is_refusal entry.now.what) }
-    ensures text { OnOk result ((budget : ℕ) → steps.now ≡ told_steps expert.now budget problem.now entry.now.what
-        → Appends (O.taken out.old) (O.taken out.new) (entry_text names.now expert.now budget problem.now entry.now)) }
-    ensures cut { OnErr result ((budget : ℕ) → steps.now ≡ told_steps expert.now budget problem.now entry.now.what
-        → AppendsFront (O.taken out.old) (O.taken out.new) (entry_text names.now expert.now budget problem.now entry.now)) }
-    ensures cause { HasCause Write (O.faults out.old) (O.faults out.new) result }
+) -> Result<bool, SinkRefusal>
+    ensures { WritesEntry names.now expert.now problem.now entry.now steps.now
+        (O.shown out.old) (O.shown out.new) result }
 {
     let text = entry_text(alloc, names, expert, problem, entry, steps)?;
     put(out, text.as_slice())?;
     Ok(matches!(entry.what, Event::Refused { .. }))
 }
 
-/// What a line brings. An edit that is accepted is made.
-fn answer(
+/// What a line is answered with. An edit that is accepted is made.
+fn answer<S: Solver>(
     alloc: Global,
     expert: &Expert,
+    solver: &S,
     problem: &mut Problem,
     budget: u32,
     number: u32,
     line: &Line,
 ) -> Result<Answered, AllocError>
-    requires { 1 ≤ budget }
-    ensures event { IfOk result (λ a. a.what ≡ event_of expert.now budget problem.old number line.now) }
-    ensures steps { IfOk result (λ a. a.steps ≡ told_steps expert.now budget problem.new a.what) }
-    ensures known { IfOk result (λ a. problem.new ≡ known_after expert.now problem.old a.what) }
-    // What could be printed with a table of names still can.
-    ensures named { IfOk result (λ a. (count : ℕ) → IsLineOf count line.now → IsKnownOf count problem.old → IsEventOf count a.what) }
-    ensures still { OnOk result ((count : ℕ) → IsLineOf count line.now → IsKnownOf count problem.old → IsKnownOf count problem.new) }
+    requires solver { GivesLeast (S.says solver.now) }
+    requires budget { 1 ≤ budget }
+    ensures { IfOk result (AnswersLine expert.now budget number line.now problem.old problem.new) }
 {
     let by = By::Terminal(number);
     match line {
@@ -163,7 +158,7 @@ fn answer(
             Ok(Answered::without_plan(alloc, event))
         }
         Line::Good(Command::Ask(query)) => {
-            let answered = answer_query(alloc, expert, problem, budget, by, *query)?;
+            let answered = answer_query(alloc, expert, solver, problem, budget, by, *query)?;
             Ok(answered)
         }
         Line::Good(Command::Run | Command::RunAction(_) | Command::RunPlan) => {
@@ -174,7 +169,7 @@ fn answer(
     }
 }
 
-/// Makes an edit, or refuses it. The edit is copied before it is made, so that want of memory makes none.
+/// Makes an edit, or refuses it. The edit is copied before it is made, so that none is made where memory runs out.
 fn answer_edit(
     alloc: Global,
     expert: &Expert,
@@ -182,10 +177,8 @@ fn answer_edit(
     by: By,
     edit: &Edit,
 ) -> Result<Event, AllocError>
-    ensures event { IfOk result (λ event. event ≡ edit_event by edit.now (edited expert.now problem.old edit.now)) }
-    ensures known { IfOk result (λ event. problem.new ≡ known_after expert.now problem.old event) }
-    ensures named { IfOk result (λ event. (count : ℕ) → IsEditOf count edit.now → IsKnownOf count problem.old → IsEventOf count event) }
-    ensures still { OnOk result ((count : ℕ) → IsEditOf count edit.now → IsKnownOf count problem.old → IsKnownOf count problem.new) }
+    ensures event { IfOk result (λ e. e ≡ event_of_edit expert.now problem.old by edit.now) }
+    ensures known { IfOk result (λ e. problem.new ≡ known_after expert.now problem.old e) }
     ensures err { OnErr result (problem.new ≡ problem.old) }
 {
     let copy = edit.copy(alloc)?;

@@ -85,7 +85,7 @@ fn assert_failing(rt: &impl Abort, alloc: Global, files: &mut MemFiles) -> Resul
         ("a", Ok(2)),
     ];
     assert_lengths(rt, alloc, files, &wanted);
-    assert_eq!(rt; files.faults(), 2);
+    assert_eq!(rt; files.failed(), 2);
     Ok(())
 }
 
