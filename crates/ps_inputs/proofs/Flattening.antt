@@ -1,6 +1,7 @@
 -- A script with its files, line by line.
 use Rattle.std.proofs.Common.{◌≡◌, ℕ, zero, suc, ◌+◌, ◌<◌, ◌≤◌, ◌⊎◌, inl, inr, Bool, true, false, ◌&&◌, if◌then◌else◌, nat_lt, Option, Some, None, Result, Ok, Err, List, [], ◌∷◌, ◌++◌, length, drop, get_or, slice_range, refl, sym, ap, ◌∙◌, subst, append_assoc, arith}
 use Rattle.std.proofs.Common.{drop-cons}
+use Rattle.std.proofs.Math.Seq.{drop-length}
 use Rattle.std.proofs.lemmas.Bool.Decides.{nat_tests}
 use Rattle.std.proofs.lemmas.List.{append-nil, length-append}
 use Rattle.std.specs.Global.{Vec}
@@ -26,7 +27,7 @@ use Rattle.ps_inputs.specs.Reading.Reading.{gives, faulty}
 use Rattle.ps_inputs.specs.Flats.{Flat, Flattened, followed, is_quit, no_line, on_source, one_line, plain_line, plan_line, step, walk, with_room}
 use Rattle.ps_inputs.specs.Flats.Flattened.{plain, with_plan, too_deep}
 use Rattle.ps_inputs.specs.Scripts.{IsScript, given_by, table_after_plan}
-use Rattle.ps_inputs.specs.Scripts.IsScript as script
+use Rattle.ps_inputs.specs.Scripts.IsScript.{nothing as no_script, one_more}
 use Rattle.ps_inputs.specs.Faults.{ReadsPart}
 use Rattle.ps_inputs.specs.Parts.{Adds, HasRoom, IsAdded, IsCommandLine, Opens, PutsDeep, PutsPlain, PutsPlan, ReadsText, Takes, Walks, WalksLines, count_of}
 use Rattle.ps_inputs.specs.declared.reading.scripts.Script.{Script}
@@ -38,12 +39,12 @@ use Rattle.ps_inputs.proofs.ReadParts.{out_of_memory, read_nothing, then_ended, 
 
 -- one script after another
 pub scripts_join : (a b c : Table) (xs ys : List Flattened) (ls ms : List Line) → IsScript a xs ls b → IsScript b ys ms c → IsScript a (xs ++ ys) (ls ++ ms) c
-scripts_join a b _ xs _ ls _ h script.nothing =
+scripts_join a b _ xs _ ls _ h no_script =
     subst (λ (fs : List Flattened). IsScript a fs (ls ++ []) b) (sym (append-nil xs)) (subst (λ (ms : List Line). IsScript a xs ms b) (sym (append-nil ls)) h)
-scripts_join a b c xs _ ls _ h (script.one_more before lines table one new _ g adds) =
+scripts_join a b c xs _ ls _ h (one_more before lines table one new _ g adds) =
     subst (λ (fs : List Flattened). IsScript a fs (ls ++ (lines ++ new)) c) (append_assoc xs before (one ∷ []))
     (subst (λ (ms : List Line). IsScript a ((xs ++ before) ++ one ∷ []) ms c) (append_assoc ls lines new)
-    (script.one_more (xs ++ before) (ls ++ lines) table one new c (scripts_join a b table xs before ls lines h g) adds))
+    (one_more (xs ++ before) (ls ++ lines) table one new c (scripts_join a b table xs before ls lines h g) adds))
 
 -- a command line is read as one line
 one_read : (t : Table) (bytes : List ℕ) (r : Read) (after : Table) → IsCommandLine bytes → IsRead t bytes r after → length (given_by r) ≡ 1
@@ -89,19 +90,19 @@ more_few : (before after : Script) (new : List Line) → count_of before < most_
 more_few before after new lt e one = omega (arith, ap length e, length-append before.lines.items new, one)
 
 -- a command line is read
-pub plain_added : (bytes : List ℕ) (before after : Script) (r : Read) → IsCommandLine bytes → count_of before < most_lines → IsRead before.names bytes r after.names → after.lines.items ≡ before.lines.items ++ given_by r → PutsPlain bytes before after (Ok (is_quit bytes))
-plain_added bytes before after r line lt read pushed files =
+pub plain_added : (bytes : List ℕ) (before after : Script) (r : Read) (ends : Bool) → ends ≡ is_quit bytes → IsCommandLine bytes → count_of before < most_lines → IsRead before.names bytes r after.names → after.lines.items ≡ before.lines.items ++ given_by r → PutsPlain bytes before after (Ok ends)
+plain_added bytes before after r ends e line lt read pushed files =
     let one : length (given_by r) ≡ 1 = one_read before.names bytes r after.names line read in
     let flat : Flat = record { lines = plain bytes ∷ []; ended = is_quit bytes } in
-    let added : IsAdded before after flat (is_quit bytes) = record {
+    let added : IsAdded before after flat ends = record {
       lines = given_by r;
-      read = script.one_more [] [] before.names (plain bytes) (given_by r) after.names script.nothing (r, read, refl);
+      read = one_more [] [] before.names (plain bytes) (given_by r) after.names no_script (r, read, refl);
       added = pushed;
       count = one;
       few = more_few before after (given_by r) lt pushed one;
-      ends = refl;
+      ends = sym e;
     } in
-    room_read (count_of before) (gives [] flat) files files (Ok (is_quit bytes)) lt (read_nothing files flat (is_quit bytes) added)
+    room_read (count_of before) (gives [] flat) files files (Ok ends) lt (read_nothing files flat ends added)
 
 -- a line stands too deep
 pub deep_added : (before after : Script) → count_of before < most_lines → after.names ≡ before.names → after.lines.items ≡ before.lines.items ++ Bad Nest ∷ [] → PutsDeep before after (Ok false)
@@ -109,7 +110,7 @@ deep_added before after lt same pushed files =
     let flat : Flat = record { lines = too_deep ∷ []; ended = false } in
     let added : IsAdded before after flat false = record {
       lines = Bad Nest ∷ [];
-      read = script.one_more [] [] before.names too_deep (Bad Nest ∷ []) after.names script.nothing (refl, same);
+      read = one_more [] [] before.names too_deep (Bad Nest ∷ []) after.names no_script (refl, same);
       added = pushed;
       count = refl;
       few = more_few before after (Bad Nest ∷ []) lt pushed refl;
@@ -128,7 +129,7 @@ plan_added bytes file old new before after v r between line lt text read names p
     let one : length (given_by r) ≡ 1 = one_read before.names bytes r between line read in
     let added : (t : List ℕ) → v.items ≡ t → IsAdded before after (record { lines = with_plan bytes t ∷ []; ended = false }) false = λ t e. record {
       lines = given_by r;
-      read = script.one_more [] [] before.names (with_plan bytes t) (given_by r) after.names script.nothing (r, between, read, refl, names ∙ ap (table_after_plan between) e);
+      read = one_more [] [] before.names (with_plan bytes t) (given_by r) after.names no_script (r, between, read, refl, names ∙ ap (table_after_plan between) e);
       added = pushed;
       count = one;
       few = more_few before after (given_by r) lt pushed one;
@@ -169,7 +170,7 @@ opens_nothing plans levels file old new before after m why e h =
 
 -- no line is added
 pub none_added : (script : Script) → length script.lines.items ≤ most_lines → IsAdded script script no_line false
-none_added script few = record { lines = []; read = script.nothing; added = sym (append-nil script.lines.items); count = refl; few = few; ends = refl }
+none_added script few = record { lines = []; read = no_script; added = sym (append-nil script.lines.items); count = refl; few = few; ends = refl }
 
 pub takes_nothing : (plans : Bool) (levels : ℕ) (bytes : List ℕ) (files : FilesView) (script : Script) → length script.lines.items ≤ most_lines → IsKind bytes Nothing → Takes plans levels bytes files files script script (Ok false)
 takes_nothing plans levels bytes files script few is = rw is (read_nothing files no_line false (none_added script few))
@@ -187,7 +188,7 @@ module _ (plans : Bool) (levels : ℕ) (bytes file : List ℕ) (old new : FilesV
 module _ (plans : Bool) (levels : ℕ) (bytes : List ℕ) (old : FilesView) (before after : Script) (r : Result Bool (Failure Fault)) where
   -- a line without `source` and `run plan`, or one of these that names no file
   other_command : (plan : Bool) → PutsPlain bytes before after r → (is_run_plan bytes ≡ false) ⊎ (file_in (after_run (after_run bytes)) ≡ None) → is_run_plan bytes ≡ plan → Adds (if plans && plan then plan_line old.told (count_of before) bytes (file_in (after_run (after_run bytes))) else plain_line (count_of before) bytes) old old before after r
-  other_command plan h (inl no) e = rw (sym e ∙ no) (by_plans plans) where
+  other_command plan h (inl other) e = rw (sym e ∙ other) (by_plans plans) where
     by_plans : (b : Bool) → Adds (if b && false then plan_line old.told (count_of before) bytes (file_in (after_run (after_run bytes))) else plain_line (count_of before) bytes) old old before after r
     by_plans true = h old
     by_plans false = h old
@@ -305,3 +306,9 @@ module _ (plans : Bool) (levels : ℕ) (text : List ℕ) (spans : List Span) (i 
   loop_next b e h end s r g =
       here end s r
       (line_next plans levels (line_at text spans i) (pieces text (drop (i + 1) spans)) now new middle last s end r (subst (λ (x : Bool). Takes plans levels (line_at text spans i) now new middle last (Ok x)) e h) g)
+
+-- all lines were read
+pub loop_done : (plans : Bool) (levels : ℕ) (text : List ℕ) (spans : List Span) (i : ℕ) (all : List (List ℕ)) (old now : FilesView) (first middle : Script) → i ≡ length spans → length middle.lines.items ≤ most_lines → Follows plans levels all (pieces text (drop i spans)) old now first middle → WalksLines plans levels all old now first middle (Ok false)
+loop_done plans levels text spans i all old now first middle e few follows =
+    let none : [] ≡ pieces text (drop i spans) = sym (ap (λ (n : ℕ). pieces text (drop n spans)) e ∙ ap (pieces text) (drop-length spans)) in
+    follows now middle (Ok false) (subst (λ (ls : List (List ℕ)). WalksLines plans levels ls now now middle middle (Ok false)) none (walk_nothing plans levels now middle few))
