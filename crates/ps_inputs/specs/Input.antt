@@ -1,5 +1,5 @@
 -- The input of a call: what its words and the texts of its files say.
-use Rattle.std.specs.Prelude.{◌≡◌, ℕ, Bool, ◌||◌, Ok, Err, List, [], ◌∷◌, ◌++◌, codes, slice_index_or}
+use Rattle.std.specs.Prelude.{◌≡◌, ℕ, Bool, true, false, ◌||◌, Ok, Err, List, [], ◌∷◌, ◌++◌, codes, slice_index_or}
 use Rattle.ps_world.specs.Names.{Table}
 use Rattle.ps_world.specs.Lines.{same_text, line_end}
 use Rattle.ps_world.specs.declared.domains.Domain.{Domain}

@@ -5,6 +5,7 @@ mod causes;
 mod faults;
 mod laws;
 mod loading;
+mod reading;
 mod works;
 
 pub use faults::{Fault, fault_line};

@@ -1,11 +1,107 @@
 //! Loading: the work that words and files give.
+ghost use Rattle.std.specs.Prelude.{◌≤◌};
+ghost use Rattle.ps_words.specs.Words.{IsInRange, said, settings_said};
+ghost use Rattle.ps_words.specs.Words.Request.{a_check, a_session, a_validation};
 ghost use Rattle.ps_inputs.specs.Faults.{Loads, word_texts};
+ghost use Rattle.ps_inputs.specs.Parts.{LoadsRequest};
 
 use crate::faults::Fault;
-use crate::works::Work;
+use crate::reading::{Judged, Script, read_domain_file, read_script, read_text};
+use crate::works::{Session, Validation, Work};
+use ps_machine::Input;
 use ps_text::Files;
-use ps_world::Failure;
+use ps_words::{Asked, Settings, read_words};
+use ps_world::{Failure, Seq};
 use std::alloc::Global;
+
+/// Reads the files of a session: the domain's, and the script's with the files that it names. A domain's text that is none is told after
+/// all files are read.
+fn load_session<'a, F: Files>(
+    alloc: Global,
+    settings: Settings<'a>,
+    files: &mut F,
+) -> Result<Result<Work, Fault>, Failure<Fault>>
+    requires { 1 ≤ settings.budget }
+    ensures { LoadsRequest (a_session (settings_said settings)) (F.shown files.old) (F.shown files.new) result }
+{
+    let Judged { names, domain } = read_domain_file(alloc, settings.domain, files)?;
+    let Script { names, lines } = read_script(alloc, names, false, settings.script, files)?;
+    let budget = settings.budget;
+    match domain {
+        Ok(domain) => Ok(Ok(Work::Session(Session {
+            names,
+            input: Input {
+                domain,
+                lines: Seq::of(lines),
+                budget,
+            },
+        }))),
+        Err(fault) => Ok(Err(fault)),
+    }
+}
+
+/// Reads the file of a check.
+fn load_check<F: Files>(
+    alloc: Global,
+    file: &str,
+    files: &mut F,
+) -> Result<Result<Work, Fault>, Failure<Fault>>
+    ensures { LoadsRequest (a_check file.now) (F.shown files.old) (F.shown files.new) result }
+{
+    let Judged { names, domain } = read_domain_file(alloc, file, files)?;
+    match domain {
+        Ok(domain) => Ok(Ok(Work::Check { names, domain })),
+        Err(fault) => Ok(Err(fault)),
+    }
+}
+
+/// Reads the files of a plan that is to be validated: the domain's, the script's with the files that it names, and the plan's. A
+/// domain's text that is none is told after all files are read.
+fn load_validation<F: Files>(
+    alloc: Global,
+    domain: &str,
+    script: &str,
+    plan: &str,
+    files: &mut F,
+) -> Result<Result<Work, Fault>, Failure<Fault>>
+    ensures { LoadsRequest (a_validation domain.now script.now plan.now) (F.shown files.old) (F.shown files.new) result }
+{
+    let Judged { names, domain } = read_domain_file(alloc, domain, files)?;
+    let Script { names, lines } = read_script(alloc, names, true, script, files)?;
+    let plan = read_text(alloc, plan, files)?;
+    match domain {
+        Ok(domain) => Ok(Ok(Work::Validation(Validation {
+            names,
+            input: Input {
+                domain,
+                lines: Seq::of(lines),
+                budget: 0,
+            },
+            plan,
+        }))),
+        Err(fault) => Ok(Err(fault)),
+    }
+}
+
+/// Reads all files of what is asked for.
+fn load_asked<'a, F: Files>(
+    alloc: Global,
+    asked: Asked<'a>,
+    files: &mut F,
+) -> Result<Result<Work, Fault>, Failure<Fault>>
+    requires { IsInRange (said asked) }
+    ensures { LoadsRequest (said asked) (F.shown files.old) (F.shown files.new) result }
+{
+    match asked {
+        Asked::Session(settings) => load_session(alloc, settings, files),
+        Asked::Check { domain } => load_check(alloc, domain, files),
+        Asked::Validate {
+            domain,
+            script,
+            plan,
+        } => load_validation(alloc, domain, script, plan, files),
+    }
+}
 
 /// Reads the words, all files that they name and all files that these name, and judges their texts.
 ///
@@ -18,5 +114,11 @@ pub fn load<F: Files>(
 ) -> Result<Work, Failure<Fault>>
     ensures { Loads (word_texts words.now) (F.shown files.old) (F.shown files.new) result }
 {
-    Err(Failure::OutOfMemory)
+    let Some(asked) = read_words(alloc, words)? else {
+        return Err(Failure::Refused(Fault::Usage));
+    };
+    match load_asked(alloc, asked, files)? {
+        Ok(work) => Ok(work),
+        Err(fault) => Err(Failure::Refused(fault)),
+    }
 }

@@ -2,6 +2,7 @@
 ghost use Rattle.std.specs.Prelude.{◌<◌, ◌≤◌, ◌^◌, length, All};
 ghost use Rattle.ps_machine.specs.Tables.{IsLineOf};
 ghost use Rattle.ps_print.specs.CanonicalWords.{IsParamOf};
+ghost use Rattle.ps_inputs.specs.Propositions.{line_prop};
 
 use ps_machine::Input;
 use ps_text::Names;
@@ -14,7 +15,7 @@ pub struct Session {
     pub input: Input,
     ghost few: { length input.lines < 2 ^ 32 },
     ghost searches: { 1 ≤ input.budget },
-    ghost named: { All (IsLineOf (length names)) input.lines },
+    ghost named: { All (IsLineOf (length names)) input.lines } by { Prim.hlevel line_prop },
     ghost constants: { All (IsParamOf (length names)) input.domain.constants },
 }
 

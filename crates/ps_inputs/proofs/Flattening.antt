@@ -1,0 +1,314 @@
+-- A script with its files, line by line.
+use Rattle.std.proofs.Common.{◌≡◌, ℕ, zero, suc, ◌+◌, ◌<◌, ◌≤◌, ◌⊎◌, inl, inr, Bool, true, false, ◌&&◌, if◌then◌else◌, nat_lt, Option, Some, None, Result, Ok, Err, List, [], ◌∷◌, ◌++◌, length, drop, get_or, slice_range, refl, sym, ap, ◌∙◌, subst, append_assoc, arith}
+use Rattle.std.proofs.Common.{drop-cons}
+use Rattle.std.proofs.Math.Seq.{drop-length}
+use Rattle.std.proofs.lemmas.Bool.Decides.{nat_tests}
+use Rattle.std.proofs.lemmas.List.{append-nil, length-append}
+use Rattle.std.specs.Global.{Vec}
+use Rattle.ps_world.specs.Names.{Table}
+use Rattle.ps_world.specs.declared.failures.Failure.{Failure}
+use Rattle.ps_world.specs.declared.failures.Failure.TheVariants.{Refused, OutOfMemory}
+use Rattle.ps_machine.specs.declared.inputs.LineCause.TheVariants.{Nest}
+use Rattle.ps_machine.specs.declared.inputs.Line.{Line}
+use Rattle.ps_machine.specs.declared.inputs.Line.TheVariants.{Bad}
+use Rattle.ps_text.specs.Outside.{FilesView}
+use Rattle.ps_text.specs.ScriptLines.{script_lines}
+use Rattle.ps_text.specs.Words.{pieces}
+use Rattle.ps_text.specs.declared.spans.Span.{Span}
+use Rattle.ps_script.specs.Files.{after_run, file_in, is_run_plan, is_source}
+use Rattle.ps_script.specs.Kinds.{IsKind}
+use Rattle.ps_script.specs.Lines.{IsRead, is_nothing}
+use Rattle.ps_script.specs.Lines.IsRead.{nothing, source, source_nothing, run_plan, run_nothing, without_class, without_number, without_form, without_shape, good}
+use Rattle.ps_script.specs.declared.kinds.Kind.TheVariants.{Nothing, Source, RunPlan, Command}
+use Rattle.ps_script.specs.declared.reading.Read.{Read}
+use Rattle.ps_inputs.specs.Reading.{MayFail, Reading, Texts, and_then, most_lines, read_file}
+use Rattle.ps_inputs.specs.Reading.FileFault.{too_many}
+use Rattle.ps_inputs.specs.Reading.Reading.{gives, faulty}
+use Rattle.ps_inputs.specs.Flats.{Flat, Flattened, followed, is_quit, no_line, on_source, one_line, plain_line, plan_line, step, walk, with_room}
+use Rattle.ps_inputs.specs.Flats.Flattened.{plain, with_plan, too_deep}
+use Rattle.ps_inputs.specs.Scripts.{IsScript, given_by, table_after_plan}
+use Rattle.ps_inputs.specs.Scripts.IsScript.{nothing as no_script, one_more}
+use Rattle.ps_inputs.specs.Faults.{ReadsPart}
+use Rattle.ps_inputs.specs.Parts.{Adds, HasRoom, IsAdded, IsCommandLine, Opens, PutsDeep, PutsPlain, PutsPlan, ReadsText, Takes, Walks, WalksLines, count_of}
+use Rattle.ps_inputs.specs.declared.reading.scripts.Script.{Script}
+use Rattle.ps_inputs.specs.declared.faults.Fault.{Fault}
+use Rattle.ps_inputs.specs.declared.faults.Fault.TheVariants.{Usage, NoDomain, TooLong, Lines, Unread}
+use Rattle.ps_inputs.proofs.ReadParts.{out_of_memory, read_nothing, then_ended, then_read}
+
+-- ---- scripts
+
+-- one script after another
+pub scripts_join : (a b c : Table) (xs ys : List Flattened) (ls ms : List Line) → IsScript a xs ls b → IsScript b ys ms c → IsScript a (xs ++ ys) (ls ++ ms) c
+scripts_join a b _ xs _ ls _ h no_script =
+    subst (λ (fs : List Flattened). IsScript a fs (ls ++ []) b) (sym (append-nil xs)) (subst (λ (ms : List Line). IsScript a xs ms b) (sym (append-nil ls)) h)
+scripts_join a b c xs _ ls _ h (one_more before lines table one new _ g adds) =
+    subst (λ (fs : List Flattened). IsScript a fs (ls ++ (lines ++ new)) c) (append_assoc xs before (one ∷ []))
+    (subst (λ (ms : List Line). IsScript a ((xs ++ before) ++ one ∷ []) ms c) (append_assoc ls lines new)
+    (one_more (xs ++ before) (ls ++ lines) table one new c (scripts_join a b table xs before ls lines h g) adds))
+
+-- a command line is read as one line
+one_read : (t : Table) (bytes : List ℕ) (r : Read) (after : Table) → IsCommandLine bytes → IsRead t bytes r after → length (given_by r) ≡ 1
+one_read t bytes r after h read =
+    elim read as (λ r a i. length (given_by r) ≡ 1) [
+      | nothing e ↦ absurd (cc (h.0, e))
+      | source file some is e ↦ elim h.1 [ inl n ↦ absurd (cc (n, is)) | inr n ↦ absurd (cc (n, e)) ]
+      | source_nothing some is e ↦ refl
+      | run_plan file some other is e ↦ refl
+      | run_nothing some other is e ↦ refl
+      | without_class at p f ↦ refl
+      | without_number at p f ↦ refl
+      | without_form tokens p are f ↦ refl
+      | without_shape form tokens i p are f g ↦ refl
+      | good form tokens ls after ts command is e s c ↦ refl
+    ]
+
+-- ---- one command line
+
+-- there is room for it
+room_read : {B : Type 0} {P : Flat → B → Type 0} (n : ℕ) (part : Reading Flat) (old new : FilesView) (r : Result B (Failure Fault)) → n < most_lines → ReadsPart part old new P r → ReadsPart (with_room n part) old new P r
+room_read {P = P} n part old new r lt h =
+    let b : true ≡ nat_lt n most_lines = grind (arith, nat_tests) in
+    subst (λ (t : Bool). ReadsPart (if t then part else faulty [] (too_many (n + 1))) old new P r) b h
+
+-- there is none
+no_room : (n : ℕ) (part : Reading Flat) → n ≤ most_lines → most_lines ≤ n → MayFail (with_room n part) (too_many (most_lines + 1))
+no_room n part le ge =
+    let b : false ≡ nat_lt n most_lines = grind (arith, nat_tests) in
+    let e : n + 1 ≡ most_lines + 1 = omega arith in
+    subst (λ (t : Bool). MayFail (if t then part else faulty [] (too_many (n + 1))) (too_many (most_lines + 1))) b (ap too_many e)
+
+pub full : {B : Type 0} {P : Flat → B → Type 0} (n : ℕ) (part : Reading Flat) (files : FilesView) (why : Failure Fault) → n ≤ most_lines → HasRoom n (Err why) → ReadsPart (with_room n part) files files P (Err why)
+full n part files (Refused Usage) le h = absurd h
+full n part files (Refused (NoDomain cause)) le h = absurd h
+full n part files (Refused (TooLong file)) le h = absurd h
+full n part files (Refused Lines) le h = record { given = tt; ended = no_room n part le h; failed = refl; same = refl }
+full n part files (Refused (Unread file)) le h = absurd h
+full n part files OutOfMemory le h = absurd h
+
+-- one line more is few enough
+more_few : (before after : Script) (new : List Line) → count_of before < most_lines → after.lines.items ≡ before.lines.items ++ new → length new ≡ 1 → length after.lines.items ≤ most_lines
+more_few before after new lt e one = omega (arith, ap length e, length-append before.lines.items new, one)
+
+-- a command line is read
+pub plain_added : (bytes : List ℕ) (before after : Script) (r : Read) (ends : Bool) → ends ≡ is_quit bytes → IsCommandLine bytes → count_of before < most_lines → IsRead before.names bytes r after.names → after.lines.items ≡ before.lines.items ++ given_by r → PutsPlain bytes before after (Ok ends)
+plain_added bytes before after r ends e line lt read pushed files =
+    let one : length (given_by r) ≡ 1 = one_read before.names bytes r after.names line read in
+    let flat : Flat = record { lines = plain bytes ∷ []; ended = is_quit bytes } in
+    let added : IsAdded before after flat ends = record {
+      lines = given_by r;
+      read = one_more [] [] before.names (plain bytes) (given_by r) after.names no_script (r, read, refl);
+      added = pushed;
+      count = one;
+      few = more_few before after (given_by r) lt pushed one;
+      ends = sym e;
+    } in
+    room_read (count_of before) (gives [] flat) files files (Ok ends) lt (read_nothing files flat ends added)
+
+-- a line stands too deep
+pub deep_added : (before after : Script) → count_of before < most_lines → after.names ≡ before.names → after.lines.items ≡ before.lines.items ++ Bad Nest ∷ [] → PutsDeep before after (Ok false)
+deep_added before after lt same pushed files =
+    let flat : Flat = record { lines = too_deep ∷ []; ended = false } in
+    let added : IsAdded before after flat false = record {
+      lines = Bad Nest ∷ [];
+      read = one_more [] [] before.names too_deep (Bad Nest ∷ []) after.names no_script (refl, same);
+      added = pushed;
+      count = refl;
+      few = more_few before after (Bad Nest ∷ []) lt pushed refl;
+      ends = refl;
+    } in
+    room_read (count_of before) (gives [] flat) files files (Ok false) lt (read_nothing files flat false added)
+
+-- ---- a line that runs the plan in a file
+
+-- what its file leads to
+abbrev with_its_plan : List ℕ → List ℕ → Reading Flat
+with_its_plan bytes plan = gives [] (record { lines = with_plan bytes plan ∷ []; ended = false })
+
+pub plan_added : (bytes file : List ℕ) (old new : FilesView) (before after : Script) (v : Vec ℕ) (r : Read) (between : Table) → IsCommandLine bytes → count_of before < most_lines → ReadsText file old new (Ok v) → IsRead before.names bytes r between → after.names ≡ table_after_plan between v.items → after.lines.items ≡ before.lines.items ++ given_by r → PutsPlan bytes file old new before after (Ok false)
+plan_added bytes file old new before after v r between line lt text read names pushed =
+    let one : length (given_by r) ≡ 1 = one_read before.names bytes r between line read in
+    let added : (t : List ℕ) → v.items ≡ t → IsAdded before after (record { lines = with_plan bytes t ∷ []; ended = false }) false = λ t e. record {
+      lines = given_by r;
+      read = one_more [] [] before.names (with_plan bytes t) (given_by r) after.names no_script (r, between, read, refl, names ∙ ap (table_after_plan between) e);
+      added = pushed;
+      count = one;
+      few = more_few before after (given_by r) lt pushed one;
+      ends = refl;
+    } in
+    room_read (count_of before) (and_then (read_file old.told file) (with_its_plan bytes)) old new (Ok false) lt
+    (then_read (read_file old.told file) (λ t plan. with_its_plan bytes plan) old new new v (Ok false) text
+    (λ t e. read_nothing new (record { lines = with_plan bytes t ∷ []; ended = false }) false (added t e)))
+
+pub plan_unread : (bytes file : List ℕ) (old new : FilesView) (before after : Script) (why : Failure Fault) → count_of before < most_lines → ReadsText file old new (Err why) → PutsPlan bytes file old new before after (Err why)
+plan_unread bytes file old new before after why lt h =
+    room_read (count_of before) (and_then (read_file old.told file) (with_its_plan bytes)) old new (Err why) lt (then_ended (read_file old.told file) (with_its_plan bytes) old new why h)
+
+-- ---- a file
+
+module _ (plans : Bool) (levels : ℕ) (file : List ℕ) (old : FilesView) (before after : Script) (r : Result Bool (Failure Fault)) where
+  -- no more files may be opened
+  pub opens_deep : levels ≡ 0 → PutsDeep before after r → Opens plans levels file old old before after r
+  unfolding on_source
+  opens_deep e h = subst (λ (n : ℕ). Opens plans n file old old before after r) (sym e) (h old)
+
+  -- the file's text was read, and then its lines
+  pub opens_file : (m : ℕ) (middle new : FilesView) (v : Vec ℕ) (used : List ℕ) → levels ≡ suc m → used ≡ v.items → ReadsText file old middle (Ok v) → Walks plans m used middle new before after r → Opens plans levels file old new before after r
+  unfolding on_source
+  opens_file m middle new v used e same text lines =
+      subst (λ (n : ℕ). Opens plans n file old new before after r) (sym e)
+      (then_read (read_file old.told file) (λ t x. walk plans t (on_source plans m t) (count_of before) (script_lines x)) old middle new v r text
+      (λ x had. subst (λ (u : List ℕ). Walks plans m u middle new before after r) (same ∙ had) lines))
+
+-- the file's text wasn't read
+pub opens_nothing : (plans : Bool) (levels : ℕ) (file : List ℕ) (old new : FilesView) (before after : Script) (m : ℕ) (why : Failure Fault) → levels ≡ suc m → ReadsText file old new (Err why) → Opens plans levels file old new before after (Err why)
+unfolding on_source
+opens_nothing plans levels file old new before after m why e h =
+    subst (λ (n : ℕ). Opens plans n file old new before after (Err why)) (sym e)
+    (then_ended (read_file old.told file) (λ x. walk plans old.told (on_source plans m old.told) (count_of before) (script_lines x)) old new why h)
+
+-- ---- one line of a file
+
+-- no line is added
+pub none_added : (script : Script) → length script.lines.items ≤ most_lines → IsAdded script script no_line false
+none_added script few = record { lines = []; read = no_script; added = sym (append-nil script.lines.items); count = refl; few = few; ends = refl }
+
+pub takes_nothing : (plans : Bool) (levels : ℕ) (bytes : List ℕ) (files : FilesView) (script : Script) → length script.lines.items ≤ most_lines → IsKind bytes Nothing → Takes plans levels bytes files files script script (Ok false)
+takes_nothing plans levels bytes files script few is = rw is (read_nothing files no_line false (none_added script few))
+
+module _ (plans : Bool) (levels : ℕ) (bytes file : List ℕ) (old new : FilesView) (before after : Script) (r : Result Bool (Failure Fault)) where
+  pub takes_source : IsKind bytes (Source file) → Opens plans levels file old new before after r → Takes plans levels bytes old new before after r
+  takes_source is h = rw (is.0, is.1, is.2) h
+
+  pub takes_plan : plans ≡ true → IsKind bytes (RunPlan file) → PutsPlan bytes file old new before after r → Takes plans levels bytes old new before after r
+  takes_plan e is h = rw (is.0, is.1, e, is.2, is.3) h
+
+  pub takes_no_plan : plans ≡ false → IsKind bytes (RunPlan file) → PutsPlain bytes before after r → Takes plans levels bytes old old before after r
+  takes_no_plan e is h = rw (is.0, is.1, e) (h old)
+
+module _ (plans : Bool) (levels : ℕ) (bytes : List ℕ) (old : FilesView) (before after : Script) (r : Result Bool (Failure Fault)) where
+  -- a line without `source` and `run plan`, or one of these that names no file
+  other_command : (plan : Bool) → PutsPlain bytes before after r → (is_run_plan bytes ≡ false) ⊎ (file_in (after_run (after_run bytes)) ≡ None) → is_run_plan bytes ≡ plan → Adds (if plans && plan then plan_line old.told (count_of before) bytes (file_in (after_run (after_run bytes))) else plain_line (count_of before) bytes) old old before after r
+  other_command plan h (inl other) e = rw (sym e ∙ other) (by_plans plans) where
+    by_plans : (b : Bool) → Adds (if b && false then plan_line old.told (count_of before) bytes (file_in (after_run (after_run bytes))) else plain_line (count_of before) bytes) old old before after r
+    by_plans true = h old
+    by_plans false = h old
+  other_command plan h (inr none) e = rw none (by_both (plans && plan)) where
+    by_both : (b : Bool) → Adds (if b then plan_line old.told (count_of before) bytes None else plain_line (count_of before) bytes) old old before after r
+    by_both true = h old
+    by_both false = h old
+
+  pub takes_command : IsKind bytes Command → PutsPlain bytes before after r → Takes plans levels bytes old old before after r
+  takes_command is h =
+      elim is.1 [
+        | inl s ↦ rw (is.0, s.0, s.1) (h old)
+        | inr s ↦ rw (is.0, s.0) (other_command (is_run_plan bytes) h s.1 refl)
+      ]
+
+-- a line that runs the plan in a file, and one that names no file, are command lines
+pub command_plain : (bytes : List ℕ) → IsKind bytes Command → IsCommandLine bytes
+command_plain bytes is = (is.0, elim is.1 [ inl s ↦ inr s.1 | inr s ↦ inl s.0 ])
+
+pub plan_plain : (bytes file : List ℕ) → IsKind bytes (RunPlan file) → IsCommandLine bytes
+plan_plain bytes file is = (is.0, inl is.1)
+
+-- ---- the lines of a file
+
+-- lines are added after lines
+added_after : (flat more : Flat) (first middle last : Script) (b ended : Bool) → IsAdded first middle flat b → IsAdded middle last more ended → IsAdded first last (record { lines = flat.lines ++ more.lines; ended = more.ended }) ended
+added_after flat more first middle last b ended h g = record {
+  lines = h.lines ++ g.lines;
+  read = scripts_join first.names middle.names last.names flat.lines more.lines h.lines g.lines h.read g.read;
+  added = g.added ∙ ap (λ (x : List Line). x ++ g.lines) h.added ∙ append_assoc first.lines.items h.lines g.lines;
+  count = omega (arith, length-append h.lines g.lines, length-append flat.lines more.lines, h.count, g.count);
+  few = g.few;
+  ends = g.ends;
+}
+
+-- what follows a line
+abbrev rest_of : Bool → ℕ → ℕ → List (List ℕ) → Texts → Flat → Reading Flat
+rest_of plans levels n rest t flat = followed flat (walk plans t (on_source plans levels t) (n + length flat.lines) rest)
+
+-- what follows these command lines, where they don't end the script
+abbrev joined : Flat → Reading Flat → Reading Flat
+joined flat part = and_then part (λ more. gives [] (record { lines = flat.lines ++ more.lines; ended = more.ended }))
+
+joined_read : (flat : Flat) (part : Reading Flat) (old new : FilesView) (first middle last : Script) (b : Bool) (r : Result Bool (Failure Fault)) → IsAdded first middle flat b → Adds part old new middle last r → Adds (joined flat part) old new first last r
+joined_read flat part old new first middle last b (Ok ended) h g =
+    then_read part (λ t more. gives [] (record { lines = flat.lines ++ more.lines; ended = more.ended })) old new new ended (Ok ended) g
+    (λ more is. read_nothing new (record { lines = flat.lines ++ more.lines; ended = more.ended }) ended (added_after flat more first middle last b ended h is))
+joined_read flat part old new first middle last b (Err why) h g =
+    then_ended part (λ more. gives [] (record { lines = flat.lines ++ more.lines; ended = more.ended })) old new why g
+
+-- the count of lines after these
+count_after : (flat : Flat) (first middle : Script) (b : Bool) → IsAdded first middle flat b → count_of middle ≡ count_of first + length flat.lines
+count_after flat first middle b h = omega (arith, ap length h.added, length-append first.lines.items h.lines, h.count)
+
+module _ (plans : Bool) (levels : ℕ) (bytes : List ℕ) (rest : List (List ℕ)) (old new : FilesView) (first : Script) where
+  -- the line wasn't read
+  pub line_ended : (last : Script) (why : Failure Fault) → Takes plans levels bytes old new first last (Err why) → WalksLines plans levels (bytes ∷ rest) old new first last (Err why)
+  line_ended last why h = then_ended (step plans old.told (on_source plans levels old.told) (count_of first) bytes) (rest_of plans levels (count_of first) rest old.told) old new why h
+
+  -- the line ends the script
+  pub line_last : (last : Script) → Takes plans levels bytes old new first last (Ok true) → WalksLines plans levels (bytes ∷ rest) old new first last (Ok true)
+  line_last last h =
+      then_read (step plans old.told (on_source plans levels old.told) (count_of first) bytes) (rest_of plans levels (count_of first) rest) old new new true (Ok true) h
+      (λ flat added. ended_here flat added flat.ended added.ends) where
+        ended_here : (flat : Flat) → IsAdded first last flat true → (b : Bool) → b ≡ true → Adds (if b then gives [] flat else joined flat (walk plans new.told (on_source plans levels new.told) (count_of first + length flat.lines) rest)) new new first last (Ok true)
+        ended_here flat added b e = rw e (read_nothing new flat true added)
+
+  -- it doesn't
+  pub line_next : (middle last : Script) (end : FilesView) (r : Result Bool (Failure Fault)) → Takes plans levels bytes old new first middle (Ok false) → WalksLines plans levels rest new end middle last r → WalksLines plans levels (bytes ∷ rest) old end first last r
+  line_next middle last end r h g =
+      then_read (step plans old.told (on_source plans levels old.told) (count_of first) bytes) (rest_of plans levels (count_of first) rest) old new end false r h
+      (λ flat added. goes_on flat added flat.ended added.ends) where
+        goes_on : (flat : Flat) → IsAdded first middle flat false → (b : Bool) → b ≡ false → Adds (if b then gives [] flat else joined flat (walk plans new.told (on_source plans levels new.told) (count_of first + length flat.lines) rest)) new end first last r
+        goes_on flat added b e =
+            rw e (joined_read flat (walk plans new.told (on_source plans levels new.told) (count_of first + length flat.lines) rest) new end first middle last false r added
+            (subst (λ (n : ℕ). Adds (walk plans new.told (on_source plans levels new.told) n rest) new end middle last r) (count_after flat first middle false added) g))
+
+-- no lines
+pub walk_nothing : (plans : Bool) (levels : ℕ) (files : FilesView) (script : Script) → length script.lines.items ≤ most_lines → WalksLines plans levels [] files files script script (Ok false)
+walk_nothing plans levels files script few = read_nothing files no_line false (none_added script few)
+
+-- ---- the loop
+
+-- What the other lines come to from here, all lines come to from the first.
+abbrev pub Follows : Bool → ℕ → List (List ℕ) → List (List ℕ) → FilesView → FilesView → Script → Script → Type 0
+Follows plans levels all rest old now first middle = (new : FilesView) (last : Script) (r : Result Bool (Failure Fault)) → WalksLines plans levels rest now new middle last r → WalksLines plans levels all old new first last r
+
+-- the span at a place
+abbrev span_at : List Span → ℕ → Span
+span_at spans i = get_or spans i (record { from = 0; to = 0 })
+
+-- the line at a place
+abbrev line_at : List ℕ → List Span → ℕ → List ℕ
+line_at text spans i = slice_range text (span_at spans i).from (span_at spans i).to
+
+-- the lines from a place are its own and those after it
+pub rest-cons : (text : List ℕ) (spans : List Span) (i : ℕ) → i < length spans → pieces text (drop i spans) ≡ line_at text spans i ∷ pieces text (drop (i + 1) spans)
+rest-cons text spans i lt =
+    let one : suc i ≡ i + 1 = omega arith in
+    ap (pieces text) (drop-cons spans i (record { from = 0; to = 0 }) lt ∙ ap (λ (n : ℕ). span_at spans i ∷ drop n spans) one)
+
+module _ (plans : Bool) (levels : ℕ) (text : List ℕ) (spans : List Span) (i : ℕ) (lt : i < length spans) (all : List (List ℕ)) (old now new : FilesView) (first middle last : Script) (follows : Follows plans levels all (pieces text (drop i spans)) old now first middle) where
+  here : (end : FilesView) (s : Script) (r : Result Bool (Failure Fault)) → WalksLines plans levels (line_at text spans i ∷ pieces text (drop (i + 1) spans)) now end middle s r → WalksLines plans levels all old end first s r
+  here end s r h = follows end s r (subst (λ (ls : List (List ℕ)). WalksLines plans levels ls now end middle s r) (sym (rest-cons text spans i lt)) h)
+
+  pub loop_ended : (why : Failure Fault) → Takes plans levels (line_at text spans i) now new middle last (Err why) → WalksLines plans levels all old new first last (Err why)
+  loop_ended why h = here new last (Err why) (line_ended plans levels (line_at text spans i) (pieces text (drop (i + 1) spans)) now new middle last why h)
+
+  pub loop_last : (b : Bool) → b ≡ true → Takes plans levels (line_at text spans i) now new middle last (Ok b) → WalksLines plans levels all old new first last (Ok true)
+  loop_last b e h =
+      here new last (Ok true)
+      (line_last plans levels (line_at text spans i) (pieces text (drop (i + 1) spans)) now new middle last (subst (λ (x : Bool). Takes plans levels (line_at text spans i) now new middle last (Ok x)) e h))
+
+  pub loop_next : (b : Bool) → b ≡ false → Takes plans levels (line_at text spans i) now new middle last (Ok b) → Follows plans levels all (pieces text (drop (i + 1) spans)) old new first last
+  loop_next b e h end s r g =
+      here end s r
+      (line_next plans levels (line_at text spans i) (pieces text (drop (i + 1) spans)) now new middle last s end r (subst (λ (x : Bool). Takes plans levels (line_at text spans i) now new middle last (Ok x)) e h) g)
+
+-- all lines were read
+pub loop_done : (plans : Bool) (levels : ℕ) (text : List ℕ) (spans : List Span) (i : ℕ) (all : List (List ℕ)) (old now : FilesView) (first middle : Script) → i ≡ length spans → length middle.lines.items ≤ most_lines → Follows plans levels all (pieces text (drop i spans)) old now first middle → WalksLines plans levels all old now first middle (Ok false)
+loop_done plans levels text spans i all old now first middle e few follows =
+    let none : [] ≡ pieces text (drop i spans) = sym (ap (λ (n : ℕ). pieces text (drop n spans)) e ∙ ap (pieces text) (drop-length spans)) in
+    follows now middle (Ok false) (subst (λ (ls : List (List ℕ)). WalksLines plans levels ls now now middle middle (Ok false)) none (walk_nothing plans levels now middle few))

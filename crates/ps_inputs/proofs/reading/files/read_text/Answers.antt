@@ -1,0 +1,7 @@
+use Rattle.std.proofs.Common.{◌≡◌, ℕ, ◌<◌, ◌≤◌, nat_lt, true, false, List, [], ◌∷◌, Ok, refl, sym, ap, ◌∙◌, arith}
+use Rattle.ps_inputs.proofs.ReadParts.{text_read}
+use Rattle.ps_inputs.proofs.reading.files.read_text.Goals as goal
+
+pub returns-else-len-gt-LONGEST_FILE : goal.returns-else-len-gt-LONGEST_FILE
+returns-else-len-gt-LONGEST_FILE g c =
+    text_read c.args.file.now (g.F.Files.shown c.args.files.now) (g.F.Files.shown c.read.new.self) c.in-Ok.text (omega (arith, c.len.ensures, c.if-len-gt-LONGEST_FILE.false)) c.in-Ok.ensures

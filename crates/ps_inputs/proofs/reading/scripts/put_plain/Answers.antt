@@ -1,0 +1,8 @@
+use Rattle.std.proofs.Common.{length, ap, arith}
+use Rattle.ps_inputs.proofs.Flattening.{plain_added}
+use Rattle.ps_inputs.proofs.reading.scripts.put_plain.Goals as goal
+
+pub returns : goal.returns
+returns c =
+    plain_added c.args.line.now c.args.script.now _ c.in_ok-read.read c.in_ok-ends.ends c.in_ok-ends.ensures c.requires.line
+    (omega (arith, ap length c.as_slice.ensures.value, c.in_ok-check_room.ensures)) c.in_ok-read.ensures.read c.in_ok-push_read.ensures

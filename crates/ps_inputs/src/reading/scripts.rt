@@ -1,0 +1,117 @@
+//! The lines of a script.
+ghost use Rattle.std.specs.Prelude.{◌≡◌, ◌≤◌, ◌++◌, false, length, IfOk, OnOk};
+ghost use Rattle.ps_script.specs.Files.{is_source};
+ghost use Rattle.ps_script.specs.Lines.{is_nothing};
+ghost use Rattle.ps_inputs.specs.Flats.{is_quit};
+ghost use Rattle.ps_inputs.specs.Reading.{most_lines};
+ghost use Rattle.ps_inputs.specs.Scripts.{given_by, table_after_plan};
+ghost use Rattle.ps_inputs.specs.Parts.{HasRoom, IsCommandLine, PutsDeep, PutsPlain, PutsPlan};
+
+use super::files::read_text;
+use crate::faults::Fault;
+use ps_machine::{Command, Line, LineCause};
+use ps_plan::read_plan;
+use ps_script::{Read, read_line};
+use ps_text::{Files, Names, Words};
+use ps_world::Failure;
+use std::alloc::{AllocError, Global};
+
+/// The most command lines of a script with its files.
+const MOST_LINES: usize = 10_000;
+
+/// The lines of a script, with the table of all names that were read.
+#[derive(Drop)]
+pub struct Script {
+    pub names: Names,
+    pub lines: Vec<Line>,
+}
+
+/// Refuses where there is no room for one line more.
+fn check_room(lines: &[Line]) -> Result<(), Failure<Fault>>
+    ensures { HasRoom (length lines.now) result }
+{
+    if lines.len() >= MOST_LINES {
+        return Err(Failure::Refused(Fault::Lines));
+    }
+    Ok(())
+}
+
+/// Whether a line is the word `quit` alone.
+fn is_quit(alloc: Global, line: &[u8]) -> Result<bool, AllocError>
+    ensures { IfOk result (λ b. b ≡ is_quit line.now) }
+{
+    let words = Words::of(alloc, line)?;
+    Ok(words.len() == 1 && words.reads(0, b"quit"))
+}
+
+/// Puts the line that a line of a file is read as at the end of those before it, if it is one.
+fn push_read(read: Read, all: &mut Vec<Line>) -> Result<(), AllocError>
+    ensures { OnOk result (all.new.items ≡ all.old.items ++ given_by read) }
+{
+    match read {
+        Read::Nothing | Read::Source(_) => Ok(()),
+        Read::Line(line) => {
+            all.push(line)?;
+            Ok(())
+        }
+        Read::RunPlan(_) => {
+            all.push(Line::Good(Command::RunPlan))?;
+            Ok(())
+        }
+    }
+}
+
+/// Puts the names of a plan's text into the table, unless it has a fault.
+fn put_plan_names(alloc: Global, names: &mut Names, text: &[u8]) -> Result<(), AllocError>
+    ensures { OnOk result (names.new ≡ table_after_plan names.old text.now) }
+{
+    match read_plan(alloc, names, text) {
+        Ok(_) | Err(Failure::Refused(_)) => Ok(()),
+        Err(Failure::OutOfMemory) => Err(AllocError),
+    }
+}
+
+/// Puts a command line that names no file at the end of those before it. Answers whether it ends the script.
+pub fn put_plain(alloc: Global, line: &[u8], script: &mut Script) -> Result<bool, Failure<Fault>>
+    requires line { IsCommandLine line.now }
+    requires few { length script.old.lines.items ≤ most_lines }
+    ensures { PutsPlain line.now script.old script.new result }
+{
+    check_room(script.lines.as_slice())?;
+    let ends = is_quit(alloc, line)?;
+    let read = read_line(alloc, &mut script.names, line)?;
+    push_read(read, &mut script.lines)?;
+    Ok(ends)
+}
+
+/// Puts a line that stands too deep at the end of those before it. It doesn't end the script.
+pub fn put_deep(script: &mut Script) -> Result<bool, Failure<Fault>>
+    requires { length script.old.lines.items ≤ most_lines }
+    ensures { PutsDeep script.old script.new result }
+{
+    check_room(script.lines.as_slice())?;
+    script.lines.push(Line::Bad(LineCause::Nest))?;
+    Ok(false)
+}
+
+/// Puts a line that runs the plan in a file at the end of those before it, and the names of the plan into the table. It doesn't end
+/// the script.
+pub fn put_plan<F: Files>(
+    alloc: Global,
+    files: &mut F,
+    line: &[u8],
+    file: &str,
+    script: &mut Script,
+) -> Result<bool, Failure<Fault>>
+    requires line { is_nothing line.now ≡ false }
+    requires plan { is_source line.now ≡ false }
+    requires few { length script.old.lines.items ≤ most_lines }
+    ensures { PutsPlan line.now file.now (F.shown files.old) (F.shown files.new) script.old script.new result }
+{
+    check_room(script.lines.as_slice())?;
+    let plan = read_text(alloc, file, files)?;
+    let read = read_line(alloc, &mut script.names, line)?;
+    put_plan_names(alloc, &mut script.names, plan.as_slice())?;
+    push_read(read, &mut script.lines)?;
+    Ok(false)
+}
