@@ -22,7 +22,7 @@ fn load_session<'a, F: Files>(
     files: &mut F,
 ) -> Result<Result<Work, Fault>, Failure<Fault>>
     requires { 1 ≤ settings.budget }
-    ensures { LoadsRequest (a_session (settings_said settings)) (F.shown files.old) (F.shown files.new) result }
+    ensures { LoadsRequest (a_session (settings_said settings.entry)) (F.shown files.old) (F.shown files.new) result }
 {
     let Judged { names, domain } = read_domain_file(alloc, settings.domain, files)?;
     let Script { names, lines } = read_script(alloc, names, false, settings.script, files)?;
@@ -90,7 +90,7 @@ fn load_asked<'a, F: Files>(
     files: &mut F,
 ) -> Result<Result<Work, Fault>, Failure<Fault>>
     requires { IsInRange (said asked) }
-    ensures { LoadsRequest (said asked) (F.shown files.old) (F.shown files.new) result }
+    ensures { LoadsRequest (said asked.entry) (F.shown files.old) (F.shown files.new) result }
 {
     match asked {
         Asked::Session(settings) => load_session(alloc, settings, files),
