@@ -1,6 +1,6 @@
 //! The words of a domain's text, each by what the grammar and the meaning need of it.
-ghost use Rattle.std.specs.Prelude.{◌≡◌, Some, true, drop, IfOk, OnErr, OnOk};
-ghost use Rattle.ps_text.specs.Names.{folded, interned, is_name};
+ghost use Rattle.std.specs.Prelude.{◌≡◌, Some, drop, IfOk, OnErr, OnOk};
+ghost use Rattle.ps_text.specs.Names.{folded};
 ghost use Rattle.ps_text.specs.Tokens.{AreTokens, class_of};
 ghost use Rattle.ps_text.specs.Words.{reads_as};
 ghost use Rattle.ps_shape.specs.declared.marks.Mark.TheVariants as mark;
@@ -9,7 +9,7 @@ ghost use Rattle.ps_text.specs.Names.{Keeps};
 
 use ps_shape::Mark;
 use ps_text::{Class, Names, Token, read_number};
-use ps_world::{Failure, Name, Num};
+use ps_world::{Name, Num};
 use std::alloc::{AllocError, Global};
 
 /// A word of a domain's text.
@@ -187,20 +187,6 @@ pub fn mark_of(class: Class, word: &[u8]) -> Mark
     }
 }
 
-/// The name that a text is, where it is known to be one. The only error is want of memory, which changes nothing.
-fn number_of(names: &mut Names, text: &[u8]) -> Result<Name, AllocError>
-    requires { is_name text.now ≡ true }
-    ensures ok { IfOk result (λ n. n ≡ numbered names.old (Some (folded text.now))) }
-    ensures table { OnOk result (names.new ≡ named names.old (Some (folded text.now))) }
-    ensures err { OnErr result (names.new ≡ names.old) }
-{
-    match names.intern(text) {
-        Ok(name) => Ok(name),
-        Err(Failure::OutOfMemory) => Err(AllocError),
-        Err(Failure::Refused(_)) => unreachable!(),
-    }
-}
-
 /// The name within a word, which is put into the table. The only error is want of memory, which changes nothing.
 fn name_within(names: &mut Names, class: Class, word: &[u8]) -> Result<Name, AllocError>
     requires { class_of word.now ≡ Some class }
@@ -209,8 +195,8 @@ fn name_within(names: &mut Names, class: Class, word: &[u8]) -> Result<Name, All
     ensures err { OnErr result (names.new ≡ names.old) }
 {
     match class {
-        Class::Name => number_of(names, word),
-        Class::Variable => number_of(names, &word[1..]),
+        Class::Name => names.intern_name(word),
+        Class::Variable => names.intern_name(&word[1..]),
         _ => Ok(Name::OBJECT),
     }
 }
@@ -248,7 +234,8 @@ pub fn lexemes_of(
     tokens: &[Token],
 ) -> Result<Vec<Lexeme>, AllocError>
     requires { AreTokens bytes.now tokens.now }
-    ensures ok { IfOk result (λ v. lexemes_of bytes.now names.old tokens.now ≡ (v.items, names.new)) }
+    ensures ok { IfOk result (λ v. lexemes_of bytes.now names.old tokens.now
+        ≡ (v.items, names.new)) }
     ensures kept { Keeps names.old names.new }
 {
     let mut lexemes = Vec::new(alloc);
