@@ -60,7 +60,8 @@ fn pick_count(
     params: &[Param],
 ) -> usize
     requires { AreChoices expert.now (by_name instances.now) known.now.entries }
-    ensures { result ≡ min ENOUGH (length (picks (map (choices expert.now instances.now) params.now))) }
+    ensures { result ≡ min ENOUGH
+        (length (picks (map (choices expert.now instances.now) params.now))) }
 {
     let mut count = 1;
     for param in params {

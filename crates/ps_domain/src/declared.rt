@@ -31,7 +31,8 @@ impl Model for Declared {
 
     ghost view = { λ d. d.domain };
 
-    ghost invariant = { λ d. IsIndexed d.domain d.types d.constants d.predicates d.functions d.actions };
+    ghost invariant = { λ d. IsIndexed d.domain
+        d.types d.constants d.predicates d.functions d.actions };
 }
 
 /// The index of each list of a domain.
@@ -46,7 +47,8 @@ struct Indexes {
 
 impl Indexes {
     fn of(alloc: Global, domain: &Domain) -> Result<Indexes, AllocError>
-        ensures { IfOk result (λ i. IsIndexed domain.now i.types i.constants i.predicates i.functions i.actions) }
+        ensures { IfOk result (λ i. IsIndexed domain.now
+            i.types i.constants i.predicates i.functions i.actions) }
     {
         let types = Index::of(alloc, domain.types.as_slice())?;
         let constants = Index::of(alloc, domain.constants.as_slice())?;
@@ -66,7 +68,14 @@ impl Indexes {
 impl Declared {
     /// The domain of this name that declares nothing. It takes no memory.
     pub fn bare(alloc: Global, name: Name) -> Declared
-        ensures { result ≡ record { name = name; types = []; constants = []; predicates = []; functions = []; actions = [] } }
+        ensures { result ≡ record {
+          name = name;
+          types = [];
+          constants = [];
+          predicates = [];
+          functions = [];
+          actions = [];
+        } }
     {
         Declared {
             domain: Domain {

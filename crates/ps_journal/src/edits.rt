@@ -39,7 +39,8 @@ pub fn push_arity(
     got: usize,
     text: &mut Vec<u8>,
 ) -> Result<(), AllocError>
-    ensures { OnOk result (text.new.items ≡ text.old.items ++ edit_refusal_text [] (Arity want got)) }
+    ensures { OnOk result (text.new.items ≡ text.old.items
+        ++ edit_refusal_text [] (Arity want got)) }
 {
     push_number_after(alloc, b"Arity ", want as u64, text)?;
     push_number_after(alloc, b" ", got as u64, text)?;
@@ -53,7 +54,8 @@ pub fn push_edit_refusal(
     refusal: &EditRefusal,
     text: &mut Vec<u8>,
 ) -> Result<(), AllocError>
-    ensures { OnOk result (text.new.items ≡ text.old.items ++ edit_refusal_text names.now refusal.now) }
+    ensures { OnOk result (text.new.items ≡ text.old.items
+        ++ edit_refusal_text names.now refusal.now) }
 {
     match refusal {
         EditRefusal::NoType => text.extend_from_slice(b"NoType")?,

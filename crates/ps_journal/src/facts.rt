@@ -71,7 +71,8 @@ pub fn push_name_after(
     name: Name,
     text: &mut Vec<u8>,
 ) -> Result<(), AllocError>
-    ensures { OnOk result (text.new.items ≡ text.old.items ++ (words.now ++ name_text names.now name)) }
+    ensures { OnOk result (text.new.items ≡ text.old.items
+        ++ (words.now ++ name_text names.now name)) }
 {
     text.extend_from_slice(words)?;
     push_name(names, name, text)?;
@@ -87,7 +88,8 @@ pub fn push_instance_after(
     kind: Name,
     text: &mut Vec<u8>,
 ) -> Result<(), AllocError>
-    ensures { OnOk result (text.new.items ≡ text.old.items ++ (words.now ++ (name_text names.now name ++ (between.now ++ name_text names.now kind)))) }
+    ensures { OnOk result (text.new.items ≡ text.old.items
+        ++ (words.now ++ (name_text names.now name ++ (between.now ++ name_text names.now kind)))) }
 {
     push_name_after(names, words, name, text)?;
     push_name_after(names, between, kind, text)?;
@@ -123,7 +125,8 @@ pub fn push_fact_after(
     fact: &Fact,
     text: &mut Vec<u8>,
 ) -> Result<(), AllocError>
-    ensures { OnOk result (text.new.items ≡ text.old.items ++ (words.now ++ fact_text names.now fact.now)) }
+    ensures { OnOk result (text.new.items ≡ text.old.items
+        ++ (words.now ++ fact_text names.now fact.now)) }
 {
     text.extend_from_slice(words)?;
     push_fact(names, fact, text)?;
@@ -137,7 +140,8 @@ pub fn push_value(
     number: Num,
     text: &mut Vec<u8>,
 ) -> Result<(), AllocError>
-    ensures { OnOk result (text.new.items ≡ text.old.items ++ value_text names.now fact.now number) }
+    ensures { OnOk result (text.new.items ≡ text.old.items
+        ++ value_text names.now fact.now number) }
 {
     text.extend_from_slice(b"(= ")?;
     push_fact(names, fact, text)?;
@@ -155,7 +159,8 @@ pub fn push_value_after(
     number: Num,
     text: &mut Vec<u8>,
 ) -> Result<(), AllocError>
-    ensures { OnOk result (text.new.items ≡ text.old.items ++ (words.now ++ value_text names.now fact.now number)) }
+    ensures { OnOk result (text.new.items ≡ text.old.items
+        ++ (words.now ++ value_text names.now fact.now number)) }
 {
     text.extend_from_slice(words)?;
     push_value(names, fact, number, text)?;
@@ -169,7 +174,8 @@ pub fn push_goal_after(
     goal: &Cond,
     text: &mut Vec<u8>,
 ) -> Result<(), AllocError>
-    ensures { OnOk result (text.new.items ≡ text.old.items ++ (words.now ++ goal_text names.now goal.now)) }
+    ensures { OnOk result (text.new.items ≡ text.old.items
+        ++ (words.now ++ goal_text names.now goal.now)) }
 {
     text.extend_from_slice(words)?;
     push_condition(text, names, &[], goal)?;

@@ -18,7 +18,8 @@ fn instance_lines(
     names: &Names,
     instances: &[(Name, Name)],
 ) -> Result<BTreeSet<Seq<u8>>, AllocError>
-    ensures { IfOk result (λ lines. lines.keys ≡ in_order (map (instance_text names.now) instances.now)) }
+    ensures { IfOk result (λ lines. lines.keys
+        ≡ in_order (map (instance_text names.now) instances.now)) }
 {
     let mut lines = BTreeSet::new(alloc);
     for (name, kind) in instances {
@@ -48,7 +49,8 @@ fn value_lines(
     names: &Names,
     values: &[(Fact, Num)],
 ) -> Result<BTreeSet<Seq<u8>>, AllocError>
-    ensures { IfOk result (λ lines. lines.keys ≡ in_order (map (λ v. value_text names.now v.0 v.1) values.now)) }
+    ensures { IfOk result (λ lines. lines.keys
+        ≡ in_order (map (λ v. value_text names.now v.0 v.1) values.now)) }
 {
     let mut lines = BTreeSet::new(alloc);
     for (fact, number) in values {
@@ -76,7 +78,8 @@ pub fn push_instances(
     problem: &Problem,
     text: &mut Vec<u8>,
 ) -> Result<(), AllocError>
-    ensures { OnOk result (text.new.items ≡ text.old.items ++ reply_text (in_order (map (instance_text names.now) problem.now.instances))) }
+    ensures { OnOk result (text.new.items ≡ text.old.items
+        ++ reply_text (in_order (map (instance_text names.now) problem.now.instances))) }
 {
     let instances = problem.instances()?;
     let lines = instance_lines(alloc, names, instances.as_slice())?;
@@ -91,7 +94,8 @@ pub fn push_facts(
     problem: &Problem,
     text: &mut Vec<u8>,
 ) -> Result<(), AllocError>
-    ensures { OnOk result (text.new.items ≡ text.old.items ++ reply_text (in_order (map (fact_text names.now) problem.now.facts))) }
+    ensures { OnOk result (text.new.items ≡ text.old.items
+        ++ reply_text (in_order (map (fact_text names.now) problem.now.facts))) }
 {
     let facts = problem.facts()?;
     let lines = fact_lines(alloc, names, facts.as_slice())?;
@@ -106,7 +110,8 @@ pub fn push_values(
     problem: &Problem,
     text: &mut Vec<u8>,
 ) -> Result<(), AllocError>
-    ensures { OnOk result (text.new.items ≡ text.old.items ++ reply_text (in_order (map (λ v. value_text names.now v.0 v.1) problem.now.values))) }
+    ensures { OnOk result (text.new.items ≡ text.old.items
+        ++ reply_text (in_order (map (λ v. value_text names.now v.0 v.1) problem.now.values))) }
 {
     let values = problem.values()?;
     let lines = value_lines(alloc, names, values.as_slice())?;
@@ -121,7 +126,8 @@ pub fn push_goal(
     goal: Option<&Cond>,
     text: &mut Vec<u8>,
 ) -> Result<(), AllocError>
-    ensures { OnOk result (text.new.items ≡ text.old.items ++ reply_text (goal_line names.now (option_copied goal.entry) ∷ [])) }
+    ensures { OnOk result (text.new.items ≡ text.old.items
+        ++ reply_text (goal_line names.now (option_copied goal.entry) ∷ [])) }
 {
     let mut line = Vec::new(alloc);
     match goal {

@@ -30,7 +30,8 @@ pub fn push_replies(
     text: &mut Vec<u8>,
 ) -> Result<(), AllocError>
     ensures { (budget : ℕ) → steps.now ≡ told_steps expert.now budget problem.now event.now
-        → OnOk result (text.new.items ≡ text.old.items ++ reply_text (reply_lines names.now expert.now budget problem.now event.now)) }
+        → OnOk result (text.new.items ≡ text.old.items
+        ++ reply_text (reply_lines names.now expert.now budget problem.now event.now)) }
 {
     match event {
         Event::Ask(query) => push_answer(alloc, names, expert, problem, query, steps, text),
@@ -49,7 +50,8 @@ fn push_answer(
     text: &mut Vec<u8>,
 ) -> Result<(), AllocError>
     ensures { (budget : ℕ) → steps.now ≡ asked_steps expert.now budget problem.now query.now
-        → OnOk result (text.new.items ≡ text.old.items ++ reply_text (answer_lines names.now expert.now budget problem.now query.now)) }
+        → OnOk result (text.new.items ≡ text.old.items
+        ++ reply_text (answer_lines names.now expert.now budget problem.now query.now)) }
 {
     let domain = expert.domain();
     match query {
@@ -71,7 +73,8 @@ fn push_answer(
 
 /// Adds a reply line: two spaces, the line and its end.
 pub fn push_reply(line: &[u8], text: &mut Vec<u8>) -> Result<(), AllocError>
-    ensures { OnOk result (text.new.items ≡ text.old.items ++ (reply_mark ++ (line.now ++ line_end))) }
+    ensures { OnOk result (text.new.items ≡ text.old.items
+        ++ (reply_mark ++ (line.now ++ line_end))) }
 {
     text.extend_from_slice(b"  ")?;
     text.extend_from_slice(line)?;
@@ -81,7 +84,8 @@ pub fn push_reply(line: &[u8], text: &mut Vec<u8>) -> Result<(), AllocError>
 
 /// Adds the names of types, each as a reply.
 fn push_types(names: &Names, types: &[Param], text: &mut Vec<u8>) -> Result<(), AllocError>
-    ensures { OnOk result (text.new.items ≡ text.old.items ++ reply_text (map (λ p. name_text names.now p.name) types.now)) }
+    ensures { OnOk result (text.new.items ≡ text.old.items
+        ++ reply_text (map (λ p. name_text names.now p.name) types.now)) }
 {
     for param in types {
         push_reply(name_text(names, param.name), text)?;
@@ -95,7 +99,8 @@ fn push_action_names(
     actions: &[ActionDef],
     text: &mut Vec<u8>,
 ) -> Result<(), AllocError>
-    ensures { OnOk result (text.new.items ≡ text.old.items ++ reply_text (map (λ a. name_text names.now a.name) actions.now)) }
+    ensures { OnOk result (text.new.items ≡ text.old.items
+        ++ reply_text (map (λ a. name_text names.now a.name) actions.now)) }
 {
     for action in actions {
         push_reply(name_text(names, action.name), text)?;
@@ -105,7 +110,8 @@ fn push_action_names(
 
 /// Adds a declaration as a reply.
 fn push_decl_reply(names: &Names, decl: &Decl, text: &mut Vec<u8>) -> Result<(), AllocError>
-    ensures { OnOk result (text.new.items ≡ text.old.items ++ (reply_mark ++ (decl_text names.now decl.now ++ line_end))) }
+    ensures { OnOk result (text.new.items ≡ text.old.items
+        ++ (reply_mark ++ (decl_text names.now decl.now ++ line_end))) }
 {
     text.extend_from_slice(b"  ")?;
     push_decl(text, names, decl)?;
@@ -115,7 +121,8 @@ fn push_decl_reply(names: &Names, decl: &Decl, text: &mut Vec<u8>) -> Result<(),
 
 /// Adds declarations, each as a reply.
 fn push_decls(names: &Names, decls: &[Decl], text: &mut Vec<u8>) -> Result<(), AllocError>
-    ensures { OnOk result (text.new.items ≡ text.old.items ++ reply_text (map (decl_text names.now) decls.now)) }
+    ensures { OnOk result (text.new.items ≡ text.old.items
+        ++ reply_text (map (decl_text names.now) decls.now)) }
 {
     for decl in decls {
         push_decl_reply(names, decl, text)?;
@@ -125,7 +132,8 @@ fn push_decls(names: &Names, decls: &[Decl], text: &mut Vec<u8>) -> Result<(), A
 
 /// Adds a step of a plan as a reply.
 fn push_step_reply(names: &Names, step: &PlanStep, text: &mut Vec<u8>) -> Result<(), AllocError>
-    ensures { OnOk result (text.new.items ≡ text.old.items ++ (reply_mark ++ (step_line names.now step.now ++ line_end))) }
+    ensures { OnOk result (text.new.items ≡ text.old.items
+        ++ (reply_mark ++ (step_line names.now step.now ++ line_end))) }
 {
     text.extend_from_slice(b"  ")?;
     push_step(names, step, text)?;
@@ -135,7 +143,8 @@ fn push_step_reply(names: &Names, step: &PlanStep, text: &mut Vec<u8>) -> Result
 
 /// Adds the steps of a plan, each as a reply.
 fn push_steps(names: &Names, steps: &[PlanStep], text: &mut Vec<u8>) -> Result<(), AllocError>
-    ensures { OnOk result (text.new.items ≡ text.old.items ++ reply_text (map (step_line names.now) steps.now)) }
+    ensures { OnOk result (text.new.items ≡ text.old.items
+        ++ reply_text (map (step_line names.now) steps.now)) }
 {
     for step in steps {
         push_step_reply(names, step, text)?;
@@ -145,7 +154,8 @@ fn push_steps(names: &Names, steps: &[PlanStep], text: &mut Vec<u8>) -> Result<(
 
 /// Adds a declaration that was asked for as a reply. Where it isn't declared there is none.
 fn push_found_decl(names: &Names, decl: Option<&Decl>, text: &mut Vec<u8>) -> Result<(), AllocError>
-    ensures { OnOk result (text.new.items ≡ text.old.items ++ reply_text (option_map_or (λ decl. decl_text names.now decl ∷ []) (option_copied decl.entry) [])) }
+    ensures { OnOk result (text.new.items ≡ text.old.items ++ reply_text
+        (option_map_or (λ decl. decl_text names.now decl ∷ []) (option_copied decl.entry) [])) }
 {
     match decl {
         None => Ok(()),
@@ -171,7 +181,8 @@ fn push_found_action(
     action: Option<&ActionDef>,
     text: &mut Vec<u8>,
 ) -> Result<(), AllocError>
-    ensures { OnOk result (text.new.items ≡ text.old.items ++ reply_text (option_map_or (action_lines names.now) (option_copied action.entry) [])) }
+    ensures { OnOk result (text.new.items ≡ text.old.items
+        ++ reply_text (option_map_or (action_lines names.now) (option_copied action.entry) [])) }
 {
     match action {
         None => Ok(()),
@@ -186,7 +197,8 @@ fn push_action_replies(
     action: &ActionDef,
     text: &mut Vec<u8>,
 ) -> Result<(), AllocError>
-    ensures { OnOk result (text.new.items ≡ text.old.items ++ reply_text (action_lines names.now action.now)) }
+    ensures { OnOk result (text.new.items ≡ text.old.items
+        ++ reply_text (action_lines names.now action.now)) }
 {
     // A table says of its length that its texts are names, which are lines.
     let _count = names.len();
@@ -203,7 +215,8 @@ fn push_domain(
     domain: &Domain,
     text: &mut Vec<u8>,
 ) -> Result<(), AllocError>
-    ensures { OnOk result (text.new.items ≡ text.old.items ++ reply_text (domain_lines names.now domain.now)) }
+    ensures { OnOk result (text.new.items ≡ text.old.items
+        ++ reply_text (domain_lines names.now domain.now)) }
 {
     // A table says of its length that its texts are names, which are lines.
     let _count = names.len();

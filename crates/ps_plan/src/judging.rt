@@ -121,7 +121,8 @@ fn reach(
     acts: &[Act],
 ) -> Result<(), Failure<PlanRefusal>>
     requires { length acts.now ≤ most_acts }
-    ensures { Gives (λ done. problem.new) result (judged_by expert.now problem.old (Some goal.now) acts.now) }
+    ensures { Gives (λ done. problem.new) result
+        (judged_by expert.now problem.old (Some goal.now) acts.now) }
 {
     take_steps(expert, problem, acts)?;
     if holds(problem, expert, goal) {

@@ -5,7 +5,6 @@ mod faults;
 mod judging;
 mod laws;
 mod lines;
-mod naming;
 mod parts;
 mod printing;
 mod reading;

@@ -66,7 +66,8 @@ fn part_end(line: &[u8], from: usize) -> usize
     requires black { is_blank (slice_index line.now from) ≡ false }
     ensures longer { from < result }
     ensures within { result ≤ length line.now }
-    ensures part { parts_of (drop from line.now) ≡ slice_range line.now from result ∷ parts_of (drop result line.now) }
+    ensures part { parts_of (drop from line.now)
+        ≡ slice_range line.now from result ∷ parts_of (drop result line.now) }
 {
     if is_mark(line[from]) {
         from + 1

@@ -15,7 +15,8 @@ use std::alloc::{AllocError, Global};
 /// some of them may be there.
 fn read_steps(alloc: Global, names: &mut Names, bytes: &[u8]) -> Result<Vec<PlanStep>, AllocError>
     requires { plan_fault bytes.now ≡ None }
-    ensures steps { IfOk result (λ steps. planned names.old [] (said_by bytes.now) ≡ (steps.items, names.new)) }
+    ensures steps { IfOk result (λ steps. planned names.old [] (said_by bytes.now)
+        ≡ (steps.items, names.new)) }
     ensures kept { Keeps names.old names.new }
 {
     let mut steps = Vec::new(alloc);
@@ -37,7 +38,8 @@ fn read_all_steps(
     bytes: &[u8],
 ) -> Result<Vec<PlanStep>, AllocError>
     requires { plan_fault bytes.now ≡ None }
-    ensures steps { IfOk result (λ steps. planned names.old [] (said_by bytes.now) ≡ (steps.items, names.new)) }
+    ensures steps { IfOk result (λ steps. planned names.old [] (said_by bytes.now)
+        ≡ (steps.items, names.new)) }
     ensures err { OnErr result (names.new ≡ names.old) }
 {
     let known = names.len();

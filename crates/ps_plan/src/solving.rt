@@ -28,7 +28,7 @@ pub trait Solver {
     ) -> Result<Answer, AllocError>
         requires goal { IsSome problem.now.goal }
         requires budget { 1 ≤ budget }
-        ensures says { IfOk result (λ answer. answer ≡ says self.now expert.now problem.now budget) }
+        ensures says { IfOk result (λ a. a ≡ says self.now expert.now problem.now budget) }
         // A plan is good and as short as the least, and every other answer is the one that is due.
         ensures fits { IfOk result (λ answer. Fits expert.now problem.now budget answer) };
 }

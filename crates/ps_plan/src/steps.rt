@@ -4,7 +4,6 @@ ghost use Rattle.ps_text.specs.Names.{Keeps};
 ghost use Rattle.ps_plan.specs.PlanText.{fits, named_all, names_from, placed, step_of, table_after};
 
 use super::lines::SaidLine;
-use super::naming::name_of;
 use super::parts::Parts;
 use ps_action::{Act, PlanStep};
 use ps_text::Names;
@@ -21,7 +20,7 @@ fn args_of(names: &mut Names, parts: &Parts) -> Result<Args, AllocError>
     let count = parts.len() - 8;
     let mut found = [Name::OBJECT; MOST_ARGUMENTS];
     for i in 0..count {
-        found[i] = name_of(names, parts.part(4 + i))?;
+        found[i] = names.intern_name(parts.part(4 + i))?;
     }
     match Args::of(&found[..count]) {
         Some(args) => Ok(args),
@@ -35,7 +34,7 @@ pub fn step_of(names: &mut Names, said: &SaidLine) -> Result<PlanStep, AllocErro
     ensures table { OnOk result (names.new ≡ table_after names.old said.now) }
     ensures kept { Keeps names.old names.new }
 {
-    let action = name_of(names, said.parts.part(3))?;
+    let action = names.intern_name(said.parts.part(3))?;
     let args = args_of(names, &said.parts)?;
     Ok(PlanStep {
         time: said.time,

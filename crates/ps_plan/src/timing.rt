@@ -37,7 +37,8 @@ fn push_ground_step(
     action: &GroundAction,
     steps: &mut Vec<PlanStep>,
 ) -> Result<Option<Num>, AllocError>
-    ensures steps { IfOk result (λ next. (rest : List ActView) → steps.new.items ++ timed_on expert.now problem.new next rest
+    ensures steps { IfOk result (λ next. (rest : List ActView)
+        → steps.new.items ++ timed_on expert.now problem.new next rest
         ≡ steps.old.items ++ timed_ground expert.now problem.old time act.now rest action.now) }
     ensures in_range { OnOk result (All IsInRange steps.old.items → All IsInRange steps.new.items) }
 {
@@ -63,7 +64,8 @@ fn push_step(
     act: &Act,
     steps: &mut Vec<PlanStep>,
 ) -> Result<Option<Num>, AllocError>
-    ensures steps { IfOk result (λ next. (rest : List ActView) → steps.new.items ++ timed_on expert.now problem.new next rest
+    ensures steps { IfOk result (λ next. (rest : List ActView)
+        → steps.new.items ++ timed_on expert.now problem.new next rest
         ≡ steps.old.items ++ timed_from expert.now problem.old time (act.now ∷ rest)) }
     ensures in_range { OnOk result (All IsInRange steps.old.items → All IsInRange steps.new.items) }
 {
@@ -81,7 +83,8 @@ fn push_steps(
     acts: &[Act],
     steps: &mut Vec<PlanStep>,
 ) -> Result<(), AllocError>
-    ensures steps { OnOk result (steps.new.items ≡ steps.old.items ++ timed_from expert.now problem.old (pos 0) acts.now) }
+    ensures steps { OnOk result (steps.new.items
+        ≡ steps.old.items ++ timed_from expert.now problem.old (pos 0) acts.now) }
     ensures in_range { OnOk result (All IsInRange steps.old.items → All IsInRange steps.new.items) }
 {
     let mut time = Num::ZERO;

@@ -18,9 +18,13 @@ naming_cmp = then_cmp (on (λ x. x.name) name_cmp) (on (λ x. x.fact) fact_cmp)
 abbrev pub IsNaming : Naming → Type 0
 IsNaming x = is_among x.name x.fact.args ≡ true
 
+-- the name is noted with the fact
+abbrev pub IsNoted : List Naming → Name → Fact → Type 0
+IsNoted xs n f = Contains xs (record { name = n; fact = f })
+
 -- each argument of the fact is noted with it
 abbrev pub Covers : List Naming → Fact → Type 0
-Covers xs f = (n : Name) → is_among n f.args ≡ true → Contains xs (record { name = n; fact = f })
+Covers xs f = (n : Name) → is_among n f.args ≡ true → IsNoted xs n f
 
 -- of each fact its arguments are noted, and nothing that is no argument
 pub record AreNamed (facts : List Fact) (namings : List Naming) : Type 0 where

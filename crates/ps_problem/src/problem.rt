@@ -38,7 +38,12 @@ impl Model for Problem {
 
     ghost coded = { the_row.coded };
 
-    ghost view = { λ p. record { instances = p.instances.entries; facts = p.facts; values = p.values; goal = p.goal } };
+    ghost view = { λ p. record {
+      instances = p.instances.entries;
+      facts = p.facts;
+      values = p.values;
+      goal = p.goal;
+    } };
 }
 
 impl Problem {

@@ -1,7 +1,6 @@
 //! Reading a line of the terminal.
 ghost use Rattle.std.specs.Prelude.{◌≡◌, Some, false, slice_range, true, IfOk, OnErr, OnOk};
 ghost use Rattle.ps_world.specs.Names.{Table};
-ghost use Rattle.ps_text.specs.Names.{folded, interned, is_name};
 ghost use Rattle.ps_text.specs.Tokens.{AreTokens};
 ghost use Rattle.ps_text.specs.Words.{words};
 ghost use Rattle.ps_text.specs.Names.{Keeps};
@@ -60,26 +59,14 @@ fn cause_of(refusal: LexRefusal) -> LineCause
     }
 }
 
-/// Puts a fixed word into the table.
-fn put_word(names: &mut Names, word: &[u8]) -> Result<(), AllocError>
-    requires { is_name word.now ≡ true }
-    ensures ok { OnOk result (names.new ≡ interned names.old (folded word.now)) }
-    ensures err { OnErr result (names.new ≡ names.old) }
-{
-    match names.intern(word) {
-        Ok(_) => Ok(()),
-        Err(Failure::OutOfMemory) => Err(AllocError),
-        Err(Failure::Refused(_)) => unreachable!(),
-    }
-}
-
 /// Puts the names `run` and `plan` into the table.
 fn put_run_plan(names: &mut Names) -> Result<(), AllocError>
     ensures ok { OnOk result (names.new ≡ with_run_plan names.old) }
     ensures kept { Keeps names.old names.new }
 {
-    put_word(names, b"run")?;
-    put_word(names, b"plan")
+    names.intern_name(b"run")?;
+    names.intern_name(b"plan")?;
+    Ok(())
 }
 
 /// What a token is to the grammar.

@@ -1,5 +1,5 @@
 -- Books and seats as contracts see them.
-use Rattle.std.specs.Prelude.{◌≡◌, ℕ, ◌<◌, ◌≤◌, Bool, true, false, List, refl}
+use Rattle.std.specs.Prelude.{◌≡◌, ℕ, ◌-◌, ◌<◌, ◌≤◌, Bool, true, false, List, refl}
 use Rattle.std.specs.List.{All, Any, range_with_len}
 use Rattle.std.specs.Coded.{Coded, code_by, coded×, coded_ℕ, coded_bool, coded_list}
 use Rattle.atomic_table.specs.Seated.{TableId, table_id_coded}
@@ -44,6 +44,10 @@ new_place book hand = record { book = book; hand = hand; seen = book.opened; min
 abbrev pub hands : ℕ → List ℕ
 hands seats = range_with_len 1 seats
 
+-- the hands after the first
+abbrev pub later_hands : ℕ → List ℕ
+later_hands seats = range_with_len 2 (seats - 1)
+
 -- the seat once it has seen this history, and holds the turn or doesn't
 abbrev pub now_at : Place → List Entry → Bool → Place
 now_at place log holds = record { book = place.book; hand = place.hand; seen = log; mine = of_hand place.hand log; holds = holds }
@@ -61,6 +65,10 @@ abbrev pub AreAll : Book → List Place → Type 0
 AreAll book places = All (IsFree book) places × ((hand : ℕ) → 0 < hand → hand ≤ book.seats → Any (λ place. place.hand ≡ hand) places)
 
 module _ {X : Type 0} (history : X → List Entry) (input : X → Input) where
+  -- the value has the history and the input that the book was opened with
+  abbrev pub IsOpening : Book → X → Type 0
+  IsOpening book value = (history value ≡ book.opened) × (input value ≡ book.input)
+
   -- A seat took the value: its history begins with what the seat saw, and the seat's own entries are all that it has of its hand.
   pub record Took (book : Book) (before : Place) (value : X) (after : Place) : Type 0 where
     pub of_input : input value ≡ book.input

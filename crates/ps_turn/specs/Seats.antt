@@ -1,10 +1,12 @@
 -- A seat's token of the table, and what it has to do with the seat's place.
-use Rattle.std.specs.Prelude.{◌≡◌, ℕ, ◌<◌, Bool, true, false, List, [], ◌∷◌, Option, Some, None}
+use Rattle.std.specs.Prelude.{◌≡◌, ℕ, ◌<◌, ◌≤◌, ◌⊎◌, Bool, true, false, List, [], ◌∷◌, Option, Some, None}
+use Rattle.atomic_table.specs.Seated.{TableId}
 use Rattle.atomic_table.specs.Table.{Me}
 use Rattle.ps_machine.specs.declared.inputs.Input.{Input}
 use Rattle.ps_machine.specs.declared.journal.Entry.{Entry}
 use Rattle.ps_turn.specs.Books.{Book, Place}
-use Rattle.ps_turn.specs.Rule.{Founded, Known, AreKnown}
+use Rattle.ps_turn.specs.Rule.{Founded, HasNote, Known, AreKnown}
+use Rattle.ps_turn.specs.Turns.{dealing}
 use Rattle.ps_turn.specs.declared.view.Note.{Note}
 use Rattle.ps_turn.specs.declared.view.View.{View}
 
@@ -22,6 +24,10 @@ module _ {X : Type 0} where
   slots_of true = (0, None) ∷ []
   slots_of false = []
 
+  -- the token is the first seat's, of this book, which has dealt so many hands
+  abbrev pub IsDealing : Book → ℕ → TableId → Me (Option X) View → Type 0
+  IsDealing book made table me = (table ≡ book.identity) × (me ≡ (dealing (founded_on book) made, []))
+
   -- the token has the seat's hand and the book's input
   pub record IsSeated (hand : ℕ) (input : Input) (me : Me (Option X) View) : Type 0 where
     pub live : 0 < hand
@@ -38,6 +44,10 @@ pub record IsKeeper (place : Place) (v : View) : Type 0 where
   pub seen_is : v.seen ≡ place.seen
   pub mine_is : v.mine ≡ place.mine
   pub aside : v.holds ≡ false
+
+-- each hand from 1 to this one is the seat's own or that of one of its notes
+abbrev pub HasHands : ℕ → View → Type 0
+HasHands last v = (hand : ℕ) → 0 < hand → hand ≤ last → (v.hand ≡ hand) ⊎ HasNote hand v.notes
 
 -- what the seat knows and what it has noted of others agrees with the history
 abbrev pub Tells : List Entry → View → Type 0

@@ -34,16 +34,24 @@ impl<V: Grows> Model for TurnBook<V> {
 
     ghost coded = { book_code };
 
-    ghost view = { λ b. record { identity = b.table.shared.table_id; seats = b.table.shared.key.seats; opened = V.history b.table.shared.key.opened.value; input = V.input b.table.shared.key.opened.value } };
+    ghost view = { λ b. record {
+      identity = b.table.shared.table_id;
+      seats = b.table.shared.key.seats;
+      opened = V.history b.table.shared.key.opened.value;
+      input = V.input b.table.shared.key.opened.value;
+    } };
 
-    ghost invariant = { λ b. (b.table.shared.table_id.words ≡ 1) × (b.table.shared.table_id.slots ≡ 1) × (0 < b.table.shared.key.seats) };
+    ghost invariant = { λ b. (b.table.shared.table_id.words ≡ 1)
+        × (b.table.shared.table_id.slots ≡ 1) × (0 < b.table.shared.key.seats) };
 }
 
 impl<V: Grows> TurnBook<V> {
     // Takes the turn if it is free, and else says which hand has it.
     fn try_take(&self, seat: &mut Seat<V>) -> Result<V, u32>
         requires { IsFree self.now seat.old }
-        ensures { MatchResult result (λ value. Took V.history V.input self.now seat.old value seat.new) (λ _. seat.new ≡ seat.old) }
+        ensures { MatchResult result
+            (λ value. Took V.history V.input self.now seat.old value seat.new)
+            (λ _. seat.new ≡ seat.old) }
     {
         let hand = u64::from(seat.hand);
         let found = self

@@ -1,10 +1,9 @@
 //! Books are closed.
-ghost use Rattle.std.specs.Prelude.{◌≡◌, ℕ, ◌<◌, ◌≤◌, ◌⊎◌, false, map};
+ghost use Rattle.std.specs.Prelude.{◌≡◌, ◌<◌, false, map};
 ghost use Rattle.std.specs.List.{All};
 ghost use Rattle.ps_turn.specs.Books.{Agrees, AreAll, IsFree};
 ghost use Rattle.ps_turn.specs.Hands.{GoesOnByHands};
-ghost use Rattle.ps_turn.specs.Rule.{HasNote};
-ghost use Rattle.ps_turn.specs.Seats.{place_note, IsKeeper, Tells};
+ghost use Rattle.ps_turn.specs.Seats.{place_note, HasHands, IsKeeper, Tells};
 ghost use Rattle.ps_turn.specs.Turns.{with_note};
 
 use crate::book::TurnBook;
@@ -55,7 +54,9 @@ impl<V: Grows> TurnBook<V> {
         requires token { keeper.old.table_id ≡ self.now.identity }
         requires live { 0 < keeper.old.me.0.hand }
         requires free { IsFree self.now next }
-        ensures { (keeper.new.table_id ≡ keeper.old.table_id) × (keeper.new.me ≡ (with_note keeper.old.me.0 (place_note next), keeper.old.me.1)) }
+        ensures token { keeper.new.table_id ≡ keeper.old.table_id }
+        ensures noted { keeper.new.me
+            ≡ (with_note keeper.old.me.0 (place_note next), keeper.old.me.1) }
     {
         let Seat {
             hand: _,
@@ -70,7 +71,7 @@ impl<V: Grows> TurnBook<V> {
         requires token { keeper.table_id ≡ self.identity }
         requires live { 0 < keeper.me.0.hand }
         requires aside { keeper.me.0.holds ≡ false }
-        requires all { (hand : ℕ) → 0 < hand → hand ≤ self.seats → (keeper.me.0.hand ≡ hand) ⊎ HasNote hand keeper.me.0.notes }
+        requires all { HasHands self.seats keeper.me.0 }
         ensures of_input { V.input result ≡ self.input }
         ensures grows { GoesOnByHands self.seats self.opened (V.history result) }
         ensures tells { Tells (V.history result) keeper.me.0 }

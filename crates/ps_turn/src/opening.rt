@@ -1,9 +1,7 @@
 //! Books are opened.
 ghost use Rattle.std.specs.Prelude.{◌≡◌, ◌+◌, ◌-◌, ◌<◌, ◌≤◌, [], map, length, vec_len, vec_capacity, IfOk, IfErr};
-ghost use Rattle.std.specs.List.{range_with_len};
-ghost use Rattle.ps_turn.specs.Books.{new_place, hands};
-ghost use Rattle.ps_turn.specs.Seats.{founded_on};
-ghost use Rattle.ps_turn.specs.Turns.{dealing};
+ghost use Rattle.ps_turn.specs.Books.{new_place, hands, later_hands, IsOpening};
+ghost use Rattle.ps_turn.specs.Seats.{IsDealing};
 
 use crate::book::TurnBook;
 use crate::rule::{Begin, Deal, Founding, Give};
@@ -30,7 +28,8 @@ impl<V: Grows> TurnBook<V> {
         seats: u8,
     ) -> Result<(TurnBook<V>, Vec<Seat<V>>), NotOpened<V>>
         requires { (1 ≤ seats) × (seats ≤ 16) }
-        ensures book { IfOk result (λ r. (r.0.seats ≡ seats) × (r.0.opened ≡ V.history value) × (r.0.input ≡ V.input value)) }
+        ensures book { IfOk result (λ r. (r.0.seats ≡ seats)
+            × (r.0.opened ≡ V.history value) × (r.0.input ≡ V.input value)) }
         ensures seats { IfOk result (λ r. r.1.items ≡ map (new_place r.0) (hands seats)) }
         ensures err { IfErr result (λ refused. refused.value ≡ value) }
     {
@@ -62,8 +61,8 @@ impl<V: Grows> TurnBook<V> {
         seats: u8,
         mut places: Vec<Seat<V>>,
     ) -> Vec<Seat<V>>
-        requires token { (first.table_id ≡ self.now.identity) × (first.me ≡ (dealing (founded_on self.now) 1, [])) }
-        requires value { (V.history value ≡ self.now.opened) × (V.input value ≡ self.now.input) }
+        requires token { IsDealing self.now 1 first.table_id first.me }
+        requires value { IsOpening V.history V.input self.now value }
         requires seats { (0 < seats) × (seats ≡ self.now.seats) }
         requires room { (places.items ≡ []) × (seats ≤ vec_capacity places) }
         ensures { result.items ≡ map (new_place self.now) (hands seats) }
@@ -83,13 +82,14 @@ impl<V: Grows> TurnBook<V> {
         seats: u8,
         places: &mut Vec<Seat<V>>,
     )
-        requires token { (first.old.table_id ≡ self.now.identity) × (first.old.me ≡ (dealing (founded_on self.now) 1, [])) }
-        requires value { (V.history value.now ≡ self.now.opened) × (V.input value.now ≡ self.now.input) }
+        requires token { IsDealing self.now 1 first.old.table_id first.old.me }
+        requires value { IsOpening V.history V.input self.now value.now }
         requires seats { (0 < seats) × (seats ≡ self.now.seats) }
         requires room { (places.old.items ≡ []) × (seats ≤ vec_capacity places.old) }
-        ensures token { (first.new.table_id ≡ self.now.identity) × (first.new.me ≡ (dealing (founded_on self.now) seats, [])) }
-        ensures places { places.new.items ≡ map (new_place self.now) (range_with_len 2 (seats - 1)) }
-        ensures room { (vec_len places.new ≡ seats - 1) × (vec_capacity places.new ≡ vec_capacity places.old) }
+        ensures token { IsDealing self.now seats first.new.table_id first.new.me }
+        ensures places { places.new.items ≡ map (new_place self.now) (later_hands seats) }
+        ensures count { vec_len places.new ≡ seats - 1 }
+        ensures room { vec_capacity places.new ≡ vec_capacity places.old }
     {
         for made in 1..seats {
             let seat = self.deal_one(first, Founding::of(value, seats), made);
@@ -104,10 +104,11 @@ impl<V: Grows> TurnBook<V> {
         founding: Founding<V>,
         made: u8,
     ) -> Seat<V>
-        requires token { (first.old.table_id ≡ self.now.identity) × (first.old.me ≡ (dealing (founded_on self.now) made, [])) }
-        requires founding { (founding.seats ≡ self.now.seats) × (V.history founding.opened.value ≡ self.now.opened) × (V.input founding.opened.value ≡ self.now.input) }
+        requires token { IsDealing self.now made first.old.table_id first.old.me }
+        requires seats { founding.seats ≡ self.now.seats }
+        requires founding { IsOpening V.history V.input self.now founding.opened.value }
         requires room { made < self.now.seats }
-        ensures token { (first.new.table_id ≡ self.now.identity) × (first.new.me ≡ (dealing (founded_on self.now) (made + 1), [])) }
+        ensures token { IsDealing self.now (made + 1) first.new.table_id first.new.me }
         ensures seat { result ≡ new_place self.now (made + 1) }
     {
         let hand = made + 1;
@@ -121,8 +122,8 @@ impl<V: Grows> TurnBook<V> {
 
     // The first seat takes the empty slot, fills it and gives it back.
     fn begin(&self, mut first: Token<Option<V>, View>, value: V, seats: u8) -> Seat<V>
-        requires token { (first.table_id ≡ self.now.identity) × (first.me ≡ (dealing (founded_on self.now) seats, [])) }
-        requires value { (V.history value ≡ self.now.opened) × (V.input value ≡ self.now.input) }
+        requires token { IsDealing self.now seats first.table_id first.me }
+        requires value { IsOpening V.history V.input self.now value }
         requires seats { seats ≡ self.now.seats }
         ensures { result ≡ new_place self.now 1 }
     {

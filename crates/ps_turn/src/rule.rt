@@ -38,9 +38,17 @@ impl<V> Drop for Founding<V> {
 pub struct Turns;
 
 impl<V: Grows> TableRule<Option<V>, View, Founding<V>> for Turns {
-    ghost holds = { λ k s. Rule V.history V.input (record { seats = k.seats; base = V.history k.opened.value; input = V.input k.opened.value }) s };
+    ghost holds = { λ k s. Rule V.history V.input (record {
+      seats = k.seats;
+      base = V.history k.opened.value;
+      input = V.input k.opened.value;
+    }) s };
 
-    ghost first = { λ k. opener (record { seats = k.seats; base = V.history k.opened.value; input = V.input k.opened.value }) };
+    ghost first = { λ k. opener (record {
+      seats = k.seats;
+      base = V.history k.opened.value;
+      input = V.input k.opened.value;
+    }) };
 }
 
 /// The first seat takes the empty slot.

@@ -23,7 +23,18 @@ impl<V: Grows> Model for Seat<V> {
 
     ghost coded = { place_code };
 
-    ghost view = { λ s. record { book = record { identity = s.token.table_id; seats = s.founding.seats; opened = V.history s.founding.opened.value; input = V.input s.founding.opened.value }; hand = s.hand; seen = s.token.me.0.seen; mine = s.token.me.0.mine; holds = s.token.me.0.holds } };
+    ghost view = { λ s. record {
+      book = record {
+        identity = s.token.table_id;
+        seats = s.founding.seats;
+        opened = V.history s.founding.opened.value;
+        input = V.input s.founding.opened.value;
+      };
+      hand = s.hand;
+      seen = s.token.me.0.seen;
+      mine = s.token.me.0.mine;
+      holds = s.token.me.0.holds;
+    } };
 
     ghost invariant = { λ s. IsSeated s.hand (V.input s.founding.opened.value) s.token.me };
 }

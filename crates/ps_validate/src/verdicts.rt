@@ -61,7 +61,8 @@ fn text_wrong(
     plan: &[u8],
 ) -> Result<Option<Invalid>, AllocError>
     requires { AreNames names.old }
-    ensures verdict { IfOk result (λ wrong. (wrong, names.new) ≡ text_wrong expert.now problem.now names.old plan.now (plan_fault plan.now)) }
+    ensures verdict { IfOk result (λ wrong. (wrong, names.new)
+        ≡ text_wrong expert.now problem.now names.old plan.now (plan_fault plan.now)) }
     ensures names { OnOk result (AreNames names.new) }
 {
     match read_plan(alloc, names, plan) {
@@ -81,7 +82,8 @@ pub fn verdict(
     plan: &[u8],
 ) -> Result<Option<Invalid>, AllocError>
     requires { AreNames names.old }
-    ensures verdict { IfOk result (λ wrong. (wrong, names.new) ≡ verdict expert.now problem.now names.old plan.now) }
+    ensures verdict { IfOk result (λ wrong. (wrong, names.new)
+        ≡ verdict expert.now problem.now names.old plan.now) }
     ensures names { OnOk result (AreNames names.new) }
 {
     match problem.goal() {

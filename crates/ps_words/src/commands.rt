@@ -49,7 +49,8 @@ fn with_option<'a>(
     id: &'a str,
     required: bool,
 ) -> Result<Command<'a>, AllocError>
-    ensures { (app : App) → IfOk command.entry (λ c. app_of c ≡ app) → IfOk result (λ c. app_of c ≡ with_rule app (option_rule id.now required)) }
+    ensures { (app : App) → IfOk command.entry (λ c. app_of c ≡ app)
+        → IfOk result (λ c. app_of c ≡ with_rule app (option_rule id.now required)) }
 {
     let command = command?;
     let option = Arg::new(alloc, id)
@@ -65,7 +66,8 @@ fn with_flag<'a>(
     command: Result<Command<'a>, AllocError>,
     id: &'a str,
 ) -> Result<Command<'a>, AllocError>
-    ensures { (app : App) → IfOk command.entry (λ c. app_of c ≡ app) → IfOk result (λ c. app_of c ≡ with_rule app (flag_rule id.now)) }
+    ensures { (app : App) → IfOk command.entry (λ c. app_of c ≡ app)
+        → IfOk result (λ c. app_of c ≡ with_rule app (flag_rule id.now)) }
 {
     let command = command?;
     let flag = Arg::new(alloc, id).long(id).action(ArgAction::SetTrue);
@@ -121,7 +123,8 @@ pub fn taken<'a>(
     words: &'a [String],
 ) -> Result<Option<ArgMatches<'a>>, AllocError>
     requires { is_simple_and_free (app_of command) ≡ true }
-    ensures { IfOk result (λ m. option_map (λ x. rows_of (found_of x)) m ≡ rows_read (app_of command.entry) (word_texts words.now)) }
+    ensures { IfOk result (λ m. option_map (λ x. rows_of (found_of x)) m
+        ≡ rows_read (app_of command.entry) (word_texts words.now)) }
 {
     match command.try_get_matches_from(words) {
         Ok(matches) => Ok(Some(matches)),

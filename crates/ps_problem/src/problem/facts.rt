@@ -99,7 +99,8 @@ impl Facts {
     /// Puts these facts in. The only error is want of memory, and then some of the first may be there.
     pub fn insert_all(&mut self, facts: &[Fact]) -> Result<(), AllocError>
         ensures ok { OnOk result (self.new ≡ fold (insert_key fact_cmp) self.old facts.now) }
-        ensures err { OnErr result ((k : ℕ) × (self.new ≡ fold (insert_key fact_cmp) self.old (take k facts.now))) }
+        ensures err { OnErr result ((k : ℕ)
+            × (self.new ≡ fold (insert_key fact_cmp) self.old (take k facts.now))) }
     {
         for fact in facts {
             self.insert(*fact)?;
@@ -149,7 +150,9 @@ impl Facts {
         effects: &[Effect],
         come: &BTreeSet<Fact>,
     ) -> Result<Vec<Fact>, AllocError>
-        ensures { IfOk result (λ v. v.items ≡ filter (λ f. list_any (same_fact f) self.now && not (list_any (same_fact f) come.now.keys)) (filter_map deleted_by effects.now)) }
+        ensures { IfOk result (λ v. v.items ≡ filter
+            (λ f. list_any (same_fact f) self.now && not (list_any (same_fact f) come.now.keys))
+            (filter_map deleted_by effects.now)) }
     {
         let mut lost = Vec::new(alloc);
         for effect in effects {
@@ -208,7 +211,8 @@ fn deleted(effect: &Effect) -> Option<Fact>
 
 /// All facts that effects add. The only error is want of memory.
 fn all_added(alloc: Global, effects: &[Effect]) -> Result<BTreeSet<Fact>, AllocError>
-    ensures { IfOk result (λ s. (f : Fact) → list_any (same_fact f) s.keys ≡ list_any (same_fact f) (filter_map added_by effects.now)) }
+    ensures { IfOk result (λ s. (f : Fact) → list_any (same_fact f) s.keys
+        ≡ list_any (same_fact f) (filter_map added_by effects.now)) }
 {
     let mut all = BTreeSet::new(alloc);
     for effect in effects {

@@ -47,7 +47,8 @@ fn unsuited_to(
     decl: Option<&Decl>,
     names: &[Name],
 ) -> Option<EditRefusal>
-    ensures { result ≡ unsuited missing expert.now problem.now (option_copied decl.entry) names.now }
+    ensures { result
+        ≡ unsuited missing expert.now problem.now (option_copied decl.entry) names.now }
 {
     let Some(decl) = decl else {
         return Some(missing);

@@ -84,7 +84,8 @@ impl Problem {
 
     /// The instances whose type is this one or below it, in their order. The only error is want of memory.
     pub fn instances_of(&self, expert: &Expert, kind: Name) -> Result<Vec<Name>, AllocError>
-        ensures { IfOk result (λ v. v.items ≡ map (λ i. i.0) (filter (λ i. is_below expert.now i.1 kind) self.now.instances)) }
+        ensures { IfOk result (λ v. v.items
+            ≡ map (λ i. i.0) (filter (λ i. is_below expert.now i.1 kind) self.now.instances)) }
     {
         let mut found = Vec::new(self.alloc);
         for (name, there) in &self.instances {

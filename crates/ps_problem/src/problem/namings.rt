@@ -2,7 +2,7 @@
 ghost use Rattle.std.specs.Prelude.{◌≡◌, ◌≢◌, ◌<◌, length, All, IfSome, IfNone, OnOk};
 ghost use Rattle.std.specs.List.{Contains};
 ghost use Rattle.ps_world.specs.declared.facts.Fact.{Fact};
-ghost use Rattle.ps_problem.specs.Namings.{IsNaming, Covers, lowest_fact as least};
+ghost use Rattle.ps_problem.specs.Namings.{IsNaming, IsNoted, Covers, lowest_fact as least};
 ghost use Rattle.ps_problem.specs.declared.problem.namings.Naming.{Naming};
 
 use ps_world::{Args, Fact, Name};
@@ -33,10 +33,11 @@ pub fn note(namings: &mut BTreeSet<Naming>, fact: &Fact) -> Result<(), AllocErro
 
 /// Takes out a note of this name, and answers its fact. None exactly where the name is noted with no fact.
 pub fn take_naming(namings: &mut BTreeSet<Naming>, name: Name) -> Option<Fact>
-    ensures none { IfNone result ((f : Fact) → Contains namings.old.keys (record { name = name; fact = f }) → ⊥) }
+    ensures none { IfNone result ((f : Fact) → IsNoted namings.old.keys name f → ⊥) }
     ensures same { IfNone result (namings.new.keys ≡ namings.old.keys) }
-    ensures there { IfSome result (λ f. Contains namings.old.keys (record { name = name; fact = f })) }
-    ensures kept { IfSome result (λ f. (x : Naming) → (x.fact ≢ f) → Contains namings.old.keys x → Contains namings.new.keys x) }
+    ensures there { IfSome result (λ f. IsNoted namings.old.keys name f) }
+    ensures kept { IfSome result (λ f. (x : Naming) → (x.fact ≢ f)
+        → Contains namings.old.keys x → Contains namings.new.keys x) }
     ensures falls { IfSome result (λ f. length namings.new.keys < length namings.old.keys) }
     ensures sound { All IsNaming namings.old.keys → All IsNaming namings.new.keys }
 {
@@ -47,7 +48,7 @@ pub fn take_naming(namings: &mut BTreeSet<Naming>, name: Name) -> Option<Fact>
 
 /// The first note of this name. None exactly where there is none.
 fn first_naming(namings: &BTreeSet<Naming>, name: Name) -> Option<Naming>
-    ensures none { IfNone result ((f : Fact) → Contains namings.now.keys (record { name = name; fact = f }) → ⊥) }
+    ensures none { IfNone result ((f : Fact) → IsNoted namings.now.keys name f → ⊥) }
     ensures name { IfSome result (λ x. x.name ≡ name) }
     ensures there { IfSome result (λ x. Contains namings.now.keys x) }
 {

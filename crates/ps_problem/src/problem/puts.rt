@@ -54,14 +54,21 @@ impl Problem {
     /// came is taken out, and each term has the value that it held.
     fn make(&mut self, change: &Change, ready: &[(Fact, Num)]) -> Result<bool, AllocError>
         ensures ok { OnOk result (self.new ≡ record self.old {
-          facts = fold without_one (fold (insert_key fact_cmp) self.old.facts change.now.fresh.items) change.now.lost.items;
+          facts = fold without_one
+              (fold (insert_key fact_cmp) self.old.facts change.now.fresh.items)
+              change.now.lost.items;
           values = fold with_value self.old.values ready.now;
         }) }
-        ensures changed { IfOk result (λ changed. (changed ≡ false) ↔ ((change.now.fresh.items ≡ []) × (change.now.lost.items ≡ [])
+        ensures changed { IfOk result (λ changed. (changed ≡ false)
+            ↔ ((change.now.fresh.items ≡ []) × (change.now.lost.items ≡ [])
             × All (λ h. lookup (same_fact h.0) self.new.values ≡ h.1) change.now.held.items)) }
         ensures err { OnErr result ((j k : ℕ) × (self.new ≡ record self.old {
-          facts = fold without_one (fold (insert_key fact_cmp) self.old.facts (take j change.now.fresh.items)) change.now.fresh.items;
-          values = fold with_held (fold with_value self.old.values (take k ready.now)) change.now.held.items;
+          facts = fold without_one
+              (fold (insert_key fact_cmp) self.old.facts (take j change.now.fresh.items))
+              change.now.fresh.items;
+          values = fold with_held
+              (fold with_value self.old.values (take k ready.now))
+              change.now.held.items;
         })) }
     {
         match self.grow(change, ready) {

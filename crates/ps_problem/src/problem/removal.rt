@@ -18,7 +18,9 @@ impl Problem {
     }
 
     fn leave_out_instance(&mut self, name: Name)
-        ensures { self.new ≡ record self.old { instances = filter (λ i. not (same_name name i.0)) self.old.instances } }
+        ensures { self.new ≡ record self.old {
+          instances = filter (λ i. not (same_name name i.0)) self.old.instances;
+        } }
     {
         // A map says of its length that its keys rise, so that the name stands in it once.
         let _count = self.instances.len();
@@ -26,13 +28,17 @@ impl Problem {
     }
 
     fn leave_out_facts(&mut self, name: Name)
-        ensures { self.new ≡ record self.old { facts = filter (λ f. not (is_among name f.args)) self.old.facts } }
+        ensures { self.new ≡ record self.old {
+          facts = filter (λ f. not (is_among name f.args)) self.old.facts;
+        } }
     {
         self.facts.leave_out(name);
     }
 
     fn leave_out_values(&mut self, name: Name)
-        ensures { self.new ≡ record self.old { values = filter (λ v. not (is_among name v.0.args)) self.old.values } }
+        ensures { self.new ≡ record self.old {
+          values = filter (λ v. not (is_among name v.0.args)) self.old.values;
+        } }
     {
         self.values.leave_out(name);
     }

@@ -99,7 +99,8 @@ impl Values {
     /// Sets these values one after another. The only error is want of memory, and then some of the first may be set.
     pub fn insert_all(&mut self, ready: &[(Fact, Num)]) -> Result<(), AllocError>
         ensures ok { OnOk result (self.new ≡ fold with_value self.old ready.now) }
-        ensures err { OnErr result ((k : ℕ) × (self.new ≡ fold with_value self.old (take k ready.now))) }
+        ensures err { OnErr result ((k : ℕ)
+            × (self.new ≡ fold with_value self.old (take k ready.now))) }
     {
         for (term, number) in ready {
             self.insert(*term, *number)?;
