@@ -1,5 +1,5 @@
 -- A script with its files, line by line.
-use Rattle.std.proofs.Common.{◌≡◌, ℕ, zero, suc, ◌+◌, ◌<◌, ◌≤◌, ◌⊎◌, inl, inr, Bool, true, false, ◌&&◌, if◌then◌else◌, nat_lt, Option, Some, None, Result, Ok, Err, List, [], ◌∷◌, ◌++◌, length, drop, get_or, slice_range, refl, sym, ap, ◌∙◌, subst, append_assoc, arith}
+use Rattle.std.proofs.Common.{◌≡◌, ℕ, suc, ◌+◌, ◌<◌, ◌≤◌, ◌⊎◌, inl, inr, Bool, true, false, ◌&&◌, if◌then◌else◌, nat_lt, None, Result, Ok, Err, List, [], ◌∷◌, ◌++◌, length, drop, get_or, slice_range, refl, sym, ap, ◌∙◌, subst, append_assoc, arith}
 use Rattle.std.proofs.Common.{drop-cons}
 use Rattle.std.proofs.Math.Seq.{drop-length}
 use Rattle.std.proofs.lemmas.Bool.Decides.{nat_tests}
@@ -15,16 +15,16 @@ use Rattle.ps_text.specs.Outside.{FilesView}
 use Rattle.ps_text.specs.ScriptLines.{script_lines}
 use Rattle.ps_text.specs.Words.{pieces}
 use Rattle.ps_text.specs.declared.spans.Span.{Span}
-use Rattle.ps_script.specs.Files.{after_run, file_in, is_run_plan, is_source}
+use Rattle.ps_script.specs.Files.{after_run, file_in, is_run_plan}
 use Rattle.ps_script.specs.Kinds.{IsKind}
-use Rattle.ps_script.specs.Lines.{IsRead, is_nothing}
+use Rattle.ps_script.specs.Lines.{IsRead}
 use Rattle.ps_script.specs.Lines.IsRead.{nothing, source, source_nothing, run_plan, run_nothing, without_class, without_number, without_form, without_shape, good}
-use Rattle.ps_script.specs.declared.kinds.Kind.TheVariants.{Nothing, Source, RunPlan, Command}
+use Rattle.ps_script.specs.declared.kinds.Kind.TheVariants.{Nothing, RunPlan, Command}
 use Rattle.ps_script.specs.declared.reading.Read.{Read}
 use Rattle.ps_inputs.specs.Reading.{MayFail, Reading, Texts, and_then, most_lines, read_file}
 use Rattle.ps_inputs.specs.Reading.FileFault.{too_many}
 use Rattle.ps_inputs.specs.Reading.Reading.{gives, faulty}
-use Rattle.ps_inputs.specs.Flats.{Flat, Flattened, followed, is_quit, no_line, on_source, one_line, plain_line, plan_line, step, walk, with_room}
+use Rattle.ps_inputs.specs.Flats.{Flat, Flattened, followed, is_quit, no_line, on_source, plain_line, plan_line, step, walk, with_room}
 use Rattle.ps_inputs.specs.Flats.Flattened.{plain, with_plan, too_deep}
 use Rattle.ps_inputs.specs.Scripts.{IsScript, given_by, table_after_plan}
 use Rattle.ps_inputs.specs.Scripts.IsScript.{nothing as no_script, one_more}
@@ -33,7 +33,7 @@ use Rattle.ps_inputs.specs.Parts.{Adds, HasRoom, IsAdded, IsCommandLine, Opens, 
 use Rattle.ps_inputs.specs.declared.reading.scripts.Script.{Script}
 use Rattle.ps_inputs.specs.declared.faults.Fault.{Fault}
 use Rattle.ps_inputs.specs.declared.faults.Fault.TheVariants.{Usage, NoDomain, TooLong, Lines, Unread}
-use Rattle.ps_inputs.proofs.ReadParts.{out_of_memory, read_nothing, then_ended, then_read}
+use Rattle.ps_inputs.proofs.ReadParts.{read_nothing, then_ended, then_read}
 
 -- ---- scripts
 
@@ -139,10 +139,6 @@ plan_added bytes file old new before after v r between line lt text read names p
     (then_read (read_file old.told file) (λ t plan. with_its_plan bytes plan) old new new v (Ok false) text
     (λ t e. read_nothing new (record { lines = with_plan bytes t ∷ []; ended = false }) false (added t e)))
 
-pub plan_unread : (bytes file : List ℕ) (old new : FilesView) (before after : Script) (why : Failure Fault) → count_of before < most_lines → ReadsText file old new (Err why) → PutsPlan bytes file old new before after (Err why)
-plan_unread bytes file old new before after why lt h =
-    room_read (count_of before) (and_then (read_file old.told file) (with_its_plan bytes)) old new (Err why) lt (then_ended (read_file old.told file) (with_its_plan bytes) old new why h)
-
 -- ---- a file
 
 module _ (plans : Bool) (levels : ℕ) (file : List ℕ) (old : FilesView) (before after : Script) (r : Result Bool (Failure Fault)) where
@@ -175,17 +171,11 @@ none_added script few = record { lines = []; read = no_script; added = sym (appe
 pub takes_nothing : (plans : Bool) (levels : ℕ) (bytes : List ℕ) (files : FilesView) (script : Script) → length script.lines.items ≤ most_lines → IsKind bytes Nothing → Takes plans levels bytes files files script script (Ok false)
 takes_nothing plans levels bytes files script few is = rw is (read_nothing files no_line false (none_added script few))
 
-module _ (plans : Bool) (levels : ℕ) (bytes file : List ℕ) (old new : FilesView) (before after : Script) (r : Result Bool (Failure Fault)) where
-  pub takes_source : IsKind bytes (Source file) → Opens plans levels file old new before after r → Takes plans levels bytes old new before after r
-  takes_source is h = rw (is.0, is.1, is.2) h
-
-  pub takes_plan : plans ≡ true → IsKind bytes (RunPlan file) → PutsPlan bytes file old new before after r → Takes plans levels bytes old new before after r
-  takes_plan e is h = rw (is.0, is.1, e, is.2, is.3) h
-
-  pub takes_no_plan : plans ≡ false → IsKind bytes (RunPlan file) → PutsPlain bytes before after r → Takes plans levels bytes old old before after r
-  takes_no_plan e is h = rw (is.0, is.1, e) (h old)
-
 module _ (plans : Bool) (levels : ℕ) (bytes : List ℕ) (old : FilesView) (before after : Script) (r : Result Bool (Failure Fault)) where
+  -- a line that runs the plan in a file, where the files of plans aren't read
+  pub takes_no_plan : (file : List ℕ) → plans ≡ false → IsKind bytes (RunPlan file) → PutsPlain bytes before after r → Takes plans levels bytes old old before after r
+  takes_no_plan file e is h = rw (is.0, is.1, e) (h old)
+
   -- a line without `source` and `run plan`, or one of these that names no file
   other_command : (plan : Bool) → PutsPlain bytes before after r → (is_run_plan bytes ≡ false) ⊎ (file_in (after_run (after_run bytes)) ≡ None) → is_run_plan bytes ≡ plan → Adds (if plans && plan then plan_line old.told (count_of before) bytes (file_in (after_run (after_run bytes))) else plain_line (count_of before) bytes) old old before after r
   other_command plan h (inl other) e = rw (sym e ∙ other) (by_plans plans) where
@@ -203,13 +193,6 @@ module _ (plans : Bool) (levels : ℕ) (bytes : List ℕ) (old : FilesView) (bef
         | inl s ↦ rw (is.0, s.0, s.1) (h old)
         | inr s ↦ rw (is.0, s.0) (other_command (is_run_plan bytes) h s.1 refl)
       ]
-
--- a line that runs the plan in a file, and one that names no file, are command lines
-pub command_plain : (bytes : List ℕ) → IsKind bytes Command → IsCommandLine bytes
-command_plain bytes is = (is.0, elim is.1 [ inl s ↦ inr s.1 | inr s ↦ inl s.0 ])
-
-pub plan_plain : (bytes file : List ℕ) → IsKind bytes (RunPlan file) → IsCommandLine bytes
-plan_plain bytes file is = (is.0, inl is.1)
 
 -- ---- the lines of a file
 

@@ -1,5 +1,5 @@
 -- The names of a line that is read stand in the table after it, and its numbers are in range.
-use Rattle.std.proofs.Common.{◌≡◌, ℕ, ◌<◌, ◌≤◌, Bool, true, false, if◌then◌else◌, Option, Some, None, IfSome, List, [], ◌∷◌, codes, map, length, All, slice_range, refl, subst, ap, arith}
+use Rattle.std.proofs.Common.{◌≡◌, ℕ, ◌<◌, ◌≤◌, Bool, true, false, if◌then◌else◌, Option, Some, None, List, [], ◌∷◌, codes, map, length, All, slice_range, refl, subst, ap, arith}
 use Rattle.std.proofs.lemmas.List.Elements.{All-nil, All-cons, All-head, All-tail, All-take}
 use Rattle.ps_world.specs.Names.{Table}
 use Rattle.ps_world.specs.Numbers.{IsCount}

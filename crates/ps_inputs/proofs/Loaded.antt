@@ -1,25 +1,23 @@
 -- The work, by what its files hold.
-use Rattle.std.proofs.Common.{◌≡◌, ℕ, ◌<◌, ◌≤◌, ◌^◌, true, false, Option, Some, None, option_map, IfSome, Result, Ok, Err, List, [], All, length, refl, sym, ap, ◌∙◌, subst, arith}
+use Rattle.std.proofs.Common.{◌≡◌, ℕ, ◌<◌, ◌^◌, true, false, Result, Ok, Err, List, [], All, length, refl, sym, ap, subst, arith}
 use Rattle.std.specs.Global.{Vec}
 use Rattle.ps_world.specs.Names.{Table}
 use Rattle.ps_world.specs.declared.failures.Failure.{Failure}
-use Rattle.ps_world.specs.declared.failures.Failure.TheVariants.{Refused, OutOfMemory}
 use Rattle.ps_text.specs.Outside.{FilesView}
 use Rattle.ps_world.specs.declared.domains.Domain.{Domain}
 use Rattle.ps_machine.specs.Tables.{IsLineOf}
 use Rattle.ps_machine.specs.declared.inputs.Input.{Input}
 use Rattle.ps_machine.specs.declared.inputs.Line.{Line}
 use Rattle.ps_print.specs.CanonicalWords.{IsParamOf}
-use Rattle.ps_words.specs.Words.{Request, SessionRequest, asked_of}
+use Rattle.ps_words.specs.Words.{Request, SessionRequest}
 use Rattle.ps_words.specs.Words.Request.{a_session, a_check, a_validation}
-use Rattle.ps_inputs.specs.Reading.{MayBe, MayGive, Reading, Texts, and_then, read_file}
-use Rattle.ps_inputs.specs.Reading.Reading.{gives, faulty, unknown}
+use Rattle.ps_inputs.specs.Reading.{Reading, Texts, and_then, read_file}
+use Rattle.ps_inputs.specs.Reading.Reading.{gives}
 use Rattle.ps_inputs.specs.Flats.{Flat, script_in}
 use Rattle.ps_inputs.specs.Scripts.{IsScript}
 use Rattle.ps_inputs.specs.Input.{IsDomain, IsInput, IsNoDomain, Material, domain_text_of, first_names, reading_of}
 use Rattle.ps_inputs.specs.Input.Material.{for_session, for_check, for_validation}
-use Rattle.ps_inputs.specs.Faults.{IsEnded, Loads, ReadsPart, failed_after}
-use Rattle.ps_inputs.specs.Parts.{IsAnswered, IsJudged, IsJudgedAs, IsScriptFrom, LoadsRequest, ReadsDomainFile, ReadsScript, ReadsText}
+use Rattle.ps_inputs.specs.Parts.{IsAnswered, IsJudged, IsJudgedAs, IsScriptFrom, Answers, ReadsDomainFile, ReadsScript, ReadsText}
 use Rattle.ps_inputs.specs.declared.reading.domains.Judged.{Judged}
 use Rattle.ps_inputs.specs.declared.reading.scripts.Script.{Script}
 use Rattle.ps_inputs.specs.declared.faults.Fault.{Fault}
@@ -33,56 +31,6 @@ use Rattle.ps_inputs.proofs.Later.{params-later}
 use Rattle.ps_inputs.proofs.ReadParts.{read_nothing, then_ended, then_read}
 use Rattle.ps_inputs.proofs.ScriptLines.{IsLeft, left_after}
 use Rattle.ps_inputs.proofs.TableNames.{AreNames-first, after_read, domain_within}
-
--- ---- what was read, as something else
-
--- what holds of what was read
-pub reads-weaker : {A B C : Type 0} {P : A → B → Type 0} {Q : A → C → Type 0} (part : Reading A) (old new : FilesView) (b : B) (c : C) → ((a : A) → P a b → Q a c) → ReadsPart part old new P (Ok b) → ReadsPart part old new Q (Ok c)
-reads-weaker part old new b c f h =
-    record { given = (h.given.0, h.given.1, h.given.2, h.given.3, f h.given.1 h.given.4); ended = tt; failed = h.failed; same = h.same }
-
--- something that gives a thing of which this holds
-may_give : {A : Type 0} (part : Reading A) (count : ℕ) (a : A) (claim : A → Type 0) → MayBe part count a → claim a → MayGive part claim
-may_give (gives files v) count a claim h p = subst claim (sym h.1) p
-may_give (faulty files fault) count a claim h p = absurd h
-may_give (unknown files) count a claim h p = tt
-
--- ---- from what is asked for to the work
-
-module _ (ws : List (List ℕ)) (request : Request) (asked : asked_of ws ≡ Some request) (old new : FilesView) where
-  -- the work is there
-  pub loads_work : (w : Work) → LoadsRequest request old new (Ok (Ok w)) → Loads ws old new (Ok w)
-  loads_work w h = record {
-    loaded = record {
-      request = request;
-      asked = asked;
-      kind = h.given.4.0;
-      texts = may_give (reading_of old.told request) h.given.0 h.given.1 _ h.given.2 h.given.4.1;
-    };
-    refused = tt;
-    failed = h.failed;
-  }
-
-  -- the domain's text is no domain
-  pub loads_no_domain : (fault : Fault) → LoadsRequest request old new (Ok (Err fault)) → Loads ws old new (Err (Refused fault))
-  loads_no_domain Usage h = absurd h.given.4
-  loads_no_domain (NoDomain cause) h = record {
-    loaded = tt;
-    refused = (request, asked, may_give (reading_of old.told request) h.given.0 h.given.1 (λ m. IsNoDomain (domain_text_of m) cause.items) h.given.2 h.given.4);
-    failed = h.failed;
-  }
-  loads_no_domain (TooLong file) h = absurd h.given.4
-  loads_no_domain Lines h = absurd h.given.4
-  loads_no_domain (Unread file) h = absurd h.given.4
-
-  -- a file is at fault, or memory runs out
-  pub loads_ended : (why : Failure Fault) → LoadsRequest request old new (Err why) → Loads ws old new (Err why)
-  loads_ended (Refused Usage) h = absurd h.ended
-  loads_ended (Refused (NoDomain cause)) h = absurd h.ended
-  loads_ended (Refused (TooLong file)) h = record { loaded = tt; refused = (request, asked, h.ended); failed = h.failed }
-  loads_ended (Refused Lines) h = record { loaded = tt; refused = (request, asked, h.ended); failed = h.failed }
-  loads_ended (Refused (Unread file)) h = record { loaded = tt; refused = (request, asked, h.ended); failed = h.failed }
-  loads_ended OutOfMemory h = record { loaded = tt; refused = tt; failed = h.failed }
 
 -- ---- the domain
 
@@ -127,18 +75,18 @@ input_fits text flat j script d e is are =
 -- ---- a check
 
 module _ (file : List ℕ) (old new : FilesView) where
-  pub check_unread : (why : Failure Fault) → ReadsDomainFile file old new (Err why) → LoadsRequest (a_check file) old new (Err why)
+  pub check_unread : (why : Failure Fault) → ReadsDomainFile file old new (Err why) → Answers (a_check file) old new (Err why)
   unfolding reading_of
   check_unread why h = then_ended (read_file old.told file) (λ d. gives [] (for_check d)) old new why h
 
-  check_read : (j : Judged) (r : Result Work Fault) → ReadsDomainFile file old new (Ok j) → ((d : List ℕ) → IsJudged d j → IsAnswered (a_check file) (for_check d) r) → LoadsRequest (a_check file) old new (Ok r)
+  check_read : (j : Judged) (r : Result Work Fault) → ReadsDomainFile file old new (Ok j) → ((d : List ℕ) → IsJudged d j → IsAnswered (a_check file) (for_check d) r) → Answers (a_check file) old new (Ok r)
   unfolding reading_of
   check_read j r h f = then_read (read_file old.told file) (λ t d. gives [] (for_check d)) old new new j (Ok r) h (λ d is. read_nothing new (for_check d) r (f d is))
 
-  pub check_good : (j : Judged) (d : Domain) → j.domain ≡ Ok d → ReadsDomainFile file old new (Ok j) → LoadsRequest (a_check file) old new (Ok (Ok (Check j.names d)))
+  pub check_good : (j : Judged) (d : Domain) → j.domain ≡ Ok d → ReadsDomainFile file old new (Ok j) → Answers (a_check file) old new (Ok (Ok (Check j.names d)))
   check_good j d e h = check_read j (Ok (Check j.names d)) h (λ text is. (tt, judged_domain text j d e is))
 
-  pub check_bad : (j : Judged) (fault : Fault) → j.domain ≡ Err fault → ReadsDomainFile file old new (Ok j) → LoadsRequest (a_check file) old new (Ok (Err fault))
+  pub check_bad : (j : Judged) (fault : Fault) → j.domain ≡ Err fault → ReadsDomainFile file old new (Ok j) → Answers (a_check file) old new (Ok (Err fault))
   check_bad j fault e h = check_read j (Err fault) h (λ text is. judged_fault text j.names (a_check file) (for_check text) fault refl (subst (IsJudgedAs text j.names) e is))
 
 -- ---- a session
@@ -151,28 +99,28 @@ module _ (s : SessionRequest) (old : FilesView) where
   abbrev session_after : Texts → List ℕ → Reading Material
   session_after t d = and_then (script_in false t s.script) (session_of d)
 
-  pub session_unread : (new : FilesView) (why : Failure Fault) → ReadsDomainFile s.domain old new (Err why) → LoadsRequest (a_session s) old new (Err why)
+  pub session_unread : (new : FilesView) (why : Failure Fault) → ReadsDomainFile s.domain old new (Err why) → Answers (a_session s) old new (Err why)
   unfolding reading_of
   session_unread new why h = then_ended (read_file old.told s.domain) (session_after old.told) old new why h
 
   module _ (middle new : FilesView) (j : Judged) (first : ReadsDomainFile s.domain old middle (Ok j)) where
-    pub session_unscripted : (why : Failure Fault) → ReadsScript j.names false s.script middle new (Err why) → LoadsRequest (a_session s) old new (Err why)
+    pub session_unscripted : (why : Failure Fault) → ReadsScript j.names false s.script middle new (Err why) → Answers (a_session s) old new (Err why)
     unfolding reading_of
     session_unscripted why h =
         then_read (read_file old.told s.domain) session_after old middle new j (Err why) first (λ d is. then_ended (script_in false middle.told s.script) (session_of d) middle new why h)
 
-    session_read : (script : Script) (r : Result Work Fault) → ReadsScript j.names false s.script middle new (Ok script) → ((d : List ℕ) (flat : Flat) → IsJudged d j → IsScriptFrom j.names flat script → IsAnswered (a_session s) (for_session s.budget d flat.lines) r) → LoadsRequest (a_session s) old new (Ok r)
+    session_read : (script : Script) (r : Result Work Fault) → ReadsScript j.names false s.script middle new (Ok script) → ((d : List ℕ) (flat : Flat) → IsJudged d j → IsScriptFrom j.names flat script → IsAnswered (a_session s) (for_session s.budget d flat.lines) r) → Answers (a_session s) old new (Ok r)
     unfolding reading_of
     session_read script r h f =
         then_read (read_file old.told s.domain) session_after old middle new j (Ok r) first
         (λ d is. then_read (script_in false middle.told s.script) (λ t flat. session_of d flat) middle new new script (Ok r) h (λ flat are. read_nothing new (for_session s.budget d flat.lines) r (f d flat is are)))
 
-    pub session_good : (script : Script) (d : Domain) (w : Session) → j.domain ≡ Ok d → w.names ≡ script.names → w.input.domain ≡ d → w.input.lines ≡ script.lines.items → w.input.budget ≡ s.budget → ReadsScript j.names false s.script middle new (Ok script) → LoadsRequest (a_session s) old new (Ok (Ok (work.Session w)))
+    pub session_good : (script : Script) (d : Domain) (w : Session) → j.domain ≡ Ok d → w.names ≡ script.names → w.input.domain ≡ d → w.input.lines ≡ script.lines.items → w.input.budget ≡ s.budget → ReadsScript j.names false s.script middle new (Ok script) → Answers (a_session s) old new (Ok (Ok (work.Session w)))
     session_good script d w e names domain lines budget h =
         session_read script (Ok (work.Session w)) h
         (λ text flat is are. (tt, is_input s.budget text flat j script d w.input w.names e names domain lines budget is are))
 
-    pub session_bad : (script : Script) (fault : Fault) → j.domain ≡ Err fault → ReadsScript j.names false s.script middle new (Ok script) → LoadsRequest (a_session s) old new (Ok (Err fault))
+    pub session_bad : (script : Script) (fault : Fault) → j.domain ≡ Err fault → ReadsScript j.names false s.script middle new (Ok script) → Answers (a_session s) old new (Ok (Err fault))
     session_bad script fault e h =
         session_read script (Err fault) h (λ text flat is are. judged_fault text j.names (a_session s) (for_session s.budget text flat.lines) fault refl (subst (IsJudgedAs text j.names) e is))
 
@@ -192,25 +140,25 @@ module _ (domain_file script_file plan_file : List ℕ) (old : FilesView) where
   abbrev script_after : Texts → List ℕ → Reading Material
   script_after t d = and_then (script_in true t script_file) (plan_after t d)
 
-  pub validation_unread : (new : FilesView) (why : Failure Fault) → ReadsDomainFile domain_file old new (Err why) → LoadsRequest validation_request old new (Err why)
+  pub validation_unread : (new : FilesView) (why : Failure Fault) → ReadsDomainFile domain_file old new (Err why) → Answers validation_request old new (Err why)
   unfolding reading_of
   validation_unread new why h = then_ended (read_file old.told domain_file) (script_after old.told) old new why h
 
   module _ (middle : FilesView) (j : Judged) (first : ReadsDomainFile domain_file old middle (Ok j)) where
-    pub validation_unscripted : (new : FilesView) (why : Failure Fault) → ReadsScript j.names true script_file middle new (Err why) → LoadsRequest validation_request old new (Err why)
+    pub validation_unscripted : (new : FilesView) (why : Failure Fault) → ReadsScript j.names true script_file middle new (Err why) → Answers validation_request old new (Err why)
     unfolding reading_of
     validation_unscripted new why h =
         then_read (read_file old.told domain_file) script_after old middle new j (Err why) first (λ d is. then_ended (script_in true middle.told script_file) (plan_after middle.told d) middle new why h)
 
     module _ (later new : FilesView) (script : Script) (second : ReadsScript j.names true script_file middle later (Ok script)) where
-      pub validation_unplanned : (why : Failure Fault) → ReadsText plan_file later new (Err why) → LoadsRequest validation_request old new (Err why)
+      pub validation_unplanned : (why : Failure Fault) → ReadsText plan_file later new (Err why) → Answers validation_request old new (Err why)
       unfolding reading_of
       validation_unplanned why h =
           then_read (read_file old.told domain_file) script_after old middle new j (Err why) first
           (λ d is. then_read (script_in true middle.told script_file) (λ t flat. plan_after t d flat) middle later new script (Err why) second
           (λ flat are. then_ended (read_file later.told plan_file) (validation_of d flat) later new why h))
 
-      validation_read : (plan : Vec ℕ) (r : Result Work Fault) → ReadsText plan_file later new (Ok plan) → ((d : List ℕ) (flat : Flat) → IsJudged d j → IsScriptFrom j.names flat script → IsAnswered validation_request (for_validation d flat.lines plan.items) r) → LoadsRequest validation_request old new (Ok r)
+      validation_read : (plan : Vec ℕ) (r : Result Work Fault) → ReadsText plan_file later new (Ok plan) → ((d : List ℕ) (flat : Flat) → IsJudged d j → IsScriptFrom j.names flat script → IsAnswered validation_request (for_validation d flat.lines plan.items) r) → Answers validation_request old new (Ok r)
       unfolding reading_of
       validation_read plan r h f =
           then_read (read_file old.told domain_file) script_after old middle new j (Ok r) first
@@ -218,12 +166,12 @@ module _ (domain_file script_file plan_file : List ℕ) (old : FilesView) where
           (λ flat are. then_read (read_file later.told plan_file) (λ t x. validation_of d flat x) later new new plan (Ok r) h
           (λ x e. read_nothing new (for_validation d flat.lines x) r (subst (λ (y : List ℕ). IsAnswered validation_request (for_validation d flat.lines y) r) e (f d flat is are)))))
 
-      pub validation_good : (plan : Vec ℕ) (d : Domain) (w : Validation) → j.domain ≡ Ok d → w.names ≡ script.names → w.input.domain ≡ d → w.input.lines ≡ script.lines.items → w.input.budget ≡ 0 → w.plan ≡ plan → ReadsText plan_file later new (Ok plan) → LoadsRequest validation_request old new (Ok (Ok (work.Validation w)))
+      pub validation_good : (plan : Vec ℕ) (d : Domain) (w : Validation) → j.domain ≡ Ok d → w.names ≡ script.names → w.input.domain ≡ d → w.input.lines ≡ script.lines.items → w.input.budget ≡ 0 → w.plan ≡ plan → ReadsText plan_file later new (Ok plan) → Answers validation_request old new (Ok (Ok (work.Validation w)))
       validation_good plan d w e names domain lines budget same h =
           validation_read plan (Ok (work.Validation w)) h
           (λ text flat is are. (tt, (is_input 0 text flat j script d w.input w.names e names domain lines budget is are, ap (λ (v : Vec ℕ). v.items) same)))
 
-      pub validation_bad : (plan : Vec ℕ) (fault : Fault) → j.domain ≡ Err fault → ReadsText plan_file later new (Ok plan) → LoadsRequest validation_request old new (Ok (Err fault))
+      pub validation_bad : (plan : Vec ℕ) (fault : Fault) → j.domain ≡ Err fault → ReadsText plan_file later new (Ok plan) → Answers validation_request old new (Ok (Err fault))
       validation_bad plan fault e h =
           validation_read plan (Err fault) h
           (λ text flat is are. judged_fault text j.names validation_request (for_validation text flat.lines plan.items) fault refl (subst (IsJudgedAs text j.names) e is))

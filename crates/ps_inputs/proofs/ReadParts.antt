@@ -1,5 +1,5 @@
 -- Reading one part of the input after another.
-use Rattle.std.proofs.Common.{◌≡◌, ℕ, zero, suc, ◌+◌, ◌<◌, ◌≤◌, ◌⊎◌, inl, inr, nat_lt, false, Result, Ok, Err, IfOk, IfErr, Some, None, List, [], ◌∷◌, ◌++◌, length, refl, sym, ap, ◌∙◌, subst, arith}
+use Rattle.std.proofs.Common.{◌≡◌, ℕ, zero, suc, ◌+◌, ◌≤◌, inl, inr, nat_lt, false, Result, Ok, Err, Some, List, [], ◌∷◌, ◌++◌, length, refl, sym, ap, ◌∙◌, subst, arith}
 use Rattle.std.specs.List.{slice_get}
 use Rattle.std.proofs.lemmas.List.{length-append}
 use Rattle.std.proofs.lemmas.Bool.Decides.{nat_tests}
@@ -8,10 +8,10 @@ use Rattle.ps_world.specs.declared.failures.Failure.TheVariants.{Refused, OutOfM
 use Rattle.std.specs.Global.{Vec}
 use Rattle.ps_text.specs.Outside.{FilesView, MayHold, Reads, Told, after, next}
 use Rattle.ps_text.specs.Outside.Told.{untold, absent, text}
-use Rattle.ps_inputs.specs.Reading.{FileFault, MayBe, MayFail, MayGive, MayReadNext, Reading, Texts, after_files, and_then, file_gives, longest_file, most_lines}
-use Rattle.ps_inputs.specs.Reading.FileFault.{no_file, too_long, too_many}
+use Rattle.ps_inputs.specs.Reading.{FileFault, MayBe, MayFail, MayReadNext, Reading, Texts, after_files, and_then, file_gives, longest_file, most_lines}
+use Rattle.ps_inputs.specs.Reading.FileFault.{too_long, too_many}
 use Rattle.ps_inputs.specs.Reading.Reading.{gives, faulty, unknown}
-use Rattle.ps_inputs.specs.Faults.{IsEnded, IsLastRead, IsTooLong, ReadsPart, failed_after}
+use Rattle.ps_inputs.specs.Faults.{IsEnded, ReadsPart, failed_after}
 use Rattle.ps_inputs.specs.Parts.{ReadsText}
 use Rattle.ps_inputs.specs.declared.faults.Fault.{Fault}
 use Rattle.ps_inputs.specs.declared.faults.Fault.TheVariants.{Usage, NoDomain, TooLong, Lines, Unread}

@@ -1,5 +1,5 @@
 -- What ends a call before its work: the fault, its status and its line.
-use Rattle.std.specs.Prelude.{◌≡◌, ℕ, suc, ◌+◌, ◌<◌, Result, Ok, Err, IfOk, IfErr, Some, None, List, map, string_bytes}
+use Rattle.std.specs.Prelude.{◌≡◌, ℕ, suc, ◌+◌, ◌<◌, Result, Err, IfOk, IfErr, Some, None, List, map, string_bytes}
 use Rattle.std.specs.declared.string.String.{String}
 use Rattle.std.specs.declared.alloc.Global.{Global}
 use Rattle.ps_world.specs.declared.failures.Failure.{Failure}

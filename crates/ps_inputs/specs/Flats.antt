@@ -1,5 +1,5 @@
 -- A script with the command lines of its files in place of the lines that name them.
-use Rattle.std.specs.Prelude.{ℕ, zero, suc, ◌+◌, Bool, true, false, ◌&&◌, ◌==◌, nat_lt, if◌then◌else◌, Option, Some, None, List, [], ◌∷◌, ◌++◌, codes, length}
+use Rattle.std.specs.Prelude.{ℕ, zero, suc, ◌+◌, Bool, false, ◌&&◌, ◌==◌, nat_lt, if◌then◌else◌, Option, Some, None, List, [], ◌∷◌, ◌++◌, codes, length}
 use Rattle.ps_text.specs.ScriptLines.{script_lines}
 use Rattle.ps_text.specs.Words.{reads_as, word_at, words}
 use Rattle.ps_script.specs.Files.{after_run, file_in, is_run_plan, is_source}

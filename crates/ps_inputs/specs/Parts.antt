@@ -1,24 +1,24 @@
 -- What reading each part of the input comes to.
-use Rattle.std.specs.Prelude.{◌≡◌, ℕ, ◌≤◌, ◌<◌, ◌⊎◌, Bool, true, false, Result, Ok, Err, None, Some, List, ◌++◌, length}
+use Rattle.std.specs.Prelude.{◌≡◌, ℕ, ◌≤◌, ◌<◌, ◌⊎◌, Bool, false, Result, Ok, Err, None, Some, List, ◌++◌, length}
 use Rattle.std.specs.Global.{Vec}
 use Rattle.ps_world.specs.Names.{Table}
 use Rattle.ps_world.specs.declared.failures.Failure.{Failure}
-use Rattle.ps_world.specs.declared.failures.Failure.TheVariants.{Refused, OutOfMemory}
+use Rattle.ps_world.specs.declared.failures.Failure.TheVariants.{Refused}
 use Rattle.ps_world.specs.declared.domains.Domain.{Domain}
 use Rattle.ps_machine.specs.declared.inputs.Line.{Line}
 use Rattle.ps_text.specs.Outside.{FilesView}
 use Rattle.ps_text.specs.ScriptLines.{script_lines}
-use Rattle.ps_script.specs.Files.{after_run, file_in, is_run_plan, is_source}
+use Rattle.ps_script.specs.Files.{after_run, file_in, is_source}
 use Rattle.ps_script.specs.Lines.{is_nothing}
 use Rattle.ps_words.specs.Words.{Request}
 use Rattle.ps_inputs.specs.Reading.{Reading, most_lines, read_file}
-use Rattle.ps_inputs.specs.Flats.{Flat, Flattened, on_source, one_line, plain_line, plan_line, script_in, step, walk}
+use Rattle.ps_inputs.specs.Flats.{Flat, on_source, one_line, plain_line, plan_line, script_in, step, walk}
 use Rattle.ps_inputs.specs.Flats.Flattened.{too_deep}
 use Rattle.ps_inputs.specs.Scripts.{IsScript}
 use Rattle.ps_inputs.specs.Input.{IsAsked, IsDomain, IsNoDomain, IsWork, Material, domain_text_of, reading_of}
 use Rattle.ps_inputs.specs.Faults.{ReadsPart}
 use Rattle.ps_inputs.specs.declared.faults.Fault.{Fault}
-use Rattle.ps_inputs.specs.declared.faults.Fault.TheVariants.{Usage, NoDomain, TooLong, Lines, Unread}
+use Rattle.ps_inputs.specs.declared.faults.Fault.TheVariants.{NoDomain, Lines}
 use Rattle.ps_inputs.specs.declared.reading.domains.Judged.{Judged}
 use Rattle.ps_inputs.specs.declared.reading.scripts.Script.{Script}
 use Rattle.ps_inputs.specs.declared.works.Work.{Work}
@@ -120,5 +120,5 @@ IsAnswered request m (Err (NoDomain cause)) = IsNoDomain (domain_text_of m) caus
 IsAnswered request m (Err fault) = ⊥
 
 -- reading all files of a request, and judging the domain's text
-abbrev pub LoadsRequest : Request → FilesView → FilesView → Result (Result Work Fault) (Failure Fault) → Type 0
-LoadsRequest request old new r = ReadsPart (reading_of old.told request) old new (IsAnswered request) r
+abbrev pub Answers : Request → FilesView → FilesView → Result (Result Work Fault) (Failure Fault) → Type 0
+Answers request old new r = ReadsPart (reading_of old.told request) old new (IsAnswered request) r

@@ -3,7 +3,7 @@ use Rattle.std.proofs.Common.{ℕ}
 use Rattle.std.proofs.Props.{props}
 use Rattle.ps_world.specs.Trees.{ExprTree, number, value_of, negated, operated, CondTree, CondTrees, all_of, no, holds, same, compares, is_a, none, more}
 use Rattle.ps_world.specs.CondViews.{cond_tree}
-use Rattle.ps_world.specs.Tables.{IsFactOf, IsGroundTermOf, IsGroundOf, IsGroundExprOf, IsGoalOf, AreGoalsOf, IsEditOf}
+use Rattle.ps_world.specs.Tables.{IsGroundTermOf, IsGroundOf, IsGroundExprOf, IsGoalOf, AreGoalsOf, IsEditOf}
 use Rattle.ps_world.specs.declared.schemas.Term.{Term}
 use Rattle.ps_world.specs.declared.schemas.Term.TheVariants.{Var, Const}
 use Rattle.ps_world.specs.declared.schemas.Lifted.{Lifted}

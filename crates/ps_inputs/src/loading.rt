@@ -3,7 +3,7 @@ ghost use Rattle.std.specs.Prelude.{◌≤◌};
 ghost use Rattle.ps_words.specs.Words.{IsInRange, said, settings_said};
 ghost use Rattle.ps_words.specs.Words.Request.{a_check, a_session, a_validation};
 ghost use Rattle.ps_inputs.specs.Faults.{Loads, word_texts};
-ghost use Rattle.ps_inputs.specs.Parts.{LoadsRequest};
+ghost use Rattle.ps_inputs.specs.Parts.{Answers};
 
 use crate::faults::Fault;
 use crate::reading::{Judged, Script, read_domain_file, read_script, read_text};
@@ -22,7 +22,7 @@ fn load_session<'a, F: Files>(
     files: &mut F,
 ) -> Result<Result<Work, Fault>, Failure<Fault>>
     requires { 1 ≤ settings.budget }
-    ensures { LoadsRequest (a_session (settings_said settings.entry)) (F.shown files.old) (F.shown files.new) result }
+    ensures { Answers (a_session (settings_said settings.entry)) (F.shown files.old) (F.shown files.new) result }
 {
     let Judged { names, domain } = read_domain_file(alloc, settings.domain, files)?;
     let Script { names, lines } = read_script(alloc, names, false, settings.script, files)?;
@@ -46,7 +46,7 @@ fn load_check<F: Files>(
     file: &str,
     files: &mut F,
 ) -> Result<Result<Work, Fault>, Failure<Fault>>
-    ensures { LoadsRequest (a_check file.now) (F.shown files.old) (F.shown files.new) result }
+    ensures { Answers (a_check file.now) (F.shown files.old) (F.shown files.new) result }
 {
     let Judged { names, domain } = read_domain_file(alloc, file, files)?;
     match domain {
@@ -64,7 +64,7 @@ fn load_validation<F: Files>(
     plan: &str,
     files: &mut F,
 ) -> Result<Result<Work, Fault>, Failure<Fault>>
-    ensures { LoadsRequest (a_validation domain.now script.now plan.now) (F.shown files.old) (F.shown files.new) result }
+    ensures { Answers (a_validation domain.now script.now plan.now) (F.shown files.old) (F.shown files.new) result }
 {
     let Judged { names, domain } = read_domain_file(alloc, domain, files)?;
     let Script { names, lines } = read_script(alloc, names, true, script, files)?;
@@ -90,7 +90,7 @@ fn load_asked<'a, F: Files>(
     files: &mut F,
 ) -> Result<Result<Work, Fault>, Failure<Fault>>
     requires { IsInRange (said asked) }
-    ensures { LoadsRequest (said asked.entry) (F.shown files.old) (F.shown files.new) result }
+    ensures { Answers (said asked.entry) (F.shown files.old) (F.shown files.new) result }
 {
     match asked {
         Asked::Session(settings) => load_session(alloc, settings, files),

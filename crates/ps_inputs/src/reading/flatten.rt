@@ -72,7 +72,14 @@ fn walk<F: Files>(
 {
     let spans = script_lines(alloc, text)?;
     for span in &spans {
-        let ended = take(alloc, files, plans, levels, &text[span.from..span.to], script)?;
+        let ended = take(
+            alloc,
+            files,
+            plans,
+            levels,
+            &text[span.from..span.to],
+            script,
+        )?;
         if ended {
             return Ok(true);
         }

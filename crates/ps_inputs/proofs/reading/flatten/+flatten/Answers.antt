@@ -1,4 +1,4 @@
-use Rattle.std.proofs.Common.{◌≡◌, ◌-◌, subst, arith}
+use Rattle.std.proofs.Common.{◌-◌, subst, arith}
 use Rattle.std.proofs.lemmas.Result.{err_from_is_err_and}
 use Rattle.ps_text.specs.ScriptLines.{script_lines}
 use Rattle.ps_script.specs.Kinds.{IsKind}
@@ -25,8 +25,7 @@ take-returns-in-Nothing g t c =
 
 pub take-returns-in-RunPlan-2 : goal.take-returns-in-RunPlan-2
 take-returns-in-RunPlan-2 g t c =
-    let old = g.F.Files.shown c.args.files.now in
-    takes_no_plan c.args.plans c.args.levels c.args.line.now c.in-RunPlan-2.field-0 old old c.args.script.now c.put_plain.new.script c.put_plain.result c.if-plans.false (subst (IsKind c.args.line.now) c.in-RunPlan-2.is c.in_ok-kind_of.ensures) c.put_plain.ensures
+    takes_no_plan c.args.plans c.args.levels c.args.line.now (g.F.Files.shown c.args.files.now) c.args.script.now c.put_plain.new.script c.put_plain.result c.in-RunPlan-2.field-0 c.if-plans.false (subst (IsKind c.args.line.now) c.in-RunPlan-2.is c.in_ok-kind_of.ensures) c.put_plain.ensures
 
 pub take-returns-in-Command : goal.take-returns-in-Command
 take-returns-in-Command g t c =
@@ -48,7 +47,7 @@ pub walk-loop-span-preserved : goal.walk-loop-span-preserved
 walk-loop-span-preserved g t c = record {
   few = c.in_ok-ended.ensures.given.4.few;
   follows = loop_next c.args.plans c.args.levels c.args.text.now c.deref-span-items.result.now c.loop-span.span-index (omega arith) (script_lines c.args.text.now) (g.F.Files.shown c.args.files.now) (g.F.Files.shown c.loop-span.files) (g.F.Files.shown c.take.new.files) c.args.script.now c.loop-span.script c.take.new.script
-  c.loop-span.invariant.follows c.in_ok-ended.ended c.if-ended.false c.in_ok-ended.ensures;
+      c.loop-span.invariant.follows c.in_ok-ended.ended c.if-ended.false c.in_ok-ended.ensures;
 }
 
 pub walk-returns : goal.walk-returns
