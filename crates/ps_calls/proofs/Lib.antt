@@ -1,1 +1,4 @@
-pub mod Stops
+pub mod Endings
+pub mod Modes
+pub mod Performed
+pub mod Statuses

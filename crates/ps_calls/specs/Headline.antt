@@ -1,76 +1,128 @@
 -- What a call of the program claims.
-use Rattle.std.specs.Prelude.{◌≡◌, ℕ, ◌<◌, ◌⊎◌, Option, List}
-use Rattle.std.specs.Io.KnownBytes.{Appends, Keeps}
-use Rattle.ps_text.specs.Causes.{Rose, AppendsFront}
+use Rattle.std.specs.Prelude.{◌≡◌, ℕ, Option, List, Result, Ok, Err, IfOk, OnErr}
+use Rattle.std.specs.Io.KnownBytes.{Appends}
 use Rattle.ps_world.specs.Names.{Table}
-use Rattle.ps_world.specs.DomainTexts.{domain_text}
 use Rattle.ps_world.specs.declared.domains.Domain.{Domain}
-use Rattle.ps_machine.specs.declared.inputs.Input.{Input}
+use Rattle.ps_machine.specs.declared.inputs.Line.{Line}
+use Rattle.ps_world.specs.DomainTexts.{domain_text}
+use Rattle.ps_world.specs.declared.failures.Failure.{Failure}
+use Rattle.ps_world.specs.declared.failures.Failure.TheVariants as failure
+use Rattle.ps_text.specs.Outside.{AppendsPrefix, CountsWork, FilesView, Puts, SinkView}
+use Rattle.ps_text.specs.declared.sinks.SinkRefusal.{SinkRefusal}
+use Rattle.ps_text.specs.declared.sinks.SinkRefusal.TheVariants.{Failed, OutOfMemory}
 use Rattle.ps_validate.specs.Verdicts.{known_after, verdict}
 use Rattle.ps_validate.specs.declared.verdicts.Invalid.{Invalid}
-use Rattle.ps_inputs.specs.Due.{IsDue}
-use Rattle.ps_inputs.specs.Input.{Outcome, IsDomain, IsNoDomain, IsInput}
-use Rattle.ps_inputs.specs.Input.Outcome.{given, checked, validated, fault, untold}
-use Rattle.ps_inputs.specs.declared.reading.flatten.Flattened.{Flattened}
-use Rattle.ps_session.specs.Session.{IsDone, IsCut}
+use Rattle.ps_inputs.specs.Faults.{Loads, fault_line, fault_status}
+use Rattle.ps_inputs.specs.Input.{cannot_write_line, out_of_memory_line}
+use Rattle.ps_inputs.specs.declared.faults.Fault.{Fault}
+use Rattle.ps_inputs.specs.declared.works.Validation.{Validation}
+use Rattle.ps_inputs.specs.declared.works.Work.{Work}
+use Rattle.ps_inputs.specs.declared.works.Work.TheVariants as work
+use Rattle.ps_session.specs.Session.{IsCut, IsDone}
 use Rattle.ps_calls.specs.Verdicts.{verdict_line, verdict_status}
 
--- a sink took the canonical text of the domain that this text is
-abbrev pub IsPrinted : List ℕ → Option (List ℕ) → Option (List ℕ) → Type 0
-IsPrinted domain old new = (d : Domain) × (names : Table) × IsDomain domain d names × Appends old new (domain_text names d)
+-- ---- doing the work
 
--- a sink took a front of it
-abbrev pub IsHalfPrinted : List ℕ → Option (List ℕ) → Option (List ℕ) → Type 0
-IsHalfPrinted domain old new = (d : Domain) × (names : Table) × IsDomain domain d names × AppendsFront old new (domain_text names d)
+-- what is wrong with the text of a plan after the edits of these lines, if something is, and the table of names that says it
+abbrev pub verdict_after : Domain → List Line → Table → List ℕ → Option Invalid × Table
+verdict_after d lines names plan = verdict d (known_after d lines) names plan
 
--- with the input that the texts are, whatever its budget is, what is wrong with the plan's text after the edits of the script, if
--- something is, and the table that it is told with
-abbrev pub WithVerdict : List ℕ → List Flattened → List ℕ → (Option Invalid × Table → Type 0) → Type 0
-WithVerdict domain script plan claim =
-    (i : Input) × (names : Table) × IsInput i.budget domain script i names × claim (verdict i.domain (known_after i.domain i.lines) names plan)
+-- judging a plan comes to this, with this table of names after it
+abbrev pub Finds : {E : Type 0} → Option Invalid × Table → Table → Result (Option Invalid) E → Type 0
+Finds v after r = IfOk r (λ wrong. (wrong, after) ≡ v)
 
--- The answers 0, 1 and 7: with the input that the texts are, what `out` took is a whole session of it, which ends with this
--- status. A check answers 0 alone, and `out` took the canonical text of the domain. A plan that is validated is answered with 0
--- exactly where nothing is wrong with it, and with 7 else, and `out` took the line that says so.
-abbrev pub IsAnswered : Outcome → Option (List ℕ) → Option (List ℕ) → ℕ → Type 0
-IsAnswered (given budget domain script) old new status = (i : Input) × (names : Table) × IsInput budget domain script i names × IsDone i names old new status
-IsAnswered (checked domain) old new status = (status ≡ 0) × IsPrinted domain old new
-IsAnswered (validated domain script plan) old new status =
-    WithVerdict domain script plan (λ v. (status ≡ verdict_status v.0) × Appends old new (verdict_line v.1 v.0))
-IsAnswered (fault s l) old new status = ⊥
-IsAnswered untold old new status = Unit {0}
+-- what a plan that is to be validated is worth
+abbrev pub verdict_of : Validation → Option Invalid × Table
+verdict_of v = verdict_after v.input.domain v.input.lines v.names v.plan.items
 
--- The answers 5 and 6: what `out` took is nothing, or a front of the text of a history of the input that the texts are,
--- or of the domain's canonical text, or of the line that a plan is answered with.
-abbrev pub IsFront : Outcome → Option (List ℕ) → Option (List ℕ) → Type 0
-IsFront (given budget domain script) old new = Keeps old new ⊎ ((i : Input) × (names : Table) × IsInput budget domain script i names × IsCut i names old new)
-IsFront (checked domain) old new = Keeps old new ⊎ IsHalfPrinted domain old new
-IsFront (validated domain script plan) old new =
-    Keeps old new ⊎ WithVerdict domain script plan (λ v. AppendsFront old new (verdict_line v.1 v.0))
-IsFront (fault s l) old new = Keeps old new
-IsFront untold old new = Unit {0}
+-- the line that a plan is answered with
+abbrev pub answer_line : Option Invalid × Table → List ℕ
+answer_line v = verdict_line v.1 v.0
 
--- a sink takes a line: the whole of it, or a front of it where a write to it was refused
-abbrev pub Says : Option (List ℕ) → Option (List ℕ) → List ℕ → ℕ → ℕ → Type 0
-Says old new line before now = Appends old new line ⊎ (AppendsFront old new line × Rose before now)
+-- The work is done, with this status: a session writes the text of a whole history, whose status it is, a check the domain's
+-- canonical text, a validation the line that says what the plan is worth.
+abbrev pub IsWorkDone : Work → Option (List ℕ) → Option (List ℕ) → ℕ → Type 0
+IsWorkDone (work.Session s) old new status = IsDone s.input s.names old new status
+IsWorkDone (work.Check names d) old new status = (status ≡ 0) × Appends old new (domain_text names d)
+IsWorkDone (work.Validation v) old new status =
+    (status ≡ verdict_status (verdict_of v).0) × Appends old new (answer_line (verdict_of v))
 
--- what the outcome leads to, where memory and the outside don't fail
-abbrev pub LeadsTo : Outcome → ℕ → Type 0
-LeadsTo (given budget domain script) status =
-    ((i : Input) × (names : Table) × IsInput budget domain script i names × (status < 2)) ⊎ ((line : List ℕ) × IsNoDomain domain line × (status ≡ 3))
-LeadsTo (checked domain) status =
-    ((d : Domain) × (names : Table) × IsDomain domain d names × (status ≡ 0)) ⊎ ((line : List ℕ) × IsNoDomain domain line × (status ≡ 3))
-LeadsTo (validated domain script plan) status =
-    WithVerdict domain script plan (λ v. status ≡ verdict_status v.0) ⊎ ((line : List ℕ) × IsNoDomain domain line × (status ≡ 3))
-LeadsTo (fault s l) status = status ≡ s
-LeadsTo untold status = Unit {0}
+-- The work is broken off: what it wrote is a prefix of what it writes.
+abbrev pub IsWorkCut : Work → Option (List ℕ) → Option (List ℕ) → Type 0
+IsWorkCut (work.Session s) old new = IsCut s.input s.names old new
+IsWorkCut (work.Check names d) old new = AppendsPrefix old new (domain_text names d)
+IsWorkCut (work.Validation v) old new = AppendsPrefix old new (answer_line (verdict_of v))
 
--- A call that ended before its work: `out` took nothing, and `err` took just the line that is due with this status.
-abbrev pub IsEnded : Outcome → List (List ℕ) → (List ℕ → Option (List ℕ)) → ℕ → ℕ → ℕ → Option (List ℕ) → Option (List ℕ) → Option (List ℕ) → Option (List ℕ) → Type 0
-IsEnded outcome ws texts before now status out out' err err' =
-    (line : List ℕ) × IsDue outcome ws texts before now status line × Keeps out out' × Appends err err' line
+-- Doing the work: it is done, with the status that is answered, or broken off, where a write was refused or memory ran out.
+pub record Performs (w : Work) (old new : SinkView) (r : Result ℕ SinkRefusal) : Type 0 where
+  pub done : IfOk r (IsWorkDone w old.bytes new.bytes)
+  pub cut : OnErr r (IsWorkCut w old.bytes new.bytes)
+  pub counted : CountsWork old new r
 
--- the same, but that `err` took only a front of the line
-abbrev pub IsHalfTold : Outcome → List (List ℕ) → (List ℕ → Option (List ℕ)) → ℕ → ℕ → Option (List ℕ) → Option (List ℕ) → Option (List ℕ) → Option (List ℕ) → Type 0
-IsHalfTold outcome ws texts before now out out' err err' =
-    (status : ℕ) × (line : List ℕ) × IsDue outcome ws texts before now status line × Keeps out out' × AppendsFront err err' line
+-- Writing a text: all of it, with this status, or a prefix of it, where a write was refused or memory ran out.
+pub record Writes (text : List ℕ) (status : ℕ) (old new : SinkView) (r : Result ℕ SinkRefusal) : Type 0 where
+  pub done : IfOk r (λ s. (s ≡ status) × Appends old.bytes new.bytes text)
+  pub cut : OnErr r (AppendsPrefix old.bytes new.bytes text)
+  pub counted : CountsWork old new r
+
+-- ---- telling why it isn't done
+
+-- a sink takes a line, or, where a write to it is refused, a prefix of it
+abbrev pub Says : List ℕ → SinkView → SinkView → Type 0
+Says line old new = (r : Result (Unit {0}) SinkRefusal) × Puts line old new r
+
+-- telling that a write failed or that memory ran out, with the status of that
+abbrev pub GivesUp : SinkRefusal → SinkView → SinkView → ℕ → Type 0
+GivesUp Failed old new status = (status ≡ 5) × Says cannot_write_line old new
+GivesUp OutOfMemory old new status = (status ≡ 6) × Says out_of_memory_line old new
+
+-- Telling a fault: its line is told, with its status; or a write was refused, since writing failed or memory ran out; or there was no
+-- memory for the line.
+pub data Reports (f : Fault) (old new : SinkView) : ℕ → Type 0 where
+  told : Puts (fault_line f) old new (Ok tt) → Reports f old new (fault_status f)
+  unwritten : Puts (fault_line f) old new (Err Failed) → Reports f old new 5
+  starved : Puts (fault_line f) old new (Err OutOfMemory) → Reports f old new 6
+  wordless : Says out_of_memory_line old new → Reports f old new 6
+
+-- ---- the headline
+
+-- what files, `out` and `err` show at a moment
+pub record Moment : Type 0 where
+  pub files : FilesView
+  pub out : SinkView
+  pub err : SinkView
+
+-- a call: its words, and what is shown before and after it
+pub record Call : Type 0 where
+  pub words : List (List ℕ)
+  pub before : Moment
+  pub after : Moment
+
+-- the moment at which this is shown
+abbrev pub moment : FilesView → SinkView → SinkView → Moment
+moment files out err = record { files = files; out = out; err = err }
+
+-- the call of these words between two moments
+abbrev pub call_of : List (List ℕ) → Moment → Moment → Call
+call_of words before after = record { words = words; before = before; after = after }
+
+-- loading the work of a call comes to this
+abbrev pub LoadsAs : Call → Result Work (Failure Fault) → Type 0
+LoadsAs c r = Loads c.words c.before.files c.after.files r
+
+-- doing this work in a call comes to this
+abbrev pub PerformsAs : Call → Work → Result ℕ SinkRefusal → Type 0
+PerformsAs c w r = Performs w c.before.out c.after.out r
+
+-- The headline: a row for each way in which a call can end, with its status.
+pub data Answers (c : Call) : ℕ → Type 0 where
+  done : (w : Work) (status : ℕ) → LoadsAs c (Ok w) → PerformsAs c w (Ok status)
+      → c.after.err ≡ c.before.err → Answers c status
+  at_fault : (f : Fault) (status : ℕ) → LoadsAs c (Err (failure.Refused f)) → c.after.out ≡ c.before.out
+      → Reports f c.before.err c.after.err status → Answers c status
+  cannot_write : (w : Work) → LoadsAs c (Ok w) → PerformsAs c w (Err Failed)
+      → Says cannot_write_line c.before.err c.after.err → Answers c 5
+  starved_at_work : (w : Work) → LoadsAs c (Ok w) → PerformsAs c w (Err OutOfMemory)
+      → Says out_of_memory_line c.before.err c.after.err → Answers c 6
+  starved_before : LoadsAs c (Err failure.OutOfMemory) → c.after.out ≡ c.before.out
+      → Says out_of_memory_line c.before.err c.after.err → Answers c 6

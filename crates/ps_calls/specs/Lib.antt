@@ -1,3 +1,3 @@
 pub mod Headline
-pub mod Stops
+pub mod Laws
 pub mod Verdicts

@@ -1,0 +1,306 @@
+-- What follows for the status of a call, by the ways in which it can end.
+use Rattle.std.proofs.Common.{◌≡◌, ◌≢◌, ℕ, ◌≤◌, Bool, true, false, Option, Some, None, Err, List, inl, inr, refl, sym, ap, ◌∙◌, subst, arith}
+use Rattle.ps_world.specs.declared.failures.Failure.TheVariants as failure
+use Rattle.ps_text.specs.Outside.{FilesView, SinkView, next}
+use Rattle.ps_validate.specs.declared.verdicts.Invalid.{Invalid}
+use Rattle.ps_words.specs.Words.{Request, SessionRequest, asked_of}
+use Rattle.ps_words.specs.Words.Request.{a_session, a_check, a_validation}
+use Rattle.ps_inputs.specs.Faults.{IsDue, IsLoaded, failed_after, fault_status}
+use Rattle.ps_inputs.specs.Input.{IsAsked, IsNoDomain, IsWork, Material, domain_text_of, is_quiet, reading_of}
+use Rattle.ps_inputs.specs.Reading.{MayFail, MayGive, Reading}
+use Rattle.ps_inputs.specs.Reading.FileFault.{no_file, too_long, too_many}
+use Rattle.ps_inputs.specs.Reading.Reading.{gives, faulty, unknown}
+use Rattle.ps_inputs.specs.declared.faults.Fault.{Fault}
+use Rattle.ps_inputs.specs.declared.faults.Fault.TheVariants.{Usage, NoDomain, TooLong, Lines, Unread}
+use Rattle.ps_inputs.specs.declared.works.Work.{Work}
+use Rattle.ps_inputs.specs.declared.works.Work.TheVariants as work
+use Rattle.ps_calls.specs.Headline.{Reports, verdict_of}
+use Rattle.ps_calls.specs.Headline.Answers.{done, at_fault, cannot_write, starved_at_work, starved_before}
+use Rattle.ps_calls.specs.Headline.Reports.{told, unwritten, starved, wordless}
+use Rattle.ps_calls.specs.Laws.{FailedReadsAreTold, FailedWritesAreTold, FaultsWriteNothing, FirstWordsDecide, IsBroken, IsOfFault, IsOfWork, IsStatusOf, LeadsTo, ModesDecide, RefusedWritesAreTold, StatusesAreFew, TextsDecide, UnreadIsCounted, WordsDecide, WorkIsDoneInSilence}
+use Rattle.ps_calls.specs.Verdicts.{verdict_status}
+use Rattle.ps_calls.proofs.Modes.{session-loud, validation-quiet}
+use Rattle.ps_calls.proofs.Statuses.{no_fault-broken, no_work-broken, no_work-fault, status-of_fault, status-of_work, status-performed, status-reported}
+
+-- ---- failures
+
+-- no fault but that of a file that can't be read changes the count
+unread-changed : (f : Fault) (before now : ℕ) → now ≡ failed_after {B = Work} (Err (failure.Refused f)) before → now ≢ before → fault_status f ≡ 4
+unread-changed Usage before now e changed = absurd (changed e)
+unread-changed (NoDomain cause) before now e changed = absurd (changed e)
+unread-changed (TooLong file) before now e changed = absurd (changed e)
+unread-changed Lines before now e changed = absurd (changed e)
+unread-changed (Unread file) before now e changed = refl
+
+pub failed_reads_are_told : FailedReadsAreTold
+failed_reads_are_told c _ (done w status l p s) changed = absurd (changed l.failed)
+failed_reads_are_told c _ (at_fault f status l o r) changed =
+    elim (status-reported f _ _ status r) [
+      | inl e ↦ inl (e ∙ unread-changed f _ _ l.failed changed)
+      | inr broken ↦ inr broken
+    ]
+failed_reads_are_told c _ (cannot_write w l p s) changed = absurd (changed l.failed)
+failed_reads_are_told c _ (starved_at_work w l p s) changed = absurd (changed l.failed)
+failed_reads_are_told c _ (starved_before l o s) changed = absurd (changed l.failed)
+
+pub failed_writes_are_told : FailedWritesAreTold
+failed_writes_are_told c _ (done w status l p s) changed = absurd (changed p.counted.0)
+failed_writes_are_told c _ (at_fault f status l o r) changed = absurd (changed (ap (λ v. v.failed) o))
+failed_writes_are_told c _ (cannot_write w l p s) changed = refl
+failed_writes_are_told c _ (starved_at_work w l p s) changed = absurd (changed p.counted)
+failed_writes_are_told c _ (starved_before l o s) changed = absurd (changed (ap (λ v. v.failed) o))
+
+-- a fault that is told leaves no refused write
+reported-refused : (f : Fault) (old new : SinkView) (status : ℕ) → Reports f old new status → new.refused ≢ old.refused → IsBroken status
+reported-refused f old new _ (told p) changed = absurd (changed p.counted.1)
+reported-refused f old new _ (unwritten p) changed = inl refl
+reported-refused f old new _ (starved p) changed = inr refl
+reported-refused f old new _ (wordless p) changed = inr refl
+
+pub refused_writes_are_told : RefusedWritesAreTold
+refused_writes_are_told c _ (done w status l p s) (inl changed) = absurd (changed p.counted.1)
+refused_writes_are_told c _ (done w status l p s) (inr changed) = absurd (changed (ap (λ v. v.refused) s))
+refused_writes_are_told c _ (at_fault f status l o r) (inl changed) = absurd (changed (ap (λ v. v.refused) o))
+refused_writes_are_told c _ (at_fault f status l o r) (inr changed) = reported-refused f _ _ status r changed
+refused_writes_are_told c _ (cannot_write w l p s) changed = inl refl
+refused_writes_are_told c _ (starved_at_work w l p s) changed = inr refl
+refused_writes_are_told c _ (starved_before l o s) changed = inr refl
+
+-- ---- what an answer says of the outside
+
+-- a fault isn't answered with a status of work
+reported-no_work : (f : Fault) (old new : SinkView) (status : ℕ) → Reports f old new status → IsOfWork status → ⊥
+reported-no_work f old new status r h =
+    elim (status-reported f old new status r) [
+      | inl e ↦ no_work-fault status h (subst IsOfFault (sym e) (status-of_fault f))
+      | inr broken ↦ no_work-broken status h broken
+    ]
+
+pub work_is_done_in_silence : WorkIsDoneInSilence
+work_is_done_in_silence c _ (done w status l p s) h = (s, l.failed, p.counted.0, p.counted.1)
+work_is_done_in_silence c _ (at_fault f status l o r) h = absurd (reported-no_work f _ _ status r h)
+work_is_done_in_silence c _ (cannot_write w l p s) h = absurd (no_work-broken 5 h (inl refl))
+work_is_done_in_silence c _ (starved_at_work w l p s) h = absurd (no_work-broken 6 h (inr refl))
+work_is_done_in_silence c _ (starved_before l o s) h = absurd (no_work-broken 6 h (inr refl))
+
+pub faults_write_nothing : FaultsWriteNothing
+faults_write_nothing c _ (done w status l p s) h = absurd (no_work-fault status (status-of_work w status (status-performed w _ _ status p)) h)
+faults_write_nothing c _ (at_fault f status l o r) h = o
+faults_write_nothing c _ (cannot_write w l p s) h = absurd (no_fault-broken 5 h (inl refl))
+faults_write_nothing c _ (starved_at_work w l p s) h = absurd (no_fault-broken 6 h (inr refl))
+faults_write_nothing c _ (starved_before l o s) h = absurd (no_fault-broken 6 h (inr refl))
+
+-- the fault with the status 4 is that of a file that can't be read
+unread-counted : (f : Fault) (before now : ℕ) → now ≡ failed_after {B = Work} (Err (failure.Refused f)) before → fault_status f ≡ 4 → now ≡ next before
+unread-counted Usage before now e h = absurd (omega arith)
+unread-counted (NoDomain cause) before now e h = absurd (omega arith)
+unread-counted (TooLong file) before now e h = absurd (omega arith)
+unread-counted Lines before now e h = absurd (omega arith)
+unread-counted (Unread file) before now e h = e
+
+four-of_fault : (status : ℕ) → status ≡ 4 → IsOfFault status
+four-of_fault status h = (omega arith, omega arith)
+
+pub unread_is_counted : UnreadIsCounted
+unread_is_counted c _ (done w status l p s) h =
+    absurd (no_work-fault status (status-of_work w status (status-performed w _ _ status p)) (four-of_fault status h))
+unread_is_counted c _ (at_fault f status l o r) h =
+    elim (status-reported f _ _ status r) [
+      | inl e ↦ unread-counted f _ _ l.failed (sym e ∙ h)
+      | inr broken ↦ absurd (no_fault-broken status (four-of_fault status h) broken)
+    ]
+unread_is_counted c _ (cannot_write w l p s) h = absurd (omega arith)
+unread_is_counted c _ (starved_at_work w l p s) h = absurd (omega arith)
+unread_is_counted c _ (starved_before l o s) h = absurd (omega arith)
+
+-- ---- what the words decide
+
+two-of_fault : (status : ℕ) → status ≡ 2 → IsOfFault status
+two-of_fault status h = (omega arith, omega arith)
+
+-- the fault with the status 2 is that of the words
+usage-unasked : (ws : List (List ℕ)) (old new : FilesView) (f : Fault) → IsDue ws old new f → fault_status f ≡ 2 → asked_of ws ≡ None
+usage-unasked ws old new Usage due h = due
+usage-unasked ws old new (NoDomain cause) due h = absurd (omega arith)
+usage-unasked ws old new (TooLong file) due h = absurd (omega arith)
+usage-unasked ws old new Lines due h = absurd (omega arith)
+usage-unasked ws old new (Unread file) due h = absurd (omega arith)
+
+asked-apart : (ws : List (List ℕ)) (r : Request) → asked_of ws ≡ None → asked_of ws ≡ Some r → ⊥
+asked-apart ws r none some = cc
+
+-- where nothing is asked for no other fault is due
+unasked-usage : (ws : List (List ℕ)) (old new : FilesView) (f : Fault) → IsDue ws old new f → asked_of ws ≡ None → fault_status f ≡ 2
+unasked-usage ws old new Usage due none = refl
+unasked-usage ws old new (NoDomain cause) due none = absurd (asked-apart ws due.0 none due.1)
+unasked-usage ws old new (TooLong file) due none = absurd (asked-apart ws due.0 none due.1)
+unasked-usage ws old new Lines due none = absurd (asked-apart ws due.0 none due.1)
+unasked-usage ws old new (Unread file) due none = absurd (asked-apart ws due.0 none due.1)
+
+pub words_decide : WordsDecide
+words_decide c _ (done w status l p s) = (
+  (λ h. absurd (no_work-fault status (status-of_work w status (status-performed w _ _ status p)) (two-of_fault status h))),
+  (λ none. absurd (asked-apart c.words l.loaded.request none l.loaded.asked)),
+)
+words_decide c _ (at_fault f status l o r) = (
+  (λ h. elim (status-reported f _ _ status r) [
+    | inl e ↦ usage-unasked c.words _ _ f l.refused (sym e ∙ h)
+    | inr broken ↦ absurd (no_fault-broken status (two-of_fault status h) broken)
+  ]),
+  (λ none. elim (status-reported f _ _ status r) [
+    | inl e ↦ inl (e ∙ unasked-usage c.words _ _ f l.refused none)
+    | inr broken ↦ inr broken
+  ]),
+)
+words_decide c _ (cannot_write w l p s) = ((λ h. absurd (omega arith)), (λ none. inr (inl refl)))
+words_decide c _ (starved_at_work w l p s) = ((λ h. absurd (omega arith)), (λ none. inr (inr refl)))
+words_decide c _ (starved_before l o s) = ((λ h. absurd (omega arith)), (λ none. inr (inr refl)))
+
+-- ---- what the texts decide
+
+-- one request is asked for
+asked-one : (ws : List (List ℕ)) (r s : Request) → asked_of ws ≡ Some r → asked_of ws ≡ Some s → r ≡ s
+asked-one ws r s a b = cc
+
+leads-work : (part : Reading Material) (w : Work) (status : ℕ) → MayGive part (λ m. IsWork m w) → IsStatusOf w status → LeadsTo part status
+leads-work (gives files m) w status is h = inr (inl (w, is, h))
+leads-work (faulty files fault) w status is h = absurd is
+leads-work (unknown files) w status is h = tt
+
+leads-no_domain : (part : Reading Material) (cause : List ℕ) → MayGive part (λ m. IsNoDomain (domain_text_of m) cause) → LeadsTo part 3
+leads-no_domain (gives files m) cause is = inr (inr (cause, is, refl))
+leads-no_domain (faulty files fault) cause is = absurd is
+leads-no_domain (unknown files) cause is = tt
+
+leads-too_long : (part : Reading Material) (file : List ℕ) (n : ℕ) → MayFail part (too_long file n) → LeadsTo part 3
+leads-too_long (gives files m) file n is = absurd is
+leads-too_long (faulty files (no_file other)) file n is = absurd (cc)
+leads-too_long (faulty files (too_long other k)) file n is = inr refl
+leads-too_long (faulty files (too_many k)) file n is = inr refl
+leads-too_long (unknown files) file n is = tt
+
+leads-too_many : (part : Reading Material) (n : ℕ) → MayFail part (too_many n) → LeadsTo part 3
+leads-too_many (gives files m) n is = absurd is
+leads-too_many (faulty files (no_file other)) n is = absurd (cc)
+leads-too_many (faulty files (too_long other k)) n is = inr refl
+leads-too_many (faulty files (too_many k)) n is = inr refl
+leads-too_many (unknown files) n is = tt
+
+leads-unread : (part : Reading Material) → LeadsTo part 4
+leads-unread (gives files m) = inl refl
+leads-unread (faulty files (no_file file)) = refl
+leads-unread (faulty files (too_long file n)) = inl refl
+leads-unread (faulty files (too_many n)) = inl refl
+leads-unread (unknown files) = tt
+
+module _ (ws : List (List ℕ)) (old new : FilesView) (r : Request) (asked : asked_of ws ≡ Some r) where
+  here : (s : Request) → asked_of ws ≡ Some s → (claim : Reading Material → Type 0) → claim (reading_of old.told s) → claim (reading_of old.told r)
+  here s other claim h = subst (λ q. claim (reading_of old.told q)) (asked-one ws s r other asked) h
+
+  leads-loaded : (w : Work) (status : ℕ) → IsLoaded ws old w → IsStatusOf w status → LeadsTo (reading_of old.told r) status
+  leads-loaded w status l h = here l.request l.asked (λ part. LeadsTo part status) (leads-work (reading_of old.told l.request) w status l.texts h)
+
+  leads-due : (f : Fault) → IsDue ws old new f → LeadsTo (reading_of old.told r) (fault_status f)
+  leads-due Usage due = absurd (asked-apart ws r due asked)
+  leads-due (NoDomain cause) due = here due.0 due.1 (λ part. LeadsTo part 3) (leads-no_domain (reading_of old.told due.0) cause.items due.2)
+  leads-due (TooLong file) due = here due.0 due.1 (λ part. LeadsTo part 3) (leads-too_long (reading_of old.told due.0) file.items due.2.length due.2.told)
+  leads-due Lines due = here due.0 due.1 (λ part. LeadsTo part 3) (leads-too_many (reading_of old.told due.0) _ due.2)
+  leads-due (Unread file) due = leads-unread (reading_of old.told r)
+
+pub texts_decide : TextsDecide
+texts_decide c _ (done w status l p s) r asked = inr (leads-loaded c.words c.before.files c.after.files r asked w status l.loaded (status-performed w _ _ status p))
+texts_decide c _ (at_fault f status l o h) r asked =
+    elim (status-reported f _ _ status h) [
+      | inl e ↦ inr (subst (LeadsTo (reading_of c.before.files.told r)) (sym e) (leads-due c.words c.before.files c.after.files r asked f l.refused))
+      | inr broken ↦ inl broken
+    ]
+texts_decide c _ (cannot_write w l p s) r asked = inl (inl refl)
+texts_decide c _ (starved_at_work w l p s) r asked = inl (inr refl)
+texts_decide c _ (starved_before l o s) r asked = inl (inr refl)
+
+-- ---- the mode
+
+no_one : (wrong : Option Invalid) → verdict_status wrong ≡ 1 → ⊥
+no_one None h = omega arith
+no_one (Some fault) h = omega arith
+
+-- work with the status 1 is a session
+one-session : (o : Request) (w : Work) (status : ℕ) → IsAsked o w → IsStatusOf w status → status ≡ 1 → (s : SessionRequest) × (o ≡ a_session s)
+one-session (a_session s) (work.Session t) status kind h one = (s, refl)
+one-session (a_session s) (work.Check names d) status kind h one = absurd kind
+one-session (a_session s) (work.Validation v) status kind h one = absurd kind
+one-session (a_check file) (work.Session t) status kind h one = absurd kind
+one-session (a_check file) (work.Check names d) status kind h one = absurd (omega arith)
+one-session (a_check file) (work.Validation v) status kind h one = absurd kind
+one-session (a_validation domain script plan) (work.Session t) status kind h one = absurd kind
+one-session (a_validation domain script plan) (work.Check names d) status kind h one = absurd kind
+one-session (a_validation domain script plan) (work.Validation v) status kind h one = absurd (no_one (verdict_of v).0 (sym h ∙ one))
+
+-- work with the status 7 is a validation
+seven-validation : (o : Request) (w : Work) (status : ℕ) → IsAsked o w → IsStatusOf w status → status ≡ 7
+    → (domain script plan : List ℕ) × (o ≡ a_validation domain script plan)
+seven-validation (a_session s) (work.Session t) status kind h seven = absurd (omega arith)
+seven-validation (a_session s) (work.Check names d) status kind h seven = absurd kind
+seven-validation (a_session s) (work.Validation v) status kind h seven = absurd kind
+seven-validation (a_check file) (work.Session t) status kind h seven = absurd kind
+seven-validation (a_check file) (work.Check names d) status kind h seven = absurd (omega arith)
+seven-validation (a_check file) (work.Validation v) status kind h seven = absurd kind
+seven-validation (a_validation domain script plan) (work.Session t) status kind h seven = absurd kind
+seven-validation (a_validation domain script plan) (work.Check names d) status kind h seven = absurd kind
+seven-validation (a_validation domain script plan) (work.Validation v) status kind h seven = (domain, script, plan, refl)
+
+one-of_work : (status : ℕ) → status ≡ 1 → IsOfWork status
+one-of_work status h = inl (omega arith)
+
+seven-of_work : (status : ℕ) → status ≡ 7 → IsOfWork status
+seven-of_work status h = inr h
+
+pub modes_decide : ModesDecide
+modes_decide c _ (done w status l p s) =
+    let r = l.loaded.request in
+    let asked = l.loaded.asked in
+    let kind = status-performed w _ _ status p in (
+      (λ h. let is = one-session r w status l.loaded.kind kind h in (is.0, asked ∙ ap Some is.1)),
+      (λ h. let is = seven-validation r w status l.loaded.kind kind h in (is.0, is.1, is.2, asked ∙ ap Some is.3)),
+    )
+modes_decide c _ (at_fault f status l o r) = (
+  (λ h. absurd (reported-no_work f _ _ status r (one-of_work status h))),
+  (λ h. absurd (reported-no_work f _ _ status r (seven-of_work status h))),
+)
+modes_decide c _ (cannot_write w l p s) = ((λ h. absurd (omega arith)), (λ h. absurd (omega arith)))
+modes_decide c _ (starved_at_work w l p s) = ((λ h. absurd (omega arith)), (λ h. absurd (omega arith)))
+modes_decide c _ (starved_before l o s) = ((λ h. absurd (omega arith)), (λ h. absurd (omega arith)))
+
+flags-apart : (b : Bool) → b ≡ true → b ≡ false → ⊥
+flags-apart b h l = cc
+
+pub first_words_decide : FirstWordsDecide
+first_words_decide c status h =
+    let modes = modes_decide c status h in (
+      (λ quiet one. let is = modes.0 one in flags-apart (is_quiet c.words) quiet (session-loud c.words is.0 is.1)),
+      (λ loud seven. let is = modes.1 seven in flags-apart (is_quiet c.words) (validation-quiet c.words is.0 is.1 is.2 is.3) loud),
+    )
+
+-- ---- the greatest status
+
+work_few : (status : ℕ) → IsOfWork status → status ≤ 7
+work_few status (inl h) = omega arith
+work_few status (inr h) = omega arith
+
+broken_few : (status : ℕ) → IsBroken status → status ≤ 7
+broken_few status (inl h) = omega arith
+broken_few status (inr h) = omega arith
+
+fault_few : (f : Fault) (status : ℕ) → status ≡ fault_status f → status ≤ 7
+fault_few f status e = let range : IsOfFault (fault_status f) = status-of_fault f in omega arith
+
+pub statuses_are_few : StatusesAreFew
+statuses_are_few c _ (done w status l p s) = work_few status (status-of_work w status (status-performed w _ _ status p))
+statuses_are_few c _ (at_fault f status l o r) =
+    elim (status-reported f _ _ status r) [
+      | inl e ↦ fault_few f status e
+      | inr broken ↦ broken_few status broken
+    ]
+statuses_are_few c _ (cannot_write w l p s) = omega arith
+statuses_are_few c _ (starved_at_work w l p s) = omega arith
+statuses_are_few c _ (starved_before l o s) = omega arith

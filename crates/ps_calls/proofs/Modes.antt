@@ -1,0 +1,91 @@
+-- The mode of what words ask for is their first.
+use Rattle.std.proofs.Common.{◌≡◌, ℕ, Bool, true, false, ◌||◌, Option, Some, None, IfSome, option_map, option_and_then, List, [], ◌∷◌, codes, if◌then◌else◌, refl, sym, subst}
+use Rattle.ps_world.specs.Lines.{same_text}
+use Rattle.ps_text.proofs.Tables.{same_text-same}
+use Rattle.ps_words.specs.Words.{Request, SessionRequest, asked_by, asked_in, asked_of, budget_in, check_app, check_of, is_well_formed, mode_of, replans_in, rows_read, session_app, session_of, session_with, validate_app, validation_of, workers_in}
+use Rattle.ps_words.specs.Words.Request.{a_session, a_check, a_validation}
+use Rattle.ps_words.specs.declared.commands.Mode.{Mode}
+use Rattle.ps_words.specs.declared.commands.Mode.TheVariants as mode
+use Rattle.ps_inputs.specs.Input.{argument, is_quiet}
+
+-- the first word is this one
+abbrev begins : List (List ℕ) → List ℕ → Type 0
+begins ws word = same_text (argument ws 0) word ≡ true
+
+-- the mode of what is asked for
+abbrev mode_in : Request → Mode
+mode_in (a_session s) = mode.Session
+mode_in (a_check domain) = mode.Check
+mode_in (a_validation domain script plan) = mode.Validate
+
+-- the word of a mode
+abbrev word_of : Mode → List ℕ
+word_of mode.Session = codes "session"
+word_of mode.Check = codes "check"
+word_of mode.Validate = codes "validate"
+
+-- what is made of something in a mode is of that mode
+made-mode : {A : Type 0} (f : A → Request) (m : Mode) → ((a : A) → mode_in (f a) ≡ m) → (o : Option A) → IfSome (option_map f o) (λ asked. mode_in asked ≡ m)
+made-mode f m h None = tt
+made-mode f m h (Some a) = h a
+
+next-mode : {A : Type 0} (f : A → Option Request) (m : Mode) → ((a : A) → IfSome (f a) (λ asked. mode_in asked ≡ m)) → (o : Option A) → IfSome (option_and_then f o) (λ asked. mode_in asked ≡ m)
+next-mode f m h None = tt
+next-mode f m h (Some a) = h a
+
+-- what words ask for in a mode is of that mode
+in-mode : (m : Mode) (words : List (List ℕ)) → IfSome (asked_in m words) (λ asked. mode_in asked ≡ m)
+in-mode mode.Session words =
+    next-mode session_of mode.Session
+    (λ rows. next-mode (λ w. option_and_then (λ b. option_map (λ r. session_with rows w b) (replans_in rows)) (budget_in rows)) mode.Session
+    (λ w. next-mode (λ b. option_map (λ r. session_with rows w b) (replans_in rows)) mode.Session
+    (λ b. made-mode (λ r. session_with rows w b) mode.Session (λ r. refl) (replans_in rows)) (budget_in rows)) (workers_in rows)) (rows_read session_app words)
+in-mode mode.Check words = made-mode check_of mode.Check (λ rows. refl) (rows_read check_app words)
+in-mode mode.Validate words = made-mode validation_of mode.Validate (λ rows. refl) (rows_read validate_app words)
+
+-- a mode's word is the one that names it
+named-mode : (word : List ℕ) → IfSome (mode_of word) (λ m. same_text word (word_of m) ≡ true)
+named-mode word = by_session (same_text word (codes "session")) refl where
+  by_check : (b c : Bool) → same_text word (codes "check") ≡ b → same_text word (codes "validate") ≡ c → IfSome (if b then Some mode.Check else (if c then Some mode.Validate else None)) (λ m. same_text word (word_of m) ≡ true)
+  by_check true c check validate = check
+  by_check false true check validate = validate
+  by_check false false check validate = tt
+
+  by_session : (b : Bool) → same_text word (codes "session") ≡ b → IfSome (if b then Some mode.Session else (if same_text word (codes "check") then Some mode.Check else (if same_text word (codes "validate") then Some mode.Validate else None))) (λ m. same_text word (word_of m) ≡ true)
+  by_session true session = session
+  by_session false session = by_check (same_text word (codes "check")) (same_text word (codes "validate")) refl refl
+
+by-form : (first : List ℕ) (words : List (List ℕ)) (m : Mode) → same_text first (word_of m) ≡ true → (formed : Bool) → IfSome (if formed then asked_in m words else None) (λ asked. same_text first (word_of (mode_in asked)) ≡ true)
+by-form first words m named false = tt
+by-form first words m named true = by-asked (asked_in m words) (in-mode m words) where
+  by-asked : (o : Option Request) → IfSome o (λ asked. mode_in asked ≡ m) → IfSome o (λ asked. same_text first (word_of (mode_in asked)) ≡ true)
+  by-asked None of_mode = tt
+  by-asked (Some asked) of_mode = subst (λ k. same_text first (word_of k) ≡ true) (sym of_mode) named
+
+by-mode : (first : List ℕ) (words rest : List (List ℕ)) (o : Option Mode) → IfSome o (λ m. same_text first (word_of m) ≡ true) → IfSome (asked_by words rest o) (λ asked. same_text first (word_of (mode_in asked)) ≡ true)
+by-mode first words rest None named = tt
+by-mode first words rest (Some m) named = by-form first words m named (is_well_formed rest)
+
+-- the first word is that of the mode that is asked for
+first-word : (ws : List (List ℕ)) → IfSome (asked_of ws) (λ asked. begins ws (word_of (mode_in asked)))
+unfolding asked_of
+first-word [] = tt
+first-word (first ∷ rest) = by-mode first (first ∷ rest) rest (mode_of first) (named-mode first)
+
+begins-asked : (ws : List (List ℕ)) (r : Request) → asked_of ws ≡ Some r → begins ws (word_of (mode_in r))
+begins-asked ws r e = subst (λ (o : Option Request). IfSome o (λ asked. begins ws (word_of (mode_in asked)))) e (first-word ws)
+
+loud-word : (word : List ℕ) → word ≡ codes "session" → (same_text word (codes "check") || same_text word (codes "validate")) ≡ false
+loud-word word e = subst (λ (w : List ℕ). (same_text w (codes "check") || same_text w (codes "validate")) ≡ false) (sym e) refl
+
+quiet-word : (word : List ℕ) → word ≡ codes "validate" → (same_text word (codes "check") || same_text word (codes "validate")) ≡ true
+quiet-word word e = subst (λ (w : List ℕ). (same_text w (codes "check") || same_text w (codes "validate")) ≡ true) (sym e) refl
+
+-- a session isn't asked for by the words of a mode that always returns
+pub session-loud : (ws : List (List ℕ)) (s : SessionRequest) → asked_of ws ≡ Some (a_session s) → is_quiet ws ≡ false
+session-loud ws s e = loud-word (argument ws 0) (same_text-same (argument ws 0) (codes "session") (begins-asked ws (a_session s) e))
+
+-- the validation of a plan is
+pub validation-quiet : (ws : List (List ℕ)) (domain script plan : List ℕ) → asked_of ws ≡ Some (a_validation domain script plan) → is_quiet ws ≡ true
+validation-quiet ws domain script plan e =
+    quiet-word (argument ws 0) (same_text-same (argument ws 0) (codes "validate") (begins-asked ws (a_validation domain script plan) e))

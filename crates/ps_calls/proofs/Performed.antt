@@ -1,0 +1,69 @@
+-- Work that was done or broken off.
+use Rattle.std.proofs.Common.{◌≡◌, ℕ, Option, Result, Ok, Err, List, refl, subst}
+use Rattle.std.proofs.KnownBytes.{Appends-nil}
+use Rattle.ps_world.specs.Names.{Table}
+use Rattle.ps_world.specs.DomainTexts.{domain_text}
+use Rattle.ps_world.specs.declared.domains.Domain.{Domain}
+use Rattle.ps_machine.specs.declared.inputs.Line.{Line}
+use Rattle.ps_machine.specs.declared.inputs.Input.{Input}
+use Rattle.ps_text.specs.Outside.{Counts, CountsWork, Puts, SinkView}
+use Rattle.ps_text.specs.declared.sinks.SinkRefusal.{SinkRefusal}
+use Rattle.ps_text.specs.declared.sinks.SinkRefusal.TheVariants.{Failed, OutOfMemory}
+use Rattle.ps_validate.specs.declared.verdicts.Invalid.{Invalid}
+use Rattle.ps_inputs.specs.declared.works.Session.{Session}
+use Rattle.ps_inputs.specs.declared.works.Validation.{Validation}
+use Rattle.ps_inputs.specs.declared.works.Work.TheVariants as work
+use Rattle.ps_session.specs.Session.{Runs, input_with}
+use Rattle.ps_session.proofs.Sessions.{nothing_written}
+use Rattle.ps_calls.specs.Headline.{Performs, Writes, answer_line, verdict_of}
+use Rattle.ps_calls.specs.Verdicts.{verdict_line, verdict_status}
+
+-- ---- one text
+
+-- memory ran out before anything was written
+pub unwritten : (text : List ℕ) (status : ℕ) (start : SinkView) → Writes text status start start (Err OutOfMemory)
+unwritten text status start = record { done = tt; cut = (0, Appends-nil start.bytes); counted = refl }
+
+counts_work : (old new : SinkView) (e : SinkRefusal) → Counts {A = Unit {0}} old new (Err e) → CountsWork {A = ℕ} old new (Err e)
+counts_work old new Failed h = h
+counts_work old new OutOfMemory h = h.0
+
+-- a write of the text was refused
+pub half_written : (text : List ℕ) (status : ℕ) (old new : SinkView) (e : SinkRefusal) → Puts text old new (Err e) → Writes text status old new (Err e)
+half_written text status old new e p = record { done = tt; cut = p.prefix; counted = counts_work old new e p.counted }
+
+-- the text was written
+pub written : (text : List ℕ) (status : ℕ) (old new : SinkView) → Puts text old new (Ok tt) → Writes text status old new (Ok status)
+written text status old new p = record { done = (refl, p.whole); cut = tt; counted = p.counted }
+
+-- ---- each kind of work
+
+-- a domain's text
+pub checked : (names : Table) (d : Domain) (old new : SinkView) (r : Result ℕ SinkRefusal) → Writes (domain_text names d) 0 old new r → Performs (work.Check names d) old new r
+checked names d old new (Ok status) w = record { done = w.done; cut = tt; counted = w.counted }
+checked names d old new (Err e) w = record { done = tt; cut = w.cut; counted = w.counted }
+
+-- the line of a plan
+pub judged : (v : Validation) (wrong : Option Invalid) (after : Table) (old new : SinkView) (r : Result ℕ SinkRefusal) → (wrong, after) ≡ verdict_of v → Writes (verdict_line after wrong) (verdict_status wrong) old new r → Performs (work.Validation v) old new r
+judged v wrong after old new r same w = of_line r (subst (λ p. Writes (answer_line p) (verdict_status p.0) old new r) same w) where
+  of_line : (r : Result ℕ SinkRefusal) → Writes (answer_line (verdict_of v)) (verdict_status (verdict_of v).0) old new r → Performs (work.Validation v) old new r
+  of_line (Ok status) w = record { done = w.done; cut = tt; counted = w.counted }
+  of_line (Err e) w = record { done = tt; cut = w.cut; counted = w.counted }
+
+-- memory ran out before the plan was judged
+pub unjudged : (v : Validation) (start : SinkView) → Performs (work.Validation v) start start (Err OutOfMemory)
+unjudged v start = record { done = tt; cut = (0, Appends-nil start.bytes); counted = refl }
+
+-- an input of these parts
+same_input : (i : Input) (d : Domain) (lines : List Line) → d ≡ i.domain → lines ≡ i.lines → input_with d lines i.budget ≡ i
+same_input i d lines p q = λ j. record { domain = p j; lines = q j; budget = i.budget }
+
+-- a session's input was run
+pub ran : (s : Session) (d : Domain) (lines : List Line) (old new : SinkView) (r : Result ℕ SinkRefusal) → d ≡ s.input.domain → lines ≡ s.input.lines → Runs (input_with d lines s.input.budget) s.names old new r → Performs (work.Session s) old new r
+ran s d lines old new r p q run = of_run (subst (λ i. Runs i s.names old new r) (same_input s.input d lines p q) run) where
+  of_run : Runs s.input s.names old new r → Performs (work.Session s) old new r
+  of_run run = record { done = run.done; cut = run.cut; counted = run.counted }
+
+-- memory ran out before the session began
+pub unrun : (s : Session) (start : SinkView) → Performs (work.Session s) start start (Err OutOfMemory)
+unrun s start = record { done = tt; cut = nothing_written s.input s.names start.bytes; counted = refl }

@@ -1,0 +1,63 @@
+-- The statuses of work and of faults.
+use Rattle.std.proofs.Common.{◌≡◌, ℕ, ◌<◌, ◌⊎◌, Bool, true, false, if◌then◌else◌, Option, Some, None, Ok, inl, inr, refl, sym, subst, arith}
+use Rattle.std.specs.List.{list_any}
+use Rattle.ps_machine.specs.History.{is_refusal}
+use Rattle.ps_text.specs.Outside.{SinkView}
+use Rattle.ps_validate.specs.declared.verdicts.Invalid.{Invalid}
+use Rattle.ps_inputs.specs.Faults.{fault_status}
+use Rattle.ps_inputs.specs.declared.faults.Fault.{Fault}
+use Rattle.ps_inputs.specs.declared.faults.Fault.TheVariants.{Usage, NoDomain, TooLong, Lines, Unread}
+use Rattle.ps_inputs.specs.declared.works.Work.{Work}
+use Rattle.ps_inputs.specs.declared.works.Work.TheVariants as work
+use Rattle.ps_calls.specs.Headline.{Performs, Reports, verdict_of}
+use Rattle.ps_calls.specs.Headline.Reports.{told, unwritten, starved, wordless}
+use Rattle.ps_calls.specs.Laws.{IsBroken, IsOfFault, IsOfWork, IsStatusOf}
+use Rattle.ps_calls.specs.Verdicts.{verdict_status}
+
+flag_below : (b : Bool) → (if b then 1 else 0) < 2
+flag_below true = omega arith
+flag_below false = omega arith
+
+-- finished work has a status of its kind
+pub status-performed : (w : Work) (old new : SinkView) (status : ℕ) → Performs w old new (Ok status) → IsStatusOf w status
+status-performed (work.Session s) old new status p = subst (λ n. n < 2) (sym p.done.2.answer) (flag_below (list_any (λ e. is_refusal e.what) p.done.2.journal))
+status-performed (work.Check names d) old new status p = p.done.0
+status-performed (work.Validation v) old new status p = p.done.0
+
+verdict_of_work : (wrong : Option Invalid) → IsOfWork (verdict_status wrong)
+verdict_of_work None = inl (omega arith)
+verdict_of_work (Some fault) = inr refl
+
+pub status-of_work : (w : Work) (status : ℕ) → IsStatusOf w status → IsOfWork status
+status-of_work (work.Session s) status h = inl h
+status-of_work (work.Check names d) status h = inl (omega arith)
+status-of_work (work.Validation v) status h = subst IsOfWork (sym h) (verdict_of_work (verdict_of v).0)
+
+-- a fault is answered with its own status, or telling it failed
+pub status-reported : (f : Fault) (old new : SinkView) (status : ℕ) → Reports f old new status → (status ≡ fault_status f) ⊎ IsBroken status
+status-reported f old new _ (told p) = inl refl
+status-reported f old new _ (unwritten p) = inr (inl refl)
+status-reported f old new _ (starved p) = inr (inr refl)
+status-reported f old new _ (wordless p) = inr (inr refl)
+
+pub status-of_fault : (f : Fault) → IsOfFault (fault_status f)
+status-of_fault Usage = (omega arith, omega arith)
+status-of_fault (NoDomain cause) = (omega arith, omega arith)
+status-of_fault (TooLong file) = (omega arith, omega arith)
+status-of_fault Lines = (omega arith, omega arith)
+status-of_fault (Unread file) = (omega arith, omega arith)
+
+-- the three kinds of statuses are apart
+pub no_work-broken : (status : ℕ) → IsOfWork status → IsBroken status → ⊥
+no_work-broken status (inl a) (inl b) = omega arith
+no_work-broken status (inl a) (inr b) = omega arith
+no_work-broken status (inr a) (inl b) = omega arith
+no_work-broken status (inr a) (inr b) = omega arith
+
+pub no_work-fault : (status : ℕ) → IsOfWork status → IsOfFault status → ⊥
+no_work-fault status (inl a) b = omega arith
+no_work-fault status (inr a) b = omega arith
+
+pub no_fault-broken : (status : ℕ) → IsOfFault status → IsBroken status → ⊥
+no_fault-broken status a (inl b) = omega arith
+no_fault-broken status a (inr b) = omega arith

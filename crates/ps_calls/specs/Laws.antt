@@ -1,0 +1,108 @@
+-- What follows for the status of a call.
+use Rattle.std.specs.Prelude.{◌≡◌, ◌≢◌, ℕ, ◌<◌, ◌≤◌, ◌⊎◌, true, false, None, Some, List}
+use Rattle.ps_text.specs.Outside.{next}
+use Rattle.ps_words.specs.Words.{Request, SessionRequest, asked_of}
+use Rattle.ps_words.specs.Words.Request.{a_session, a_validation}
+use Rattle.ps_inputs.specs.Reading.{Reading}
+use Rattle.ps_inputs.specs.Reading.FileFault.{no_file, too_long, too_many}
+use Rattle.ps_inputs.specs.Reading.Reading.{gives, faulty, unknown}
+use Rattle.ps_inputs.specs.Input.{IsNoDomain, IsWork, Material, domain_text_of, is_quiet, reading_of}
+use Rattle.ps_inputs.specs.declared.works.Work.{Work}
+use Rattle.ps_inputs.specs.declared.works.Work.TheVariants as work
+use Rattle.ps_calls.specs.Headline.{Answers, Call, verdict_of}
+use Rattle.ps_calls.specs.Verdicts.{verdict_status}
+
+-- this is so of each call with each status that it answers
+abbrev pub OfEachCall : (Call → ℕ → Type 0) → Type 0
+OfEachCall claim = (c : Call) (status : ℕ) → Answers c status → claim c status
+
+-- ---- failures
+
+-- the status is that of a write or of memory that failed
+abbrev pub IsBroken : ℕ → Type 0
+IsBroken status = (status ≡ 5) ⊎ (status ≡ 6)
+
+-- where the count of failed reads changes, the answer is 4, or 5 or 6
+abbrev pub FailedReadsAreTold : Type 0
+FailedReadsAreTold = OfEachCall (λ c status. c.after.files.failed ≢ c.before.files.failed → (status ≡ 4) ⊎ IsBroken status)
+
+-- where the count of failed writes to `out` changes, the answer is 5
+abbrev pub FailedWritesAreTold : Type 0
+FailedWritesAreTold = OfEachCall (λ c status. c.after.out.failed ≢ c.before.out.failed → status ≡ 5)
+
+-- where the count of refused writes to `out` or to `err` changes, the answer is 5 or 6
+abbrev pub RefusedWritesAreTold : Type 0
+RefusedWritesAreTold = OfEachCall (λ c status.
+    (c.after.out.refused ≢ c.before.out.refused) ⊎ (c.after.err.refused ≢ c.before.err.refused) → IsBroken status)
+
+-- ---- what an answer says of the outside
+
+-- the status is that of work that is done
+abbrev pub IsOfWork : ℕ → Type 0
+IsOfWork status = (status < 2) ⊎ (status ≡ 7)
+
+-- the answers 0, 1 and 7 leave `err` as it was, and no read and no write has failed
+abbrev pub WorkIsDoneInSilence : Type 0
+WorkIsDoneInSilence = OfEachCall (λ c status. IsOfWork status
+    → (c.after.err ≡ c.before.err) × (c.after.files.failed ≡ c.before.files.failed)
+    × (c.after.out.failed ≡ c.before.out.failed) × (c.after.out.refused ≡ c.before.out.refused))
+
+-- the status is that of a fault
+abbrev pub IsOfFault : ℕ → Type 0
+IsOfFault status = (2 ≤ status) × (status ≤ 4)
+
+-- the answers 2, 3 and 4 leave `out` as it was
+abbrev pub FaultsWriteNothing : Type 0
+FaultsWriteNothing = OfEachCall (λ c status. IsOfFault status → c.after.out ≡ c.before.out)
+
+-- the answer 4 comes only where a read failed
+abbrev pub UnreadIsCounted : Type 0
+UnreadIsCounted = OfEachCall (λ c status. status ≡ 4 → c.after.files.failed ≡ next c.before.files.failed)
+
+-- ---- what decides the status
+
+-- the answer 2 comes only where the words aren't in the grammar, and nothing else but 5 or 6 comes there
+abbrev pub WordsDecide : Type 0
+WordsDecide = OfEachCall (λ c status.
+    (status ≡ 2 → asked_of c.words ≡ None) × (asked_of c.words ≡ None → (status ≡ 2) ⊎ IsBroken status))
+
+-- a status with which this work can end: 0 or 1 for a session, 0 for a check, 0 or 7 for a plan, by what it is worth
+abbrev pub IsStatusOf : Work → ℕ → Type 0
+IsStatusOf (work.Session s) status = status < 2
+IsStatusOf (work.Check names d) status = status ≡ 0
+IsStatusOf (work.Validation v) status = status ≡ verdict_status (verdict_of v).0
+
+-- what texts come to: the status of the work that they are, or 3 where that of the domain is none
+abbrev pub ComesTo : Material → ℕ → Type 0
+ComesTo m status =
+    ((w : Work) × IsWork m w × IsStatusOf w status)
+    ⊎ ((cause : List ℕ) × IsNoDomain (domain_text_of m) cause × (status ≡ 3))
+
+-- What reading the files comes to: what their texts come to, or 4 where a read fails; 4 where there is no such file; 3 where a file is
+-- too long or lines are too many, or 4 where a read before that fails.
+abbrev pub LeadsTo : Reading Material → ℕ → Type 0
+LeadsTo (gives files m) status = (status ≡ 4) ⊎ ComesTo m status
+LeadsTo (faulty files (no_file file)) status = status ≡ 4
+LeadsTo (faulty files (too_long file n)) status = (status ≡ 4) ⊎ (status ≡ 3)
+LeadsTo (faulty files (too_many n)) status = (status ≡ 4) ⊎ (status ≡ 3)
+LeadsTo (unknown files) status = Unit {0}
+
+-- the texts of the files that the words name decide the status, unless it is 5 or 6
+abbrev pub TextsDecide : Type 0
+TextsDecide = OfEachCall (λ c status. (r : Request) → asked_of c.words ≡ Some r
+    → IsBroken status ⊎ LeadsTo (reading_of c.before.files.told r) status)
+
+-- the answer 1 comes only to a session, and 7 only to a plan that is validated
+abbrev pub ModesDecide : Type 0
+ModesDecide = OfEachCall (λ c status.
+    (status ≡ 1 → (s : SessionRequest) × (asked_of c.words ≡ Some (a_session s)))
+    × (status ≡ 7 → (domain script plan : List ℕ) × (asked_of c.words ≡ Some (a_validation domain script plan))))
+
+-- 1 doesn't come where the first word is that of a mode that always returns, and 7 nowhere else
+abbrev pub FirstWordsDecide : Type 0
+FirstWordsDecide = OfEachCall (λ c status.
+    (is_quiet c.words ≡ true → status ≢ 1) × (is_quiet c.words ≡ false → status ≢ 7))
+
+-- no answer is more than 7
+abbrev pub StatusesAreFew : Type 0
+StatusesAreFew = OfEachCall (λ c status. status ≤ 7)

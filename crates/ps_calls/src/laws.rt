@@ -1,0 +1,57 @@
+//! Laws of the headline: each is the contract of a function that does nothing.
+ghost use Rattle.ps_calls.specs.Laws.{FailedReadsAreTold, FailedWritesAreTold, FaultsWriteNothing, FirstWordsDecide, ModesDecide, RefusedWritesAreTold, StatusesAreFew, TextsDecide, UnreadIsCounted, WordsDecide, WorkIsDoneInSilence};
+
+/// Where the count of failed reads changes, the answer is 4, 5 or 6.
+pub fn failed_reads_are_told()
+    ensures { FailedReadsAreTold }
+{}
+
+/// Where the count of failed writes to `out` changes, the answer is 5.
+pub fn failed_writes_are_told()
+    ensures { FailedWritesAreTold }
+{}
+
+/// Where the count of refused writes to `out` or to `err` changes, the answer is 5 or 6.
+pub fn refused_writes_are_told()
+    ensures { RefusedWritesAreTold }
+{}
+
+/// The answers 0, 1 and 7 leave `err` as it was, and neither a read nor a write has failed.
+pub fn work_is_done_in_silence()
+    ensures { WorkIsDoneInSilence }
+{}
+
+/// The answers 2, 3 and 4 leave `out` as it was.
+pub fn faults_write_nothing()
+    ensures { FaultsWriteNothing }
+{}
+
+/// The answer 4 comes only where a read failed.
+pub fn unread_is_counted()
+    ensures { UnreadIsCounted }
+{}
+
+/// The answer 2 comes only where the words aren't in the grammar, and there comes nothing else but 5 or 6.
+pub fn words_decide()
+    ensures { WordsDecide }
+{}
+
+/// The texts of the files decide the status, unless it is 5 or 6.
+pub fn texts_decide()
+    ensures { TextsDecide }
+{}
+
+/// The answer 1 comes only to a session, and 7 only to a plan that is validated.
+pub fn modes_decide()
+    ensures { ModesDecide }
+{}
+
+/// The answer 1 doesn't come where the first word is `check` or `validate`, and 7 nowhere else.
+pub fn first_words_decide()
+    ensures { FirstWordsDecide }
+{}
+
+/// No answer is more than 7.
+pub fn statuses_are_few()
+    ensures { StatusesAreFew }
+{}

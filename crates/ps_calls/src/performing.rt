@@ -1,0 +1,124 @@
+//! Doing the work of a call.
+ghost use Rattle.ps_world.specs.DomainTexts.{domain_text};
+ghost use Rattle.ps_text.specs.Names.{AreNames};
+ghost use Rattle.ps_inputs.specs.declared.works.Work.TheVariants.{Session as ASession, Validation as AValidation};
+ghost use Rattle.ps_calls.specs.Headline.{Finds, Performs, Writes, verdict_after};
+ghost use Rattle.ps_calls.specs.Verdicts.{verdict_line, verdict_status};
+
+use super::verdicts::{verdict_line, verdict_status};
+use ps_domain::Expert;
+use ps_inputs::{Session, Validation, Work};
+use ps_machine::{Input, Line};
+use ps_pddl::print_domain;
+use ps_session::run;
+use ps_solve::Forward;
+use ps_text::{Names, Sink, SinkRefusal, put};
+use ps_validate::{Invalid, known_after, verdict};
+use ps_world::Domain;
+use std::alloc::{AllocError, Global};
+
+/// Does the work, and gives its status: 0 or 1 for a session, 0 for a check, 0 or 7 for a plan.
+pub fn perform<O: Sink>(alloc: Global, work: Work, out: &mut O) -> Result<u8, SinkRefusal>
+    ensures { Performs work (O.shown out.old) (O.shown out.new) result }
+{
+    match work {
+        Work::Session(session) => do_session(alloc, session, out),
+        Work::Check { names, domain } => check(alloc, &names, &domain, out),
+        Work::Validation(validation) => validate(alloc, validation, out),
+    }
+}
+
+/// Does a session. The status is 1 where a line was refused, else 0.
+fn do_session<O: Sink>(alloc: Global, session: Session, out: &mut O) -> Result<u8, SinkRefusal>
+    ensures { Performs (ASession session) (O.shown out.old) (O.shown out.new) result }
+{
+    let Session { names, input, .. } = session;
+    let Input {
+        domain,
+        lines,
+        budget,
+    } = input;
+    let expert = Expert::new(alloc, domain)?;
+    let solver = Forward::new();
+    run(
+        alloc,
+        &names,
+        &expert,
+        &solver,
+        budget,
+        lines.as_slice(),
+        out,
+    )
+}
+
+/// Writes the canonical text of a domain. The status is 0.
+fn check<O: Sink>(
+    alloc: Global,
+    names: &Names,
+    domain: &Domain,
+    out: &mut O,
+) -> Result<u8, SinkRefusal>
+    ensures { Writes (domain_text names.now domain.now) 0 (O.shown out.old) (O.shown out.new) result }
+{
+    let text = print_domain(alloc, names, domain)?;
+    put(out, text.as_slice())?;
+    Ok(0)
+}
+
+/// Judges a plan, and writes what it is worth. The status is 0 where nothing is wrong with it, else 7.
+fn validate<O: Sink>(alloc: Global, validation: Validation, out: &mut O) -> Result<u8, SinkRefusal>
+    ensures { Performs (AValidation validation) (O.shown out.old) (O.shown out.new) result }
+{
+    let Validation {
+        mut names,
+        input,
+        plan,
+    } = validation;
+    let wrong = judge(alloc, &mut names, input, plan.as_slice())?;
+    write_verdict(alloc, &names, &wrong, out)
+}
+
+/// What is wrong with the text of a plan after the edits of the input's lines, if something is. The only error is out of memory.
+fn judge(
+    alloc: Global,
+    names: &mut Names,
+    input: Input,
+    plan: &[u8],
+) -> Result<Option<Invalid>, AllocError>
+    requires { AreNames names.old }
+    ensures { Finds (verdict_after input.domain input.lines names.old plan.now) names.new result }
+{
+    let Input { domain, lines, .. } = input;
+    let expert = Expert::new(alloc, domain)?;
+    judge_lines(alloc, names, &expert, lines.as_slice(), plan)
+}
+
+/// What is wrong with the text of a plan after the edits of these lines, if something is. The only error is out of memory.
+fn judge_lines(
+    alloc: Global,
+    names: &mut Names,
+    expert: &Expert,
+    lines: &[Line],
+    plan: &[u8],
+) -> Result<Option<Invalid>, AllocError>
+    requires { AreNames names.old }
+    ensures { Finds (verdict_after expert.now lines.now names.old plan.now) names.new result }
+{
+    let problem = known_after(alloc, expert, lines)?;
+    verdict(alloc, names, expert, &problem, plan)
+}
+
+/// Writes the line that a plan is answered with. The status is 0 where nothing is wrong with it, else 7.
+fn write_verdict<O: Sink>(
+    alloc: Global,
+    names: &Names,
+    wrong: &Option<Invalid>,
+    out: &mut O,
+) -> Result<u8, SinkRefusal>
+    ensures { Writes (verdict_line names.now wrong.now) (verdict_status wrong.now)
+        (O.shown out.old) (O.shown out.new) result }
+{
+    let line = verdict_line(alloc, names, wrong)?;
+    put(out, line.as_slice())?;
+    Ok(verdict_status(wrong))
+}

@@ -1,0 +1,44 @@
+//! Telling why the work of a call isn't done.
+ghost use Rattle.ps_inputs.specs.Faults.{fault_line, fault_status};
+ghost use Rattle.ps_calls.specs.Headline.{GivesUp, Reports, Says};
+
+use ps_inputs::{Fault, fault_line};
+use ps_text::{Sink, SinkRefusal, put};
+use std::alloc::Global;
+
+/// Says to `err` what is at fault, and gives the status.
+pub fn report<E: Sink>(alloc: Global, fault: &Fault, err: &mut E) -> u8
+    ensures { Reports fault.now (E.shown err.old) (E.shown err.new) result }
+{
+    let Ok(line) = fault_line(alloc, fault) else {
+        return give_up(err, SinkRefusal::OutOfMemory);
+    };
+    match put(err, line.as_slice()) {
+        Ok(()) => fault.status(),
+        Err(SinkRefusal::Failed) => 5,
+        Err(SinkRefusal::OutOfMemory) => 6,
+    }
+}
+
+/// Says to `err` why the call is broken off, and gives the status.
+pub fn give_up<E: Sink>(err: &mut E, why: SinkRefusal) -> u8
+    ensures { GivesUp why (E.shown err.old) (E.shown err.new) result }
+{
+    match why {
+        SinkRefusal::Failed => {
+            say(err, b"plansys: cannot write\n");
+            5
+        }
+        SinkRefusal::OutOfMemory => {
+            say(err, b"plansys: out of memory\n");
+            6
+        }
+    }
+}
+
+/// Says a line to `err`, as far as it takes it.
+fn say<E: Sink>(err: &mut E, line: &[u8])
+    ensures { Says line.now (E.shown err.old) (E.shown err.new) }
+{
+    let _ = put(err, line);
+}
