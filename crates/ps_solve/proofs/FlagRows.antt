@@ -1,5 +1,5 @@
 -- The facts that flags stand for: where one is found, and what a flag that is cleared or set changes.
-use Rattle.std.proofs.Common.{◌≡◌, ℕ, zero, suc, ◌≤◌, ◌<◌, Bool, true, false, not, cond, ◌||◌, List, [], ◌∷◌, Option, Some, None, drop, filter, length, get_or, set, refl, ap, sym, ◌∙◌, arith}
+use Rattle.std.proofs.Common.{◌≡◌, ℕ, zero, suc, ◌≤◌, ◌<◌, Bool, true, false, not, ◌||◌, List, [], ◌∷◌, ◌++◌, Option, Some, None, filter, length, get_or, set, refl, ap, sym, ◌∙◌, arith}
 use Rattle.std.specs.Prelude.{slice_get}
 use Rattle.std.specs.List.{AllByRecursion, list_any}
 use Rattle.std.specs.List.Sorted.{IsStrictlySortedBy}
@@ -32,7 +32,7 @@ tied f Greater e t = absurd (cc)
 equal : (f : Fact) → fact_cmp f f ≡ Equal
 equal f = tied f (fact_cmp f f) refl (itself f)
 
-above : (f g : Fact) → fact_cmp f g ≡ Less → fact_cmp g f ≡ Greater
+pub above : (f g : Fact) → fact_cmp f g ≡ Less → fact_cmp g f ≡ Greater
 above f g e = facts_total.antisymm g f ∙ ap ordering_reverse e
 
 other : (f g : Fact) → fact_cmp f g ≡ Less → same_fact f g ≡ false
@@ -182,12 +182,12 @@ pub no_flags : (atoms : List Fact) → facts_of atoms [] ≡ []
 no_flags [] = refl
 no_flags (a ∷ atoms) = refl
 
--- the facts from a flag on
-pub facts_from : (a : Fact) (atoms : List Fact) (i : ℕ) (flags : List Bool) → facts_of (a ∷ atoms) (drop i flags) ≡ cond (get_or flags i false) (a ∷ facts_of atoms (drop (suc i) flags)) (facts_of atoms (drop (suc i) flags))
-facts_from a atoms zero [] = sym (no_flags atoms)
-facts_from a atoms zero (flag ∷ flags) = refl
-facts_from a atoms (suc i) [] = sym (no_flags atoms)
-facts_from a atoms (suc i) (flag ∷ flags) = facts_from a atoms i flags
+-- one more flag that isn't set
+pub one_unset : (atoms : List Fact) (flags : List Bool) → facts_of atoms (flags ++ false ∷ []) ≡ facts_of atoms flags
+one_unset [] flags = refl
+one_unset (a ∷ atoms) [] = no_flags atoms
+one_unset (a ∷ atoms) (true ∷ flags) = ap (λ l. a ∷ l) (one_unset atoms flags)
+one_unset (a ∷ atoms) (false ∷ flags) = one_unset atoms flags
 
 -- ---- flags by their places
 

@@ -14,6 +14,7 @@ pub mod NoneLaw
 pub mod Places
 pub mod Preparing
 pub mod Removed
+pub mod Rising
 pub mod SameRows
 pub mod SameStates
 pub mod Settled

@@ -28,8 +28,8 @@ use Rattle.ps_solve.specs.Orders.{facts_total}
 use Rattle.ps_solve.specs.States.{State, at, changed, ended, state_of, stepped, where_so}
 use Rattle.ps_solve.specs.Nodes.{Node, move, moves}
 use Rattle.ps_solve.specs.Apart.{HaveFootprints, HasFootprint}
-use Rattle.ps_solve.specs.Prepared.{IsBareTest, is_number, known_at, landed, leap, leaps, leapt, passes, turned, with_at, without_at}
-use Rattle.ps_solve.specs.Rows.{AreAtoms, IsOver, adds, plain_state}
+use Rattle.ps_solve.specs.Prepared.{AreSound, IsBareTest, IsSound, is_number, known_at, landed, leap, leaps, leapt, passes, turned, with_at, without_at}
+use Rattle.ps_solve.specs.Rows.{AddAtoms, AreAtoms, IsOver, adds, plain_state}
 use Rattle.ps_solve.specs.declared.prepared.Prepared.{Prepared}
 use Rattle.ps_solve.specs.declared.prepared.Test.{Test}
 use Rattle.ps_solve.specs.declared.rows.Row.{Row}
@@ -82,10 +82,6 @@ none_put f (g ∷ adds) fs a e =
     let w = both (same_fact f g) (list_any (same_fact f) adds) a in
     none_put f adds (insert_key fact_cmp fs g) w.1 (any-insert_key facts_total f g fs ∙ neither (same_fact f g) (list_any (same_fact f) fs) w.0 e)
 
--- these effects add atoms alone
-abbrev pub AddAtoms : List Fact → List Effect → Type 0
-AddAtoms atoms es = AreAtoms atoms (filter_map added_by es)
-
 -- what is no atom is none of the atoms
 other_atom : (f g : Fact) (atoms : List Fact) (i : ℕ) → slice_get atoms i ≡ Some g → list_any (same_fact f) atoms ≡ false → same_fact f g ≡ false
 other_atom f g [] i e none = absurd (cc)
@@ -134,6 +130,12 @@ pub actions_split : (atoms : List Fact) (g : GroundAction) (gs : List GroundActi
 actions_split atoms g gs i split a =
     let P : List GroundAction → Type 0 = λ l. AreAtoms atoms (flat_map adds l) in
     atoms_of_both atoms (adds g) (flat_map adds (drop (i + 1) gs)) (subst P split a)
+
+-- the first of some facts, and the others, are atoms where all are
+pub facts_split : (atoms : List Fact) (f : Fact) (fs : List Fact) (i : ℕ) → drop i fs ≡ f ∷ drop (i + 1) fs → AreAtoms atoms (drop i fs) → AreAtoms atoms (f ∷ []) × AreAtoms atoms (drop (i + 1) fs)
+facts_split atoms f fs i split a =
+    let P : List Fact → Type 0 = AreAtoms atoms in
+    atoms_of_both atoms (f ∷ []) (drop (i + 1) fs) (subst P split a)
 
 -- what is one of the atoms has a place
 pub no_place : {A : Type 0} (f : Fact) (atoms : List Fact) → list_any (same_fact f) atoms ≡ false → AreAtoms atoms (f ∷ []) → A
@@ -314,6 +316,21 @@ module _ (d : Domain) (k : Knowledge) (atoms : List Fact) (n : Node) where
   idle_more all i a found split e =
       ap (λ (o : Option State). leaps d k atoms found n ++ cons_option (option_map (λ s. let m : Node = record { state = s; path = n.path ++ a.act ∷ [] } in m) o) (moves d k (drop (i + 1) all) n)) (sym e)
       ∙ ap (λ l. leaps d k atoms found n ++ moves d k l n) (sym split)
+
+-- one more that adds atoms alone
+pub sound_more : (atoms : List Fact) (ps : List Prepared) (p : Prepared) → AreSound atoms ps → IsSound atoms p → AreSound atoms (ps ++ p ∷ [])
+sound_more atoms [] p all one = (one, tt)
+sound_more atoms (q ∷ ps) p all one = (all.0, sound_more atoms ps p all.1 one)
+
+-- each of those that add atoms alone does
+pub sound_at : (atoms : List Fact) (ps rest : List Prepared) (p : Prepared) (i : ℕ) → drop i ps ≡ p ∷ rest → AreSound atoms ps → IsSound atoms p
+sound_at atoms [] rest p zero e all = absurd (cc)
+sound_at atoms [] rest p (suc i) e all = absurd (cc)
+sound_at atoms (q ∷ ps) rest p zero e all =
+    let P : Prepared → Type 0 = IsSound atoms in
+    let same : q ≡ p = cc in
+    subst P same all.0
+sound_at atoms (q ∷ ps) rest p (suc i) e all = sound_at atoms ps rest p i e all.1
 
 -- one more that is kept with what it reads and changes
 pub footprints_more : (ps : List Prepared) (p : Prepared) → HaveFootprints ps → HasFootprint p → HaveFootprints (ps ++ p ∷ [])

@@ -13,6 +13,7 @@ use Rattle.ps_world.specs.declared.known.Knowledge.{Knowledge}
 use Rattle.ps_action.specs.Truth.{all_true}
 use Rattle.ps_solve.specs.States.{State, at, changed, where_so}
 use Rattle.ps_solve.specs.Nodes.{Node}
+use Rattle.ps_solve.specs.Rows.{AddAtoms}
 use Rattle.ps_solve.specs.declared.prepared.Change.{Change}
 use Rattle.ps_solve.specs.declared.prepared.Change.TheVariants.{Flags, Effects}
 use Rattle.ps_solve.specs.declared.prepared.Prepared.{Prepared}
@@ -36,6 +37,21 @@ pub record IsBare (p : Prepared) : Type 0 where
   pub start : IsBareTest p.start
   pub over : IsBareTest p.over
   pub end : IsBareTest p.end
+
+-- the effects of a change, where it is of effects, add atoms alone
+abbrev pub IsSoundChange : List Fact → Change → Type 0
+IsSoundChange atoms (Flags cleared set) = Unit {0}
+IsSoundChange atoms (Effects es) = AddAtoms atoms es
+
+-- so do those of both changes of a prepared ground action
+pub record IsSound (atoms : List Fact) (p : Prepared) : Type 0 where
+  pub start : IsSoundChange atoms p.at_start
+  pub end : IsSoundChange atoms p.at_end
+
+-- so do those of each of these
+abbrev pub AreSound : List Fact → List Prepared → Type 0
+AreSound atoms [] = Unit {0}
+AreSound atoms (p ∷ ps) = IsSound atoms p × AreSound atoms ps
 
 -- facts without the atom at a place
 abbrev pub without_at : List Fact → List Fact → ℕ → List Fact

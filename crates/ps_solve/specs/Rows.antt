@@ -7,6 +7,7 @@ use Rattle.std.specs.Ordering.{eq_by_cmp}
 use Rattle.std.specs.Cmp.{IsEquivalence, and_equiv, bool_eq_equiv, eq_by_cmp_equiv, first_so, on_equiv, second_so}
 use Rattle.std.specs.Cmp.Lexicographic.{lists_equiv, pointwise}
 use Rattle.ps_world.specs.Knowledge.{same_fact}
+use Rattle.ps_world.specs.declared.actions.Effect.{Effect}
 use Rattle.ps_world.specs.declared.facts.Fact.{Fact}
 use Rattle.ps_action.specs.Effects.{added_by}
 use Rattle.ps_action.specs.declared.acts.GroundAction.{GroundAction}
@@ -84,6 +85,10 @@ adds g = filter_map added_by g.effects.at_start ++ filter_map added_by g.effects
 -- each of these facts is an atom
 abbrev pub AreAtoms : List Fact → List Fact → Type 0
 AreAtoms atoms fs = (f : Fact) → list_any (same_fact f) atoms ≡ false → list_any (same_fact f) fs ≡ false
+
+-- each fact that one of these effects adds is an atom
+abbrev pub AddAtoms : List Fact → List Effect → Type 0
+AddAtoms atoms es = AreAtoms atoms (filter_map added_by es)
 
 -- each fact of a state is
 abbrev pub IsOver : List Fact → State → Type 0

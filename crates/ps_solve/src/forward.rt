@@ -9,7 +9,7 @@ ghost use Rattle.ps_solve.specs.Apart.{HaveFootprints};
 ghost use Rattle.ps_solve.specs.Endings.{searched};
 ghost use Rattle.ps_solve.specs.States.{state_of};
 ghost use Rattle.ps_solve.specs.Nodes.{Node, grounds, moves};
-ghost use Rattle.ps_solve.specs.Prepared.{leaps};
+ghost use Rattle.ps_solve.specs.Prepared.{AreSound, leaps};
 ghost use Rattle.ps_solve.specs.Rows.{AreAtoms, adds, plain_node, plain_state};
 ghost use Rattle.ps_solve.specs.declared.nodes.Reached.{Reached as ReachedView};
 
@@ -78,8 +78,9 @@ fn grounds(
     Ok(found)
 }
 
-/// The row of what is known. The only error is want of memory, as it always is where a fact is no atom.
+/// The row of what is known. The only error is out of memory.
 fn start_of(alloc: Global, atoms: &Atoms, problem: &Problem) -> Result<Row, AllocError>
+    requires { AreAtoms atoms.now problem.now.facts }
     ensures same { IfOk result (λ row. plain_state atoms.now row ≡ state_of problem.now) }
     ensures wide { IfOk result (λ row. length row.flags.items ≡ length atoms.now) }
 {
@@ -146,6 +147,7 @@ impl<'a> Question<'a> {
     ) -> Result<Answer, AllocError>
         requires goal { self.now.problem.now.goal ≡ Some self.now.goal.now }
         requires moves { (n : Node) → moves self.now.expert.now self.now.problem.now light.now n ≡ moves self.now.expert.now self.now.problem.now (grounds self.now.expert.now self.now.problem.now) n }
+        requires first { AreAtoms atoms.now self.now.problem.now.facts }
         requires atoms { AreAtoms atoms.now (flat_map adds light.now) }
         ensures { IfOk result (λ a. a ≡ searched self.now.expert.now self.now.problem.now self.now.budget) }
     {
@@ -161,6 +163,8 @@ impl<'a> Question<'a> {
         actions: &[Prepared],
     ) -> Result<Answer, AllocError>
         requires goal { self.now.problem.now.goal ≡ Some self.now.goal.now }
+        requires first { AreAtoms atoms.now self.now.problem.now.facts }
+        requires sound { AreSound atoms.now actions.now }
         requires footprints { HaveFootprints actions.now }
         requires actions { (n : ReachedView) → leaps self.now.expert.now self.now.problem.now atoms.now actions.now (plain_node atoms.now n) ≡ moves self.now.expert.now self.now.problem.now (grounds self.now.expert.now self.now.problem.now) (plain_node atoms.now n) }
         ensures { IfOk result (λ a. a ≡ searched self.now.expert.now self.now.problem.now self.now.budget) }

@@ -13,8 +13,8 @@ ghost use Rattle.ps_action.specs.Effects.{added_by, deletes};
 ghost use Rattle.ps_action.specs.Truth.{all_true, is_true};
 ghost use Rattle.ps_solve.specs.States.{State, at, changed, stepped};
 ghost use Rattle.ps_solve.specs.Nodes.{moves};
-ghost use Rattle.ps_solve.specs.Rows.{AreAtoms, IsOver, adds, plain_node};
-ghost use Rattle.ps_solve.specs.Prepared.{IsBare, IsBareTest, is_number, leaps, leapt, passes, turned, with_at, without_at};
+ghost use Rattle.ps_solve.specs.Rows.{AddAtoms, AreAtoms, IsOver, adds, plain_node};
+ghost use Rattle.ps_solve.specs.Prepared.{AreSound, IsBare, IsBareTest, IsSound, IsSoundChange, is_number, leaps, leapt, passes, turned, with_at, without_at};
 ghost use Rattle.ps_solve.specs.Apart.{HaveFootprints, HasFootprint};
 ghost use Rattle.ps_solve.specs.declared.nodes.Reached.{Reached as ReachedView};
 
@@ -183,7 +183,7 @@ fn added(atoms: &Atoms, effect: &Effect) -> Option<usize>
 
 /// The places of the atoms that these effects add. The only error is want of memory.
 fn all_added(alloc: Global, atoms: &Atoms, effects: &[Effect]) -> Result<Vec<usize>, AllocError>
-    requires { AreAtoms atoms.now (filter_map added_by effects.now) }
+    requires { AddAtoms atoms.now effects.now }
     ensures { IfOk result (λ places. (fs : List FactView) → fold (with_at atoms.now) fs places.items ≡ fold (insert_key fact_cmp) fs (filter_map added_by effects.now)) }
 {
     let mut places = Vec::new(alloc);
@@ -197,13 +197,14 @@ fn all_added(alloc: Global, atoms: &Atoms, effects: &[Effect]) -> Result<Vec<usi
 
 /// The change of a list of effects. The only error is want of memory.
 fn change_of(alloc: Global, atoms: &Atoms, effects: &Seq<Effect>) -> Result<Change, AllocError>
-    requires { AreAtoms atoms.now (filter_map added_by effects.now) }
-    ensures { IfOk result (λ change. (d : DomainView) (k : KnowledgeView) (s : State) → IsOver atoms.now s → turned d k atoms.now change s ≡ changed d k s effects.now) }
+    requires { AddAtoms atoms.now effects.now }
+    ensures same { IfOk result (λ change. (d : DomainView) (k : KnowledgeView) (s : State) → IsOver atoms.now s → turned d k atoms.now change s ≡ changed d k s effects.now) }
+    ensures sound { IfOk result (IsSoundChange atoms.now) }
 {
-    let set = all_added(alloc, atoms, effects.as_slice())?;
     if has_number(effects.as_slice()) {
         return Ok(Change::Effects(effects.copy(alloc)?));
     }
+    let set = all_added(alloc, atoms, effects.as_slice())?;
     let cleared = all_deleted(alloc, atoms, effects.as_slice())?;
     Ok(Change::Flags { cleared, set })
 }
@@ -221,6 +222,7 @@ fn fill(
     ensures act { made.new.act ≡ made.old.act }
     ensures same { IfOk result (λ fits. fits ≡ true → (d : DomainView) (k : KnowledgeView) (s : State) → IsOver atoms.now s → leapt d k atoms.now s made.new ≡ stepped d k s action.now) }
     ensures vain { IfOk result (λ fits. fits ≡ false → (d : DomainView) (k : KnowledgeView) (s : State) → IsOver atoms.now s → stepped d k s action.now ≡ None) }
+    ensures sound { IfOk result (λ fits. fits ≡ true → IsSound atoms.now made.new) }
     ensures footprint { IfOk result (λ fits. fits ≡ true → HasFootprint made.new) }
 {
     if !take_all(alloc, atoms, &action.conditions.at_start, &mut made.start)? {
@@ -252,6 +254,7 @@ fn prepare(
 ) -> Result<Option<Prepared>, AllocError>
     requires { AreAtoms atoms.now (adds action.now) }
     ensures same { IfOk result (λ made. MatchOption made ((d : DomainView) (k : KnowledgeView) (s : State) → IsOver atoms.now s → stepped d k s action.now ≡ None) (λ p. (p.act ≡ action.now.act) × ((d : DomainView) (k : KnowledgeView) (s : State) → IsOver atoms.now s → leapt d k atoms.now s p ≡ stepped d k s action.now))) }
+    ensures sound { IfOk result (λ made. IfSome made (IsSound atoms.now)) }
     ensures footprints { IfOk result (λ made. IfSome made HasFootprint) }
 {
     let mut made = Prepared::bare(alloc, action.act);
@@ -271,6 +274,7 @@ pub fn prepare_all(
 ) -> Result<Vec<Prepared>, AllocError>
     requires { AreAtoms atoms.now (flat_map adds actions.now) }
     ensures same { IfOk result (λ all. (d : DomainView) (k : KnowledgeView) (r : ReachedView) → leaps d k atoms.now all.items (plain_node atoms.now r) ≡ moves d k actions.now (plain_node atoms.now r)) }
+    ensures sound { IfOk result (λ all. AreSound atoms.now all.items) }
     ensures footprints { IfOk result (λ all. HaveFootprints all.items) }
 {
     let mut all = Vec::new(alloc);

@@ -1,12 +1,14 @@
 //! Rows: states over the atoms of a search.
-ghost use Rattle.std.specs.Prelude.{◌≡◌, ◌++◌, [], false, true, not, filter, filter_map, fold, length, option_to_list, slice_index_or, slice_set, IfOk, OnOk};
+ghost use Rattle.std.specs.Prelude.{◌≡◌, ◌∷◌, [], false, true, not, filter, filter_map, fold, length, option_to_list, slice_index_or, slice_set, IfOk, OnOk};
 ghost use Rattle.std.specs.List.{list_all, list_any};
+ghost use Rattle.std.specs.List.Sorted.{IsStrictlySortedBy};
 ghost use Rattle.std.specs.BTreeSet.{insert_key};
+ghost use Rattle.std.specs.Map.{keys_of};
 ghost use Rattle.ps_world.specs.Facts.{fact_cmp};
 ghost use Rattle.ps_world.specs.Knowledge.{same_fact};
 ghost use Rattle.ps_action.specs.Effects.{added_by, deletes};
 ghost use Rattle.ps_solve.specs.States.{made_state};
-ghost use Rattle.ps_solve.specs.Rows.{facts_of, flags_key, plain_state};
+ghost use Rattle.ps_solve.specs.Rows.{AddAtoms, AreAtoms, facts_of, flags_key, plain_state};
 ghost use Rattle.ps_solve.specs.Prepared.{known_at, with_at, without_at};
 
 use super::atoms::Atoms;
@@ -55,27 +57,23 @@ impl Hash for Row {
 }
 
 impl Row {
-    /// The row of these facts and values. The only error is want of memory, as it always is where they don't rise or a fact is no
-    /// atom.
+    /// The row of these facts and values. The only error is out of memory.
     pub fn of(
         alloc: Global,
         atoms: &Atoms,
         facts: &[Fact],
         values: &[(Fact, Num)],
     ) -> Result<Row, AllocError>
+        requires facts { IsStrictlySortedBy fact_cmp facts.now }
+        requires values { IsStrictlySortedBy fact_cmp (keys_of values.now) }
+        requires atoms { AreAtoms atoms.now facts.now }
         ensures same { IfOk result (λ row. (facts_of atoms.now row.flags.items ≡ facts.now) × (row.values ≡ values.now)) }
         ensures wide { IfOk result (λ row. length row.flags.items ≡ length atoms.now) }
     {
-        let flags = flags_of(alloc, atoms, facts)?;
-        let listed = list_of(alloc, atoms, &flags)?;
-        if listed.as_slice().cmp(facts).is_eq() {
-            Ok(Row {
-                flags,
-                values: Values::of(alloc, values)?,
-            })
-        } else {
-            Err(AllocError)
-        }
+        Ok(Row {
+            flags: flags_of(alloc, atoms, facts)?,
+            values: Values::of(alloc, values)?,
+        })
     }
 
     /// An equal row. The only error is want of memory.
@@ -89,19 +87,21 @@ impl Row {
         })
     }
 
-    /// Makes the deletes of a list of effects, then its adds, and then gives the terms these values. The only error is want of
-    /// memory, as it always is where a fact to be added is no atom, and then the row may have changed.
+    /// Makes the deletes of a list of effects, then its adds, and then gives the terms these values. The only error is out of
+    /// memory, and then the row may have changed.
     pub fn put(
         &mut self,
         atoms: &Atoms,
         effects: &[Effect],
         ready: &[(Fact, Num)],
     ) -> Result<(), AllocError>
+        requires wide { length self.old.flags.items ≡ length atoms.now }
+        requires atoms { AddAtoms atoms.now effects.now }
         ensures state { OnOk result (plain_state atoms.now self.new ≡ made_state (plain_state atoms.now self.old) effects.now ready.now) }
         ensures wide { OnOk result (length self.new.flags.items ≡ length self.old.flags.items) }
     {
         delete_all(&mut self.flags, atoms, effects);
-        add_all(&mut self.flags, atoms, effects)?;
+        add_all(&mut self.flags, atoms, effects);
         self.values.insert_all(ready)
     }
 
@@ -150,31 +150,20 @@ pub fn are_known(atoms: &Atoms, row: &Row, places: &[usize]) -> bool
     true
 }
 
-/// Flags for the atoms, where these facts are set. The only error is want of memory, as it always is where a fact is no atom.
+/// Flags for the atoms, where these facts are set. The only error is out of memory.
 fn flags_of(alloc: Global, atoms: &Atoms, facts: &[Fact]) -> Result<Vec<bool>, AllocError>
-    ensures { IfOk result (λ flags. length flags.items ≡ length atoms.now) }
+    requires { AreAtoms atoms.now facts.now }
+    ensures facts { IfOk result (λ flags. facts_of atoms.now flags.items ≡ fold (insert_key fact_cmp) [] facts.now) }
+    ensures wide { IfOk result (λ flags. length flags.items ≡ length atoms.now) }
 {
     let mut flags = Vec::with_capacity(alloc, atoms.as_slice().len())?;
     for _ in atoms.as_slice() {
         flags.push(false)?;
     }
     for fact in facts {
-        learn(&mut flags, atoms, fact)?;
+        learn(&mut flags, atoms, fact);
     }
     Ok(flags)
-}
-
-/// The atoms whose flags are set, in order. The only error is want of memory.
-fn list_of(alloc: Global, atoms: &Atoms, flags: &[bool]) -> Result<Vec<Fact>, AllocError>
-    ensures { IfOk result (λ v. v.items ≡ facts_of atoms.now flags.now) }
-{
-    let mut all = Vec::new(alloc);
-    for (place, atom) in atoms.as_slice().iter().enumerate() {
-        if is_set(flags, place) {
-            all.push(*atom)?;
-        }
-    }
-    Ok(all)
 }
 
 /// A number made of flags, for a hash: one write is much less work than one for each flag.
@@ -234,17 +223,16 @@ fn forget(flags: &mut Vec<bool>, atoms: &Atoms, fact: &Fact)
     }
 }
 
-/// Sets the flag of a fact. The only error is want of memory, as it always is where the fact is no atom.
-fn learn(flags: &mut Vec<bool>, atoms: &Atoms, fact: &Fact) -> Result<(), AllocError>
-    ensures set { OnOk result (facts_of atoms.now flags.new.items ≡ insert_key fact_cmp (facts_of atoms.now flags.old.items) fact.now) }
-    ensures wide { OnOk result (length flags.new.items ≡ length flags.old.items) }
+/// Sets the flag of a fact.
+fn learn(flags: &mut Vec<bool>, atoms: &Atoms, fact: &Fact)
+    requires wide { length flags.old.items ≡ length atoms.now }
+    requires atom { AreAtoms atoms.now (fact.now ∷ []) }
+    ensures set { facts_of atoms.now flags.new.items ≡ insert_key fact_cmp (facts_of atoms.now flags.old.items) fact.now }
+    ensures wide { length flags.new.items ≡ length flags.old.items }
 {
     match atoms.place_of(fact) {
-        Some(place) if place < flags.as_slice().len() => {
-            flags[place] = true;
-            Ok(())
-        }
-        _ => Err(AllocError),
+        Some(place) => flags[place] = true,
+        None => unreachable!(),
     }
 }
 
@@ -270,26 +258,26 @@ fn delete(flags: &mut Vec<bool>, atoms: &Atoms, effect: &Effect)
     }
 }
 
-/// Sets the flags of every fact that one of these effects adds. The only error is want of memory, as it always is where such a
-/// fact is no atom, and then some of the first may be set.
-fn add_all(flags: &mut Vec<bool>, atoms: &Atoms, effects: &[Effect]) -> Result<(), AllocError>
-    ensures facts { OnOk result (facts_of atoms.now flags.new.items ≡ fold (insert_key fact_cmp) (facts_of atoms.now flags.old.items) (filter_map added_by effects.now)) }
-    ensures wide { OnOk result (length flags.new.items ≡ length flags.old.items) }
+/// Sets the flags of every fact that one of these effects adds.
+fn add_all(flags: &mut Vec<bool>, atoms: &Atoms, effects: &[Effect])
+    requires wide { length flags.old.items ≡ length atoms.now }
+    requires atoms { AddAtoms atoms.now effects.now }
+    ensures facts { facts_of atoms.now flags.new.items ≡ fold (insert_key fact_cmp) (facts_of atoms.now flags.old.items) (filter_map added_by effects.now) }
+    ensures wide { length flags.new.items ≡ length flags.old.items }
 {
     for effect in effects {
-        add(flags, atoms, effect)?;
+        add(flags, atoms, effect);
     }
-    Ok(())
 }
 
-/// Sets the flag of the fact that an effect adds, if it adds one. The only error is want of memory, as it always is where the fact
-/// is no atom.
-fn add(flags: &mut Vec<bool>, atoms: &Atoms, effect: &Effect) -> Result<(), AllocError>
-    ensures facts { OnOk result (facts_of atoms.now flags.new.items ≡ fold (insert_key fact_cmp) (facts_of atoms.now flags.old.items) (option_to_list (added_by effect.now))) }
-    ensures wide { OnOk result (length flags.new.items ≡ length flags.old.items) }
+/// Sets the flag of the fact that an effect adds, if it adds one.
+fn add(flags: &mut Vec<bool>, atoms: &Atoms, effect: &Effect)
+    requires wide { length flags.old.items ≡ length atoms.now }
+    requires atom { AreAtoms atoms.now (option_to_list (added_by effect.now)) }
+    ensures facts { facts_of atoms.now flags.new.items ≡ fold (insert_key fact_cmp) (facts_of atoms.now flags.old.items) (option_to_list (added_by effect.now)) }
+    ensures wide { length flags.new.items ≡ length flags.old.items }
 {
     if let Effect::Add(lifted) = effect {
-        learn(flags, atoms, &lifted.ground())?;
+        learn(flags, atoms, &lifted.ground());
     }
-    Ok(())
 }

@@ -8,7 +8,7 @@ ghost use Rattle.ps_solve.specs.States.{at, state_of};
 ghost use Rattle.ps_solve.specs.Nodes.{grounds, met, moves, root};
 ghost use Rattle.ps_solve.specs.Apart.{HaveFootprints, is_spared};
 ghost use Rattle.ps_solve.specs.Leads.{AreSpared, IsSpared, first_leads, leads_from, plain_lead};
-ghost use Rattle.ps_solve.specs.Prepared.{leaps};
+ghost use Rattle.ps_solve.specs.Prepared.{AreSound, IsSound, leaps};
 ghost use Rattle.ps_solve.specs.Rows.{AreWide, HaveWide, plain_node, plain_state};
 ghost use Rattle.ps_solve.specs.declared.nodes.Reached.{Reached as ReachedView};
 
@@ -73,6 +73,7 @@ impl<'a, K: Known, T: Types> Search<'a, K, T> {
         next: &mut Vec<Reached>,
     ) -> Result<(), AllocError>
         requires wide { AreWide self.now.atoms.now seen.old.keys }
+        requires sound { IsSound self.now.atoms.now action.now }
         requires node { length node.now.row.flags.items ≡ length self.now.atoms.now }
         requires level { HaveWide self.now.atoms.now next.old.items }
         ensures leads { OnOk result (map (plain_lead self.now.atoms.now) next.new.items ≡ map (plain_lead self.now.atoms.now) next.old.items ++ first_leads (map (plain_state self.now.atoms.now) seen.old.keys) (leads_from (T.types self.now.types.now) (K.known self.now.given.now) self.now.atoms.now place (action.now ∷ []) (plain_node self.now.atoms.now node.now))) }
@@ -112,6 +113,7 @@ impl<'a, K: Known, T: Types> Search<'a, K, T> {
         next: &mut Vec<Reached>,
     ) -> Result<(), AllocError>
         requires wide { AreWide self.now.atoms.now seen.old.keys }
+        requires sound { AreSound self.now.atoms.now self.now.actions.now }
         requires node { length node.now.row.flags.items ≡ length self.now.atoms.now }
         requires level { HaveWide self.now.atoms.now next.old.items }
         requires spared { IsSpared (T.types self.now.types.now) (K.known self.now.given.now) self.now.atoms.now self.now.actions.now (map (plain_state self.now.atoms.now) seen.old.keys) (plain_lead self.now.atoms.now node.now) }
@@ -137,6 +139,7 @@ impl<'a, K: Known, T: Types> Search<'a, K, T> {
     ) -> Result<Vec<Reached>, AllocError>
         requires wide { AreWide self.now.atoms.now seen.old.keys }
         requires level { HaveWide self.now.atoms.now level.now }
+        requires sound { AreSound self.now.atoms.now self.now.actions.now }
         requires spared { AreSpared (T.types self.now.types.now) (K.known self.now.given.now) self.now.atoms.now self.now.actions.now (map (plain_state self.now.atoms.now) seen.old.keys) (map (plain_lead self.now.atoms.now) level.now) }
         ensures leads { IfOk result (λ next. map (plain_lead self.now.atoms.now) next.items ≡ first_leads (map (plain_state self.now.atoms.now) seen.old.keys) (flat_map (leads_from (T.types self.now.types.now) (K.known self.now.given.now) self.now.atoms.now 0 self.now.actions.now) (map (plain_node self.now.atoms.now) level.now))) }
         ensures seen { OnOk result (map (plain_state self.now.atoms.now) seen.new.keys ≡ met (map (plain_state self.now.atoms.now) seen.old.keys) (flat_map (leaps (T.types self.now.types.now) (K.known self.now.given.now) self.now.atoms.now self.now.actions.now) (map (plain_node self.now.atoms.now) level.now))) }
@@ -183,6 +186,7 @@ impl<'a, K: Known, T: Types> Search<'a, K, T> {
         budget: u32,
     ) -> Result<Answer, AllocError>
         requires goal { (K.known self.now.given.now).goal ≡ Some self.now.goal.now }
+        requires sound { AreSound self.now.atoms.now self.now.actions.now }
         requires footprints { HaveFootprints self.now.actions.now }
         requires actions { (n : ReachedView) → leaps (T.types self.now.types.now) (K.known self.now.given.now) self.now.atoms.now self.now.actions.now (plain_node self.now.atoms.now n) ≡ moves (T.types self.now.types.now) (K.known self.now.given.now) (grounds (T.types self.now.types.now) (K.known self.now.given.now)) (plain_node self.now.atoms.now n) }
         requires leads { map (plain_lead self.now.atoms.now) level.old.items ≡ record { node = root (K.known self.now.given.now); by = length self.now.actions.now } ∷ [] }
@@ -210,6 +214,7 @@ impl<'a, K: Known, T: Types> Search<'a, K, T> {
         requires start { plain_state self.now.atoms.now start ≡ state_of (K.known self.now.given.now) }
         requires wide { length start.flags.items ≡ length self.now.atoms.now }
         requires goal { (K.known self.now.given.now).goal ≡ Some self.now.goal.now }
+        requires sound { AreSound self.now.atoms.now self.now.actions.now }
         requires footprints { HaveFootprints self.now.actions.now }
         requires actions { (n : ReachedView) → leaps (T.types self.now.types.now) (K.known self.now.given.now) self.now.atoms.now self.now.actions.now (plain_node self.now.atoms.now n) ≡ moves (T.types self.now.types.now) (K.known self.now.given.now) (grounds (T.types self.now.types.now) (K.known self.now.given.now)) (plain_node self.now.atoms.now n) }
         ensures { IfOk result (λ answer. answer ≡ searched (T.types self.now.types.now) (K.known self.now.given.now) budget) }

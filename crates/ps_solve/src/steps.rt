@@ -1,8 +1,8 @@
 //! Steps from a state to the next.
 ghost use Rattle.std.specs.Prelude.{◌≡◌, Some, None, if◌then◌else◌, option_and_then, option_map, length, IfOk, IfSome, OnOk};
 ghost use Rattle.ps_solve.specs.States.{at, changed};
-ghost use Rattle.ps_solve.specs.Prepared.{landed, leapt, passes, turned};
-ghost use Rattle.ps_solve.specs.Rows.{plain_state};
+ghost use Rattle.ps_solve.specs.Prepared.{IsSound, IsSoundChange, landed, leapt, passes, turned};
+ghost use Rattle.ps_solve.specs.Rows.{AddAtoms, plain_state};
 
 use super::atoms::Atoms;
 use super::prepared::{Change, Prepared, Test};
@@ -55,6 +55,8 @@ fn change<K: Known, T: Types>(
     row: &mut Row,
     effects: &[Effect],
 ) -> Result<bool, AllocError>
+    requires wide { length row.old.flags.items ≡ length atoms.now }
+    requires atoms { AddAtoms atoms.now effects.now }
     ensures state { IfOk result (λ made. (if made then Some (plain_state atoms.now row.new) else None) ≡ changed (T.types types.now) (K.known given.now) (plain_state atoms.now row.old) effects.now) }
     ensures wide { OnOk result (length row.new.flags.items ≡ length row.old.flags.items) }
 {
@@ -88,7 +90,8 @@ fn turn<K: Known, T: Types>(
     row: &mut Row,
     by: &Change,
 ) -> Result<bool, AllocError>
-    requires { length row.old.flags.items ≡ length atoms.now }
+    requires wide { length row.old.flags.items ≡ length atoms.now }
+    requires sound { IsSoundChange atoms.now by.now }
     ensures state { IfOk result (λ made. (if made then Some (plain_state atoms.now row.new) else None) ≡ turned (T.types types.now) (K.known given.now) atoms.now by.now (plain_state atoms.now row.old)) }
     ensures wide { OnOk result (length row.new.flags.items ≡ length row.old.flags.items) }
 {
@@ -112,7 +115,8 @@ fn end<K: Known, T: Types>(
     row: &mut Row,
     action: &Prepared,
 ) -> Result<bool, AllocError>
-    requires { length row.old.flags.items ≡ length atoms.now }
+    requires wide { length row.old.flags.items ≡ length atoms.now }
+    requires sound { IsSound atoms.now action.now }
     ensures state { IfOk result (λ made. (if made then Some (plain_state atoms.now row.new) else None) ≡ landed (T.types types.now) (K.known given.now) atoms.now action.now (plain_state atoms.now row.old)) }
     ensures wide { OnOk result (length row.new.flags.items ≡ length row.old.flags.items) }
 {
@@ -134,7 +138,8 @@ fn go_on<K: Known, T: Types>(
     row: &mut Row,
     action: &Prepared,
 ) -> Result<bool, AllocError>
-    requires { length row.old.flags.items ≡ length atoms.now }
+    requires wide { length row.old.flags.items ≡ length atoms.now }
+    requires sound { IsSound atoms.now action.now }
     ensures state { IfOk result (λ made. (if made then Some (plain_state atoms.now row.new) else None) ≡ option_and_then (landed (T.types types.now) (K.known given.now) atoms.now action.now) (turned (T.types types.now) (K.known given.now) atoms.now action.now.at_start (plain_state atoms.now row.old))) }
     ensures wide { OnOk result (length row.new.flags.items ≡ length row.old.flags.items) }
 {
@@ -155,7 +160,8 @@ pub fn step<K: Known, T: Types>(
     row: &Row,
     action: &Prepared,
 ) -> Result<Option<Row>, AllocError>
-    requires { length row.now.flags.items ≡ length atoms.now }
+    requires wide { length row.now.flags.items ≡ length atoms.now }
+    requires sound { IsSound atoms.now action.now }
     ensures state { IfOk result (λ next. option_map (plain_state atoms.now) next ≡ leapt (T.types types.now) (K.known given.now) atoms.now (plain_state atoms.now row.now) action.now) }
     ensures wide { IfOk result (λ next. IfSome next (λ r. length r.flags.items ≡ length row.now.flags.items)) }
 {

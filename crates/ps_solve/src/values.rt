@@ -1,6 +1,7 @@
 //! The values of functions in a state.
 ghost use Rattle.std.specs.Prelude.{◌≡◌, fold, IfOk, OnOk, OnErr};
-ghost use Rattle.std.specs.Map.{lookup};
+ghost use Rattle.std.specs.List.Sorted.{IsStrictlySortedBy};
+ghost use Rattle.std.specs.Map.{keys_of, lookup};
 ghost use Rattle.std.specs.BTreeMap.{insert_entry};
 ghost use Rattle.ps_world.specs.Facts.{fact_cmp};
 ghost use Rattle.ps_world.specs.Knowledge.{same_fact};
@@ -30,31 +31,16 @@ impl Model for Values {
 }
 
 impl Values {
-    /// These values. The only error is want of memory, as it always is where they don't rise.
+    /// These values. The only error is out of memory.
     pub fn of(alloc: Global, values: &[(Fact, Num)]) -> Result<Values, AllocError>
+        requires { IsStrictlySortedBy fact_cmp (keys_of values.now) }
         ensures { IfOk result (λ made. made ≡ values.now) }
     {
         let mut made = Values {
             all: BTreeMap::new(alloc),
         };
         made.insert_all(values)?;
-        let listed = made.list(alloc)?;
-        if listed.as_slice().cmp(values).is_eq() {
-            Ok(made)
-        } else {
-            Err(AllocError)
-        }
-    }
-
-    /// The functions at their arguments with their values, in order. The only error is want of memory.
-    fn list(&self, alloc: Global) -> Result<Vec<(Fact, Num)>, AllocError>
-        ensures { IfOk result (λ v. v.items ≡ self.now) }
-    {
-        let mut all = Vec::with_capacity(alloc, self.all.len())?;
-        for (fact, number) in &self.all {
-            all.push((*fact, *number))?;
-        }
-        Ok(all)
+        Ok(made)
     }
 
     /// Equal values. The only error is want of memory.

@@ -5,20 +5,20 @@ use Rattle.ps_world.specs.Facts.{fact_cmp}
 use Rattle.ps_world.specs.declared.actions.Effect.{Effect}
 use Rattle.ps_action.specs.Effects.{added_by, deletes}
 use Rattle.ps_solve.specs.Prepared.{is_number}
-use Rattle.ps_solve.specs.Rows.{AreAtoms}
+use Rattle.ps_solve.specs.Rows.{AddAtoms}
 use Rattle.ps_solve.proofs.Preparing.{flagged}
 use Rattle.ps_solve.proofs.prepared.change_of.Goals as goal
 
-pub returns : goal.returns
-returns c =
+pub returns-clause-same : goal.returns-clause-same
+returns-clause-same c =
     let es = c.args.effects.now in
-    let none : list_any is_number es ≡ false = ap (λ (l : List Effect). list_any is_number l) (sym c.as_slice-2.ensures) ∙ sym c.has_number.ensures ∙ c.if-has_number.false in
+    let none : list_any is_number es ≡ false = ap (λ (l : List Effect). list_any is_number l) (sym c.as_slice.ensures) ∙ sym c.has_number.ensures ∙ c.if-has_number.false in
     λ d k s o.
     flagged d k s es none c.args.atoms.now c.in_ok-cleared.cleared.items c.in_ok-set.set.items o
     (λ fs a. c.in_ok-cleared.ensures fs a ∙ ap (λ (l : List Effect). filter (λ f. not (list_any (deletes f) l)) fs) c.as_slice-3.ensures)
-    (λ fs. c.in_ok-set.ensures fs ∙ ap (λ (l : List Effect). fold (insert_key fact_cmp) fs (filter_map added_by l)) c.as_slice.ensures)
+    (λ fs. c.in_ok-set.ensures fs ∙ ap (λ (l : List Effect). fold (insert_key fact_cmp) fs (filter_map added_by l)) c.as_slice-2.ensures)
 
 pub all_added-requires : goal.all_added-requires
 all_added-requires c =
-    let P : List Effect → Type 0 = λ es. AreAtoms c.args.atoms.now (filter_map added_by es) in
-    subst P (sym c.as_slice.ensures) c.requires
+    let P : List Effect → Type 0 = AddAtoms c.args.atoms.now in
+    subst P (sym c.as_slice-2.ensures) c.requires

@@ -35,7 +35,7 @@ returns-clause-same c =
     (λ t. bare_passes d k atoms t c.args.made.now.start c.take_all.new.test _ c.requires.bare.start (c.in_ok-take_all.ensures.taken c.if-not-branch.false d k t))
     (λ t. bare_passes d k atoms t c.args.made.now.over c.take_all-2.new.test _ c.requires.bare.over (c.in_ok-take_all-2.ensures.taken c.if-not-branch-2.false d k t))
     (λ t. bare_passes d k atoms t c.args.made.now.end c.take_all-3.new.test _ c.requires.bare.end (c.in_ok-take_all-3.ensures.taken c.if-not-branch-3.false d k t))
-    (c.in_ok-made.ensures d k) (c.in_ok-made-2.ensures d k) (first_atoms c.args.atoms.now c.args.action.now c.requires.atoms) s o
+    (c.in_ok-made.ensures.same d k) (c.in_ok-made-2.ensures.same d k) (first_atoms c.args.atoms.now c.args.action.now c.requires.atoms) s o
 
 pub change_of-requires : goal.change_of-requires
 change_of-requires c = first_atoms c.args.atoms.now c.args.action.now c.requires.atoms

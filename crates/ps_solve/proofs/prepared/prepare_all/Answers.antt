@@ -3,10 +3,10 @@ use Rattle.std.proofs.lemmas.List.{drop_more}
 use Rattle.ps_action.specs.declared.acts.GroundAction.{GroundAction}
 use Rattle.ps_solve.specs.Apart.{HaveFootprints}
 use Rattle.ps_solve.specs.Nodes.{moves}
-use Rattle.ps_solve.specs.Prepared.{leaps}
+use Rattle.ps_solve.specs.Prepared.{AreSound, leaps}
 use Rattle.ps_solve.specs.Rows.{plain_node}
 use Rattle.ps_solve.specs.declared.prepared.Prepared.{Prepared}
-use Rattle.ps_solve.proofs.Preparing.{actions_split, idle_more, prepared_more, footprints_more, row_over}
+use Rattle.ps_solve.proofs.Preparing.{actions_split, idle_more, prepared_more, footprints_more, row_over, sound_more}
 use Rattle.ps_solve.proofs.prepared.prepare_all.Goals as goal
 use Rattle.ps_solve.proofs.prepared.prepare_all.Goals.{in-Some+in_ok-push, in_default}
 
@@ -35,6 +35,15 @@ loop-action-preserved c =
             ap (λ (v : Vec Prepared Global). leaps d k atoms v.items n ++ moves d k (drop (i + 1) gs) n) w.all-is
             ∙ idle_more d k atoms n gs i a found split (idle d k n.state (row_over atoms r.row))
             ∙ c.loop-action.invariant.same d k r
+      ];
+      sound = elim c.match-branch-2.branch [
+        | in-Some+in_ok-push w ↦
+            let one = rw w.in-Some.is at c.in_ok-one.ensures.sound in
+            let P : List Prepared → Type 0 = AreSound atoms in
+            subst P (sym (ap (λ (v : Vec Prepared Global). v.items) w.all-is ∙ w.in_ok-push.ensures.items)) (sound_more atoms found w.in-Some.one c.loop-action.invariant.sound one)
+        | in_default w ↦
+            let P : List Prepared → Type 0 = AreSound atoms in
+            subst P (sym (ap (λ (v : Vec Prepared Global). v.items) w.all-is)) c.loop-action.invariant.sound
       ];
       footprints = elim c.match-branch-2.branch [
         | in-Some+in_ok-push w ↦

@@ -3,6 +3,13 @@ use Rattle.ps_solve.specs.Rows.{adds}
 use Rattle.ps_solve.proofs.Preparing.{are_put, atoms_of_both}
 use Rattle.ps_solve.proofs.forward.Question.answer_over.Goals as goal
 
+pub answer_with-requires-clause-first : goal.answer_with-requires-clause-first
+answer_with-requires-clause-first c =
+    let atoms = c.in_ok-atoms.atoms in
+    let first = c.args.self.now.problem.now.facts in
+    let added = flat_map adds c.args.light.now in
+    (atoms_of_both atoms first added (are_put (first ++ added) atoms c.in_ok-atoms.ensures)).0
+
 pub answer_with-requires-clause-atoms : goal.answer_with-requires-clause-atoms
 answer_with-requires-clause-atoms c =
     let atoms = c.in_ok-atoms.atoms in

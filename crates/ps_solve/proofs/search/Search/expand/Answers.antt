@@ -12,6 +12,7 @@ use Rattle.ps_solve.specs.declared.nodes.Reached.{Reached}
 use Rattle.ps_solve.specs.declared.prepared.Prepared.{Prepared}
 use Rattle.ps_solve.specs.declared.rows.Row.{Row}
 use Rattle.ps_solve.proofs.Leading.{followed, followed_met, left_out, left_out_met, still_spared}
+use Rattle.ps_solve.proofs.Preparing.{sound_at}
 use Rattle.ps_solve.proofs.search.Search.expand.Goals as goal
 use Rattle.ps_solve.proofs.search.Search.expand.Goals.{then-not-is_spared+in_ok-follow, else-not-is_spared}
 
@@ -60,3 +61,11 @@ loop-place-preserved g c =
             level = subst L (sym (ap (λ v. v.items) w.next-is)) c.loop-place.invariant.level;
           }
     ]
+
+pub follow-requires-clause-sound : goal.follow-requires-clause-sound
+follow-requires-clause-sound g c =
+    let ps = c.args.self.now.actions.now in
+    let i = c.loop-place.place in
+    let a = c.action-item.result in
+    let split : drop i ps ≡ a ∷ drop (i + 1) ps = drop_more ps i a (omega arith) ∙ ap (λ (x : Prepared). x ∷ drop (i + 1) ps) (sym c.action-item.is) in
+    sound_at c.args.self.now.atoms.now ps (drop (i + 1) ps) a i split c.requires.sound

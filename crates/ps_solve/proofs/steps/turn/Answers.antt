@@ -1,0 +1,12 @@
+use Rattle.std.proofs.Common.{List, sym, subst}
+use Rattle.ps_world.specs.declared.actions.Effect.{Effect}
+use Rattle.ps_solve.specs.Prepared.{IsSoundChange}
+use Rattle.ps_solve.specs.Rows.{AddAtoms}
+use Rattle.ps_solve.specs.declared.prepared.Change.{Change}
+use Rattle.ps_solve.proofs.steps.turn.Goals as goal
+
+pub change-requires-clause-atoms : goal.change-requires-clause-atoms
+change-requires-clause-atoms g c =
+    let P : List Effect → Type 0 = AddAtoms c.args.atoms.now in
+    let Q : Change → Type 0 = IsSoundChange c.args.atoms.now in
+    subst P (sym c.as_slice.ensures) (subst Q c.in-Effects.is c.requires.sound)
