@@ -6,7 +6,7 @@ use Rattle.std.specs.List.{list_any}
 use Rattle.std.proofs.lemmas.Bool.{cases_eq}
 use Rattle.std.proofs.lemmas.Bool.Decides.{nat_tests}
 use Rattle.std.proofs.lemmas.Nat.Bits.{bit_at-zero, bit_at_and, bit_at_set_other, bit_at_set_same}
-use Rattle.ps_solve.specs.Apart.{bits_of, with_bit}
+use Rattle.ps_solve.specs.Independence.{bits_of, with_bit}
 
 -- whether a place stands in both lists
 abbrev pub share : List ℕ → List ℕ → Bool

@@ -5,9 +5,9 @@ use Rattle.std.proofs.lemmas.List.{append_assoc}
 use Rattle.ps_world.specs.declared.domains.Domain.{Domain}
 use Rattle.ps_world.specs.declared.facts.Fact.{Fact}
 use Rattle.ps_world.specs.declared.known.Knowledge.{Knowledge}
-use Rattle.ps_solve.specs.Leads.{IsSpared, Lead, first_leads, leads_from, plain_lead}
+use Rattle.ps_solve.specs.Leads.{IsPruned, Lead, first_leads, leads_from, plain_lead}
 use Rattle.ps_solve.specs.Nodes.{Node, firsts, is_met, met, with_state}
-use Rattle.ps_solve.specs.Prepared.{leap, leaps, leapt}
+use Rattle.ps_solve.specs.Prepared.{successor_node, successor_nodes, successor}
 use Rattle.ps_solve.specs.Rows.{plain_node}
 use Rattle.ps_solve.specs.States.{State}
 use Rattle.ps_solve.specs.declared.nodes.Reached.{Reached}
@@ -26,11 +26,11 @@ module _ (d : Domain) (k : Knowledge) (atoms : List Fact) where
   node_of i None ls = refl
   node_of i (Some m) ls = refl
 
-  pub leads_are : (i : ℕ) (qs : List Prepared) (n : Node) → nodes_of (leads_from d k atoms i qs n) ≡ leaps d k atoms qs n
+  pub leads_are : (i : ℕ) (qs : List Prepared) (n : Node) → nodes_of (leads_from d k atoms i qs n) ≡ successor_nodes d k atoms qs n
   leads_are i [] n = refl
-  leads_are i (q ∷ qs) n = node_of i (leap d k atoms n q) (leads_from d k atoms (suc i) qs n) ∙ ap (cons_option (leap d k atoms n q)) (leads_are (suc i) qs n)
+  leads_are i (q ∷ qs) n = node_of i (successor_node d k atoms n q) (leads_from d k atoms (suc i) qs n) ∙ ap (cons_option (successor_node d k atoms n q)) (leads_are (suc i) qs n)
 
-  pub all_leads_are : (qs : List Prepared) (ns : List Node) → nodes_of (flat_map (leads_from d k atoms 0 qs) ns) ≡ flat_map (leaps d k atoms qs) ns
+  pub all_leads_are : (qs : List Prepared) (ns : List Node) → nodes_of (flat_map (leads_from d k atoms 0 qs) ns) ≡ flat_map (successor_nodes d k atoms qs) ns
   all_leads_are qs ns = map-flat_map (λ (l : Lead). l.node) (leads_from d k atoms 0 qs) ns ∙ (λ i. flat_map (λ n. leads_are 0 qs n i) ns)
 
   pub firsts_are : (seen : List State) (ls : List Lead) → nodes_of (first_leads seen ls) ≡ firsts seen (nodes_of ls)
@@ -46,7 +46,7 @@ module _ (d : Domain) (k : Knowledge) (atoms : List Fact) where
   plain_nodes rs = sym (map-map (λ (l : Lead). l.node) (plain_lead atoms) rs)
 
   -- the nodes of the first leads are the first nodes
-  pub nodes_led : (next : List Reached) (qs : List Prepared) (ns : List Node) (seen : List State) → map (plain_lead atoms) next ≡ first_leads seen (flat_map (leads_from d k atoms 0 qs) ns) → map (plain_node atoms) next ≡ firsts seen (flat_map (leaps d k atoms qs) ns)
+  pub nodes_led : (next : List Reached) (qs : List Prepared) (ns : List Node) (seen : List State) → map (plain_lead atoms) next ≡ first_leads seen (flat_map (leads_from d k atoms 0 qs) ns) → map (plain_node atoms) next ≡ firsts seen (flat_map (successor_nodes d k atoms qs) ns)
   nodes_led next qs ns seen e =
       plain_nodes next ∙ ap nodes_of e ∙ firsts_are seen (flat_map (leads_from d k atoms 0 qs) ns)
       ∙ ap (firsts seen) (all_leads_are qs ns)
@@ -64,67 +64,67 @@ module _ (d : Domain) (k : Knowledge) (atoms : List Fact) where
 
   module _ (i : ℕ) (q : Prepared) (qs : List Prepared) (n : Node) (seen : List State) where
     leads_split : leads_from d k atoms i (q ∷ qs) n ≡ leads_from d k atoms i (q ∷ []) n ++ leads_from d k atoms (suc i) qs n
-    leads_split = sym (one_given (option_map (λ m. record { node = m; by = i }) (leap d k atoms n q)) (leads_from d k atoms (suc i) qs n))
+    leads_split = sym (one_given (option_map (λ m. record { node = m; by = i }) (successor_node d k atoms n q)) (leads_from d k atoms (suc i) qs n))
 
     -- what is found of all that is left is what is found by the next, and then of the rest
-    pub next_leads : first_leads seen (leads_from d k atoms i (q ∷ qs) n) ≡ first_leads seen (leads_from d k atoms i (q ∷ []) n) ++ first_leads (met seen (leaps d k atoms (q ∷ []) n)) (leads_from d k atoms (suc i) qs n)
+    pub next_leads : first_leads seen (leads_from d k atoms i (q ∷ qs) n) ≡ first_leads seen (leads_from d k atoms i (q ∷ []) n) ++ first_leads (met seen (successor_nodes d k atoms (q ∷ []) n)) (leads_from d k atoms (suc i) qs n)
     next_leads =
         ap (first_leads seen) leads_split ∙ first_leads-append seen (leads_from d k atoms i (q ∷ []) n) (leads_from d k atoms (suc i) qs n)
         ∙ ap (λ ms. first_leads seen (leads_from d k atoms i (q ∷ []) n) ++ first_leads (met seen ms) (leads_from d k atoms (suc i) qs n)) (leads_are i (q ∷ []) n)
 
     -- and so are the states that are met
-    pub next_met : met seen (leaps d k atoms (q ∷ qs) n) ≡ met (met seen (leaps d k atoms (q ∷ []) n)) (leaps d k atoms qs n)
-    next_met = ap (met seen) (sym (one_given (leap d k atoms n q) (leaps d k atoms qs n))) ∙ met-append seen (leaps d k atoms (q ∷ []) n) (leaps d k atoms qs n)
+    pub next_met : met seen (successor_nodes d k atoms (q ∷ qs) n) ≡ met (met seen (successor_nodes d k atoms (q ∷ []) n)) (successor_nodes d k atoms qs n)
+    next_met = ap (met seen) (sym (one_given (successor_node d k atoms n q) (successor_nodes d k atoms qs n))) ∙ met-append seen (successor_nodes d k atoms (q ∷ []) n) (successor_nodes d k atoms qs n)
 
     -- what leads to what was met can be left out
-    module _ (spared : (t : State) → leapt d k atoms n.state q ≡ Some t → is_met seen t ≡ true) where
-      skip_by : (o : Option State) → leapt d k atoms n.state q ≡ o → (ls : List Lead) → first_leads seen (cons_option (option_map (λ m. record { node = m; by = i }) (option_map (λ s. record { state = s; path = n.path ++ q.act ∷ [] }) o)) ls) ≡ first_leads seen ls
+    module _ (pruned : (t : State) → successor d k atoms n.state q ≡ Some t → is_met seen t ≡ true) where
+      skip_by : (o : Option State) → successor d k atoms n.state q ≡ o → (ls : List Lead) → first_leads seen (cons_option (option_map (λ m. record { node = m; by = i }) (option_map (λ s. record { state = s; path = n.path ++ q.act ∷ [] }) o)) ls) ≡ first_leads seen ls
       skip_by None e ls = refl
-      skip_by (Some t) e ls = rw (spared t e) refl
+      skip_by (Some t) e ls = rw (pruned t e) refl
 
       pub skip_leads : first_leads seen (leads_from d k atoms i (q ∷ qs) n) ≡ first_leads seen (leads_from d k atoms (suc i) qs n)
-      skip_leads = skip_by (leapt d k atoms n.state q) refl (leads_from d k atoms (suc i) qs n)
+      skip_leads = skip_by (successor d k atoms n.state q) refl (leads_from d k atoms (suc i) qs n)
 
-      skip_met_by : (o : Option State) → leapt d k atoms n.state q ≡ o → (ns : List Node) → met seen (cons_option (option_map (λ s. record { state = s; path = n.path ++ q.act ∷ [] }) o) ns) ≡ met seen ns
+      skip_met_by : (o : Option State) → successor d k atoms n.state q ≡ o → (ns : List Node) → met seen (cons_option (option_map (λ s. record { state = s; path = n.path ++ q.act ∷ [] }) o) ns) ≡ met seen ns
       skip_met_by None e ns = refl
-      skip_met_by (Some t) e ns = rw (spared t e) refl
+      skip_met_by (Some t) e ns = rw (pruned t e) refl
 
-      pub skip_met : met seen (leaps d k atoms (q ∷ qs) n) ≡ met seen (leaps d k atoms qs n)
-      skip_met = skip_met_by (leapt d k atoms n.state q) refl (leaps d k atoms qs n)
+      pub skip_met : met seen (successor_nodes d k atoms (q ∷ qs) n) ≡ met seen (successor_nodes d k atoms qs n)
+      skip_met = skip_met_by (successor d k atoms n.state q) refl (successor_nodes d k atoms qs n)
 
   -- ---- from place to place
 
-  -- what is spared stays so
-  pub still_spared : (ps : List Prepared) (seen : List State) (l : Lead) (ns : List Node) → IsSpared d k atoms ps seen l → IsSpared d k atoms ps (met seen ns) l
-  still_spared ps seen l ns h i b t at spared led = still_met t seen ns (h i b t at spared led)
+  -- what is pruned stays so
+  pub still_pruned : (ps : List Prepared) (seen : List State) (l : Lead) (ns : List Node) → IsPruned d k atoms ps seen l → IsPruned d k atoms ps (met seen ns) l
+  still_pruned ps seen l ns h i b t at pruned led = still_met t seen ns (h i b t at pruned led)
 
   module _ (ps : List Prepared) (i : ℕ) (q : Prepared) (split : drop i ps ≡ q ∷ drop (i + 1) ps) (n : Node) (seen : List State) where
     place_more : (later : List State) → first_leads later (leads_from d k atoms (i + 1) (drop (i + 1) ps) n) ≡ first_leads later (leads_from d k atoms (suc i) (drop (i + 1) ps) n)
     place_more later = ap (λ j. first_leads later (leads_from d k atoms j (drop (i + 1) ps) n)) (add-one i)
 
     -- where the next ground action is tried
-    pub followed : (old more : List Lead) (later : List State) → later ≡ met seen (leaps d k atoms (q ∷ []) n) → more ≡ old ++ first_leads seen (leads_from d k atoms i (q ∷ []) n) → more ++ first_leads later (leads_from d k atoms (i + 1) (drop (i + 1) ps) n) ≡ old ++ first_leads seen (leads_from d k atoms i (drop i ps) n)
+    pub followed : (old more : List Lead) (later : List State) → later ≡ met seen (successor_nodes d k atoms (q ∷ []) n) → more ≡ old ++ first_leads seen (leads_from d k atoms i (q ∷ []) n) → more ++ first_leads later (leads_from d k atoms (i + 1) (drop (i + 1) ps) n) ≡ old ++ first_leads seen (leads_from d k atoms i (drop i ps) n)
     followed old more later is_later is_more =
         let one = first_leads seen (leads_from d k atoms i (q ∷ []) n) in
         let rest = λ (s : List State). first_leads s (leads_from d k atoms (suc i) (drop (i + 1) ps) n) in
         (λ j. is_more j ++ place_more later j) ∙ ap (λ s. (old ++ one) ++ rest s) is_later
-        ∙ append_assoc old one (rest (met seen (leaps d k atoms (q ∷ []) n)))
+        ∙ append_assoc old one (rest (met seen (successor_nodes d k atoms (q ∷ []) n)))
         ∙ ap (λ l. old ++ l) (sym (next_leads i q (drop (i + 1) ps) n seen) ∙ ap (λ l. first_leads seen (leads_from d k atoms i l n)) (sym split))
 
-    pub followed_met : (later : List State) → later ≡ met seen (leaps d k atoms (q ∷ []) n) → met later (leaps d k atoms (drop (i + 1) ps) n) ≡ met seen (leaps d k atoms (drop i ps) n)
+    pub followed_met : (later : List State) → later ≡ met seen (successor_nodes d k atoms (q ∷ []) n) → met later (successor_nodes d k atoms (drop (i + 1) ps) n) ≡ met seen (successor_nodes d k atoms (drop i ps) n)
     followed_met later is_later =
-        ap (λ s. met s (leaps d k atoms (drop (i + 1) ps) n)) is_later ∙ sym (next_met i q (drop (i + 1) ps) n seen)
-        ∙ ap (λ l. met seen (leaps d k atoms l n)) (sym split)
+        ap (λ s. met s (successor_nodes d k atoms (drop (i + 1) ps) n)) is_later ∙ sym (next_met i q (drop (i + 1) ps) n seen)
+        ∙ ap (λ l. met seen (successor_nodes d k atoms l n)) (sym split)
 
-    -- where it is spared
-    module _ (spared : (t : State) → leapt d k atoms n.state q ≡ Some t → is_met seen t ≡ true) where
+    -- where it is pruned
+    module _ (pruned : (t : State) → successor d k atoms n.state q ≡ Some t → is_met seen t ≡ true) where
       pub left_out : first_leads seen (leads_from d k atoms (i + 1) (drop (i + 1) ps) n) ≡ first_leads seen (leads_from d k atoms i (drop i ps) n)
       left_out =
-          place_more seen ∙ sym (skip_leads i q (drop (i + 1) ps) n seen spared)
+          place_more seen ∙ sym (skip_leads i q (drop (i + 1) ps) n seen pruned)
           ∙ ap (λ l. first_leads seen (leads_from d k atoms i l n)) (sym split)
 
-      pub left_out_met : met seen (leaps d k atoms (drop (i + 1) ps) n) ≡ met seen (leaps d k atoms (drop i ps) n)
-      left_out_met = sym (skip_met i q (drop (i + 1) ps) n seen spared) ∙ ap (λ l. met seen (leaps d k atoms l n)) (sym split)
+      pub left_out_met : met seen (successor_nodes d k atoms (drop (i + 1) ps) n) ≡ met seen (successor_nodes d k atoms (drop i ps) n)
+      left_out_met = sym (skip_met i q (drop (i + 1) ps) n seen pruned) ∙ ap (λ l. met seen (successor_nodes d k atoms l n)) (sym split)
 
   -- ---- from node to node
 

@@ -6,6 +6,7 @@ pub mod Expanding
 pub mod Firsts
 pub mod FlagRows
 pub mod Gathering
+pub mod IndependentActions
 pub mod Leading
 pub mod LevelLaw
 pub mod Levels
@@ -13,12 +14,11 @@ pub mod Lists
 pub mod NoneLaw
 pub mod Places
 pub mod Preparing
+pub mod Pruning
 pub mod Removed
 pub mod Rising
 pub mod SameRows
 pub mod SameStates
 pub mod Settled
-pub mod Sparing
 pub mod Stepping
-pub mod Trading
 pub mod Whole

@@ -94,11 +94,11 @@ module _ (d : Domain) (k : Knowledge) (goal : Cond) (there : k.goal ≡ Some goa
         let P : List State → Type 0 = λ seen. AllMet seen (succs d k s) in
         subst P (ap (λ ns. met (reached d k n) (flat_map (moves d k (grounds d k)) ns)) nothing) (leads d k n s e)
 
-    module _ (apart : AllPairs (λ a b. same_name a.name b.name ≡ false) d.actions) (distinct : AllPairs (λ i j. same_name i.0 j.0 ≡ false) k.instances) where
+    module _ (independent : AllPairs (λ a b. same_name a.name b.name ≡ false) d.actions) (distinct : AllPairs (λ i j. same_name i.0 j.0 ≡ false) k.instances) where
       -- every act that can be grounded is possible
       ground_there : (act : Act) (g : GroundAction) → ground_act d k.instances act ≡ Ok g → Has (grounds d k) g
       ground_there act g e =
-          let among = (ground_actions_are_all d k.instances apart distinct).just g in
+          let among = (ground_actions_are_all d k.instances independent distinct).just g in
           let same : g.act ≡ act = act_is d k.instances act g (ap result_ok e) in
           let P : Act → Type 0 = λ a. Has (possible_acts d k) a in
           let possible = subst P same (has_image (λ (h : GroundAction). h.act) (all_ground d k.instances) g (has_from_Contains _ _ (among.1 (act, e)))) in
@@ -126,8 +126,8 @@ module _ (d : Domain) (k : Knowledge) (goal : Cond) (there : k.goal ≡ Some goa
       bad acts = judged_so d k goal there acts ∙ bad_in (run d k (state_of k) acts) acts refl
 
 pub no_plan_is_none : NoPlanIsNone
-no_plan_is_none d k budget apart distinct e acts = by k.goal refl
+no_plan_is_none d k budget independent distinct e acts = by k.goal refl
   where
     by : (o : Option Cond) → k.goal ≡ o → is_ok (judged d k acts) ≡ false
     by None there = ap (λ g. is_ok (judged_by d k g acts)) there
-    by (Some goal) there = let end = ended d k goal there budget e in bad d k goal there end.0 end.1 apart distinct acts
+    by (Some goal) there = let end = ended d k goal there budget e in bad d k goal there end.0 end.1 independent distinct acts

@@ -27,8 +27,8 @@ use Rattle.ps_action.proofs.Keys.{any-insert_key}
 use Rattle.ps_solve.specs.Orders.{facts_total}
 use Rattle.ps_solve.specs.States.{State, at, changed, ended, state_of, stepped, where_so}
 use Rattle.ps_solve.specs.Nodes.{Node, move, moves}
-use Rattle.ps_solve.specs.Apart.{HaveFootprints, HasFootprint}
-use Rattle.ps_solve.specs.Prepared.{AreSound, IsBareTest, IsSound, is_number, known_at, landed, leap, leaps, leapt, passes, turned, with_at, without_at}
+use Rattle.ps_solve.specs.Independence.{HaveFootprints, HasFootprint}
+use Rattle.ps_solve.specs.Prepared.{AreSound, IsBareTest, IsSound, is_number, known_at, landed, successor_node, successor_nodes, successor, passes, turned, with_at, without_at}
 use Rattle.ps_solve.specs.Rows.{AddAtoms, AreAtoms, IsOver, adds, plain_state}
 use Rattle.ps_solve.specs.declared.prepared.Prepared.{Prepared}
 use Rattle.ps_solve.specs.declared.prepared.Test.{Test}
@@ -204,7 +204,7 @@ module _ (d : Domain) (k : Knowledge) (atoms : List Fact) (g : GroundAction) whe
       no_end (λ t o. ap (λ b. where_so (all_true d (at k t) g.conditions.over_all) (where_so b (changed d k t g.effects.at_end))) (v t o) ∙ nowhere (all_true d (at k t) g.conditions.over_all))
 
   -- a ground action whose parts were prepared
-  pub leads_alike : (p : Prepared) → ((s : State) → passes d k atoms p.start s ≡ all_true d (at k s) g.conditions.at_start) → ((s : State) → passes d k atoms p.over s ≡ all_true d (at k s) g.conditions.over_all) → ((s : State) → passes d k atoms p.end s ≡ all_true d (at k s) g.conditions.at_end) → ((s : State) → IsOver atoms s → turned d k atoms p.at_start s ≡ changed d k s g.effects.at_start) → ((s : State) → IsOver atoms s → turned d k atoms p.at_end s ≡ changed d k s g.effects.at_end) → AddAtoms atoms g.effects.at_start → (s : State) → IsOver atoms s → leapt d k atoms s p ≡ stepped d k s g
+  pub leads_alike : (p : Prepared) → ((s : State) → passes d k atoms p.start s ≡ all_true d (at k s) g.conditions.at_start) → ((s : State) → passes d k atoms p.over s ≡ all_true d (at k s) g.conditions.over_all) → ((s : State) → passes d k atoms p.end s ≡ all_true d (at k s) g.conditions.at_end) → ((s : State) → IsOver atoms s → turned d k atoms p.at_start s ≡ changed d k s g.effects.at_start) → ((s : State) → IsOver atoms s → turned d k atoms p.at_end s ≡ changed d k s g.effects.at_end) → AddAtoms atoms g.effects.at_start → (s : State) → IsOver atoms s → successor d k atoms s p ≡ stepped d k s g
   leads_alike p start over end at_start at_end a s o =
       (λ i. option_and_then (landed d k atoms p) (where_so (start s i) (at_start s o i)))
       ∙ goes_alike d k atoms (all_true d (at k s) g.conditions.at_start) s g.effects.at_start (landed d k atoms p) (ended d k g) o a (λ t q i. where_so (over t i) (where_so (end t i) (at_end t q i)))
@@ -301,21 +301,21 @@ module _ (d : Domain) (k : Knowledge) (s : State) (es : List Effect) (none : lis
 -- ---- prepared ground actions, one after another
 
 module _ (d : Domain) (k : Knowledge) (atoms : List Fact) (n : Node) where
-  leap_by : (p : Prepared) (g : GroundAction) → p.act ≡ g.act → leapt d k atoms n.state p ≡ stepped d k n.state g → leap d k atoms n p ≡ move d k n g
-  leap_by p g act e = λ i. option_map (λ s. let m : Node = record { state = s; path = n.path ++ act i ∷ [] } in m) (e i)
+  successor_by : (p : Prepared) (g : GroundAction) → p.act ≡ g.act → successor d k atoms n.state p ≡ stepped d k n.state g → successor_node d k atoms n p ≡ move d k n g
+  successor_by p g act e = λ i. option_map (λ s. let m : Node = record { state = s; path = n.path ++ act i ∷ [] } in m) (e i)
 
   -- one more that is prepared
-  pub prepared_more : (all : List GroundAction) (i : ℕ) (a : GroundAction) (found : List Prepared) (p : Prepared) → drop i all ≡ a ∷ drop (i + 1) all → p.act ≡ a.act → leapt d k atoms n.state p ≡ stepped d k n.state a → leaps d k atoms (found ++ p ∷ []) n ++ moves d k (drop (i + 1) all) n ≡ leaps d k atoms found n ++ moves d k (drop i all) n
+  pub prepared_more : (all : List GroundAction) (i : ℕ) (a : GroundAction) (found : List Prepared) (p : Prepared) → drop i all ≡ a ∷ drop (i + 1) all → p.act ≡ a.act → successor d k atoms n.state p ≡ stepped d k n.state a → successor_nodes d k atoms (found ++ p ∷ []) n ++ moves d k (drop (i + 1) all) n ≡ successor_nodes d k atoms found n ++ moves d k (drop i all) n
   prepared_more all i a found p split act e =
-      ap (λ l. l ++ moves d k (drop (i + 1) all) n) (filter_map-append (leap d k atoms n) found (p ∷ []))
-      ∙ append_assoc (leaps d k atoms found n) (cons_option (leap d k atoms n p) []) (moves d k (drop (i + 1) all) n)
-      ∙ ap (λ l. leaps d k atoms found n ++ l) (one_given (leap d k atoms n p) (moves d k (drop (i + 1) all) n) ∙ ap (λ o. cons_option o (moves d k (drop (i + 1) all) n)) (leap_by p a act e) ∙ ap (λ l. moves d k l n) (sym split))
+      ap (λ l. l ++ moves d k (drop (i + 1) all) n) (filter_map-append (successor_node d k atoms n) found (p ∷ []))
+      ∙ append_assoc (successor_nodes d k atoms found n) (cons_option (successor_node d k atoms n p) []) (moves d k (drop (i + 1) all) n)
+      ∙ ap (λ l. successor_nodes d k atoms found n ++ l) (one_given (successor_node d k atoms n p) (moves d k (drop (i + 1) all) n) ∙ ap (λ o. cons_option o (moves d k (drop (i + 1) all) n)) (successor_by p a act e) ∙ ap (λ l. moves d k l n) (sym split))
 
   -- one that leads nowhere
-  pub idle_more : (all : List GroundAction) (i : ℕ) (a : GroundAction) (found : List Prepared) → drop i all ≡ a ∷ drop (i + 1) all → stepped d k n.state a ≡ None → leaps d k atoms found n ++ moves d k (drop (i + 1) all) n ≡ leaps d k atoms found n ++ moves d k (drop i all) n
+  pub idle_more : (all : List GroundAction) (i : ℕ) (a : GroundAction) (found : List Prepared) → drop i all ≡ a ∷ drop (i + 1) all → stepped d k n.state a ≡ None → successor_nodes d k atoms found n ++ moves d k (drop (i + 1) all) n ≡ successor_nodes d k atoms found n ++ moves d k (drop i all) n
   idle_more all i a found split e =
-      ap (λ (o : Option State). leaps d k atoms found n ++ cons_option (option_map (λ s. let m : Node = record { state = s; path = n.path ++ a.act ∷ [] } in m) o) (moves d k (drop (i + 1) all) n)) (sym e)
-      ∙ ap (λ l. leaps d k atoms found n ++ moves d k l n) (sym split)
+      ap (λ (o : Option State). successor_nodes d k atoms found n ++ cons_option (option_map (λ s. let m : Node = record { state = s; path = n.path ++ a.act ∷ [] } in m) o) (moves d k (drop (i + 1) all) n)) (sym e)
+      ∙ ap (λ l. successor_nodes d k atoms found n ++ moves d k l n) (sym split)
 
 -- one more that adds atoms alone
 pub sound_more : (atoms : List Fact) (ps : List Prepared) (p : Prepared) → AreSound atoms ps → IsSound atoms p → AreSound atoms (ps ++ p ∷ [])

@@ -4,10 +4,10 @@ use Rattle.std.specs.List.{cons_option}
 use Rattle.ps_world.specs.declared.domains.Domain.{Domain}
 use Rattle.ps_world.specs.declared.facts.Fact.{Fact}
 use Rattle.ps_world.specs.declared.known.Knowledge.{Knowledge}
-use Rattle.ps_solve.specs.Apart.{is_spared}
+use Rattle.ps_solve.specs.Independence.{is_pruned}
 use Rattle.ps_solve.specs.States.{State}
 use Rattle.ps_solve.specs.Nodes.{Node, is_met, met, with_state}
-use Rattle.ps_solve.specs.Prepared.{leap, leaps, leapt}
+use Rattle.ps_solve.specs.Prepared.{successor_node, successor_nodes, successor}
 use Rattle.ps_solve.specs.Rows.{plain_node}
 use Rattle.ps_solve.specs.declared.nodes.Reached.{Reached}
 use Rattle.ps_solve.specs.declared.prepared.Prepared.{Prepared}
@@ -24,18 +24,18 @@ plain_lead atoms r = record { node = plain_node atoms r; by = r.by }
 -- where these ground actions, the first of which stands at this place, lead from a node, in order
 abbrev pub leads_from : Domain → Knowledge → List Fact → ℕ → List Prepared → Node → List Lead
 leads_from d k atoms i [] n = []
-leads_from d k atoms i (p ∷ ps) n = cons_option (option_map (λ m. record { node = m; by = i }) (leap d k atoms n p)) (leads_from d k atoms (suc i) ps n)
+leads_from d k atoms i (p ∷ ps) n = cons_option (option_map (λ m. record { node = m; by = i }) (successor_node d k atoms n p)) (leads_from d k atoms (suc i) ps n)
 
 -- the leads whose states weren't met before, neither among these nor at an earlier lead
 abbrev pub first_leads : List State → List Lead → List Lead
 first_leads seen [] = []
 first_leads seen (l ∷ ls) = if is_met seen l.node.state then first_leads seen ls else l ∷ first_leads (with_state seen l.node.state) ls
 
--- what the ground actions that are spared at a lead lead to was met
-abbrev pub IsSpared : Domain → Knowledge → List Fact → List Prepared → List State → Lead → Type 0
-IsSpared d k atoms ps seen l = (i : ℕ) (b : Prepared) (t : State) → slice_get ps i ≡ Some b → is_spared ps l.by i b ≡ true → leapt d k atoms l.node.state b ≡ Some t → is_met seen t ≡ true
+-- what the ground actions that are pruned at a lead lead to was met
+abbrev pub IsPruned : Domain → Knowledge → List Fact → List Prepared → List State → Lead → Type 0
+IsPruned d k atoms ps seen l = (i : ℕ) (b : Prepared) (t : State) → slice_get ps i ≡ Some b → is_pruned ps l.by i b ≡ true → successor d k atoms l.node.state b ≡ Some t → is_met seen t ≡ true
 
 -- so it is at each of these leads, where those before it have led on
-abbrev pub AreSpared : Domain → Knowledge → List Fact → List Prepared → List State → List Lead → Type 0
-AreSpared d k atoms ps seen [] = Unit {0}
-AreSpared d k atoms ps seen (l ∷ ls) = IsSpared d k atoms ps seen l × AreSpared d k atoms ps (met seen (leaps d k atoms ps l.node)) ls
+abbrev pub ArePruned : Domain → Knowledge → List Fact → List Prepared → List State → List Lead → Type 0
+ArePruned d k atoms ps seen [] = Unit {0}
+ArePruned d k atoms ps seen (l ∷ ls) = IsPruned d k atoms ps seen l × ArePruned d k atoms ps (met seen (successor_nodes d k atoms ps l.node)) ls

@@ -1,5 +1,5 @@
-pub mod Apart
 pub mod Endings
+pub mod Independence
 pub mod Laws
 pub mod Leads
 pub mod Nodes

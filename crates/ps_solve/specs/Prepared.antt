@@ -71,16 +71,16 @@ abbrev pub landed : Domain → Knowledge → List Fact → Prepared → State �
 landed d k atoms p s = where_so (passes d k atoms p.over s) (where_so (passes d k atoms p.end s) (turned d k atoms p.at_end s))
 
 -- the state after its step
-abbrev pub leapt : Domain → Knowledge → List Fact → State → Prepared → Option State
-leapt d k atoms s p = option_and_then (landed d k atoms p) (where_so (passes d k atoms p.start s) (turned d k atoms p.at_start s))
+abbrev pub successor : Domain → Knowledge → List Fact → State → Prepared → Option State
+successor d k atoms s p = option_and_then (landed d k atoms p) (where_so (passes d k atoms p.start s) (turned d k atoms p.at_start s))
 
 -- the node that it leads to from a node
-abbrev pub leap : Domain → Knowledge → List Fact → Node → Prepared → Option Node
-leap d k atoms n p = option_map (λ s. record { state = s; path = n.path ++ p.act ∷ [] }) (leapt d k atoms n.state p)
+abbrev pub successor_node : Domain → Knowledge → List Fact → Node → Prepared → Option Node
+successor_node d k atoms n p = option_map (λ s. record { state = s; path = n.path ++ p.act ∷ [] }) (successor d k atoms n.state p)
 
 -- the nodes that these lead to from a node, in order
-abbrev pub leaps : Domain → Knowledge → List Fact → List Prepared → Node → List Node
-leaps d k atoms ps n = filter_map (leap d k atoms n) ps
+abbrev pub successor_nodes : Domain → Knowledge → List Fact → List Prepared → Node → List Node
+successor_nodes d k atoms ps n = filter_map (successor_node d k atoms n) ps
 
 -- whether an effect gives a number
 abbrev pub is_number : Effect → Bool

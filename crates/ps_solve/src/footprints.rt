@@ -1,6 +1,6 @@
 //! What ground actions read and change, by which some needn't be tried in both orders.
 ghost use Rattle.std.specs.Prelude.{◌≡◌, ◌++◌, ◌&&◌, fold};
-ghost use Rattle.ps_solve.specs.Apart.{are_apart, bits_of, changed_by, is_plain_change, is_plain_test, with_bit};
+ghost use Rattle.ps_solve.specs.Independence.{are_independent, bits_of, changed_by, is_plain_change, is_plain_test, with_bit};
 
 use super::prepared::{Change, Test};
 
@@ -47,8 +47,8 @@ impl Footprint {
 
     /// Whether this ground action and another one are of atoms alone, and neither changes one that the other reads or changes. It may
     /// be false where they are, since atoms may share a bit.
-    pub fn is_apart(&self, other: &Footprint) -> bool
-        ensures { result ≡ are_apart self.now other.now }
+    pub fn is_independent(&self, other: &Footprint) -> bool
+        ensures { result ≡ are_independent self.now other.now }
     {
         self.plain
             && other.plain

@@ -5,11 +5,11 @@ ghost use Rattle.std.specs.BTreeSet.{insert_key};
 ghost use Rattle.ps_world.specs.Facts.{fact_cmp};
 ghost use Rattle.ps_action.specs.Grounding.{all_ground, ground_act};
 ghost use Rattle.ps_action.specs.Search.{answer};
-ghost use Rattle.ps_solve.specs.Apart.{HaveFootprints};
+ghost use Rattle.ps_solve.specs.Independence.{HaveFootprints};
 ghost use Rattle.ps_solve.specs.Endings.{searched};
 ghost use Rattle.ps_solve.specs.States.{state_of};
 ghost use Rattle.ps_solve.specs.Nodes.{Node, grounds, moves};
-ghost use Rattle.ps_solve.specs.Prepared.{AreSound, leaps};
+ghost use Rattle.ps_solve.specs.Prepared.{AreSound, successor_nodes};
 ghost use Rattle.ps_solve.specs.Rows.{AreAtoms, adds, plain_node, plain_state};
 ghost use Rattle.ps_solve.specs.declared.nodes.Reached.{Reached as ReachedView};
 
@@ -166,7 +166,7 @@ impl<'a> Question<'a> {
         requires first { AreAtoms atoms.now self.now.problem.now.facts }
         requires sound { AreSound atoms.now actions.now }
         requires footprints { HaveFootprints actions.now }
-        requires actions { (n : ReachedView) → leaps self.now.expert.now self.now.problem.now atoms.now actions.now (plain_node atoms.now n) ≡ moves self.now.expert.now self.now.problem.now (grounds self.now.expert.now self.now.problem.now) (plain_node atoms.now n) }
+        requires actions { (n : ReachedView) → successor_nodes self.now.expert.now self.now.problem.now atoms.now actions.now (plain_node atoms.now n) ≡ moves self.now.expert.now self.now.problem.now (grounds self.now.expert.now self.now.problem.now) (plain_node atoms.now n) }
         ensures { IfOk result (λ a. a ≡ searched self.now.expert.now self.now.problem.now self.now.budget) }
     {
         let start = start_of(alloc, atoms, self.problem)?;

@@ -14,8 +14,8 @@ ghost use Rattle.ps_action.specs.Truth.{all_true, is_true};
 ghost use Rattle.ps_solve.specs.States.{State, at, changed, stepped};
 ghost use Rattle.ps_solve.specs.Nodes.{moves};
 ghost use Rattle.ps_solve.specs.Rows.{AddAtoms, AreAtoms, IsOver, adds, plain_node};
-ghost use Rattle.ps_solve.specs.Prepared.{AreSound, IsBare, IsBareTest, IsSound, IsSoundChange, is_number, leaps, leapt, passes, turned, with_at, without_at};
-ghost use Rattle.ps_solve.specs.Apart.{HaveFootprints, HasFootprint};
+ghost use Rattle.ps_solve.specs.Prepared.{AreSound, IsBare, IsBareTest, IsSound, IsSoundChange, is_number, successor_nodes, successor, passes, turned, with_at, without_at};
+ghost use Rattle.ps_solve.specs.Independence.{HaveFootprints, HasFootprint};
 ghost use Rattle.ps_solve.specs.declared.nodes.Reached.{Reached as ReachedView};
 
 use super::atoms::Atoms;
@@ -220,7 +220,7 @@ fn fill(
     requires bare { IsBare made.old }
     requires atoms { AreAtoms atoms.now (adds action.now) }
     ensures act { made.new.act ≡ made.old.act }
-    ensures same { IfOk result (λ fits. fits ≡ true → (d : DomainView) (k : KnowledgeView) (s : State) → IsOver atoms.now s → leapt d k atoms.now s made.new ≡ stepped d k s action.now) }
+    ensures same { IfOk result (λ fits. fits ≡ true → (d : DomainView) (k : KnowledgeView) (s : State) → IsOver atoms.now s → successor d k atoms.now s made.new ≡ stepped d k s action.now) }
     ensures vain { IfOk result (λ fits. fits ≡ false → (d : DomainView) (k : KnowledgeView) (s : State) → IsOver atoms.now s → stepped d k s action.now ≡ None) }
     ensures sound { IfOk result (λ fits. fits ≡ true → IsSound atoms.now made.new) }
     ensures footprint { IfOk result (λ fits. fits ≡ true → HasFootprint made.new) }
@@ -253,7 +253,7 @@ fn prepare(
     action: &GroundAction,
 ) -> Result<Option<Prepared>, AllocError>
     requires { AreAtoms atoms.now (adds action.now) }
-    ensures same { IfOk result (λ made. MatchOption made ((d : DomainView) (k : KnowledgeView) (s : State) → IsOver atoms.now s → stepped d k s action.now ≡ None) (λ p. (p.act ≡ action.now.act) × ((d : DomainView) (k : KnowledgeView) (s : State) → IsOver atoms.now s → leapt d k atoms.now s p ≡ stepped d k s action.now))) }
+    ensures same { IfOk result (λ made. MatchOption made ((d : DomainView) (k : KnowledgeView) (s : State) → IsOver atoms.now s → stepped d k s action.now ≡ None) (λ p. (p.act ≡ action.now.act) × ((d : DomainView) (k : KnowledgeView) (s : State) → IsOver atoms.now s → successor d k atoms.now s p ≡ stepped d k s action.now))) }
     ensures sound { IfOk result (λ made. IfSome made (IsSound atoms.now)) }
     ensures footprints { IfOk result (λ made. IfSome made HasFootprint) }
 {
@@ -273,7 +273,7 @@ pub fn prepare_all(
     actions: &[GroundAction],
 ) -> Result<Vec<Prepared>, AllocError>
     requires { AreAtoms atoms.now (flat_map adds actions.now) }
-    ensures same { IfOk result (λ all. (d : DomainView) (k : KnowledgeView) (r : ReachedView) → leaps d k atoms.now all.items (plain_node atoms.now r) ≡ moves d k actions.now (plain_node atoms.now r)) }
+    ensures same { IfOk result (λ all. (d : DomainView) (k : KnowledgeView) (r : ReachedView) → successor_nodes d k atoms.now all.items (plain_node atoms.now r) ≡ moves d k actions.now (plain_node atoms.now r)) }
     ensures sound { IfOk result (λ all. AreSound atoms.now all.items) }
     ensures footprints { IfOk result (λ all. HaveFootprints all.items) }
 {

@@ -6,9 +6,9 @@ ghost use Rattle.ps_action.specs.Truth.{is_true};
 ghost use Rattle.ps_solve.specs.Endings.{ending, searched};
 ghost use Rattle.ps_solve.specs.States.{at, state_of};
 ghost use Rattle.ps_solve.specs.Nodes.{grounds, met, moves, root};
-ghost use Rattle.ps_solve.specs.Apart.{HaveFootprints, is_spared};
-ghost use Rattle.ps_solve.specs.Leads.{AreSpared, IsSpared, first_leads, leads_from, plain_lead};
-ghost use Rattle.ps_solve.specs.Prepared.{AreSound, IsSound, leaps};
+ghost use Rattle.ps_solve.specs.Independence.{HaveFootprints, is_pruned};
+ghost use Rattle.ps_solve.specs.Leads.{ArePruned, IsPruned, first_leads, leads_from, plain_lead};
+ghost use Rattle.ps_solve.specs.Prepared.{AreSound, IsSound, successor_nodes};
 ghost use Rattle.ps_solve.specs.Rows.{AreWide, HaveWide, plain_node, plain_state};
 ghost use Rattle.ps_solve.specs.declared.nodes.Reached.{Reached as ReachedView};
 
@@ -77,7 +77,7 @@ impl<'a, K: Known, T: Types> Search<'a, K, T> {
         requires node { length node.now.row.flags.items ≡ length self.now.atoms.now }
         requires level { HaveWide self.now.atoms.now next.old.items }
         ensures leads { OnOk result (map (plain_lead self.now.atoms.now) next.new.items ≡ map (plain_lead self.now.atoms.now) next.old.items ++ first_leads (map (plain_state self.now.atoms.now) seen.old.keys) (leads_from (T.types self.now.types.now) (K.known self.now.given.now) self.now.atoms.now place (action.now ∷ []) (plain_node self.now.atoms.now node.now))) }
-        ensures seen { OnOk result (map (plain_state self.now.atoms.now) seen.new.keys ≡ met (map (plain_state self.now.atoms.now) seen.old.keys) (leaps (T.types self.now.types.now) (K.known self.now.given.now) self.now.atoms.now (action.now ∷ []) (plain_node self.now.atoms.now node.now))) }
+        ensures seen { OnOk result (map (plain_state self.now.atoms.now) seen.new.keys ≡ met (map (plain_state self.now.atoms.now) seen.old.keys) (successor_nodes (T.types self.now.types.now) (K.known self.now.given.now) self.now.atoms.now (action.now ∷ []) (plain_node self.now.atoms.now node.now))) }
         ensures wide { OnOk result (AreWide self.now.atoms.now seen.new.keys) }
         ensures level { OnOk result (HaveWide self.now.atoms.now next.new.items) }
     {
@@ -90,20 +90,20 @@ impl<'a, K: Known, T: Types> Search<'a, K, T> {
     }
 
     /// Whether a ground action, which stands at this place, needs not be tried where the one at another place led last: it stands
-    /// before that one, and they are apart, so that what it leads to was met by the other order.
-    fn is_spared(&self, by: usize, place: usize, action: &Prepared) -> bool
-        ensures { result ≡ is_spared self.now.actions.now by place action.now }
+    /// before that one, and they are independent, so that what it leads to was met by the other order.
+    fn is_pruned(&self, by: usize, place: usize, action: &Prepared) -> bool
+        ensures { result ≡ is_pruned self.now.actions.now by place action.now }
     {
         if place >= by {
             return false;
         }
         match self.actions.get(by) {
-            Some(last) => last.footprint.is_apart(&action.footprint),
+            Some(last) => last.footprint.is_independent(&action.footprint),
             None => false,
         }
     }
 
-    /// Puts the new rows that a node leads to at the end, in the order of the ground actions, of which those that are spared lead to
+    /// Puts the new rows that a node leads to at the end, in the order of the ground actions, of which those that are pruned lead to
     /// nothing new. The only error is want of memory.
     fn expand(
         &self,
@@ -116,14 +116,14 @@ impl<'a, K: Known, T: Types> Search<'a, K, T> {
         requires sound { AreSound self.now.atoms.now self.now.actions.now }
         requires node { length node.now.row.flags.items ≡ length self.now.atoms.now }
         requires level { HaveWide self.now.atoms.now next.old.items }
-        requires spared { IsSpared (T.types self.now.types.now) (K.known self.now.given.now) self.now.atoms.now self.now.actions.now (map (plain_state self.now.atoms.now) seen.old.keys) (plain_lead self.now.atoms.now node.now) }
+        requires pruned { IsPruned (T.types self.now.types.now) (K.known self.now.given.now) self.now.atoms.now self.now.actions.now (map (plain_state self.now.atoms.now) seen.old.keys) (plain_lead self.now.atoms.now node.now) }
         ensures leads { OnOk result (map (plain_lead self.now.atoms.now) next.new.items ≡ map (plain_lead self.now.atoms.now) next.old.items ++ first_leads (map (plain_state self.now.atoms.now) seen.old.keys) (leads_from (T.types self.now.types.now) (K.known self.now.given.now) self.now.atoms.now 0 self.now.actions.now (plain_node self.now.atoms.now node.now))) }
-        ensures seen { OnOk result (map (plain_state self.now.atoms.now) seen.new.keys ≡ met (map (plain_state self.now.atoms.now) seen.old.keys) (leaps (T.types self.now.types.now) (K.known self.now.given.now) self.now.atoms.now self.now.actions.now (plain_node self.now.atoms.now node.now))) }
+        ensures seen { OnOk result (map (plain_state self.now.atoms.now) seen.new.keys ≡ met (map (plain_state self.now.atoms.now) seen.old.keys) (successor_nodes (T.types self.now.types.now) (K.known self.now.given.now) self.now.atoms.now self.now.actions.now (plain_node self.now.atoms.now node.now))) }
         ensures wide { OnOk result (AreWide self.now.atoms.now seen.new.keys) }
         ensures level { OnOk result (HaveWide self.now.atoms.now next.new.items) }
     {
         for (place, action) in self.actions.iter().enumerate() {
-            if !self.is_spared(node.by, place, action) {
+            if !self.is_pruned(node.by, place, action) {
                 self.follow(alloc, node, place, action, seen, next)?;
             }
         }
@@ -140,9 +140,9 @@ impl<'a, K: Known, T: Types> Search<'a, K, T> {
         requires wide { AreWide self.now.atoms.now seen.old.keys }
         requires level { HaveWide self.now.atoms.now level.now }
         requires sound { AreSound self.now.atoms.now self.now.actions.now }
-        requires spared { AreSpared (T.types self.now.types.now) (K.known self.now.given.now) self.now.atoms.now self.now.actions.now (map (plain_state self.now.atoms.now) seen.old.keys) (map (plain_lead self.now.atoms.now) level.now) }
+        requires pruned { ArePruned (T.types self.now.types.now) (K.known self.now.given.now) self.now.atoms.now self.now.actions.now (map (plain_state self.now.atoms.now) seen.old.keys) (map (plain_lead self.now.atoms.now) level.now) }
         ensures leads { IfOk result (λ next. map (plain_lead self.now.atoms.now) next.items ≡ first_leads (map (plain_state self.now.atoms.now) seen.old.keys) (flat_map (leads_from (T.types self.now.types.now) (K.known self.now.given.now) self.now.atoms.now 0 self.now.actions.now) (map (plain_node self.now.atoms.now) level.now))) }
-        ensures seen { OnOk result (map (plain_state self.now.atoms.now) seen.new.keys ≡ met (map (plain_state self.now.atoms.now) seen.old.keys) (flat_map (leaps (T.types self.now.types.now) (K.known self.now.given.now) self.now.atoms.now self.now.actions.now) (map (plain_node self.now.atoms.now) level.now))) }
+        ensures seen { OnOk result (map (plain_state self.now.atoms.now) seen.new.keys ≡ met (map (plain_state self.now.atoms.now) seen.old.keys) (flat_map (successor_nodes (T.types self.now.types.now) (K.known self.now.given.now) self.now.atoms.now self.now.actions.now) (map (plain_node self.now.atoms.now) level.now))) }
         ensures wide { OnOk result (AreWide self.now.atoms.now seen.new.keys) }
         ensures level { IfOk result (λ next. HaveWide self.now.atoms.now next.items) }
     {
@@ -188,7 +188,7 @@ impl<'a, K: Known, T: Types> Search<'a, K, T> {
         requires goal { (K.known self.now.given.now).goal ≡ Some self.now.goal.now }
         requires sound { AreSound self.now.atoms.now self.now.actions.now }
         requires footprints { HaveFootprints self.now.actions.now }
-        requires actions { (n : ReachedView) → leaps (T.types self.now.types.now) (K.known self.now.given.now) self.now.atoms.now self.now.actions.now (plain_node self.now.atoms.now n) ≡ moves (T.types self.now.types.now) (K.known self.now.given.now) (grounds (T.types self.now.types.now) (K.known self.now.given.now)) (plain_node self.now.atoms.now n) }
+        requires actions { (n : ReachedView) → successor_nodes (T.types self.now.types.now) (K.known self.now.given.now) self.now.atoms.now self.now.actions.now (plain_node self.now.atoms.now n) ≡ moves (T.types self.now.types.now) (K.known self.now.given.now) (grounds (T.types self.now.types.now) (K.known self.now.given.now)) (plain_node self.now.atoms.now n) }
         requires leads { map (plain_lead self.now.atoms.now) level.old.items ≡ record { node = root (K.known self.now.given.now); by = length self.now.actions.now } ∷ [] }
         requires seen { map (plain_state self.now.atoms.now) seen.old.keys ≡ state_of (K.known self.now.given.now) ∷ [] }
         requires wide { AreWide self.now.atoms.now seen.old.keys }
@@ -216,7 +216,7 @@ impl<'a, K: Known, T: Types> Search<'a, K, T> {
         requires goal { (K.known self.now.given.now).goal ≡ Some self.now.goal.now }
         requires sound { AreSound self.now.atoms.now self.now.actions.now }
         requires footprints { HaveFootprints self.now.actions.now }
-        requires actions { (n : ReachedView) → leaps (T.types self.now.types.now) (K.known self.now.given.now) self.now.atoms.now self.now.actions.now (plain_node self.now.atoms.now n) ≡ moves (T.types self.now.types.now) (K.known self.now.given.now) (grounds (T.types self.now.types.now) (K.known self.now.given.now)) (plain_node self.now.atoms.now n) }
+        requires actions { (n : ReachedView) → successor_nodes (T.types self.now.types.now) (K.known self.now.given.now) self.now.atoms.now self.now.actions.now (plain_node self.now.atoms.now n) ≡ moves (T.types self.now.types.now) (K.known self.now.given.now) (grounds (T.types self.now.types.now) (K.known self.now.given.now)) (plain_node self.now.atoms.now n) }
         ensures { IfOk result (λ answer. answer ≡ searched (T.types self.now.types.now) (K.known self.now.given.now) budget) }
     {
         let mut seen = IndexSet::new(alloc);

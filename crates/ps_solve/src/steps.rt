@@ -1,7 +1,7 @@
 //! Steps from a state to the next.
 ghost use Rattle.std.specs.Prelude.{◌≡◌, Some, None, if◌then◌else◌, option_and_then, option_map, length, IfOk, IfSome, OnOk};
 ghost use Rattle.ps_solve.specs.States.{at, changed};
-ghost use Rattle.ps_solve.specs.Prepared.{IsSound, IsSoundChange, landed, leapt, passes, turned};
+ghost use Rattle.ps_solve.specs.Prepared.{IsSound, IsSoundChange, landed, successor, passes, turned};
 ghost use Rattle.ps_solve.specs.Rows.{AddAtoms, plain_state};
 
 use super::atoms::Atoms;
@@ -162,7 +162,7 @@ pub fn step<K: Known, T: Types>(
 ) -> Result<Option<Row>, AllocError>
     requires wide { length row.now.flags.items ≡ length atoms.now }
     requires sound { IsSound atoms.now action.now }
-    ensures state { IfOk result (λ next. option_map (plain_state atoms.now) next ≡ leapt (T.types types.now) (K.known given.now) atoms.now (plain_state atoms.now row.now) action.now) }
+    ensures state { IfOk result (λ next. option_map (plain_state atoms.now) next ≡ successor (T.types types.now) (K.known given.now) atoms.now (plain_state atoms.now row.now) action.now) }
     ensures wide { IfOk result (λ next. IfSome next (λ r. length r.flags.items ≡ length row.now.flags.items)) }
 {
     if !passes(given, types, atoms, row, &action.start) {

@@ -104,7 +104,7 @@ impl Hash for Values {
 
     ghost respects_eq = { values_fed_alike };
 
-    // The terms are mostly the same from state to state, so that the numbers alone tell states apart. Mostly there are none, and then
+    // The terms are mostly the same from state to state, so that the numbers alone tell states independent. Mostly there are none, and then
     // nothing is walked.
     fn hash<H: Hasher>(&self, state: &mut H) {
         if self.all.is_empty() {

@@ -1,5 +1,5 @@
 use Rattle.std.proofs.Common.{◌≡◌, drop, fold}
-use Rattle.ps_solve.specs.Apart.{with_bit}
+use Rattle.ps_solve.specs.Independence.{with_bit}
 use Rattle.ps_solve.proofs.footprints.with_places.Given as goal
 
 abbrev pub invariant-loop-place : goal.invariant-loop-place

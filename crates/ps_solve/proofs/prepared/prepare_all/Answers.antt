@@ -1,9 +1,9 @@
 use Rattle.std.proofs.Common.{◌≡◌, ◌+◌, ◌++◌, ◌∷◌, Global, List, Vec, drop, ap, subst, sym, ◌∙◌, arith}
 use Rattle.std.proofs.lemmas.List.{drop_more}
 use Rattle.ps_action.specs.declared.acts.GroundAction.{GroundAction}
-use Rattle.ps_solve.specs.Apart.{HaveFootprints}
+use Rattle.ps_solve.specs.Independence.{HaveFootprints}
 use Rattle.ps_solve.specs.Nodes.{moves}
-use Rattle.ps_solve.specs.Prepared.{AreSound, leaps}
+use Rattle.ps_solve.specs.Prepared.{AreSound, successor_nodes}
 use Rattle.ps_solve.specs.Rows.{plain_node}
 use Rattle.ps_solve.specs.declared.prepared.Prepared.{Prepared}
 use Rattle.ps_solve.proofs.Preparing.{actions_split, idle_more, prepared_more, footprints_more, row_over, sound_more}
@@ -24,15 +24,15 @@ loop-action-preserved c =
             let made = rw w.in-Some.is at c.in_ok-one.ensures.same in
             λ d k r.
             let n = plain_node atoms r in
-            ap (λ (v : Vec Prepared Global). leaps d k atoms v.items n ++ moves d k (drop (i + 1) gs) n) w.all-is
-            ∙ ap (λ (l : List Prepared). leaps d k atoms l n ++ moves d k (drop (i + 1) gs) n) w.in_ok-push.ensures.items
+            ap (λ (v : Vec Prepared Global). successor_nodes d k atoms v.items n ++ moves d k (drop (i + 1) gs) n) w.all-is
+            ∙ ap (λ (l : List Prepared). successor_nodes d k atoms l n ++ moves d k (drop (i + 1) gs) n) w.in_ok-push.ensures.items
             ∙ prepared_more d k atoms n gs i a found w.in-Some.one split made.0 (made.1 d k n.state (row_over atoms r.row))
             ∙ c.loop-action.invariant.same d k r
         | in_default w ↦
             let idle = rw w.in_default.is at c.in_ok-one.ensures.same in
             λ d k r.
             let n = plain_node atoms r in
-            ap (λ (v : Vec Prepared Global). leaps d k atoms v.items n ++ moves d k (drop (i + 1) gs) n) w.all-is
+            ap (λ (v : Vec Prepared Global). successor_nodes d k atoms v.items n ++ moves d k (drop (i + 1) gs) n) w.all-is
             ∙ idle_more d k atoms n gs i a found split (idle d k n.state (row_over atoms r.row))
             ∙ c.loop-action.invariant.same d k r
       ];

@@ -1,5 +1,5 @@
 use Rattle.std.proofs.Common.{List, ap, ◌∙◌}
-use Rattle.ps_solve.specs.Prepared.{leaps}
+use Rattle.ps_solve.specs.Prepared.{successor_nodes}
 use Rattle.ps_solve.specs.Rows.{plain_node}
 use Rattle.ps_solve.specs.declared.prepared.Prepared.{Prepared}
 use Rattle.ps_solve.proofs.forward.Question.answer_with.Goals as goal
@@ -10,4 +10,4 @@ search-requires-clause-actions c =
     let k = c.args.self.now.problem.now in
     λ n.
     let here = plain_node c.args.atoms.now n in
-    ap (λ (l : List Prepared). leaps d k c.args.atoms.now l here) c.deref.ensures.value ∙ c.in_ok-actions.ensures.same d k n ∙ c.requires.moves here
+    ap (λ (l : List Prepared). successor_nodes d k c.args.atoms.now l here) c.deref.ensures.value ∙ c.in_ok-actions.ensures.same d k n ∙ c.requires.moves here

@@ -5,14 +5,14 @@ use Rattle.ps_action.specs.Search.{answer_from}
 use Rattle.ps_action.specs.declared.answers.Answer.{Answer}
 use Rattle.ps_action.specs.declared.answers.Answer.TheVariants.{Spent}
 use Rattle.ps_solve.specs.Endings.{ending}
-use Rattle.ps_solve.specs.Leads.{AreSpared, Lead, first_leads, leads_from, plain_lead}
-use Rattle.ps_solve.specs.Prepared.{leaps}
+use Rattle.ps_solve.specs.Leads.{ArePruned, Lead, first_leads, leads_from, plain_lead}
+use Rattle.ps_solve.specs.Prepared.{successor_nodes}
 use Rattle.ps_solve.specs.Rows.{plain_node, plain_state}
 use Rattle.ps_solve.specs.declared.nodes.Reached.{Reached}
 use Rattle.ps_solve.proofs.Depths.{begins_at, deepens_by, goes_on, is_last, none_found, searched_from, stops}
 use Rattle.ps_solve.proofs.Leading.{nodes_led, plain_nodes}
 use Rattle.ps_solve.proofs.Levels.{found}
-use Rattle.ps_solve.proofs.Sparing.{IsClosed, closes_on, root_spared, spared_on}
+use Rattle.ps_solve.proofs.Pruning.{IsClosed, closes_on, root_pruned, pruned_on}
 use Rattle.ps_solve.specs.States.{State, state_of}
 use Rattle.ps_solve.proofs.search.Search.answer_from.Goals as goal
 use Rattle.ps_solve.specs.Nodes.{Node, firsts, met, root}
@@ -27,11 +27,11 @@ loop-depth-init g c =
     let seen = map (plain_state atoms) c.args.seen.now.keys in
     let is_level : map (plain_node atoms) level ≡ root k ∷ [] = plain_nodes d k atoms level ∙ ap (map (λ (l : Lead). l.node)) c.requires.leads in
     let P : List State → List Node → Type 0 = IsClosed d k atoms ps in
-    let Q : List State → List Lead → Type 0 = AreSpared d k atoms ps in
+    let Q : List State → List Lead → Type 0 = ArePruned d k atoms ps in
     record {
       here = begins_at d k c.args.self.now.goal.now (state_of k) (map (plain_node atoms) level) seen refl is_level c.requires.seen;
       closed = subst (λ ns. P seen ns) (sym is_level) (subst (λ ss. P ss (root k ∷ [])) (sym c.requires.seen) (λ s e. inl e));
-      spared = subst (λ ls. Q seen ls) (sym c.requires.leads) (root_spared d k atoms ps seen (root k) (length ps) refl);
+      pruned = subst (λ ls. Q seen ls) (sym c.requires.leads) (root_pruned d k atoms ps seen (root k) (length ps) refl);
       wide = c.requires.wide;
       level = c.requires.level;
       left = λ most e.
@@ -71,13 +71,13 @@ loop-depth-preserved g c =
     let seen = map (plain_state atoms) rows in
     let later = map (plain_state atoms) c.next_level.new.seen.keys in
     let is_next : map (plain_lead atoms) next ≡ first_leads seen (flat_map (leads_from d k atoms 0 ps) (map plain ns)) = c.in_ok-level.ensures.leads ∙ ap (λ (l : List Reached). first_leads seen (flat_map (leads_from d k atoms 0 ps) (map plain l))) c.deref-in-loop-depth.ensures.value in
-    let is_later : later ≡ met seen (flat_map (leaps d k atoms ps) (map plain ns)) = c.in_ok-level.ensures.seen ∙ ap (λ (l : List Reached). met seen (flat_map (leaps d k atoms ps) (map plain l))) c.deref-in-loop-depth.ensures.value in
+    let is_later : later ≡ met seen (flat_map (successor_nodes d k atoms ps) (map plain ns)) = c.in_ok-level.ensures.seen ∙ ap (λ (l : List Reached). met seen (flat_map (successor_nodes d k atoms ps) (map plain l))) c.deref-in-loop-depth.ensures.value in
     let are_next = nodes_led d k atoms next ps (map plain ns) seen is_next in
     let P : List State → List Node → Type 0 = IsClosed d k atoms ps in
     record {
-      closed = subst (λ ms. P later ms) (sym are_next) (subst (λ ss. P ss (firsts seen (flat_map (leaps d k atoms ps) (map plain ns)))) (sym is_later) (closes_on d k atoms ps (map plain ns) seen c.loop-depth.invariant.closed));
-      spared = spared_on d k atoms ps c.as_slice-atoms.ensures.rise c.requires.footprints ns next seen later c.loop-depth.invariant.closed is_next is_later;
-      here = deepens_by d k goal Reached plain (leaps d k atoms ps) c.requires.actions n ns ns (map plain next) seen later c.loop-depth.invariant.here (none_found (found d k goal (map plain ns)) (map plain ns) (length seen) c.args.budget n none) refl are_next is_later;
+      closed = subst (λ ms. P later ms) (sym are_next) (subst (λ ss. P ss (firsts seen (flat_map (successor_nodes d k atoms ps) (map plain ns)))) (sym is_later) (closes_on d k atoms ps (map plain ns) seen c.loop-depth.invariant.closed));
+      pruned = pruned_on d k atoms ps c.as_slice-atoms.ensures.rise c.requires.footprints ns next seen later c.loop-depth.invariant.closed is_next is_later;
+      here = deepens_by d k goal Reached plain (successor_nodes d k atoms ps) c.requires.actions n ns ns (map plain next) seen later c.loop-depth.invariant.here (none_found (found d k goal (map plain ns)) (map plain ns) (length seen) c.args.budget n none) refl are_next is_later;
       wide = c.in_ok-level.ensures.wide;
       level = c.in_ok-level.ensures.level;
       left = λ most e.

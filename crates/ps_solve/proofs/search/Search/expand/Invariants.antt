@@ -1,7 +1,7 @@
 use Rattle.std.proofs.Common.{◌≡◌, ◌++◌, drop, map}
-use Rattle.ps_solve.specs.Leads.{IsSpared, first_leads, leads_from, plain_lead}
+use Rattle.ps_solve.specs.Leads.{IsPruned, first_leads, leads_from, plain_lead}
 use Rattle.ps_solve.specs.Nodes.{met}
-use Rattle.ps_solve.specs.Prepared.{leaps}
+use Rattle.ps_solve.specs.Prepared.{successor_nodes}
 use Rattle.ps_solve.specs.Rows.{AreWide, HaveWide, plain_node, plain_state}
 use Rattle.ps_solve.proofs.search.Search.expand.Given as goal
 
@@ -15,8 +15,8 @@ invariant-loop-place g l =
     let n = plain_node atoms l.node in
     record {
       leads : map (plain_lead atoms) l.next.items ++ first_leads (map (plain_state atoms) l.seen.keys) (leads_from d k atoms l.place (drop l.place ps) n) ≡ map (plain_lead atoms) l.initial.next.items ++ first_leads (map (plain_state atoms) l.initial.seen.keys) (leads_from d k atoms 0 ps n);
-      seen : met (map (plain_state atoms) l.seen.keys) (leaps d k atoms (drop l.place ps) n) ≡ met (map (plain_state atoms) l.initial.seen.keys) (leaps d k atoms ps n);
-      spared : IsSpared d k atoms ps (map (plain_state atoms) l.seen.keys) (plain_lead atoms l.node);
+      seen : met (map (plain_state atoms) l.seen.keys) (successor_nodes d k atoms (drop l.place ps) n) ≡ met (map (plain_state atoms) l.initial.seen.keys) (successor_nodes d k atoms ps n);
+      pruned : IsPruned d k atoms ps (map (plain_state atoms) l.seen.keys) (plain_lead atoms l.node);
       wide : AreWide atoms l.seen.keys;
       level : HaveWide atoms l.next.items;
     }

@@ -1,9 +1,9 @@
 use Rattle.std.proofs.Common.{◌≡◌, ◌+◌, ◌++◌, ◌∷◌, [], List, drop, flat_map, map, ap, sym, ◌∙◌, subst, arith}
 use Rattle.std.proofs.lemmas.List.{append-nil, drop_all, drop_more}
 use Rattle.std.proofs.lemmas.List.Folds.{flat_map-map}
-use Rattle.ps_solve.specs.Leads.{AreSpared, Lead, first_leads, leads_from, plain_lead}
+use Rattle.ps_solve.specs.Leads.{ArePruned, Lead, first_leads, leads_from, plain_lead}
 use Rattle.ps_solve.specs.Nodes.{Node, met}
-use Rattle.ps_solve.specs.Prepared.{leaps}
+use Rattle.ps_solve.specs.Prepared.{successor_nodes}
 use Rattle.ps_solve.specs.Rows.{HaveWide, plain_node, plain_state}
 use Rattle.ps_solve.specs.States.{State}
 use Rattle.ps_solve.specs.declared.nodes.Reached.{Reached}
@@ -18,7 +18,7 @@ loop-node-preserved g c =
     let atoms = c.args.self.now.atoms.now in
     let ps = c.args.self.now.actions.now in
     let from : Reached → List Lead = λ r. leads_from d k atoms 0 ps (plain_node atoms r) in
-    let led : Reached → List Node = λ r. leaps d k atoms ps (plain_node atoms r) in
+    let led : Reached → List Node = λ r. successor_nodes d k atoms ps (plain_node atoms r) in
     let ns = c.args.level.now in
     let i = c.loop-node.node-index in
     let n = c.node-item.result in
@@ -26,13 +26,13 @@ loop-node-preserved g c =
     let seen = map (plain_state atoms) c.loop-node.seen.keys in
     let later = map (plain_state atoms) c.expand.new.seen.keys in
     let is_later : later ≡ met seen (led n) = c.in_ok-expand.ensures.seen in
-    let P : List Reached → Type 0 = λ rs. AreSpared d k atoms ps seen (map (plain_lead atoms) rs) in
+    let P : List Reached → Type 0 = λ rs. ArePruned d k atoms ps seen (map (plain_lead atoms) rs) in
     let L : List Reached → Type 0 = λ rs. HaveWide atoms rs in
-    let Q : List State → Type 0 = λ ss. AreSpared d k atoms ps ss (map (plain_lead atoms) (drop (i + 1) ns)) in
+    let Q : List State → Type 0 = λ ss. ArePruned d k atoms ps ss (map (plain_lead atoms) (drop (i + 1) ns)) in
     record {
       leads = more_leads d k atoms from ns i n split seen later (is_later ∙ ap (met seen) (sym (leads_are d k atoms 0 ps (plain_node atoms n)))) (map (plain_lead atoms) c.loop-node.next.items) (map (plain_lead atoms) c.expand.new.next.items) c.in_ok-expand.ensures.leads ∙ c.loop-node.invariant.leads;
       seen = more_seen led ns i n split seen later is_later ∙ c.loop-node.invariant.seen;
-      spared = subst Q (sym is_later) (subst P split c.loop-node.invariant.spared).1;
+      pruned = subst Q (sym is_later) (subst P split c.loop-node.invariant.pruned).1;
       wide = c.in_ok-expand.ensures.wide;
       level = c.in_ok-expand.ensures.level;
       left = (subst L split c.loop-node.invariant.left).1;
@@ -64,7 +64,7 @@ returns-clause-leads g c =
 pub returns-clause-seen : goal.returns-clause-seen
 returns-clause-seen g c =
     let atoms = c.args.self.now.atoms.now in
-    let moved : Node → List Node = leaps (g.T.Types.types c.args.self.now.types.now) (g.K.Known.known c.args.self.now.given.now) atoms c.args.self.now.actions.now in
+    let moved : Node → List Node = successor_nodes (g.T.Types.types c.args.self.now.types.now) (g.K.Known.known c.args.self.now.given.now) atoms c.args.self.now.actions.now in
     let from : Reached → List Node = λ r. moved (plain_node atoms r) in
     let ns = c.args.level.now in
     let gone : drop c.loop-node.node-index ns ≡ [] = drop_all c.loop-node.node-index ns (omega arith) in

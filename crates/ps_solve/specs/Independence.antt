@@ -1,4 +1,4 @@
--- Ground actions that are apart: neither changes an atom that the other reads or changes, so that both orders lead to the same.
+-- Ground actions that are independent: neither changes an atom that the other reads or changes, so that both orders lead to the same.
 use Rattle.std.specs.Prelude.{◌≡◌, ℕ, Bool, true, false, nat_eq, nat_lt, ◌&&◌, ◌*◌, ◌%◌, ◌^◌, bit_and, bit_or, List, [], ◌∷◌, ◌++◌, fold, length, slice_get}
 use Rattle.std.specs.Option.{option_map_or}
 use Rattle.ps_solve.specs.declared.prepared.Change.{Change}
@@ -54,12 +54,12 @@ abbrev pub HaveFootprints : List Prepared → Type 0
 HaveFootprints [] = Unit {0}
 HaveFootprints (p ∷ ps) = HasFootprint p × HaveFootprints ps
 
--- ---- apart
+-- ---- independent
 
 -- whether both are of atoms alone, and no bit of what one changes is a bit of what the other reads or changes
-abbrev pub are_apart : Footprint → Footprint → Bool
-are_apart a b = (a.plain && b.plain) && (nat_eq (bit_and a.changed b.touched) 0 && nat_eq (bit_and b.changed a.touched) 0)
+abbrev pub are_independent : Footprint → Footprint → Bool
+are_independent a b = (a.plain && b.plain) && (nat_eq (bit_and a.changed b.touched) 0 && nat_eq (bit_and b.changed a.touched) 0)
 
--- whether a ground action needs not be tried where the one at a place led: it stands before that one, and they are apart
-abbrev pub is_spared : List Prepared → ℕ → ℕ → Prepared → Bool
-is_spared ps by i b = nat_lt i by && option_map_or (λ a. are_apart a.footprint b.footprint) (slice_get ps by) false
+-- whether a ground action needs not be tried where the one at a place led: it stands before that one, and they are independent
+abbrev pub is_pruned : List Prepared → ℕ → ℕ → Prepared → Bool
+is_pruned ps by i b = nat_lt i by && option_map_or (λ a. are_independent a.footprint b.footprint) (slice_get ps by) false

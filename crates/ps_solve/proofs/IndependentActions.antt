@@ -1,4 +1,4 @@
--- Ground actions that are apart lead to the same in either order.
+-- Ground actions that are independent lead to the same in either order.
 use Rattle.std.proofs.Common.{◌≡◌, ℕ, zero, suc, Bool, true, false, not, ◌&&◌, ◌||◌, List, [], ◌∷◌, ◌++◌, Option, Some, None, filter, fold, length, option_and_then, refl, ap, sym, ◌∙◌, subst, arith, bit_and}
 use Rattle.std.specs.Prelude.{nat_eq, slice_get}
 use Rattle.std.specs.Cmp.{first_so, second_so}
@@ -24,9 +24,9 @@ use Rattle.ps_action.specs.Truth.{all_true}
 use Rattle.ps_action.proofs.Contained.{fact_itself, fact_same, or_second}
 use Rattle.ps_action.proofs.Facts.{exact_facts}
 use Rattle.ps_action.proofs.Keys.{any-insert_key, sorted-insert_key}
-use Rattle.ps_solve.specs.Apart.{HasFootprint, are_apart, changed_by, changes, is_plain, is_plain_change, is_plain_test, reads}
+use Rattle.ps_solve.specs.Independence.{HasFootprint, are_independent, changed_by, changes, is_plain, is_plain_change, is_plain_test, reads}
 use Rattle.ps_solve.specs.Orders.{facts_total}
-use Rattle.ps_solve.specs.Prepared.{landed, leapt, passes, turned, with_at, without_at}
+use Rattle.ps_solve.specs.Prepared.{landed, successor, passes, turned, with_at, without_at}
 use Rattle.ps_solve.specs.Rows.{facts_of}
 use Rattle.ps_solve.specs.States.{State, at, where_so}
 use Rattle.ps_solve.specs.declared.prepared.Change.{Change}
@@ -137,16 +137,16 @@ module _ (atoms : List Fact) (rise : IsStrictlySortedBy fact_cmp atoms) where
       let away : stands atoms f j ≡ false = if_not (stands atoms f j) (λ q. true_false (nat_eq j i) (subst (λ m. nat_eq j m ≡ true) (one_place f atoms j i rise q p) (nat_itself j)) w.0) in
       rw away (none_there f i js w.1 p)
 
-  apart_at : (f : Fact) (i : ℕ) (is js : List ℕ) (b : Bool) → stands atoms f i ≡ b → (b || among atoms is f) ≡ true → list_any (λ j. nat_eq j i) js ≡ false → (among atoms is f ≡ true → among atoms js f ≡ false) → among atoms js f ≡ false
-  apart_at f i is js true p e gone later = none_there f i js gone p
-  apart_at f i is js false p e gone later = later e
+  independent_at : (f : Fact) (i : ℕ) (is js : List ℕ) (b : Bool) → stands atoms f i ≡ b → (b || among atoms is f) ≡ true → list_any (λ j. nat_eq j i) js ≡ false → (among atoms is f ≡ true → among atoms js f ≡ false) → among atoms js f ≡ false
+  independent_at f i is js true p e gone later = none_there f i js gone p
+  independent_at f i is js false p e gone later = later e
 
   -- an atom at a place of one list is at none of another that shares no place with it
-  apart_among : (f : Fact) (is js : List ℕ) → share is js ≡ false → among atoms is f ≡ true → among atoms js f ≡ false
-  apart_among f [] js e p = absurd (cc)
-  apart_among f (i ∷ is) js e p =
+  independent_among : (f : Fact) (is js : List ℕ) → share is js ≡ false → among atoms is f ≡ true → among atoms js f ≡ false
+  independent_among f [] js e p = absurd (cc)
+  independent_among f (i ∷ is) js e p =
       let w = or_parts (list_any (λ j. nat_eq j i) js) (share is js) e in
-      apart_at f i is js (stands atoms f i) refl p w.0 (apart_among f is js w.1)
+      independent_at f i is js (stands atoms f i) refl p w.0 (independent_among f is js w.1)
 
 -- ---- plain changes
 
@@ -247,8 +247,8 @@ module _ (d : Domain) (k : Knowledge) (atoms : List Fact) where
   plain_turned (Effects es) s e = absurd (cc)
 
   -- a plain ground action leads to the facts that it leaves, where it can step
-  plain_leapt : (p : Prepared) (s : State) → is_plain p ≡ true → leapt d k atoms s p ≡ where_so (can_step atoms p s.facts) (Some (record { facts = left_by atoms p s.facts; values = s.values }))
-  plain_leapt p s e =
+  plain_successor : (p : Prepared) (s : State) → is_plain p ≡ true → successor d k atoms s p ≡ where_so (can_step atoms p s.facts) (Some (record { facts = left_by atoms p s.facts; values = s.values }))
+  plain_successor p s e =
       let first = is_plain_test p.start in
       let over = is_plain_test p.over in
       let last = is_plain_test p.end in
@@ -317,7 +317,7 @@ module _ (atoms : List Fact) (rise : IsStrictlySortedBy fact_cmp atoms) where
       (λ f r.
       let touched : among atoms (reads b ++ changes b) f ≡ true = list_any-append (stands atoms f) (reads b) (changes b) ∙ or_first (among atoms (reads b) f) (among atoms (changes b) f) r in
       let away : among atoms (changes a) f ≡ false =
-      if_not (among atoms (changes a) f) (λ c. true_false (among atoms (reads b ++ changes b) f) touched (apart_among atoms rise f (changes a) (reads b ++ changes b) e c)) in
+      if_not (among atoms (changes a) f) (λ c. true_false (among atoms (reads b ++ changes b) f) touched (independent_among atoms rise f (changes a) (reads b ++ changes b) e c)) in
       known_left atoms f a fs ∙ remains_there atoms f a (known f fs) away)
 
   -- they leave the same facts in either order
@@ -332,7 +332,7 @@ module _ (atoms : List Fact) (rise : IsStrictlySortedBy fact_cmp atoms) where
     where
       by : (f : Fact) (v c : Bool) → among atoms (changes a) f ≡ c → remains atoms b f (remains atoms a f v) ≡ remains atoms a f (remains atoms b f v)
       by f v true p =
-          let away = (or_parts (among atoms (reads b) f) (among atoms (changes b) f) (sym (list_any-append (stands atoms f) (reads b) (changes b)) ∙ apart_among atoms rise f (changes a) (reads b ++ changes b) e p)).1 in
+          let away = (or_parts (among atoms (reads b) f) (among atoms (changes b) f) (sym (list_any-append (stands atoms f) (reads b) (changes b)) ∙ independent_among atoms rise f (changes a) (reads b ++ changes b) e p)).1 in
           remains_there atoms f b (remains atoms a f v) away ∙ sym (ap (remains atoms a f) (remains_there atoms f b v away))
       by f v false p = ap (remains atoms b f) (remains_there atoms f a v p) ∙ sym (remains_there atoms f a (remains atoms b f v) p)
 
@@ -346,27 +346,27 @@ given false s t e = absurd (cc)
 no_bits : (x y : ℕ) → nat_eq (bit_and x y) 0 ≡ true → bit_and x y ≡ 0
 no_bits x y e = grind (arith, nat_tests, e)
 
--- ground actions that are apart lead to the same in either order
-pub trade : (d : Domain) (k : Knowledge) (atoms : List Fact) → IsStrictlySortedBy fact_cmp atoms → (a b : Prepared) → HasFootprint a → HasFootprint b → are_apart a.footprint b.footprint ≡ true → (s t u : State) → IsStrictlySortedBy fact_cmp s.facts → leapt d k atoms s a ≡ Some t → leapt d k atoms t b ≡ Some u → (m : State) × (leapt d k atoms s b ≡ Some m) × (leapt d k atoms m a ≡ Some u)
-trade d k atoms rise a b p q apart s t u sorted first second =
+-- ground actions that are independent lead to the same in either order
+pub successor-swap : (d : Domain) (k : Knowledge) (atoms : List Fact) → IsStrictlySortedBy fact_cmp atoms → (a b : Prepared) → HasFootprint a → HasFootprint b → are_independent a.footprint b.footprint ≡ true → (s t u : State) → IsStrictlySortedBy fact_cmp s.facts → successor d k atoms s a ≡ Some t → successor d k atoms t b ≡ Some u → (m : State) × (successor d k atoms s b ≡ Some m) × (successor d k atoms m a ≡ Some u)
+successor-swap d k atoms rise a b p q independent s t u sorted first second =
     let plain = a.footprint.plain && b.footprint.plain in
     let one = nat_eq (bit_and a.footprint.changed b.footprint.touched) 0 in
     let two = nat_eq (bit_and b.footprint.changed a.footprint.touched) 0 in
-    let both = first_so plain (one && two) apart in
-    let alone = second_so plain (one && two) apart in
+    let both = first_so plain (one && two) independent in
+    let alone = second_so plain (one && two) independent in
     let a_plain : is_plain a ≡ true = sym p.plain ∙ first_so a.footprint.plain b.footprint.plain both in
     let b_plain : is_plain b ≡ true = sym q.plain ∙ second_so a.footprint.plain b.footprint.plain both in
-    let a_apart : share (changes a) (reads b ++ changes b) ≡ false =
+    let a_independent : share (changes a) (reads b ++ changes b) ≡ false =
     no_share (changes a) (reads b ++ changes b) ((λ i. bit_and (sym p.changed i) (sym q.touched i)) ∙ no_bits a.footprint.changed b.footprint.touched (first_so one two alone)) in
-    let b_apart : share (changes b) (reads a ++ changes a) ≡ false =
+    let b_independent : share (changes b) (reads a ++ changes a) ≡ false =
     no_share (changes b) (reads a ++ changes a) ((λ i. bit_and (sym q.changed i) (sym p.touched i)) ∙ no_bits b.footprint.changed a.footprint.touched (second_so one two alone)) in
     let v : State = record { facts = left_by atoms a s.facts; values = s.values } in
     let m : State = record { facts = left_by atoms b s.facts; values = s.values } in
-    let here = given (can_step atoms a s.facts) v t (sym (plain_leapt d k atoms a s a_plain) ∙ first) in
-    let there = given (can_step atoms b v.facts) (record { facts = left_by atoms b v.facts; values = s.values }) u (sym (plain_leapt d k atoms b v b_plain) ∙ ap (λ w. leapt d k atoms w b) here.1 ∙ second) in
+    let here = given (can_step atoms a s.facts) v t (sym (plain_successor d k atoms a s a_plain) ∙ first) in
+    let there = given (can_step atoms b v.facts) (record { facts = left_by atoms b v.facts; values = s.values }) u (sym (plain_successor d k atoms b v b_plain) ∙ ap (λ w. successor d k atoms w b) here.1 ∙ second) in
     let end : record { facts = left_by atoms a m.facts; values = s.values } ≡ u =
-    (λ i. record { facts = sym (left_alike atoms rise a b s.facts a_apart sorted) i; values = s.values }) ∙ there.1 in (
+    (λ i. record { facts = sym (left_alike atoms rise a b s.facts a_independent sorted) i; values = s.values }) ∙ there.1 in (
       m,
-      plain_leapt d k atoms b s b_plain ∙ ap (λ w. where_so w (Some m)) (sym (step_after atoms rise a b s.facts a_apart) ∙ there.0),
-      plain_leapt d k atoms a m a_plain ∙ ap (λ w. where_so w (Some (record { facts = left_by atoms a m.facts; values = s.values }))) (step_after atoms rise b a s.facts b_apart ∙ here.0) ∙ ap Some end,
+      plain_successor d k atoms b s b_plain ∙ ap (λ w. where_so w (Some m)) (sym (step_after atoms rise a b s.facts a_independent) ∙ there.0),
+      plain_successor d k atoms a m a_plain ∙ ap (λ w. where_so w (Some (record { facts = left_by atoms a m.facts; values = s.values }))) (step_after atoms rise b a s.facts b_independent ∙ here.0) ∙ ap Some end,
     )
