@@ -2,7 +2,7 @@
 ghost use Rattle.std.specs.Prelude.{◌≡◌, IfOk};
 
 use super::conditions::Conds;
-use super::domains::Param;
+use super::domains::Params;
 use super::expressions::Expr;
 use super::lists::{Duplicate, Seq};
 use super::names::Name;
@@ -38,11 +38,11 @@ impl Duplicate for Effect {
     }
 }
 
-/// A declared action. It has at most 6 parameters. Each list of conditions stands for all of its conditions.
+/// A declared action. Each list of conditions stands for all of its conditions.
 #[derive(PartialEq, Eq, Drop)]
 pub struct ActionDef {
     pub name: Name,
-    pub params: Seq<Param>,
+    pub params: Params,
     pub duration: Expr,
     /// What has to hold when it starts.
     pub start: Conds,

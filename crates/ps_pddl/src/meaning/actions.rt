@@ -17,7 +17,7 @@ use crate::refusals::{Cap, DomainRefusal};
 use ps_domain::Declared;
 use ps_forms::{Tree, after, at, head, items, items_at, rest};
 use ps_shape::Mark;
-use ps_world::{ActionDef, Conds, Expr, Failure, Name, Num, Param, Seq};
+use ps_world::{ActionDef, Conds, Expr, Failure, Name, Num, Param, Params, Seq};
 use std::alloc::Global;
 
 /// How many actions a domain has at most.
@@ -102,7 +102,7 @@ fn action_body(
     let Changes { at_start, at_end } = changes(alloc, d, &params, trees)?;
     Ok(ActionDef {
         name,
-        params: Seq::of(params),
+        params: Params::of(params),
         duration,
         start,
         over,
