@@ -43,8 +43,11 @@ fn push_one(
     requires { length action.now.params ≡ length args.now }
     ensures { OnOk result (all.new.items ≡ all.old.items ++ ground_with action.now args.now ∷ []) }
 {
-    // An action has at most 6 parameters.
-    let args = Args::of(args).ok_or(AllocError)?;
+    // Parameters say of their length that they are few, and so are the arguments.
+    let _count = action.params.len();
+    let Some(args) = Args::of(args) else {
+        unreachable!()
+    };
     let act = Act {
         action: action.name,
         args,
@@ -125,8 +128,7 @@ impl Expert {
     /// All ground actions among these instances: the actions in the order of the domain's text, and the arguments of each
     /// in the order of their names. An instance that stands twice has the type of its last place.
     ///
-    /// `TooMany` where there are more than 50,000, which is found before any is made. Memory is also said to be wanting for the
-    /// arguments of an action with more than 6 parameters, which no domain that is read has.
+    /// `TooMany` where there are more than 50,000, which is found before any is made.
     pub fn ground_all(
         &self,
         instances: &[(Name, Name)],

@@ -4,7 +4,8 @@ ghost use Rattle.ps_world.specs.CondViews.{cond_tree};
 ghost use Rattle.ps_action.specs.Grounding.{put_term, put_lifted, put_tree, put_expr, put_cond, put_effect, fitting, put_list};
 
 use ps_world::{
-    BoxedCond, BoxedExpr, Cond, Conds, Effect, Expr, Lifted, Name, Param, Seq, Term, Terms,
+    BoxedCond, BoxedExpr, Cond, Conds, Effect, Expr, Lifted, MOST_ARGUMENTS, Name, Param, Seq, Term,
+    Terms,
 };
 use std::alloc::{AllocError, Global};
 
@@ -21,19 +22,23 @@ fn put_term(args: &[Name], term: Term) -> Term
     }
 }
 
-fn put_lifted(alloc: Global, args: &[Name], lifted: &Lifted) -> Result<Lifted, AllocError>
-    ensures { IfOk result (λ put. put ≡ put_lifted args.now lifted.now) }
+/// A fact with arguments in place of its variables. It takes no memory.
+fn put_lifted(args: &[Name], lifted: &Lifted) -> Lifted
+    ensures { result ≡ put_lifted args.now lifted.now }
 {
-    let mut put = Vec::with_capacity(alloc, lifted.terms.len())?;
-    for term in lifted.terms.as_slice() {
-        put.push(put_term(args, *term))?;
+    let count = lifted.terms.len();
+    let terms = lifted.terms.as_slice();
+    let mut put = [Term::Const(Name::OBJECT); MOST_ARGUMENTS];
+    for i in 0..count {
+        put[i] = put_term(args, terms[i]);
     }
-    // No list of terms has more than six, so there is always one of these.
-    let terms = Terms::of(put.as_slice()).ok_or(AllocError)?;
-    Ok(Lifted {
-        head: lifted.head,
-        terms,
-    })
+    match Terms::of(&put[..count]) {
+        Some(terms) => Lifted {
+            head: lifted.head,
+            terms,
+        },
+        None => unreachable!(),
+    }
 }
 
 /// An expression with arguments in place of its variables. The only error is want of memory.
@@ -43,7 +48,7 @@ pub fn put_expr(alloc: Global, args: &[Name], expr: &Expr) -> Result<Expr, Alloc
 {
     match expr {
         Expr::Num(number) => Ok(Expr::Num(*number)),
-        Expr::Fun(lifted) => Ok(Expr::Fun(put_lifted(alloc, args, lifted)?)),
+        Expr::Fun(lifted) => Ok(Expr::Fun(put_lifted(args, lifted))),
         Expr::Neg(inner) => Ok(Expr::Neg(put_boxed_expr(alloc, args, inner)?)),
         Expr::Bin(op, left, right) => {
             let left = put_boxed_expr(alloc, args, left)?;
@@ -68,7 +73,7 @@ fn put_cond(alloc: Global, args: &[Name], cond: &Cond) -> Result<Cond, AllocErro
     match cond {
         Cond::And(parts) => Ok(Cond::And(put_conds(alloc, args, parts)?)),
         Cond::Not(inner) => Ok(Cond::Not(put_boxed_cond(alloc, args, inner)?)),
-        Cond::Holds(lifted) => Ok(Cond::Holds(put_lifted(alloc, args, lifted)?)),
+        Cond::Holds(lifted) => Ok(Cond::Holds(put_lifted(args, lifted))),
         Cond::Same(one, other) => Ok(Cond::Same(put_term(args, *one), put_term(args, *other))),
         Cond::Cmp(rel, left, right) => {
             let left = put_expr(alloc, args, left)?;
@@ -133,10 +138,10 @@ fn put_effect(alloc: Global, args: &[Name], effect: &Effect) -> Result<Effect, A
     ensures { IfOk result (λ put. put ≡ put_effect args.now effect.now) }
 {
     match effect {
-        Effect::Add(lifted) => Ok(Effect::Add(put_lifted(alloc, args, lifted)?)),
-        Effect::Delete(lifted) => Ok(Effect::Delete(put_lifted(alloc, args, lifted)?)),
+        Effect::Add(lifted) => Ok(Effect::Add(put_lifted(args, lifted))),
+        Effect::Delete(lifted) => Ok(Effect::Delete(put_lifted(args, lifted))),
         Effect::Number(how, lifted, by) => {
-            let term = put_lifted(alloc, args, lifted)?;
+            let term = put_lifted(args, lifted);
             let by = put_expr(alloc, args, by)?;
             Ok(Effect::Number(*how, term, by))
         }

@@ -1,6 +1,6 @@
 //! Actions and their effects.
 use super::conditions::Conds;
-use super::domains::Param;
+use super::domains::Params;
 use super::expressions::Expr;
 use super::lists::{Duplicate, Seq};
 use super::names::Name;
@@ -73,11 +73,11 @@ impl Duplicate for Effects {
     }
 }
 
-/// A declared action. It has at most 6 parameters.
+/// A declared action.
 #[derive(PartialEq, Eq, Drop)]
 pub struct ActionDef {
     pub name: Name,
-    pub params: Seq<Param>,
+    pub params: Params,
     pub duration: Expr,
     pub conditions: Conditions,
     pub effects: Effects,

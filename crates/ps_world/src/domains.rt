@@ -1,5 +1,5 @@
 //! The domain of a session: what it declares (PDDL 2.1, section 2).
-ghost use Rattle.std.specs.Prelude.{◌≡◌};
+ghost use Rattle.std.specs.Prelude.{◌≡◌, ◌≤◌, length};
 ghost use Rattle.std.specs.Option.{option_copied};
 ghost use Rattle.std.specs.List.{list_any};
 ghost use Rattle.ps_world.specs.Names.{same_name};
@@ -7,8 +7,9 @@ ghost use Rattle.ps_world.specs.Knowledge.{is_type, parent_of, is_below, predica
 
 use super::actions::ActionDef;
 use super::lists::{Duplicate, Seq};
-use super::names::Name;
+use super::names::{MOST_ARGUMENTS, Name};
 use std::alloc::{AllocError, Global};
+use std::marker::Model;
 
 /// A name with its type: a parameter, a constant, or a type with its parent.
 #[derive(Clone, Copy, PartialEq, Eq)]
@@ -20,6 +21,60 @@ pub struct Param {
 impl Duplicate for Param {
     fn copy(&self, _alloc: Global) -> Result<Self, AllocError> {
         Ok(*self)
+    }
+}
+
+/// The parameters of an action: at most 6, which contracts see as their list.
+#[derive(PartialEq, Eq, Drop)]
+pub struct Params {
+    params: Seq<Param>,
+}
+
+impl Model for Params {
+    ghost use Rattle.std.specs.Prelude.{◌≤◌, List, length};
+    ghost use Rattle.ps_world.specs.declared.domains.Param.{Param};
+
+    ghost Value = { List Param };
+
+    ghost view = { λ p. p.params };
+
+    ghost invariant = { λ p. length p.params ≤ 6 };
+
+    ghost inverse = { λ ps. record { params = ps } };
+}
+
+impl Params {
+    /// These parameters. It takes no memory.
+    pub fn of(params: Vec<Param>) -> Params
+        requires { length params.items ≤ MOST_ARGUMENTS }
+        ensures { result ≡ params.items }
+    {
+        Params {
+            params: Seq::of(params),
+        }
+    }
+
+    /// How many parameters.
+    pub fn len(&self) -> usize
+        ensures count { result ≡ length self.now }
+        ensures few { length self.now ≤ MOST_ARGUMENTS }
+    {
+        self.params.len()
+    }
+
+    /// The parameters in order.
+    pub fn as_slice(&self) -> &[Param]
+        ensures { result.now ≡ self.now }
+    {
+        self.params.as_slice()
+    }
+}
+
+impl Duplicate for Params {
+    fn copy(&self, alloc: Global) -> Result<Self, AllocError> {
+        Ok(Params {
+            params: self.params.copy(alloc)?,
+        })
     }
 }
 

@@ -18,7 +18,7 @@ mod schemas;
 
 pub use actions::{ActionDef, Conditions, Effect, Effects, NumOp};
 pub use conditions::{BoxedCond, Cond, Conds, Rel};
-pub use domains::{Decl, Domain, Param};
+pub use domains::{Decl, Domain, Param, Params};
 pub use edits::{Edit, EditRefusal};
 pub use expressions::{BoxedExpr, Expr, Op};
 pub use facts::Fact;

@@ -114,7 +114,8 @@ impl Terms {
 
     /// How many terms.
     pub fn len(&self) -> usize
-        ensures { result ≡ length self.now }
+        ensures count { result ≡ length self.now }
+        ensures few { length self.now ≤ MOST_ARGUMENTS }
     {
         self.count
     }

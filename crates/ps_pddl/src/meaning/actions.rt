@@ -17,7 +17,9 @@ use crate::refusals::{Cap, DomainRefusal};
 use ps_domain::Declared;
 use ps_forms::{Tree, after, at, head, items, items_at, rest};
 use ps_shape::Mark;
-use ps_world::{ActionDef, Conditions, Conds, Effects, Expr, Failure, Name, Num, Param, Seq};
+use ps_world::{
+    ActionDef, Conditions, Conds, Effects, Expr, Failure, Name, Num, Param, Params, Seq,
+};
 use std::alloc::Global;
 
 /// How many actions a domain has at most.
@@ -102,7 +104,7 @@ fn action_body(
     let effects = changes(alloc, d, &params, trees)?;
     Ok(ActionDef {
         name,
-        params: Seq::of(params),
+        params: Params::of(params),
         duration,
         conditions,
         effects,

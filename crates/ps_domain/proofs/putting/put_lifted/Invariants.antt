@@ -1,6 +1,7 @@
-use Rattle.std.proofs.Common.{◌≡◌, map, take}
+use Rattle.std.proofs.Common.{◌≡◌, length, map, take}
 use Rattle.ps_action.specs.Grounding.{put_term}
 use Rattle.ps_domain.proofs.putting.put_lifted.Given as goal
 
-abbrev pub invariant-loop-term : goal.invariant-loop-term
-invariant-loop-term l = l.put.items ≡ map (put_term l.args) (take l.term-index l.term-items)
+-- the terms so far are put
+abbrev pub invariant-loop-i : goal.invariant-loop-i
+invariant-loop-i l = record { room : length l.put ≡ 6; written : take l.i l.put ≡ map (put_term l.args) (take l.i l.terms) }
