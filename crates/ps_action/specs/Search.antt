@@ -86,7 +86,7 @@ abbrev pub answer_from : Domain → Knowledge → ℕ → ℕ → ℕ → Answer
 answer_from d k budget zero depth = at_depth d k budget depth (least_plan d k depth) (Spent depth)
 answer_from d k budget (suc more) depth = at_depth d k budget depth (least_plan d k depth) (answer_from d k budget more (depth + 1))
 
--- The answer of a solver with this budget of knowledges: the least of the shortest good plans. Else no plan is good, or none of so
+-- The answer of a solver with this budget of states: the least of the shortest good plans. Else no plan is good, or none of so
 -- many acts is and no longer one was looked for, or there are too many ground actions.
 unfoldable pub answer : Domain → Knowledge → ℕ → Answer
 answer d k budget = if nat_lt most_ground (length (all_ground d k.instances)) then TooMany else answer_from d k budget most_acts 0

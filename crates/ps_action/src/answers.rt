@@ -10,7 +10,7 @@ pub enum Answer {
     Plan(Seq<Act>),
     /// No plan is good.
     NoPlan,
-    /// No plan of at most this many acts is good, and the budget of knowledges or the longest plan is met.
+    /// No plan of at most this many acts is good, and the budget of states or the longest plan is met.
     Spent { depth: u32 },
     /// There are more than 50,000 ground actions.
     TooMany,

@@ -27,7 +27,7 @@ impl Model for Arcs {
 }
 
 impl Arcs {
-    /// No arcs between so many ground actions. The only error is want of memory.
+    /// No arcs between so many ground actions.
     pub fn new(alloc: Global, acts: u32) -> Result<Arcs, AllocError>
         requires { acts ≤ 256 }
         ensures { IfOk result (λ arcs. (arcs.acts ≡ acts) × (arcs.pairs ≡ [])) }
@@ -40,7 +40,7 @@ impl Arcs {
         })
     }
 
-    /// Puts an arc at the end. The only error is want of memory, and then nothing has changed.
+    /// Puts an arc at the end. Where memory runs out nothing changes.
     pub fn add(&mut self, i: u32, j: u32) -> Result<(), AllocError>
         requires order { i < j }
         requires within { j < self.old.acts }

@@ -123,7 +123,7 @@ fn value_set<K: Known>(known: &K, effect: &Effect) -> Option<(Fact, Num)>
     }
 }
 
-/// The function terms that flat effects give values, each with its value. The only error is want of memory.
+/// The function terms that flat effects give values, each with its value.
 fn values_of_flat<K: Known>(
     alloc: Global,
     known: &K,
@@ -140,14 +140,15 @@ fn values_of_flat<K: Known>(
     Ok(all)
 }
 
-/// The function terms that a list of effects gives values, each with its value. The only error is want of memory.
+/// The function terms that a list of effects gives values, each with its value.
 pub fn values_set<K: Known, T: Types>(
     alloc: Global,
     known: &K,
     types: &T,
     effects: &[Effect],
 ) -> Result<Vec<(Fact, Num)>, AllocError>
-    ensures { IfOk result (λ v. v.items ≡ values_set (T.types types.now) (K.known known.now) effects.now) }
+    ensures { IfOk result (λ v. v.items
+        ≡ values_set (T.types types.now) (K.known known.now) effects.now) }
 {
     values_of_flat(alloc, known, effects)
 }

@@ -22,11 +22,11 @@ use Rattle.ps_arcs.proofs.Things.{absent, among, thing_itself, thing_same, true_
 
 -- ---- what is read and changed
 
--- what may be the same in two knowledges: one fact, value or instance, or else, where none of these is named, all instances and the goal
+-- what may be the same in two states: one fact, value or instance, or else, where none of these is named, all instances and the goal
 abbrev pub Told : Type 0
 Told = Option Touched
 
--- two knowledges are the same there
+-- two states are the same there
 abbrev pub SameAt : Knowledge → Knowledge → Told → Type 0
 SameAt k l None = (k.instances ≡ l.instances) × (k.goal ≡ l.goal)
 SameAt k l (Some t) = Agree k l t

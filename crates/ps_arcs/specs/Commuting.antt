@@ -43,7 +43,7 @@ JudgedIsGood =
 
 -- ---- an order
 
--- two knowledges have the same instances and the same goal, and tell the same of each fact and function term
+-- two states have the same instances and the same goal, and tell the same of each fact and function term
 pub record TellTheSame (one other : Knowledge) : Type 0 where
   pub instances : one.instances ≡ other.instances
   pub goal : one.goal ≡ other.goal

@@ -111,7 +111,7 @@ fn push_text_refusal(
     }
 }
 
-/// The line that a plan is answered with: `valid`, or what is wrong with it. The only error is want of memory.
+/// The line that a plan is answered with: `valid`, or what is wrong with it.
 pub fn verdict_line(
     alloc: Global,
     names: &Names,

@@ -94,7 +94,7 @@ impl Declared {
         }
     }
 
-    /// This domain with its indexes. The only error is want of memory.
+    /// This domain with its indexes.
     pub fn of(alloc: Global, domain: Domain) -> Result<Declared, AllocError>
         ensures { IfOk result (λ d. d ≡ domain) }
     {
@@ -185,7 +185,7 @@ impl Declared {
         self.constants.find(self.domain.constants.as_slice(), name)
     }
 
-    /// Puts these types in place of all that were there. The only error is want of memory, and then nothing changes.
+    /// Puts these types in place of all that were there. Where memory runs out nothing changes.
     pub fn set_types(&mut self, alloc: Global, list: Seq<Param>) -> Result<(), AllocError>
         ensures ok { OnOk result (self.new ≡ record self.old { types = list }) }
         ensures err { OnErr result (self.new ≡ self.old) }
@@ -195,7 +195,7 @@ impl Declared {
         Ok(())
     }
 
-    /// Puts these constants in place of all that were there. The only error is want of memory, and then nothing changes.
+    /// Puts these constants in place of all that were there. Where memory runs out nothing changes.
     pub fn set_constants(&mut self, alloc: Global, list: Seq<Param>) -> Result<(), AllocError>
         ensures ok { OnOk result (self.new ≡ record self.old { constants = list }) }
         ensures err { OnErr result (self.new ≡ self.old) }
@@ -205,7 +205,7 @@ impl Declared {
         Ok(())
     }
 
-    /// Puts these predicates in place of all that were there. The only error is want of memory, and then nothing changes.
+    /// Puts these predicates in place of all that were there. Where memory runs out nothing changes.
     pub fn set_predicates(&mut self, alloc: Global, list: Seq<Decl>) -> Result<(), AllocError>
         ensures ok { OnOk result (self.new ≡ record self.old { predicates = list }) }
         ensures err { OnErr result (self.new ≡ self.old) }
@@ -215,7 +215,7 @@ impl Declared {
         Ok(())
     }
 
-    /// Puts these functions in place of all that were there. The only error is want of memory, and then nothing changes.
+    /// Puts these functions in place of all that were there. Where memory runs out nothing changes.
     pub fn set_functions(&mut self, alloc: Global, list: Seq<Decl>) -> Result<(), AllocError>
         ensures ok { OnOk result (self.new ≡ record self.old { functions = list }) }
         ensures err { OnErr result (self.new ≡ self.old) }
@@ -225,7 +225,7 @@ impl Declared {
         Ok(())
     }
 
-    /// Puts these actions in place of all that were there. The only error is want of memory, and then nothing changes.
+    /// Puts these actions in place of all that were there. Where memory runs out nothing changes.
     pub fn set_actions(&mut self, alloc: Global, list: Seq<ActionDef>) -> Result<(), AllocError>
         ensures ok { OnOk result (self.new ≡ record self.old { actions = list }) }
         ensures err { OnErr result (self.new ≡ self.old) }

@@ -29,7 +29,7 @@ impl Model for Expert {
 }
 
 impl Expert {
-    /// The expert on this domain. The only error is want of memory.
+    /// The expert on this domain.
     pub fn new(alloc: Global, domain: Domain) -> Result<Expert, AllocError>
         ensures { IfOk result (λ e. e ≡ domain) }
     {

@@ -85,7 +85,7 @@ fn put_all_effects(alloc: Global, args: &[Name], effects: &Effects) -> Result<Ef
     })
 }
 
-/// The ground action of an act of this action. The only error is want of memory.
+/// The ground action of an act of this action.
 pub fn grounded(alloc: Global, action: &ActionDef, act: &Act) -> Result<GroundAction, AllocError>
     requires { length action.now.params ≡ length act.now.args }
     ensures { IfOk result (λ g. g ≡ grounded action.now act.now) }

@@ -69,7 +69,7 @@ impl Index {
         }
     }
 
-    /// The index of this list. The only error is want of memory.
+    /// The index of this list.
     pub fn of<T: Named>(alloc: Global, list: &[T]) -> Result<Index, AllocError>
         ensures { IfOk result (IsIndexOf T.name_of list.now) }
     {
@@ -80,7 +80,7 @@ impl Index {
         Ok(index)
     }
 
-    /// Gives a name this place, unless it has one. The only error is want of memory, and then nothing changes.
+    /// Gives a name this place, unless it has one. Where memory runs out nothing changes.
     fn note(&mut self, name: Name, place: usize) -> Result<(), AllocError>
         ensures ok { OnOk result (Notes self.old self.new name place) }
         ensures err { OnErr result (self.new ≡ self.old) }

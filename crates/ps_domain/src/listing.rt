@@ -24,7 +24,8 @@ fn all_choices(
     params: &[Param],
 ) -> Result<Vec<Seq<Name>>, AllocError>
     requires { AreChoices expert.now sorted.now.entries known.now.entries }
-    ensures { IfOk result (λ all. all.items ≡ map (choices_in expert.now sorted.now.entries) params.now) }
+    ensures { IfOk result (λ all. all.items
+        ≡ map (choices_in expert.now sorted.now.entries) params.now) }
 {
     let mut all = Vec::new(alloc);
     for param in params {
@@ -66,7 +67,8 @@ fn push_picks(
 ) -> Result<(), AllocError>
     requires { length action.now.params ≡ length first.old.items + length choices.now }
     ensures first { OnOk result (first.new.items ≡ first.old.items) }
-    ensures all { OnOk result (all.new.items ≡ all.old.items ++ ground_from action.now first.old.items (picks choices.now)) }
+    ensures all { OnOk result (all.new.items ≡ all.old.items
+        ++ ground_from action.now first.old.items (picks choices.now)) }
 {
     let Some((names, rest)) = choices.split_first() else {
         return push_one(alloc, action, first.as_slice(), all);
@@ -96,7 +98,8 @@ fn push_all_of(
     all: &mut Vec<GroundAction>,
 ) -> Result<(), AllocError>
     requires { AreChoices expert.now sorted.now.entries known.now.entries }
-    ensures { OnOk result (all.new.items ≡ all.old.items ++ all_with expert.now sorted.now.entries action.now) }
+    ensures { OnOk result (all.new.items ≡ all.old.items
+        ++ all_with expert.now sorted.now.entries action.now) }
 {
     let choices = all_choices(alloc, expert, sorted, known, action.params.as_slice())?;
     // An earlier parameter's choices would be tried in vain.

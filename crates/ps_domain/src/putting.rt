@@ -4,8 +4,8 @@ ghost use Rattle.ps_world.specs.CondViews.{cond_tree};
 ghost use Rattle.ps_action.specs.Grounding.{put_term, put_lifted, put_tree, put_expr, put_cond, put_effect, fitting, put_list};
 
 use ps_world::{
-    BoxedCond, BoxedExpr, Cond, Conds, Effect, Expr, Lifted, MOST_ARGUMENTS, Name, Param, Seq, Term,
-    Terms,
+    BoxedCond, BoxedExpr, Cond, Conds, Effect, Expr, Lifted, MOST_ARGUMENTS, Name, Param, Seq,
+    Term, Terms,
 };
 use std::alloc::{AllocError, Global};
 
@@ -41,7 +41,7 @@ fn put_lifted(args: &[Name], lifted: &Lifted) -> Lifted
     }
 }
 
-/// An expression with arguments in place of its variables. The only error is want of memory.
+/// An expression with arguments in place of its variables.
 #[cycle(put_expr)]
 pub fn put_expr(alloc: Global, args: &[Name], expr: &Expr) -> Result<Expr, AllocError>
     ensures { IfOk result (λ put. put ≡ put_expr args.now expr.now) }
@@ -92,7 +92,7 @@ fn put_boxed_cond(alloc: Global, args: &[Name], boxed: &BoxedCond) -> Result<Box
     BoxedCond::new(alloc, inner)
 }
 
-/// Conditions with arguments in place of their variables. The only error is want of memory.
+/// Conditions with arguments in place of their variables.
 #[cycle(put_cond)]
 pub fn put_conds(alloc: Global, args: &[Name], conds: &Conds) -> Result<Conds, AllocError>
     ensures { IfOk result (λ put. put ≡ map (put_cond args.now) conds.now) }
@@ -116,8 +116,7 @@ fn fitting(alloc: Global, params: &[Param], args: &[Name]) -> Result<Conds, Allo
     Ok(fitting)
 }
 
-/// Conditions with arguments in place of their variables, and before them that each argument fits its parameter. The only
-/// error is want of memory.
+/// Conditions with arguments in place of their variables, and before them that each argument fits its parameter.
 pub fn put_list(
     alloc: Global,
     params: &[Param],
@@ -148,7 +147,7 @@ fn put_effect(alloc: Global, args: &[Name], effect: &Effect) -> Result<Effect, A
     }
 }
 
-/// Effects with arguments in place of their variables. The only error is want of memory.
+/// Effects with arguments in place of their variables.
 pub fn put_effects(
     alloc: Global,
     args: &[Name],

@@ -92,7 +92,7 @@ fn push_conds(conds: &Conds, all: &mut Vec<Touched>) -> Result<(), AllocError>
 }
 
 /// What a list of conditions reads: each fact and function term that stands in it, and each name that stands there as an
-/// argument, in a `(= a b)` or where its type is asked for. One thing may be named twice. The only error is want of memory.
+/// argument, in a `(= a b)` or where its type is asked for. One thing may be named twice.
 pub fn reads(alloc: Global, conds: &Conds) -> Result<Vec<Touched>, AllocError>
     ensures { IfOk result (λ v. v.items ≡ read_by_list conds.now) }
 {
@@ -111,7 +111,7 @@ fn changed_by_effect(effect: &Effect) -> Touched
 }
 
 /// What a list of effects changes: each fact that it adds or deletes, and each function term that it gives a value. One thing may
-/// be named twice. The only error is want of memory.
+/// be named twice.
 pub fn changed_by(alloc: Global, effects: &[Effect]) -> Result<Vec<Touched>, AllocError>
     ensures { IfOk result (λ v. v.items ≡ map changed_by_effect effects.now) }
 {

@@ -187,7 +187,7 @@ pub fn mark_of(class: Class, word: &[u8]) -> Mark
     }
 }
 
-/// The name within a word, which is put into the table. The only error is want of memory, which changes nothing.
+/// The name within a word, which is put into the table. Where memory runs out nothing changes.
 fn name_within(names: &mut Names, class: Class, word: &[u8]) -> Result<Name, AllocError>
     requires { class_of word.now ≡ Some class }
     ensures ok { IfOk result (λ n. n ≡ numbered names.old (name_within class word.now)) }
@@ -208,7 +208,7 @@ fn number_or_zero(text: &[u8]) -> Num
     read_number(text).unwrap_or(Num::ZERO)
 }
 
-/// A token as a word of the domain's text. Its name is put into the table. The only error is want of memory, which changes nothing.
+/// A token as a word of the domain's text. Its name is put into the table. Where memory runs out nothing changes.
 fn lexeme_of(names: &mut Names, bytes: &[u8], token: Token) -> Result<Lexeme, AllocError>
     requires { IsTokenOf bytes.now token }
     ensures ok { IfOk result (λ l. l ≡ lexeme_of bytes.now names.old token) }
@@ -226,7 +226,6 @@ fn lexeme_of(names: &mut Names, bytes: &[u8], token: Token) -> Result<Lexeme, Al
 }
 
 /// The words of a domain's text, in order. Their names are put into the table; old ones keep their numbers and texts.
-/// The only error is want of memory.
 pub fn lexemes_of(
     alloc: Global,
     names: &mut Names,

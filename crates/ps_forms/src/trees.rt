@@ -66,7 +66,7 @@ impl Trees {
         Trees::of(Vec::new(alloc))
     }
 
-    /// Puts one more at the end. The only error is want of memory.
+    /// Puts one more at the end.
     fn push(&mut self, tree: Tree) -> Result<(), AllocError>
         ensures { OnOk result (self.new ≡ followed self.old (nested tree)) }
     {
@@ -75,7 +75,7 @@ impl Trees {
     }
 }
 
-/// The nested lists that words are, where each parenthesis has its other one. The only error is want of memory.
+/// The nested lists that words are, where each parenthesis has its other one.
 pub fn trees_of(alloc: Global, words: &[Lexeme]) -> Result<Trees, AllocError>
     requires { is_balanced 0 (marks words.now) ≡ true }
     ensures { IfOk result (λ ts. SpellAll ts words.now) }

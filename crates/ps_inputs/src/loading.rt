@@ -22,7 +22,8 @@ fn load_session<'a, F: Files>(
     files: &mut F,
 ) -> Result<Result<Work, Fault>, Failure<Fault>>
     requires { 1 ≤ settings.budget }
-    ensures { Answers (a_session (settings_said settings.entry)) (F.shown files.old) (F.shown files.new) result }
+    ensures { Answers (a_session (settings_said settings.entry)) (F.shown files.old)
+        (F.shown files.new) result }
 {
     let Judged { names, domain } = read_domain_file(alloc, settings.domain, files)?;
     let Script { names, lines } = read_script(alloc, names, false, settings.script, files)?;
@@ -64,7 +65,8 @@ fn load_validation<F: Files>(
     plan: &str,
     files: &mut F,
 ) -> Result<Result<Work, Fault>, Failure<Fault>>
-    ensures { Answers (a_validation domain.now script.now plan.now) (F.shown files.old) (F.shown files.new) result }
+    ensures { Answers (a_validation domain.now script.now plan.now) (F.shown files.old)
+        (F.shown files.new) result }
 {
     let Judged { names, domain } = read_domain_file(alloc, domain, files)?;
     let Script { names, lines } = read_script(alloc, names, true, script, files)?;

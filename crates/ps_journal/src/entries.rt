@@ -24,7 +24,8 @@ pub fn entry_text(
     entry: &Entry,
     steps: &[PlanStep],
 ) -> Result<Vec<u8>, AllocError>
-    ensures { IfOk result (λ t. (budget : ℕ) → steps.now ≡ told_steps expert.now budget problem.now entry.now.what
+    ensures { IfOk result (λ t. (budget : ℕ)
+        → steps.now ≡ told_steps expert.now budget problem.now entry.now.what
         → t.items ≡ entry_text names.now expert.now budget problem.now entry.now) }
 {
     let mut text = Vec::new(alloc);

@@ -99,7 +99,7 @@ pub struct Input {
     pub domain: Domain,
     /// The command lines of the script, in order. What stands after a `quit` counts for nothing.
     pub lines: Seq<Line>,
-    /// How many knowledges a solver may look at before it gives up.
+    /// How many states a solver may look at before it gives up.
     pub budget: u32,
 }
 

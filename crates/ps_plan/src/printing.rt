@@ -68,8 +68,7 @@ fn push_step(names: &Names, step: &PlanStep, text: &mut Vec<u8>) -> Result<(), A
     Ok(())
 }
 
-/// The text of a plan whose names are of the table, each step on a line as `0.000: (move leia entrance kitchen) [5.000]`. The only error
-/// is want of memory.
+/// The text of a plan whose names are of the table, each step on a line as `0.000: (move leia entrance kitchen) [5.000]`.
 pub fn print_plan(alloc: Global, names: &Names, steps: &[PlanStep]) -> Result<Vec<u8>, AllocError>
     requires { All (IsStepOf (length names.now)) steps.now }
     ensures { IfOk result (λ text. text.items ≡ plan_text names.now steps.now) }

@@ -17,8 +17,8 @@ pub trait Solver {
     ghost says: { Self → DomainView → KnowledgeView → ℕ → AnswerView };
 
     /// A plan that reaches the goal, or why none is told: `NoPlan` where none is good, `Spent` where no plan of at most that many
-    /// acts is good and as many different knowledges are reached as the budget says or a plan has no more acts, `TooMany` where
-    /// there are more than 50,000 ground actions. The only error is want of memory.
+    /// acts is good and as many different states are reached as the budget says or a plan has no more acts, `TooMany` where
+    /// there are more than 50,000 ground actions.
     fn solve(
         &self,
         alloc: Global,

@@ -28,7 +28,6 @@ fn time_after(time: Num, lasting: Num) -> Num
 }
 
 /// Puts the step of a ground action at the end and makes it. The answer is the time of a step after it, or None where it fails.
-/// The only error is want of memory.
 fn push_ground_step(
     expert: &Expert,
     problem: &mut Problem,
@@ -76,7 +75,7 @@ fn push_step(
     }
 }
 
-/// Puts the steps of acts at the end, from the time 0 on, as far as no step fails. The only error is want of memory.
+/// Puts the steps of acts at the end, from the time 0 on, as far as no step fails.
 fn push_steps(
     expert: &Expert,
     problem: &mut Problem,
@@ -97,7 +96,7 @@ fn push_steps(
     Ok(())
 }
 
-/// The steps of acts from the time 0 on, as far as no step fails. The only error is want of memory.
+/// The steps of acts from the time 0 on, as far as no step fails.
 fn steps_of(
     alloc: Global,
     expert: &Expert,
@@ -114,7 +113,7 @@ fn steps_of(
 
 /// The steps of a good plan: the first has the time 0, and each other one the time of the one before it, plus that one's duration,
 /// plus a thousandth, but the greatest number where that is passed. A step's duration is what its action's says before the step.
-/// Where a step fails, what comes after it is left out. The only error is want of memory.
+/// Where a step fails, what comes after it is left out.
 pub fn timed(
     alloc: Global,
     expert: &Expert,

@@ -20,7 +20,8 @@ fn push_timed_conditions(
     time: &[u8],
     conds: &Conds,
 ) -> Result<(), AllocError>
-    ensures { OnOk result (text.new.items ≡ text.old.items ++ timed_text time.now (map (cond_text names.now params.now) conds.now)) }
+    ensures { OnOk result (text.new.items ≡ text.old.items
+        ++ timed_text time.now (map (cond_text names.now params.now) conds.now)) }
 {
     for cond in conds.as_slice() {
         text.extend_from_slice(b" (")?;
@@ -40,7 +41,8 @@ fn push_timed_effects(
     time: &[u8],
     effects: &[Effect],
 ) -> Result<(), AllocError>
-    ensures { OnOk result (text.new.items ≡ text.old.items ++ timed_text time.now (map (effect_text names.now params.now) effects.now)) }
+    ensures { OnOk result (text.new.items ≡ text.old.items
+        ++ timed_text time.now (map (effect_text names.now params.now) effects.now)) }
 {
     for effect in effects {
         text.extend_from_slice(b" (")?;
@@ -58,7 +60,8 @@ fn push_conditions_of(
     names: &Names,
     action: &ActionDef,
 ) -> Result<(), AllocError>
-    ensures { OnOk result (text.new.items ≡ text.old.items ++ conditions_text names.now action.now) }
+    ensures { OnOk result (text.new.items ≡ text.old.items
+        ++ conditions_text names.now action.now) }
 {
     let params = action.params.as_slice();
     let conditions = &action.conditions;
@@ -82,7 +85,8 @@ fn push_effects_of(text: &mut Vec<u8>, names: &Names, action: &ActionDef) -> Res
 
 /// Adds the first line of an action, with its end.
 fn push_name_line(text: &mut Vec<u8>, names: &Names, action: &ActionDef) -> Result<(), AllocError>
-    ensures { OnOk result (text.new.items ≡ text.old.items ++ (slice_index_or (action_lines names.now action.now) 0 [] ++ line_end)) }
+    ensures { OnOk result (text.new.items ≡ text.old.items
+        ++ (slice_index_or (action_lines names.now action.now) 0 [] ++ line_end)) }
 {
     text.extend_from_slice(b"(:durative-action ")?;
     push_name(text, names, action.name)?;
@@ -96,7 +100,8 @@ fn push_parameters_line(
     names: &Names,
     action: &ActionDef,
 ) -> Result<(), AllocError>
-    ensures { OnOk result (text.new.items ≡ text.old.items ++ (slice_index_or (action_lines names.now action.now) 1 [] ++ line_end)) }
+    ensures { OnOk result (text.new.items ≡ text.old.items
+        ++ (slice_index_or (action_lines names.now action.now) 1 [] ++ line_end)) }
 {
     text.extend_from_slice(b":parameters (")?;
     push_params(text, names, action.params.as_slice())?;
@@ -110,7 +115,8 @@ fn push_duration_line(
     names: &Names,
     action: &ActionDef,
 ) -> Result<(), AllocError>
-    ensures { OnOk result (text.new.items ≡ text.old.items ++ (slice_index_or (action_lines names.now action.now) 2 [] ++ line_end)) }
+    ensures { OnOk result (text.new.items ≡ text.old.items
+        ++ (slice_index_or (action_lines names.now action.now) 2 [] ++ line_end)) }
 {
     text.extend_from_slice(b":duration (= ?duration ")?;
     push_expression(text, names, action.params.as_slice(), &action.duration)?;
@@ -124,7 +130,8 @@ fn push_condition_line(
     names: &Names,
     action: &ActionDef,
 ) -> Result<(), AllocError>
-    ensures { OnOk result (text.new.items ≡ text.old.items ++ (slice_index_or (action_lines names.now action.now) 3 [] ++ line_end)) }
+    ensures { OnOk result (text.new.items ≡ text.old.items
+        ++ (slice_index_or (action_lines names.now action.now) 3 [] ++ line_end)) }
 {
     text.extend_from_slice(b":condition (and")?;
     push_conditions_of(text, names, action)?;
@@ -134,7 +141,8 @@ fn push_condition_line(
 
 /// Adds the line of an action's effect, which ends the action.
 fn push_effect_line(text: &mut Vec<u8>, names: &Names, action: &ActionDef) -> Result<(), AllocError>
-    ensures { OnOk result (text.new.items ≡ text.old.items ++ (slice_index_or (action_lines names.now action.now) 4 [] ++ line_end)) }
+    ensures { OnOk result (text.new.items ≡ text.old.items
+        ++ (slice_index_or (action_lines names.now action.now) 4 [] ++ line_end)) }
 {
     text.extend_from_slice(b":effect (and")?;
     push_effects_of(text, names, action)?;
@@ -144,7 +152,8 @@ fn push_effect_line(text: &mut Vec<u8>, names: &Names, action: &ActionDef) -> Re
 
 /// Adds the five lines of an action, each with its end. A name that the table hasn't adds nothing.
 pub fn push_action(text: &mut Vec<u8>, names: &Names, action: &ActionDef) -> Result<(), AllocError>
-    ensures { OnOk result (text.new.items ≡ text.old.items ++ flat_map (λ line. line ++ line_end) (action_lines names.now action.now)) }
+    ensures { OnOk result (text.new.items ≡ text.old.items
+        ++ flat_map (λ line. line ++ line_end) (action_lines names.now action.now)) }
 {
     push_name_line(text, names, action)?;
     push_parameters_line(text, names, action)?;
@@ -160,7 +169,8 @@ pub fn push_actions(
     names: &Names,
     actions: &[ActionDef],
 ) -> Result<(), AllocError>
-    ensures { OnOk result (text.new.items ≡ text.old.items ++ flat_map (λ line. line ++ line_end) (flat_map (action_lines names.now) actions.now)) }
+    ensures { OnOk result (text.new.items ≡ text.old.items
+        ++ flat_map (λ line. line ++ line_end) (flat_map (action_lines names.now) actions.now)) }
 {
     for action in actions {
         push_action(text, names, action)?;

@@ -35,7 +35,9 @@ fn push_comparison(
     left: &Expr,
     right: &Expr,
 ) -> Result<(), AllocError>
-    ensures { OnOk result (text.new.items ≡ text.old.items ++ cond_text names.now params.now (compares rel (expr_tree left.now) (expr_tree right.now))) }
+    ensures { OnOk result (text.new.items ≡ text.old.items
+        ++ cond_text names.now params.now
+        (compares rel (expr_tree left.now) (expr_tree right.now))) }
 {
     text.push(b'(')?;
     push_rel(text, rel)?;
@@ -55,7 +57,8 @@ fn push_same(
     one: &Term,
     other: &Term,
 ) -> Result<(), AllocError>
-    ensures { OnOk result (text.new.items ≡ text.old.items ++ cond_text names.now params.now (same one.now other.now)) }
+    ensures { OnOk result (text.new.items ≡ text.old.items
+        ++ cond_text names.now params.now (same one.now other.now)) }
 {
     text.extend_from_slice(b"(= ")?;
     push_term(text, names, params, one)?;
@@ -73,7 +76,8 @@ pub fn push_condition(
     params: &[Param],
     cond: &Cond,
 ) -> Result<(), AllocError>
-    ensures { OnOk result (text.new.items ≡ text.old.items ++ cond_text names.now params.now (cond_tree cond.now)) }
+    ensures { OnOk result (text.new.items ≡ text.old.items
+        ++ cond_text names.now params.now (cond_tree cond.now)) }
 {
     match cond {
         Cond::And(parts) => {
@@ -111,7 +115,8 @@ fn push_boxed_condition(
     params: &[Param],
     boxed: &BoxedCond,
 ) -> Result<(), AllocError>
-    ensures { OnOk result (text.new.items ≡ text.old.items ++ cond_text names.now params.now boxed.now) }
+    ensures { OnOk result (text.new.items ≡ text.old.items
+        ++ cond_text names.now params.now boxed.now) }
 {
     push_condition(text, names, params, boxed.get())?;
     Ok(())
@@ -125,7 +130,8 @@ fn push_conditions(
     params: &[Param],
     conds: &Conds,
 ) -> Result<(), AllocError>
-    ensures { OnOk result (text.new.items ≡ text.old.items ++ conds_text names.now params.now (cond_trees conds.now)) }
+    ensures { OnOk result (text.new.items ≡ text.old.items
+        ++ conds_text names.now params.now (cond_trees conds.now)) }
 {
     for cond in conds.as_slice() {
         text.push(b' ')?;

@@ -29,7 +29,8 @@ pub fn push_typed(text: &mut Vec<u8>, names: &Names, param: &Param) -> Result<()
 
 /// Adds names with their types, each after a space.
 pub fn push_all_typed(text: &mut Vec<u8>, names: &Names, params: &[Param]) -> Result<(), AllocError>
-    ensures { OnOk result (text.new.items ≡ text.old.items ++ after_spaces (map (typed_text names.now) params.now)) }
+    ensures { OnOk result (text.new.items ≡ text.old.items
+        ++ after_spaces (map (typed_text names.now) params.now)) }
 {
     for param in params {
         text.push(b' ')?;
@@ -48,7 +49,8 @@ fn push_param(text: &mut Vec<u8>, names: &Names, param: &Param) -> Result<(), Al
 
 /// Adds parameters, each after a space.
 fn push_more_params(text: &mut Vec<u8>, names: &Names, params: &[Param]) -> Result<(), AllocError>
-    ensures { OnOk result (text.new.items ≡ text.old.items ++ after_spaces (map (param_text names.now) params.now)) }
+    ensures { OnOk result (text.new.items ≡ text.old.items
+        ++ after_spaces (map (param_text names.now) params.now)) }
 {
     for param in params {
         text.push(b' ')?;
@@ -59,7 +61,8 @@ fn push_more_params(text: &mut Vec<u8>, names: &Names, params: &[Param]) -> Resu
 
 /// Adds parameters, with a space between neighbours.
 pub fn push_params(text: &mut Vec<u8>, names: &Names, params: &[Param]) -> Result<(), AllocError>
-    ensures { OnOk result (text.new.items ≡ text.old.items ++ spaced (map (param_text names.now) params.now)) }
+    ensures { OnOk result (text.new.items ≡ text.old.items
+        ++ spaced (map (param_text names.now) params.now)) }
 {
     match params {
         [] => Ok(()),
@@ -84,7 +87,8 @@ pub fn push_decl(text: &mut Vec<u8>, names: &Names, decl: &Decl) -> Result<(), A
 
 /// Adds declarations, each after a space.
 pub fn push_decls(text: &mut Vec<u8>, names: &Names, decls: &[Decl]) -> Result<(), AllocError>
-    ensures { OnOk result (text.new.items ≡ text.old.items ++ after_spaces (map (decl_text names.now) decls.now)) }
+    ensures { OnOk result (text.new.items ≡ text.old.items
+        ++ after_spaces (map (decl_text names.now) decls.now)) }
 {
     for decl in decls {
         text.push(b' ')?;

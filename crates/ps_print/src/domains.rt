@@ -18,7 +18,9 @@ fn push_typed_section(
     key: &[u8],
     params: &[Param],
 ) -> Result<(), AllocError>
-    ensures { OnOk result (text.new.items ≡ text.old.items ++ flat_map (λ line. line ++ line_end) (section_lines key.now (map (typed_text names.now) params.now))) }
+    ensures { OnOk result (text.new.items ≡ text.old.items
+        ++ flat_map (λ line. line ++ line_end)
+        (section_lines key.now (map (typed_text names.now) params.now))) }
 {
     match params {
         [] => Ok(()),
@@ -39,7 +41,9 @@ fn push_decl_section(
     key: &[u8],
     decls: &[Decl],
 ) -> Result<(), AllocError>
-    ensures { OnOk result (text.new.items ≡ text.old.items ++ flat_map (λ line. line ++ line_end) (section_lines key.now (map (decl_text names.now) decls.now))) }
+    ensures { OnOk result (text.new.items ≡ text.old.items
+        ++ flat_map (λ line. line ++ line_end)
+        (section_lines key.now (map (decl_text names.now) decls.now))) }
 {
     match decls {
         [] => Ok(()),
@@ -55,7 +59,8 @@ fn push_decl_section(
 
 /// Adds the first line of a domain.
 fn push_first_line(text: &mut Vec<u8>, names: &Names, name: Name) -> Result<(), AllocError>
-    ensures { OnOk result (text.new.items ≡ text.old.items ++ ((codes "(define (domain " ++ (name_text names.now name ++ codes ")")) ++ line_end)) }
+    ensures { OnOk result (text.new.items ≡ text.old.items
+        ++ ((codes "(define (domain " ++ (name_text names.now name ++ codes ")")) ++ line_end)) }
 {
     text.extend_from_slice(b"(define (domain ")?;
     push_name(text, names, name)?;
@@ -64,7 +69,6 @@ fn push_first_line(text: &mut Vec<u8>, names: &Names, name: Name) -> Result<(), 
 }
 
 /// The canonical text of a domain, with the names of this table. A name that the table hasn't is printed as nothing.
-/// The only error is want of memory.
 pub fn print_domain(alloc: Global, names: &Names, domain: &Domain) -> Result<Vec<u8>, AllocError>
     ensures { IfOk result (λ text. text.items ≡ domain_text names.now domain.now) }
 {

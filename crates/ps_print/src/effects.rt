@@ -33,7 +33,8 @@ fn push_change(
     lifted: &Lifted,
     by: &Expr,
 ) -> Result<(), AllocError>
-    ensures { OnOk result (text.new.items ≡ text.old.items ++ effect_text names.now params.now (Number how lifted.now by.now)) }
+    ensures { OnOk result (text.new.items ≡ text.old.items
+        ++ effect_text names.now params.now (Number how lifted.now by.now)) }
 {
     text.push(b'(')?;
     push_num_op(text, how)?;
@@ -52,7 +53,8 @@ pub fn push_effect(
     params: &[Param],
     effect: &Effect,
 ) -> Result<(), AllocError>
-    ensures { OnOk result (text.new.items ≡ text.old.items ++ effect_text names.now params.now effect.now) }
+    ensures { OnOk result (text.new.items ≡ text.old.items
+        ++ effect_text names.now params.now effect.now) }
 {
     match effect {
         Effect::Add(lifted) => {

@@ -40,7 +40,8 @@ pub fn push_expression(
     params: &[Param],
     expression: &Expr,
 ) -> Result<(), AllocError>
-    ensures { OnOk result (text.new.items ≡ text.old.items ++ expr_text names.now params.now (expr_tree expression.now)) }
+    ensures { OnOk result (text.new.items ≡ text.old.items
+        ++ expr_text names.now params.now (expr_tree expression.now)) }
 {
     match expression {
         Expr::Num(number) => {
@@ -77,7 +78,8 @@ fn push_boxed_expression(
     params: &[Param],
     boxed: &BoxedExpr,
 ) -> Result<(), AllocError>
-    ensures { OnOk result (text.new.items ≡ text.old.items ++ expr_text names.now params.now boxed.now) }
+    ensures { OnOk result (text.new.items ≡ text.old.items
+        ++ expr_text names.now params.now boxed.now) }
 {
     push_expression(text, names, params, boxed.get())?;
     Ok(())

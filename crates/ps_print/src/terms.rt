@@ -14,7 +14,8 @@ pub fn push_term(
     params: &[Param],
     term: &Term,
 ) -> Result<(), AllocError>
-    ensures { OnOk result (text.new.items ≡ text.old.items ++ term_text names.now params.now term.now) }
+    ensures { OnOk result (text.new.items ≡ text.old.items
+        ++ term_text names.now params.now term.now) }
 {
     match term {
         Term::Var(i) => {
@@ -39,7 +40,8 @@ fn push_terms(
     params: &[Param],
     terms: &[Term],
 ) -> Result<(), AllocError>
-    ensures { OnOk result (text.new.items ≡ text.old.items ++ after_spaces (map (term_text names.now params.now) terms.now)) }
+    ensures { OnOk result (text.new.items ≡ text.old.items
+        ++ after_spaces (map (term_text names.now params.now) terms.now)) }
 {
     for term in terms {
         text.push(b' ')?;
@@ -55,7 +57,8 @@ pub fn push_lifted(
     params: &[Param],
     lifted: &Lifted,
 ) -> Result<(), AllocError>
-    ensures { OnOk result (text.new.items ≡ text.old.items ++ lifted_text names.now params.now lifted.now) }
+    ensures { OnOk result (text.new.items ≡ text.old.items
+        ++ lifted_text names.now params.now lifted.now) }
 {
     text.push(b'(')?;
     push_name(text, names, lifted.head)?;

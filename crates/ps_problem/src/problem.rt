@@ -47,7 +47,7 @@ impl Model for Problem {
 }
 
 impl Problem {
-    /// What a session opens with: the domain's constants as its instances, and nothing else. The only error is want of memory.
+    /// What a session opens with: the domain's constants as its instances, and nothing else.
     pub fn new(alloc: Global, expert: &Expert) -> Result<Problem, AllocError>
         ensures { IfOk result (λ p. p ≡ opening expert.now) }
     {
@@ -69,7 +69,7 @@ impl Problem {
         self.alloc
     }
 
-    /// An equal problem. The only error is want of memory.
+    /// An equal problem.
     pub fn copy(&self) -> Result<Problem, AllocError>
         ensures { IfOk result (λ p. p ≡ self.now) }
     {

@@ -129,7 +129,7 @@ pub fn is_run_plan(bytes: &[u8]) -> bool
     reads_as(first_run(bytes), b"run") && reads_as(first_run(after_run(bytes)), b"plan")
 }
 
-/// The name of a file, without blanks at its ends. None where it is empty or no UTF-8. The only error is want of memory.
+/// The name of a file, without blanks at its ends. None where it is empty or no UTF-8.
 pub fn file_in(alloc: Global, rest: &[u8]) -> Result<Option<FileName>, AllocError>
     ensures { IfOk result (λ f. f ≡ file_in rest.now) }
 {

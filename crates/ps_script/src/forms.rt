@@ -187,7 +187,6 @@ pub fn form_of(words: &Words) -> Option<Form>
 
 impl Form {
     /// The place of the first word of a line of this form that doesn't fit, or of the line's end where more is wanted.
-    /// The only error is want of memory.
     pub fn first_misfit(self, alloc: Global, marks: &[Mark]) -> Result<Option<usize>, AllocError>
         ensures none { result ≡ Ok None
             → Derives (start_of self) marks.now × IsShallowFrom (start_of self) marks.now }

@@ -19,7 +19,7 @@ pub enum Kind {
     Command,
 }
 
-/// What a line is; its bytes are those before its LF. The only error is want of memory.
+/// What a line is; its bytes are those before its LF.
 pub fn kind_of(alloc: Global, bytes: &[u8]) -> Result<Kind, AllocError>
     ensures { IfOk result (IsKind bytes.now) }
 {

@@ -22,7 +22,7 @@ use ps_world::{Duplicate, Edit, Failure};
 use std::alloc::{AllocError, AllocFailed, Global};
 
 /// Does the session of these lines up to the first `quit`, and gives its status: 1 where a line was refused, else 0. The solver looks
-/// at no more knowledges than the budget says.
+/// at no more states than the budget says.
 pub fn run<S: Solver, O: Sink>(
     alloc: Global,
     names: &Names,

@@ -29,7 +29,7 @@ pub fn judge(alloc: Global, marks: &[Mark]) -> Result<(), Failure<ShapeFault>>
 }
 
 /// The place of the first fault of marks where these symbols are wanted: of the mark that fits nothing or opens a level too many, or of
-/// the marks' end where more is wanted. The only error is want of memory.
+/// the marks' end where more is wanted.
 pub fn first_fault(
     alloc: Global,
     start: &[Symbol],

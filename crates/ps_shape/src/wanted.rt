@@ -41,7 +41,7 @@ impl Model for Wanted {
 }
 
 impl Wanted {
-    /// A whole text. The only error is want of memory.
+    /// A whole text.
     pub fn whole(alloc: Global) -> Result<Self, AllocError>
         ensures { IfOk result (λ w. w ≡ InText Whole ∷ []) }
     {
@@ -53,7 +53,7 @@ impl Wanted {
         Ok(wanted)
     }
 
-    /// These symbols. The only error is want of memory.
+    /// These symbols.
     pub fn these(alloc: Global, symbols: &[Symbol]) -> Result<Self, AllocError>
         requires { length symbols.now ≤ 8 }
         ensures value { IfOk result (λ w. w ≡ symbols.now) }
@@ -93,7 +93,7 @@ impl Wanted {
         }
     }
 
-    /// Puts the symbol before the others. The only error is want of memory.
+    /// Puts the symbol before the others.
     pub fn push(&mut self, symbol: Symbol) -> Result<(), AllocError>
         requires { level self.old + 2 < 2 ^ 64 }
         ensures put { IfOk result (λ _. self.new ≡ symbol ∷ self.old) }
@@ -114,7 +114,7 @@ impl Wanted {
         Some(symbol)
     }
 
-    /// Puts the symbols before the others. The only error is want of memory.
+    /// Puts the symbols before the others.
     pub fn put(&mut self, next: Then) -> Result<(), AllocError>
         requires { level self.old + 6 < 2 ^ 64 }
         ensures { IfOk result (λ _. self.new ≡ symbols next ++ self.old) }
@@ -186,7 +186,7 @@ impl Wanted {
         Ok(())
     }
 
-    /// Takes the mark if it fits and opens no level too many, and says whether it did. The only error is want of memory.
+    /// Takes the mark if it fits and opens no level too many, and says whether it did.
     pub fn takes(&mut self, mark: Mark) -> Result<bool, AllocError>
         requires { level self.old + 6 < 2 ^ 64 }
         ensures passes { result ≡ Ok true → Passes self.old mark self.new }

@@ -37,7 +37,8 @@ impl Atoms {
     /// The atoms of a search: the facts that are known at first, and those that a ground action adds. The only error is want of
     /// memory.
     pub fn of(alloc: Global, first: &[Fact], actions: &[GroundAction]) -> Result<Atoms, AllocError>
-        ensures { IfOk result (λ atoms. atoms ≡ fold (insert_key fact_cmp) [] (first.now ++ flat_map adds actions.now)) }
+        ensures { IfOk result (λ atoms. atoms
+            ≡ fold (insert_key fact_cmp) [] (first.now ++ flat_map adds actions.now)) }
     {
         let mut facts = BTreeSet::new(alloc);
         for fact in first {
@@ -47,7 +48,7 @@ impl Atoms {
         Atoms::of_set(alloc, &facts)
     }
 
-    /// The atoms of a set. The only error is want of memory.
+    /// The atoms of a set.
     fn of_set(alloc: Global, set: &BTreeSet<Fact>) -> Result<Atoms, AllocError>
         ensures { IfOk result (λ atoms. atoms ≡ set.now.keys) }
     {
@@ -67,7 +68,8 @@ impl Atoms {
 
     /// The place of a fact, counted from 0. None exactly where it is no atom.
     pub fn place_of(&self, fact: &Fact) -> Option<usize>
-        ensures place { MatchOption result (list_any (same_fact fact.now) self.now ≡ false) (λ i. slice_get self.now i ≡ Some fact.now) }
+        ensures place { MatchOption result (list_any (same_fact fact.now) self.now
+            ≡ false) (λ i. slice_get self.now i ≡ Some fact.now) }
         ensures rise { IsStrictlySortedBy fact_cmp self.now }
     {
         match self.as_slice().binary_search(fact) {
@@ -77,10 +79,11 @@ impl Atoms {
     }
 }
 
-/// Puts in the facts that each of these ground actions adds. The only error is want of memory, and then some of the first may be
+/// Puts in the facts that each of these ground actions adds. Where memory runs out some of the first may be
 /// there.
 fn add_each(facts: &mut BTreeSet<Fact>, actions: &[GroundAction]) -> Result<(), AllocError>
-    ensures { OnOk result (facts.new.keys ≡ fold (insert_key fact_cmp) facts.old.keys (flat_map adds actions.now)) }
+    ensures { OnOk result (facts.new.keys
+        ≡ fold (insert_key fact_cmp) facts.old.keys (flat_map adds actions.now)) }
 {
     for action in actions {
         add_all(facts, action.effects.at_start.as_slice())?;
@@ -89,9 +92,10 @@ fn add_each(facts: &mut BTreeSet<Fact>, actions: &[GroundAction]) -> Result<(), 
     Ok(())
 }
 
-/// Puts in every fact that one of these effects adds. The only error is want of memory, and then some of the first may be there.
+/// Puts in every fact that one of these effects adds. Where memory runs out some of the first may be there.
 fn add_all(facts: &mut BTreeSet<Fact>, effects: &[Effect]) -> Result<(), AllocError>
-    ensures { OnOk result (facts.new.keys ≡ fold (insert_key fact_cmp) facts.old.keys (filter_map added_by effects.now)) }
+    ensures { OnOk result (facts.new.keys
+        ≡ fold (insert_key fact_cmp) facts.old.keys (filter_map added_by effects.now)) }
 {
     for effect in effects {
         add(facts, effect)?;
@@ -99,9 +103,10 @@ fn add_all(facts: &mut BTreeSet<Fact>, effects: &[Effect]) -> Result<(), AllocEr
     Ok(())
 }
 
-/// Puts in the fact that an effect adds, if it adds one. The only error is want of memory.
+/// Puts in the fact that an effect adds, if it adds one.
 fn add(facts: &mut BTreeSet<Fact>, effect: &Effect) -> Result<(), AllocError>
-    ensures { OnOk result (facts.new.keys ≡ fold (insert_key fact_cmp) facts.old.keys (option_to_list (added_by effect.now))) }
+    ensures { OnOk result (facts.new.keys
+        ≡ fold (insert_key fact_cmp) facts.old.keys (option_to_list (added_by effect.now))) }
 {
     if let Effect::Add(lifted) = effect {
         facts.insert(lifted.ground())?;

@@ -25,9 +25,15 @@ impl Footprint {
         at_start: &Change,
         at_end: &Change,
     ) -> Footprint
-        ensures plain { result.plain ≡ (is_plain_test start.now && (is_plain_test over.now && (is_plain_test end.now && (is_plain_change at_start.now && is_plain_change at_end.now)))) }
-        ensures changed { result.changed ≡ bits_of (changed_by at_start.now ++ changed_by at_end.now) }
-        ensures touched { result.touched ≡ bits_of ((start.now.wanted.items ++ (over.now.wanted.items ++ end.now.wanted.items)) ++ (changed_by at_start.now ++ changed_by at_end.now)) }
+        ensures plain { result.plain ≡ (is_plain_test start.now
+            && (is_plain_test over.now
+            && (is_plain_test end.now && (is_plain_change at_start.now
+            && is_plain_change at_end.now)))) }
+        ensures changed { result.changed
+            ≡ bits_of (changed_by at_start.now ++ changed_by at_end.now) }
+        ensures touched { result.touched
+            ≡ bits_of ((start.now.wanted.items ++ (over.now.wanted.items ++ end.now.wanted.items))
+            ++ (changed_by at_start.now ++ changed_by at_end.now)) }
     {
         let plain = is_plain_test(start)
             && is_plain_test(over)

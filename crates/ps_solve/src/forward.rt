@@ -38,7 +38,7 @@ impl Forward {
 }
 
 /// Puts the ground action of an act at the end, unless the act can't be grounded, and without the conditions that hold in every
-/// state. The only error is want of memory.
+/// state.
 fn push_ground(
     alloc: Global,
     expert: &Expert,
@@ -47,7 +47,10 @@ fn push_ground(
     act: &Act,
     found: &mut Vec<GroundAction>,
 ) -> Result<(), AllocError>
-    ensures { OnOk result ((n : Node) → moves expert.now problem.now found.new.items n ≡ moves expert.now problem.now found.old.items n ++ moves expert.now problem.now (option_to_list (result_ok (ground_act expert.now instances.now act.now))) n) }
+    ensures { OnOk result ((n : Node) → moves expert.now problem.now found.new.items n
+        ≡ moves expert.now problem.now found.old.items n
+        ++ moves expert.now problem.now
+        (option_to_list (result_ok (ground_act expert.now instances.now act.now))) n) }
 {
     match expert.ground(instances, act) {
         Ok(mut action) => {
@@ -61,7 +64,7 @@ fn push_ground(
 }
 
 /// Ground actions that lead to the same nodes as those of the acts of these, but of the acts that can't be grounded: an act says its
-/// action by its name alone, so that of two actions with one name it means the first. The only error is want of memory.
+/// action by its name alone, so that of two actions with one name it means the first.
 fn grounds(
     alloc: Global,
     expert: &Expert,
@@ -69,7 +72,11 @@ fn grounds(
     instances: &[(Name, Name)],
     all: &[GroundAction],
 ) -> Result<Vec<GroundAction>, AllocError>
-    ensures { IfOk result (λ v. (n : Node) → moves expert.now problem.now v.items n ≡ moves expert.now problem.now (filter_map (λ act. result_ok (ground_act expert.now instances.now act)) (map (λ g. g.act) all.now)) n) }
+    ensures { IfOk result (λ v. (n : Node)
+        → moves expert.now problem.now v.items n
+        ≡ moves expert.now problem.now
+        (filter_map (λ act. result_ok (ground_act expert.now instances.now act))
+        (map (λ g. g.act) all.now)) n) }
 {
     let mut found = Vec::with_capacity(alloc, all.len())?;
     for action in all {
@@ -99,11 +106,12 @@ struct Question<'a> {
 }
 
 impl<'a> Question<'a> {
-    /// The answer, from the problem's instances. The only error is want of memory.
+    /// The answer, from the problem's instances.
     fn answer(&self, alloc: Global, instances: &[(Name, Name)]) -> Result<Answer, AllocError>
         requires goal { self.now.problem.now.goal ≡ Some self.now.goal.now }
         requires instances { instances.now ≡ self.now.problem.now.instances }
-        ensures { IfOk result (λ a. a ≡ answer self.now.expert.now self.now.problem.now self.now.budget) }
+        ensures { IfOk result (λ a. a ≡ answer self.now.expert.now self.now.problem.now
+            self.now.budget) }
     {
         match self.expert.ground_all(instances) {
             Ok(all) => self.answer_by(alloc, instances, &all),
@@ -112,7 +120,7 @@ impl<'a> Question<'a> {
         }
     }
 
-    /// The answer, from all ground actions. The only error is want of memory.
+    /// The answer, from all ground actions.
     fn answer_by(
         &self,
         alloc: Global,
@@ -122,23 +130,27 @@ impl<'a> Question<'a> {
         requires goal { self.now.problem.now.goal ≡ Some self.now.goal.now }
         requires instances { instances.now ≡ self.now.problem.now.instances }
         requires all { all.now ≡ all_ground self.now.expert.now instances.now }
-        ensures { IfOk result (λ a. a ≡ searched self.now.expert.now self.now.problem.now self.now.budget) }
+        ensures { IfOk result (λ a. a ≡ searched self.now.expert.now self.now.problem.now
+            self.now.budget) }
     {
         let light = grounds(alloc, self.expert, self.problem, instances, all)?;
         self.answer_over(alloc, &light)
     }
 
-    /// The answer, from ground actions that lead to the same nodes as all of them. The only error is want of memory.
+    /// The answer, from ground actions that lead to the same nodes as all of them.
     fn answer_over(&self, alloc: Global, light: &[GroundAction]) -> Result<Answer, AllocError>
         requires goal { self.now.problem.now.goal ≡ Some self.now.goal.now }
-        requires moves { (n : Node) → moves self.now.expert.now self.now.problem.now light.now n ≡ moves self.now.expert.now self.now.problem.now (grounds self.now.expert.now self.now.problem.now) n }
-        ensures { IfOk result (λ a. a ≡ searched self.now.expert.now self.now.problem.now self.now.budget) }
+        requires moves { (n : Node) → moves self.now.expert.now self.now.problem.now light.now n
+            ≡ moves self.now.expert.now self.now.problem.now
+            (grounds self.now.expert.now self.now.problem.now) n }
+        ensures { IfOk result (λ a. a ≡ searched self.now.expert.now self.now.problem.now
+            self.now.budget) }
     {
         let atoms = atoms_of(alloc, self.problem, light)?;
         self.answer_with(alloc, &atoms, light)
     }
 
-    /// The answer, from these atoms and ground actions. The only error is want of memory.
+    /// The answer, from these atoms and ground actions.
     fn answer_with(
         &self,
         alloc: Global,
@@ -146,16 +158,19 @@ impl<'a> Question<'a> {
         light: &[GroundAction],
     ) -> Result<Answer, AllocError>
         requires goal { self.now.problem.now.goal ≡ Some self.now.goal.now }
-        requires moves { (n : Node) → moves self.now.expert.now self.now.problem.now light.now n ≡ moves self.now.expert.now self.now.problem.now (grounds self.now.expert.now self.now.problem.now) n }
+        requires moves { (n : Node) → moves self.now.expert.now self.now.problem.now light.now n
+            ≡ moves self.now.expert.now self.now.problem.now
+            (grounds self.now.expert.now self.now.problem.now) n }
         requires first { AreAtoms atoms.now self.now.problem.now.facts }
         requires atoms { AreAtoms atoms.now (flat_map adds light.now) }
-        ensures { IfOk result (λ a. a ≡ searched self.now.expert.now self.now.problem.now self.now.budget) }
+        ensures { IfOk result (λ a. a ≡ searched self.now.expert.now self.now.problem.now
+            self.now.budget) }
     {
         let actions = prepare_all(alloc, atoms, light)?;
         self.search(alloc, atoms, &actions)
     }
 
-    /// The answer of a search over these atoms by these prepared ground actions. The only error is want of memory.
+    /// The answer of a search over these atoms by these prepared ground actions.
     fn search(
         &self,
         alloc: Global,
@@ -166,8 +181,12 @@ impl<'a> Question<'a> {
         requires first { AreAtoms atoms.now self.now.problem.now.facts }
         requires sound { AreSound atoms.now actions.now }
         requires footprints { HaveFootprints actions.now }
-        requires actions { (n : ReachedView) → successor_nodes self.now.expert.now self.now.problem.now atoms.now actions.now (plain_node atoms.now n) ≡ moves self.now.expert.now self.now.problem.now (grounds self.now.expert.now self.now.problem.now) (plain_node atoms.now n) }
-        ensures { IfOk result (λ a. a ≡ searched self.now.expert.now self.now.problem.now self.now.budget) }
+        requires actions { (n : ReachedView)
+            → successor_nodes self.now.expert.now self.now.problem.now atoms.now actions.now
+            (plain_node atoms.now n) ≡ moves self.now.expert.now self.now.problem.now
+            (grounds self.now.expert.now self.now.problem.now) (plain_node atoms.now n) }
+        ensures { IfOk result (λ a. a ≡ searched self.now.expert.now self.now.problem.now
+            self.now.budget) }
     {
         let start = start_of(alloc, atoms, self.problem)?;
         let search = Search {
@@ -181,9 +200,10 @@ impl<'a> Question<'a> {
     }
 }
 
-/// The atoms of a search by these ground actions from what is known. The only error is want of memory.
+/// The atoms of a search by these ground actions from what is known.
 fn atoms_of(alloc: Global, problem: &Problem, light: &[GroundAction]) -> Result<Atoms, AllocError>
-    ensures { IfOk result (λ atoms. atoms ≡ fold (insert_key fact_cmp) [] (problem.now.facts ++ flat_map adds light.now)) }
+    ensures { IfOk result (λ atoms. atoms
+        ≡ fold (insert_key fact_cmp) [] (problem.now.facts ++ flat_map adds light.now)) }
 {
     let facts = problem.facts()?;
     Atoms::of(alloc, &facts, light)

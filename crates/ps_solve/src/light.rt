@@ -11,7 +11,8 @@ use std::alloc::{AllocError, Global};
 
 /// Whether a condition holds in every state, since it says of an instance that it has its type.
 fn is_settled<K: Known, T: Types>(given: &K, types: &T, cond: &Cond) -> bool
-    ensures { result ≡ true → (s : State) → is_true (T.types types.now) (at (K.known given.now) s) (cond_tree cond.now) ≡ true }
+    ensures { result ≡ true → (s : State)
+        → is_true (T.types types.now) (at (K.known given.now) s) (cond_tree cond.now) ≡ true }
 {
     match cond {
         Cond::IsA(..) => is_true(given, types, cond),
@@ -19,14 +20,16 @@ fn is_settled<K: Known, T: Types>(given: &K, types: &T, cond: &Cond) -> bool
     }
 }
 
-/// Conditions without those that hold in every state. The only error is want of memory.
+/// Conditions without those that hold in every state.
 fn lighter<K: Known, T: Types>(
     alloc: Global,
     given: &K,
     types: &T,
     conds: &Conds,
 ) -> Result<Conds, AllocError>
-    ensures { IfOk result (λ light. (s : State) → all_true (T.types types.now) (at (K.known given.now) s) light ≡ all_true (T.types types.now) (at (K.known given.now) s) conds.now) }
+    ensures { IfOk result (λ light. (s : State)
+        → all_true (T.types types.now) (at (K.known given.now) s) light
+        ≡ all_true (T.types types.now) (at (K.known given.now) s) conds.now) }
 {
     let mut light = Conds::new(alloc);
     for cond in conds.as_slice() {
@@ -37,28 +40,30 @@ fn lighter<K: Known, T: Types>(
     Ok(light)
 }
 
-/// Takes those that hold in every state out of conditions. The only error is want of memory.
+/// Takes those that hold in every state out of conditions.
 fn lighten_conds<K: Known, T: Types>(
     alloc: Global,
     given: &K,
     types: &T,
     conds: &mut Conds,
 ) -> Result<(), AllocError>
-    ensures { OnOk result ((s : State) → all_true (T.types types.now) (at (K.known given.now) s) conds.new ≡ all_true (T.types types.now) (at (K.known given.now) s) conds.old) }
+    ensures { OnOk result ((s : State)
+        → all_true (T.types types.now) (at (K.known given.now) s) conds.new
+        ≡ all_true (T.types types.now) (at (K.known given.now) s) conds.old) }
 {
     *conds = lighter(alloc, given, types, conds)?;
     Ok(())
 }
 
-/// Takes the conditions that hold in every state out of a ground action, so that it leads to the same nodes. The only error is want
-/// of memory.
+/// Takes the conditions that hold in every state out of a ground action, so that it leads to the same nodes.
 pub fn lighten<K: Known, T: Types>(
     alloc: Global,
     given: &K,
     types: &T,
     action: &mut GroundAction,
 ) -> Result<(), AllocError>
-    ensures { OnOk result ((n : Node) → move (T.types types.now) (K.known given.now) n action.new ≡ move (T.types types.now) (K.known given.now) n action.old) }
+    ensures { OnOk result ((n : Node) → move (T.types types.now) (K.known given.now) n action.new
+        ≡ move (T.types types.now) (K.known given.now) n action.old) }
 {
     lighten_conds(alloc, given, types, &mut action.conditions.at_start)?;
     lighten_conds(alloc, given, types, &mut action.conditions.over_all)?;

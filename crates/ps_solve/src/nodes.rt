@@ -21,7 +21,7 @@ pub struct Reached {
     pub by: usize,
 }
 
-/// The acts before, and one more. The only error is want of memory.
+/// The acts before, and one more.
 fn path_to(alloc: Global, before: &[Act], act: Act) -> Result<Vec<Act>, AllocError>
     ensures { IfOk result (λ path. path.items ≡ before.now ++ act ∷ []) }
 {
@@ -31,19 +31,21 @@ fn path_to(alloc: Global, before: &[Act], act: Act) -> Result<Vec<Act>, AllocErr
     Ok(path)
 }
 
-/// Puts a row that wasn't met among those that were. The only error is want of memory.
+/// Puts a row that wasn't met among those that were.
 fn remember(alloc: Global, seen: &mut IndexSet<Row>, row: &Row) -> Result<(), AllocError>
     requires { list_any (same_row row.now) seen.old.keys ≡ false }
-    ensures seen { OnOk result ((atoms : List FactView) → map (plain_state atoms) seen.new.keys ≡ map (plain_state atoms) seen.old.keys ++ plain_state atoms row.now ∷ []) }
-    ensures wide { OnOk result ((atoms : List FactView) → AreWide atoms seen.old.keys → length row.now.flags.items ≡ length atoms → AreWide atoms seen.new.keys) }
+    ensures seen { OnOk result ((atoms : List FactView)
+        → map (plain_state atoms) seen.new.keys ≡ map (plain_state atoms) seen.old.keys
+        ++ plain_state atoms row.now ∷ []) }
+    ensures wide { OnOk result ((atoms : List FactView) → AreWide atoms seen.old.keys
+        → length row.now.flags.items ≡ length atoms → AreWide atoms seen.new.keys) }
 {
     let copied = row.copy(alloc)?;
     seen.insert(copied)?;
     Ok(())
 }
 
-/// Puts a row at the end, with the acts before it, and the one that leads to it and its place, unless it was met. The only error is
-/// want of memory.
+/// Puts a row at the end, with the acts before it, and the one that leads to it and its place, unless it was met.
 pub fn discover(
     alloc: Global,
     atoms: &Atoms,
@@ -57,8 +59,20 @@ pub fn discover(
     requires wide { AreWide atoms.now seen.old.keys }
     requires level { HaveWide atoms.now next.old.items }
     requires row { length row.flags.items ≡ length atoms.now }
-    ensures leads { OnOk result (map (plain_lead atoms.now) next.new.items ≡ map (plain_lead atoms.now) next.old.items ++ first_leads (map (plain_state atoms.now) seen.old.keys) (record { node = record { state = plain_state atoms.now row; path = before.now ++ act ∷ [] }; by = by } ∷ [])) }
-    ensures seen { OnOk result (map (plain_state atoms.now) seen.new.keys ≡ met (map (plain_state atoms.now) seen.old.keys) (record { state = plain_state atoms.now row; path = before.now ++ act ∷ [] } ∷ [])) }
+    ensures leads { OnOk result (map (plain_lead atoms.now) next.new.items
+        ≡ map (plain_lead atoms.now) next.old.items
+        ++ first_leads (map (plain_state atoms.now) seen.old.keys)
+        (record {
+          node = record {
+            state = plain_state atoms.now row;
+            path = before.now
+                ++ act ∷ [];
+          };
+          by = by;
+        } ∷ [])) }
+    ensures seen { OnOk result (map (plain_state atoms.now) seen.new.keys
+        ≡ met (map (plain_state atoms.now) seen.old.keys)
+        (record { state = plain_state atoms.now row; path = before.now ++ act ∷ [] } ∷ [])) }
     ensures wide { OnOk result (AreWide atoms.now seen.new.keys) }
     ensures level { OnOk result (HaveWide atoms.now next.new.items) }
 {
@@ -72,8 +86,7 @@ pub fn discover(
     Ok(())
 }
 
-/// Puts in the row that a search begins with, as if the ground action at this place had led to it, and gives its level. The only error
-/// is want of memory.
+/// Puts in the row that a search begins with, as if the ground action at this place had led to it, and gives its level.
 pub fn begin(
     alloc: Global,
     atoms: &Atoms,
@@ -83,8 +96,10 @@ pub fn begin(
 ) -> Result<Vec<Reached>, AllocError>
     requires empty { seen.old.keys ≡ [] }
     requires wide { length row.flags.items ≡ length atoms.now }
-    ensures leads { IfOk result (λ level. map (plain_lead atoms.now) level.items ≡ record { node = record { state = plain_state atoms.now row; path = [] }; by = by } ∷ []) }
-    ensures seen { OnOk result (map (plain_state atoms.now) seen.new.keys ≡ plain_state atoms.now row ∷ []) }
+    ensures leads { IfOk result (λ level. map (plain_lead atoms.now) level.items
+        ≡ record { node = record { state = plain_state atoms.now row; path = [] }; by = by } ∷ []) }
+    ensures seen { OnOk result (map (plain_state atoms.now) seen.new.keys
+        ≡ plain_state atoms.now row ∷ []) }
     ensures wide { OnOk result (AreWide atoms.now seen.new.keys) }
     ensures level { IfOk result (λ level. HaveWide atoms.now level.items) }
 {

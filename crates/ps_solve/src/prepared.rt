@@ -91,10 +91,15 @@ impl Prepared {
 }
 
 /// Puts a condition into a test, and answers whether it could: false only where the condition holds in no state over the atoms,
-/// since it says of a fact that is no atom that it is known. The only error is want of memory.
+/// since it says of a fact that is no atom that it is known.
 fn take_in(alloc: Global, atoms: &Atoms, cond: &Cond, test: &mut Test) -> Result<bool, AllocError>
-    ensures taken { IfOk result (λ fits. fits ≡ true → (d : DomainView) (k : KnowledgeView) (s : State) → passes d k atoms.now test.new s ≡ (passes d k atoms.now test.old s && is_true d (at k s) (cond_tree cond.now))) }
-    ensures vain { IfOk result (λ fits. fits ≡ false → (d : DomainView) (k : KnowledgeView) (s : State) → IsOver atoms.now s → is_true d (at k s) (cond_tree cond.now) ≡ false) }
+    ensures taken { IfOk result (λ fits. fits ≡ true
+        → (d : DomainView) (k : KnowledgeView) (s : State)
+        → passes d k atoms.now test.new s
+        ≡ (passes d k atoms.now test.old s && is_true d (at k s) (cond_tree cond.now))) }
+    ensures vain { IfOk result (λ fits. fits ≡ false
+        → (d : DomainView) (k : KnowledgeView) (s : State) → IsOver atoms.now s
+        → is_true d (at k s) (cond_tree cond.now) ≡ false) }
 {
     match cond {
         Cond::Holds(lifted) => match atoms.place_of(&lifted.ground()) {
@@ -111,16 +116,20 @@ fn take_in(alloc: Global, atoms: &Atoms, cond: &Cond, test: &mut Test) -> Result
     }
 }
 
-/// Puts conditions into a test, and answers whether it could: false only where they hold in no state over the atoms. The only error
-/// is want of memory.
+/// Puts conditions into a test, and answers whether it could: false only where they hold in no state over the atoms.
 fn take_all(
     alloc: Global,
     atoms: &Atoms,
     conds: &Conds,
     test: &mut Test,
 ) -> Result<bool, AllocError>
-    ensures taken { IfOk result (λ fits. fits ≡ true → (d : DomainView) (k : KnowledgeView) (s : State) → passes d k atoms.now test.new s ≡ (passes d k atoms.now test.old s && all_true d (at k s) conds.now)) }
-    ensures vain { IfOk result (λ fits. fits ≡ false → (d : DomainView) (k : KnowledgeView) (s : State) → IsOver atoms.now s → all_true d (at k s) conds.now ≡ false) }
+    ensures taken { IfOk result (λ fits. fits ≡ true
+        → (d : DomainView) (k : KnowledgeView) (s : State)
+        → passes d k atoms.now test.new s
+        ≡ (passes d k atoms.now test.old s && all_true d (at k s) conds.now)) }
+    ensures vain { IfOk result (λ fits. fits ≡ false
+        → (d : DomainView) (k : KnowledgeView) (s : State) → IsOver atoms.now s
+        → all_true d (at k s) conds.now ≡ false) }
 {
     for cond in conds.as_slice() {
         if !take_in(alloc, atoms, cond, test)? {
@@ -144,7 +153,9 @@ fn has_number(effects: &[Effect]) -> bool
 
 /// The place of the atom that an effect deletes, if it deletes one.
 fn deleted(atoms: &Atoms, effect: &Effect) -> Option<usize>
-    ensures { (fs : List FactView) → AreAtoms atoms.now fs → option_map_or (without_at atoms.now fs) result fs ≡ filter (λ f. not (deletes f effect.now)) fs }
+    ensures { (fs : List FactView) → AreAtoms atoms.now fs
+        → option_map_or (without_at atoms.now fs) result fs
+        ≡ filter (λ f. not (deletes f effect.now)) fs }
 {
     match effect {
         Effect::Delete(lifted) => atoms.place_of(&lifted.ground()),
@@ -153,9 +164,11 @@ fn deleted(atoms: &Atoms, effect: &Effect) -> Option<usize>
     }
 }
 
-/// The places of the atoms that these effects delete. The only error is want of memory.
+/// The places of the atoms that these effects delete.
 fn all_deleted(alloc: Global, atoms: &Atoms, effects: &[Effect]) -> Result<Vec<usize>, AllocError>
-    ensures { IfOk result (λ places. (fs : List FactView) → AreAtoms atoms.now fs → fold (without_at atoms.now) fs places.items ≡ filter (λ f. not (list_any (deletes f) effects.now)) fs) }
+    ensures { IfOk result (λ places. (fs : List FactView) → AreAtoms atoms.now fs
+        → fold (without_at atoms.now) fs places.items
+        ≡ filter (λ f. not (list_any (deletes f) effects.now)) fs) }
 {
     let mut places = Vec::new(alloc);
     for effect in effects {
@@ -169,7 +182,8 @@ fn all_deleted(alloc: Global, atoms: &Atoms, effects: &[Effect]) -> Result<Vec<u
 /// The place of the atom that an effect adds, if it adds one.
 fn added(atoms: &Atoms, effect: &Effect) -> Option<usize>
     requires { AreAtoms atoms.now (option_to_list (added_by effect.now)) }
-    ensures { (fs : List FactView) → option_map_or (with_at atoms.now fs) result fs ≡ fold (insert_key fact_cmp) fs (option_to_list (added_by effect.now)) }
+    ensures { (fs : List FactView) → option_map_or (with_at atoms.now fs) result fs
+        ≡ fold (insert_key fact_cmp) fs (option_to_list (added_by effect.now)) }
 {
     match effect {
         Effect::Add(lifted) => match atoms.place_of(&lifted.ground()) {
@@ -181,10 +195,12 @@ fn added(atoms: &Atoms, effect: &Effect) -> Option<usize>
     }
 }
 
-/// The places of the atoms that these effects add. The only error is want of memory.
+/// The places of the atoms that these effects add.
 fn all_added(alloc: Global, atoms: &Atoms, effects: &[Effect]) -> Result<Vec<usize>, AllocError>
     requires { AddAtoms atoms.now effects.now }
-    ensures { IfOk result (λ places. (fs : List FactView) → fold (with_at atoms.now) fs places.items ≡ fold (insert_key fact_cmp) fs (filter_map added_by effects.now)) }
+    ensures { IfOk result (λ places. (fs : List FactView)
+        → fold (with_at atoms.now) fs places.items
+        ≡ fold (insert_key fact_cmp) fs (filter_map added_by effects.now)) }
 {
     let mut places = Vec::new(alloc);
     for effect in effects {
@@ -195,10 +211,11 @@ fn all_added(alloc: Global, atoms: &Atoms, effects: &[Effect]) -> Result<Vec<usi
     Ok(places)
 }
 
-/// The change of a list of effects. The only error is want of memory.
+/// The change of a list of effects.
 fn change_of(alloc: Global, atoms: &Atoms, effects: &Seq<Effect>) -> Result<Change, AllocError>
     requires { AddAtoms atoms.now effects.now }
-    ensures same { IfOk result (λ change. (d : DomainView) (k : KnowledgeView) (s : State) → IsOver atoms.now s → turned d k atoms.now change s ≡ changed d k s effects.now) }
+    ensures same { IfOk result (λ change. (d : DomainView) (k : KnowledgeView) (s : State)
+        → IsOver atoms.now s → turned d k atoms.now change s ≡ changed d k s effects.now) }
     ensures sound { IfOk result (IsSoundChange atoms.now) }
 {
     if has_number(effects.as_slice()) {
@@ -210,7 +227,7 @@ fn change_of(alloc: Global, atoms: &Atoms, effects: &Seq<Effect>) -> Result<Chan
 }
 
 /// Prepares a ground action into a bare one, and answers whether it could: false only where it leads nowhere from any state over the
-/// atoms. The only error is want of memory.
+/// atoms.
 fn fill(
     alloc: Global,
     atoms: &Atoms,
@@ -220,8 +237,12 @@ fn fill(
     requires bare { IsBare made.old }
     requires atoms { AreAtoms atoms.now (adds action.now) }
     ensures act { made.new.act ≡ made.old.act }
-    ensures same { IfOk result (λ fits. fits ≡ true → (d : DomainView) (k : KnowledgeView) (s : State) → IsOver atoms.now s → successor d k atoms.now s made.new ≡ stepped d k s action.now) }
-    ensures vain { IfOk result (λ fits. fits ≡ false → (d : DomainView) (k : KnowledgeView) (s : State) → IsOver atoms.now s → stepped d k s action.now ≡ None) }
+    ensures same { IfOk result (λ fits. fits ≡ true
+        → (d : DomainView) (k : KnowledgeView) (s : State) → IsOver atoms.now s
+        → successor d k atoms.now s made.new ≡ stepped d k s action.now) }
+    ensures vain { IfOk result (λ fits. fits ≡ false
+        → (d : DomainView) (k : KnowledgeView) (s : State) → IsOver atoms.now s
+        → stepped d k s action.now ≡ None) }
     ensures sound { IfOk result (λ fits. fits ≡ true → IsSound atoms.now made.new) }
     ensures footprint { IfOk result (λ fits. fits ≡ true → HasFootprint made.new) }
 {
@@ -246,14 +267,18 @@ fn fill(
     Ok(true)
 }
 
-/// A ground action, prepared. None only where it leads nowhere from any state over the atoms. The only error is want of memory.
+/// A ground action, prepared. None only where it leads nowhere from any state over the atoms.
 fn prepare(
     alloc: Global,
     atoms: &Atoms,
     action: &GroundAction,
 ) -> Result<Option<Prepared>, AllocError>
     requires { AreAtoms atoms.now (adds action.now) }
-    ensures same { IfOk result (λ made. MatchOption made ((d : DomainView) (k : KnowledgeView) (s : State) → IsOver atoms.now s → stepped d k s action.now ≡ None) (λ p. (p.act ≡ action.now.act) × ((d : DomainView) (k : KnowledgeView) (s : State) → IsOver atoms.now s → successor d k atoms.now s p ≡ stepped d k s action.now))) }
+    ensures same { IfOk result (λ made. MatchOption made
+        ((d : DomainView) (k : KnowledgeView) (s : State) → IsOver atoms.now s
+        → stepped d k s action.now ≡ None) (λ p. (p.act ≡ action.now.act)
+        × ((d : DomainView) (k : KnowledgeView) (s : State) → IsOver atoms.now s
+        → successor d k atoms.now s p ≡ stepped d k s action.now))) }
     ensures sound { IfOk result (λ made. IfSome made (IsSound atoms.now)) }
     ensures footprints { IfOk result (λ made. IfSome made HasFootprint) }
 {
@@ -266,14 +291,16 @@ fn prepare(
 }
 
 /// These ground actions, prepared, in order, without those that lead nowhere from any state over the atoms: they lead to the same
-/// nodes. The only error is want of memory.
+/// nodes.
 pub fn prepare_all(
     alloc: Global,
     atoms: &Atoms,
     actions: &[GroundAction],
 ) -> Result<Vec<Prepared>, AllocError>
     requires { AreAtoms atoms.now (flat_map adds actions.now) }
-    ensures same { IfOk result (λ all. (d : DomainView) (k : KnowledgeView) (r : ReachedView) → successor_nodes d k atoms.now all.items (plain_node atoms.now r) ≡ moves d k actions.now (plain_node atoms.now r)) }
+    ensures same { IfOk result (λ all. (d : DomainView) (k : KnowledgeView) (r : ReachedView)
+        → successor_nodes d k atoms.now all.items (plain_node atoms.now r)
+        ≡ moves d k actions.now (plain_node atoms.now r)) }
     ensures sound { IfOk result (λ all. AreSound atoms.now all.items) }
     ensures footprints { IfOk result (λ all. HaveFootprints all.items) }
 {

@@ -67,7 +67,8 @@ impl Row {
         requires facts { IsStrictlySortedBy fact_cmp facts.now }
         requires values { IsStrictlySortedBy fact_cmp (keys_of values.now) }
         requires atoms { AreAtoms atoms.now facts.now }
-        ensures same { IfOk result (λ row. (facts_of atoms.now row.flags.items ≡ facts.now) × (row.values ≡ values.now)) }
+        ensures same { IfOk result (λ row. (facts_of atoms.now row.flags.items ≡ facts.now)
+            × (row.values ≡ values.now)) }
         ensures wide { IfOk result (λ row. length row.flags.items ≡ length atoms.now) }
     {
         Ok(Row {
@@ -76,7 +77,7 @@ impl Row {
         })
     }
 
-    /// An equal row. The only error is want of memory.
+    /// An equal row.
     pub fn copy(&self, alloc: Global) -> Result<Row, AllocError>
         ensures flags { IfOk result (λ copied. copied.flags.items ≡ self.now.flags.items) }
         ensures values { IfOk result (λ copied. copied.values ≡ self.now.values) }
@@ -97,7 +98,8 @@ impl Row {
     ) -> Result<(), AllocError>
         requires wide { length self.old.flags.items ≡ length atoms.now }
         requires atoms { AddAtoms atoms.now effects.now }
-        ensures state { OnOk result (plain_state atoms.now self.new ≡ made_state (plain_state atoms.now self.old) effects.now ready.now) }
+        ensures state { OnOk result (plain_state atoms.now self.new
+            ≡ made_state (plain_state atoms.now self.old) effects.now ready.now) }
         ensures wide { OnOk result (length self.new.flags.items ≡ length self.old.flags.items) }
     {
         delete_all(&mut self.flags, atoms, effects);
@@ -107,7 +109,12 @@ impl Row {
 
     /// Clears the flags at these places.
     pub fn clear_all(&mut self, atoms: &Atoms, places: &[usize])
-        ensures state { plain_state atoms.now self.new ≡ record { facts = fold (without_at atoms.now) (plain_state atoms.now self.old).facts places.now; values = self.old.values } }
+        ensures state { plain_state atoms.now self.new
+            ≡ record {
+              facts = fold (without_at atoms.now)
+                  (plain_state atoms.now self.old).facts places.now;
+              values = self.old.values;
+            } }
         ensures wide { length self.new.flags.items ≡ length self.old.flags.items }
     {
         for place in places {
@@ -118,7 +125,12 @@ impl Row {
     /// Sets the flags at these places.
     pub fn set_all(&mut self, atoms: &Atoms, places: &[usize])
         requires { length self.old.flags.items ≡ length atoms.now }
-        ensures state { plain_state atoms.now self.new ≡ record { facts = fold (with_at atoms.now) (plain_state atoms.now self.old).facts places.now; values = self.old.values } }
+        ensures state { plain_state atoms.now self.new
+            ≡ record {
+              facts = fold (with_at atoms.now)
+                  (plain_state atoms.now self.old).facts places.now;
+              values = self.old.values;
+            } }
         ensures wide { length self.new.flags.items ≡ length self.old.flags.items }
     {
         for place in places {
@@ -153,7 +165,8 @@ pub fn are_known(atoms: &Atoms, row: &Row, places: &[usize]) -> bool
 /// Flags for the atoms, where these facts are set. The only error is out of memory.
 fn flags_of(alloc: Global, atoms: &Atoms, facts: &[Fact]) -> Result<Vec<bool>, AllocError>
     requires { AreAtoms atoms.now facts.now }
-    ensures facts { IfOk result (λ flags. facts_of atoms.now flags.items ≡ fold (insert_key fact_cmp) [] facts.now) }
+    ensures facts { IfOk result (λ flags. facts_of atoms.now flags.items
+        ≡ fold (insert_key fact_cmp) [] facts.now) }
     ensures wide { IfOk result (λ flags. length flags.items ≡ length atoms.now) }
 {
     let mut flags = Vec::with_capacity(alloc, atoms.as_slice().len())?;
@@ -189,7 +202,8 @@ pub fn is_set(flags: &[bool], place: usize) -> bool
 
 /// Clears the flag at a place, if there is one.
 fn clear_at(flags: &mut Vec<bool>, atoms: &Atoms, place: usize)
-    ensures facts { facts_of atoms.now flags.new.items ≡ without_at atoms.now (facts_of atoms.now flags.old.items) place }
+    ensures facts { facts_of atoms.now flags.new.items
+        ≡ without_at atoms.now (facts_of atoms.now flags.old.items) place }
     ensures wide { length flags.new.items ≡ length flags.old.items }
 {
     // The atoms say with their slice that they rise.
@@ -202,7 +216,8 @@ fn clear_at(flags: &mut Vec<bool>, atoms: &Atoms, place: usize)
 /// Sets the flag at a place, if there is one.
 fn set_at(flags: &mut Vec<bool>, atoms: &Atoms, place: usize)
     requires { length flags.old.items ≡ length atoms.now }
-    ensures facts { facts_of atoms.now flags.new.items ≡ with_at atoms.now (facts_of atoms.now flags.old.items) place }
+    ensures facts { facts_of atoms.now flags.new.items
+        ≡ with_at atoms.now (facts_of atoms.now flags.old.items) place }
     ensures wide { length flags.new.items ≡ length flags.old.items }
 {
     let _atoms = atoms.as_slice();
@@ -213,7 +228,8 @@ fn set_at(flags: &mut Vec<bool>, atoms: &Atoms, place: usize)
 
 /// Clears the flag of a fact, if it is an atom.
 fn forget(flags: &mut Vec<bool>, atoms: &Atoms, fact: &Fact)
-    ensures facts { facts_of atoms.now flags.new.items ≡ filter (λ f. not (same_fact fact.now f)) (facts_of atoms.now flags.old.items) }
+    ensures facts { facts_of atoms.now flags.new.items
+        ≡ filter (λ f. not (same_fact fact.now f)) (facts_of atoms.now flags.old.items) }
     ensures wide { length flags.new.items ≡ length flags.old.items }
 {
     if let Some(place) = atoms.place_of(fact) {
@@ -227,7 +243,8 @@ fn forget(flags: &mut Vec<bool>, atoms: &Atoms, fact: &Fact)
 fn learn(flags: &mut Vec<bool>, atoms: &Atoms, fact: &Fact)
     requires wide { length flags.old.items ≡ length atoms.now }
     requires atom { AreAtoms atoms.now (fact.now ∷ []) }
-    ensures set { facts_of atoms.now flags.new.items ≡ insert_key fact_cmp (facts_of atoms.now flags.old.items) fact.now }
+    ensures set { facts_of atoms.now flags.new.items
+        ≡ insert_key fact_cmp (facts_of atoms.now flags.old.items) fact.now }
     ensures wide { length flags.new.items ≡ length flags.old.items }
 {
     match atoms.place_of(fact) {
@@ -238,7 +255,9 @@ fn learn(flags: &mut Vec<bool>, atoms: &Atoms, fact: &Fact)
 
 /// Clears the flags of every fact that one of these effects deletes.
 fn delete_all(flags: &mut Vec<bool>, atoms: &Atoms, effects: &[Effect])
-    ensures facts { facts_of atoms.now flags.new.items ≡ filter (λ f. not (list_any (deletes f) effects.now)) (facts_of atoms.now flags.old.items) }
+    ensures facts { facts_of atoms.now flags.new.items
+        ≡ filter (λ f. not (list_any (deletes f) effects.now))
+        (facts_of atoms.now flags.old.items) }
     ensures wide { length flags.new.items ≡ length flags.old.items }
 {
     for effect in effects {
@@ -248,7 +267,8 @@ fn delete_all(flags: &mut Vec<bool>, atoms: &Atoms, effects: &[Effect])
 
 /// Clears the flag of the fact that an effect deletes, if it deletes one.
 fn delete(flags: &mut Vec<bool>, atoms: &Atoms, effect: &Effect)
-    ensures facts { facts_of atoms.now flags.new.items ≡ filter (λ f. not (deletes f effect.now)) (facts_of atoms.now flags.old.items) }
+    ensures facts { facts_of atoms.now flags.new.items
+        ≡ filter (λ f. not (deletes f effect.now)) (facts_of atoms.now flags.old.items) }
     ensures wide { length flags.new.items ≡ length flags.old.items }
 {
     match effect {
@@ -262,7 +282,9 @@ fn delete(flags: &mut Vec<bool>, atoms: &Atoms, effect: &Effect)
 fn add_all(flags: &mut Vec<bool>, atoms: &Atoms, effects: &[Effect])
     requires wide { length flags.old.items ≡ length atoms.now }
     requires atoms { AddAtoms atoms.now effects.now }
-    ensures facts { facts_of atoms.now flags.new.items ≡ fold (insert_key fact_cmp) (facts_of atoms.now flags.old.items) (filter_map added_by effects.now) }
+    ensures facts { facts_of atoms.now flags.new.items
+        ≡ fold (insert_key fact_cmp) (facts_of atoms.now flags.old.items)
+        (filter_map added_by effects.now) }
     ensures wide { length flags.new.items ≡ length flags.old.items }
 {
     for effect in effects {
@@ -274,7 +296,9 @@ fn add_all(flags: &mut Vec<bool>, atoms: &Atoms, effects: &[Effect])
 fn add(flags: &mut Vec<bool>, atoms: &Atoms, effect: &Effect)
     requires wide { length flags.old.items ≡ length atoms.now }
     requires atom { AreAtoms atoms.now (option_to_list (added_by effect.now)) }
-    ensures facts { facts_of atoms.now flags.new.items ≡ fold (insert_key fact_cmp) (facts_of atoms.now flags.old.items) (option_to_list (added_by effect.now)) }
+    ensures facts { facts_of atoms.now flags.new.items
+        ≡ fold (insert_key fact_cmp) (facts_of atoms.now flags.old.items)
+        (option_to_list (added_by effect.now)) }
     ensures wide { length flags.new.items ≡ length flags.old.items }
 {
     if let Effect::Add(lifted) = effect {

@@ -39,7 +39,9 @@ pub struct Search<'a, K: Known, T: Types> {
 impl<'a, K: Known, T: Types> Search<'a, K, T> {
     /// Whether a row meets the goal.
     fn is_good(&self, row: &Row) -> bool
-        ensures { result ≡ is_true (T.types self.now.types.now) (at (K.known self.now.given.now) (plain_state self.now.atoms.now row.now)) (cond_tree self.now.goal.now) }
+        ensures { result ≡ is_true (T.types self.now.types.now)
+            (at (K.known self.now.given.now) (plain_state self.now.atoms.now row.now))
+            (cond_tree self.now.goal.now) }
     {
         let here = At {
             given: self.given,
@@ -49,9 +51,13 @@ impl<'a, K: Known, T: Types> Search<'a, K, T> {
         is_true(&here, self.types, self.goal)
     }
 
-    /// The path of the first of these nodes that meets the goal. None exactly where none does. The only error is want of memory.
+    /// The path of the first of these nodes that meets the goal. None exactly where none does.
     fn first_good(&self, alloc: Global, level: &[Reached]) -> Result<Option<Seq<Act>>, AllocError>
-        ensures { IfOk result (λ path. path ≡ option_map (λ n. n.path) (find (λ n. is_true (T.types self.now.types.now) (at (K.known self.now.given.now) n.state) (cond_tree self.now.goal.now)) (map (plain_node self.now.atoms.now) level.now))) }
+        ensures { IfOk result (λ path. path
+            ≡ option_map (λ n. n.path)
+            (find (λ n. is_true (T.types self.now.types.now)
+            (at (K.known self.now.given.now) n.state) (cond_tree self.now.goal.now))
+            (map (plain_node self.now.atoms.now) level.now))) }
     {
         for node in level.iter() {
             if self.is_good(&node.row) {
@@ -61,8 +67,7 @@ impl<'a, K: Known, T: Types> Search<'a, K, T> {
         Ok(None)
     }
 
-    /// Puts the row that a ground action leads to at the end, if the step doesn't fail and the row wasn't met. The only error is
-    /// want of memory.
+    /// Puts the row that a ground action leads to at the end, if the step doesn't fail and the row wasn't met.
     fn follow(
         &self,
         alloc: Global,
@@ -76,8 +81,17 @@ impl<'a, K: Known, T: Types> Search<'a, K, T> {
         requires sound { IsSound self.now.atoms.now action.now }
         requires node { length node.now.row.flags.items ≡ length self.now.atoms.now }
         requires level { HaveWide self.now.atoms.now next.old.items }
-        ensures leads { OnOk result (map (plain_lead self.now.atoms.now) next.new.items ≡ map (plain_lead self.now.atoms.now) next.old.items ++ first_leads (map (plain_state self.now.atoms.now) seen.old.keys) (leads_from (T.types self.now.types.now) (K.known self.now.given.now) self.now.atoms.now place (action.now ∷ []) (plain_node self.now.atoms.now node.now))) }
-        ensures seen { OnOk result (map (plain_state self.now.atoms.now) seen.new.keys ≡ met (map (plain_state self.now.atoms.now) seen.old.keys) (successor_nodes (T.types self.now.types.now) (K.known self.now.given.now) self.now.atoms.now (action.now ∷ []) (plain_node self.now.atoms.now node.now))) }
+        ensures leads { OnOk result (map (plain_lead self.now.atoms.now) next.new.items
+            ≡ map (plain_lead self.now.atoms.now) next.old.items
+            ++ first_leads (map (plain_state self.now.atoms.now) seen.old.keys)
+            (leads_from (T.types self.now.types.now)
+            (K.known self.now.given.now) self.now.atoms.now place (action.now ∷ [])
+            (plain_node self.now.atoms.now node.now))) }
+        ensures seen { OnOk result (map (plain_state self.now.atoms.now) seen.new.keys
+            ≡ met (map (plain_state self.now.atoms.now) seen.old.keys)
+            (successor_nodes (T.types self.now.types.now)
+            (K.known self.now.given.now) self.now.atoms.now (action.now ∷ [])
+            (plain_node self.now.atoms.now node.now))) }
         ensures wide { OnOk result (AreWide self.now.atoms.now seen.new.keys) }
         ensures level { OnOk result (HaveWide self.now.atoms.now next.new.items) }
     {
@@ -104,7 +118,7 @@ impl<'a, K: Known, T: Types> Search<'a, K, T> {
     }
 
     /// Puts the new rows that a node leads to at the end, in the order of the ground actions, of which those that are pruned lead to
-    /// nothing new. The only error is want of memory.
+    /// nothing new.
     fn expand(
         &self,
         alloc: Global,
@@ -116,9 +130,21 @@ impl<'a, K: Known, T: Types> Search<'a, K, T> {
         requires sound { AreSound self.now.atoms.now self.now.actions.now }
         requires node { length node.now.row.flags.items ≡ length self.now.atoms.now }
         requires level { HaveWide self.now.atoms.now next.old.items }
-        requires pruned { IsPruned (T.types self.now.types.now) (K.known self.now.given.now) self.now.atoms.now self.now.actions.now (map (plain_state self.now.atoms.now) seen.old.keys) (plain_lead self.now.atoms.now node.now) }
-        ensures leads { OnOk result (map (plain_lead self.now.atoms.now) next.new.items ≡ map (plain_lead self.now.atoms.now) next.old.items ++ first_leads (map (plain_state self.now.atoms.now) seen.old.keys) (leads_from (T.types self.now.types.now) (K.known self.now.given.now) self.now.atoms.now 0 self.now.actions.now (plain_node self.now.atoms.now node.now))) }
-        ensures seen { OnOk result (map (plain_state self.now.atoms.now) seen.new.keys ≡ met (map (plain_state self.now.atoms.now) seen.old.keys) (successor_nodes (T.types self.now.types.now) (K.known self.now.given.now) self.now.atoms.now self.now.actions.now (plain_node self.now.atoms.now node.now))) }
+        requires pruned { IsPruned (T.types self.now.types.now)
+            (K.known self.now.given.now) self.now.atoms.now self.now.actions.now
+            (map (plain_state self.now.atoms.now) seen.old.keys)
+            (plain_lead self.now.atoms.now node.now) }
+        ensures leads { OnOk result (map (plain_lead self.now.atoms.now) next.new.items
+            ≡ map (plain_lead self.now.atoms.now) next.old.items
+            ++ first_leads (map (plain_state self.now.atoms.now) seen.old.keys)
+            (leads_from (T.types self.now.types.now)
+            (K.known self.now.given.now) self.now.atoms.now 0 self.now.actions.now
+            (plain_node self.now.atoms.now node.now))) }
+        ensures seen { OnOk result (map (plain_state self.now.atoms.now) seen.new.keys
+            ≡ met (map (plain_state self.now.atoms.now) seen.old.keys)
+            (successor_nodes (T.types self.now.types.now)
+            (K.known self.now.given.now) self.now.atoms.now self.now.actions.now
+            (plain_node self.now.atoms.now node.now))) }
         ensures wide { OnOk result (AreWide self.now.atoms.now seen.new.keys) }
         ensures level { OnOk result (HaveWide self.now.atoms.now next.new.items) }
     {
@@ -130,7 +156,7 @@ impl<'a, K: Known, T: Types> Search<'a, K, T> {
         Ok(())
     }
 
-    /// The new rows that a level leads to, in order. The only error is want of memory.
+    /// The new rows that a level leads to, in order.
     fn next_level(
         &self,
         alloc: Global,
@@ -140,9 +166,20 @@ impl<'a, K: Known, T: Types> Search<'a, K, T> {
         requires wide { AreWide self.now.atoms.now seen.old.keys }
         requires level { HaveWide self.now.atoms.now level.now }
         requires sound { AreSound self.now.atoms.now self.now.actions.now }
-        requires pruned { ArePruned (T.types self.now.types.now) (K.known self.now.given.now) self.now.atoms.now self.now.actions.now (map (plain_state self.now.atoms.now) seen.old.keys) (map (plain_lead self.now.atoms.now) level.now) }
-        ensures leads { IfOk result (λ next. map (plain_lead self.now.atoms.now) next.items ≡ first_leads (map (plain_state self.now.atoms.now) seen.old.keys) (flat_map (leads_from (T.types self.now.types.now) (K.known self.now.given.now) self.now.atoms.now 0 self.now.actions.now) (map (plain_node self.now.atoms.now) level.now))) }
-        ensures seen { OnOk result (map (plain_state self.now.atoms.now) seen.new.keys ≡ met (map (plain_state self.now.atoms.now) seen.old.keys) (flat_map (successor_nodes (T.types self.now.types.now) (K.known self.now.given.now) self.now.atoms.now self.now.actions.now) (map (plain_node self.now.atoms.now) level.now))) }
+        requires pruned { ArePruned (T.types self.now.types.now)
+            (K.known self.now.given.now) self.now.atoms.now self.now.actions.now
+            (map (plain_state self.now.atoms.now) seen.old.keys)
+            (map (plain_lead self.now.atoms.now) level.now) }
+        ensures leads { IfOk result (λ next. map (plain_lead self.now.atoms.now) next.items
+            ≡ first_leads (map (plain_state self.now.atoms.now) seen.old.keys)
+            (flat_map (leads_from (T.types self.now.types.now)
+            (K.known self.now.given.now) self.now.atoms.now 0 self.now.actions.now)
+            (map (plain_node self.now.atoms.now) level.now))) }
+        ensures seen { OnOk result (map (plain_state self.now.atoms.now) seen.new.keys
+            ≡ met (map (plain_state self.now.atoms.now) seen.old.keys)
+            (flat_map (successor_nodes (T.types self.now.types.now)
+            (K.known self.now.given.now) self.now.atoms.now self.now.actions.now)
+            (map (plain_node self.now.atoms.now) level.now))) }
         ensures wide { OnOk result (AreWide self.now.atoms.now seen.new.keys) }
         ensures level { IfOk result (λ next. HaveWide self.now.atoms.now next.items) }
     {
@@ -154,7 +191,7 @@ impl<'a, K: Known, T: Types> Search<'a, K, T> {
     }
 
     /// The answer at a depth, if the search ends there: the first path to the goal; `NoPlan` where no node is left; `Spent` where as
-    /// many states are reached as the budget says. The only error is want of memory.
+    /// many states are reached as the budget says.
     fn ending(
         &self,
         alloc: Global,
@@ -163,7 +200,12 @@ impl<'a, K: Known, T: Types> Search<'a, K, T> {
         budget: u32,
         depth: u32,
     ) -> Result<Option<Answer>, AllocError>
-        ensures { IfOk result (λ answer. answer ≡ ending (option_map (λ n. n.path) (find (λ n. is_true (T.types self.now.types.now) (at (K.known self.now.given.now) n.state) (cond_tree self.now.goal.now)) (map (plain_node self.now.atoms.now) level.now))) (map (plain_node self.now.atoms.now) level.now) reached budget depth) }
+        ensures { IfOk result (λ answer. answer
+            ≡ ending (option_map (λ n. n.path)
+            (find (λ n. is_true (T.types self.now.types.now)
+            (at (K.known self.now.given.now) n.state) (cond_tree self.now.goal.now))
+            (map (plain_node self.now.atoms.now) level.now)))
+            (map (plain_node self.now.atoms.now) level.now) reached budget depth) }
     {
         if let Some(path) = self.first_good(alloc, level)? {
             return Ok(Some(Answer::Plan(path)));
@@ -177,7 +219,7 @@ impl<'a, K: Known, T: Types> Search<'a, K, T> {
         Ok(None)
     }
 
-    /// The answer, where the level and the states that were met are those of the start. The only error is want of memory.
+    /// The answer, where the level and the states that were met are those of the start.
     fn answer_from(
         &self,
         alloc: Global,
@@ -188,12 +230,22 @@ impl<'a, K: Known, T: Types> Search<'a, K, T> {
         requires goal { (K.known self.now.given.now).goal ≡ Some self.now.goal.now }
         requires sound { AreSound self.now.atoms.now self.now.actions.now }
         requires footprints { HaveFootprints self.now.actions.now }
-        requires actions { (n : ReachedView) → successor_nodes (T.types self.now.types.now) (K.known self.now.given.now) self.now.atoms.now self.now.actions.now (plain_node self.now.atoms.now n) ≡ moves (T.types self.now.types.now) (K.known self.now.given.now) (grounds (T.types self.now.types.now) (K.known self.now.given.now)) (plain_node self.now.atoms.now n) }
-        requires leads { map (plain_lead self.now.atoms.now) level.old.items ≡ record { node = root (K.known self.now.given.now); by = length self.now.actions.now } ∷ [] }
-        requires seen { map (plain_state self.now.atoms.now) seen.old.keys ≡ state_of (K.known self.now.given.now) ∷ [] }
+        requires actions { (n : ReachedView)
+            → successor_nodes (T.types self.now.types.now)
+            (K.known self.now.given.now) self.now.atoms.now self.now.actions.now
+            (plain_node self.now.atoms.now n)
+            ≡ moves (T.types self.now.types.now) (K.known self.now.given.now)
+            (grounds (T.types self.now.types.now) (K.known self.now.given.now))
+            (plain_node self.now.atoms.now n) }
+        requires leads { map (plain_lead self.now.atoms.now) level.old.items
+            ≡ record { node = root (K.known self.now.given.now); by = length self.now.actions.now }
+            ∷ [] }
+        requires seen { map (plain_state self.now.atoms.now) seen.old.keys
+            ≡ state_of (K.known self.now.given.now) ∷ [] }
         requires wide { AreWide self.now.atoms.now seen.old.keys }
         requires level { HaveWide self.now.atoms.now level.old.items }
-        ensures { IfOk result (λ answer. answer ≡ searched (T.types self.now.types.now) (K.known self.now.given.now) budget) }
+        ensures { IfOk result (λ answer. answer
+            ≡ searched (T.types self.now.types.now) (K.known self.now.given.now) budget) }
     {
         // The atoms say with their slice that they rise.
         let _atoms = self.atoms.as_slice();
@@ -209,15 +261,23 @@ impl<'a, K: Known, T: Types> Search<'a, K, T> {
         }
     }
 
-    /// The answer from a state on. The only error is want of memory.
+    /// The answer from a state on.
     pub fn answer(&self, alloc: Global, start: Row, budget: u32) -> Result<Answer, AllocError>
-        requires start { plain_state self.now.atoms.now start ≡ state_of (K.known self.now.given.now) }
+        requires start { plain_state self.now.atoms.now start
+            ≡ state_of (K.known self.now.given.now) }
         requires wide { length start.flags.items ≡ length self.now.atoms.now }
         requires goal { (K.known self.now.given.now).goal ≡ Some self.now.goal.now }
         requires sound { AreSound self.now.atoms.now self.now.actions.now }
         requires footprints { HaveFootprints self.now.actions.now }
-        requires actions { (n : ReachedView) → successor_nodes (T.types self.now.types.now) (K.known self.now.given.now) self.now.atoms.now self.now.actions.now (plain_node self.now.atoms.now n) ≡ moves (T.types self.now.types.now) (K.known self.now.given.now) (grounds (T.types self.now.types.now) (K.known self.now.given.now)) (plain_node self.now.atoms.now n) }
-        ensures { IfOk result (λ answer. answer ≡ searched (T.types self.now.types.now) (K.known self.now.given.now) budget) }
+        requires actions { (n : ReachedView)
+            → successor_nodes (T.types self.now.types.now)
+            (K.known self.now.given.now) self.now.atoms.now self.now.actions.now
+            (plain_node self.now.atoms.now n)
+            ≡ moves (T.types self.now.types.now) (K.known self.now.given.now)
+            (grounds (T.types self.now.types.now) (K.known self.now.given.now))
+            (plain_node self.now.atoms.now n) }
+        ensures { IfOk result (λ answer. answer
+            ≡ searched (T.types self.now.types.now) (K.known self.now.given.now) budget) }
     {
         let mut seen = IndexSet::new(alloc);
         let mut level = begin(alloc, self.atoms, &mut seen, start, self.actions.len())?;

@@ -45,8 +45,8 @@ impl<'a, K: Known> Known for At<'a, K> {
     }
 }
 
-/// Makes a list of effects in a state, and answers whether it could: false where one has a fault. The only error is want of memory,
-/// and then the row may have changed.
+/// Makes a list of effects in a state, and answers whether it could: false where one has a fault. Where memory runs out the row
+/// may have changed.
 fn change<K: Known, T: Types>(
     alloc: Global,
     given: &K,
@@ -57,7 +57,10 @@ fn change<K: Known, T: Types>(
 ) -> Result<bool, AllocError>
     requires wide { length row.old.flags.items ≡ length atoms.now }
     requires atoms { AddAtoms atoms.now effects.now }
-    ensures state { IfOk result (λ made. (if made then Some (plain_state atoms.now row.new) else None) ≡ changed (T.types types.now) (K.known given.now) (plain_state atoms.now row.old) effects.now) }
+    ensures state { IfOk result (λ made.
+        (if made then Some (plain_state atoms.now row.new) else None)
+        ≡ changed (T.types types.now) (K.known given.now)
+        (plain_state atoms.now row.old) effects.now) }
     ensures wide { OnOk result (length row.new.flags.items ≡ length row.old.flags.items) }
 {
     let here = At {
@@ -75,7 +78,8 @@ fn change<K: Known, T: Types>(
 
 /// Whether a test holds in a row.
 fn passes<K: Known, T: Types>(given: &K, types: &T, atoms: &Atoms, row: &Row, test: &Test) -> bool
-    ensures { result ≡ passes (T.types types.now) (K.known given.now) atoms.now test.now (plain_state atoms.now row.now) }
+    ensures { result ≡ passes (T.types types.now) (K.known given.now) atoms.now test.now
+        (plain_state atoms.now row.now) }
 {
     are_known(atoms, row, &test.wanted) && all_true(&At { given, atoms, row }, types, &test.others)
 }
@@ -92,7 +96,10 @@ fn turn<K: Known, T: Types>(
 ) -> Result<bool, AllocError>
     requires wide { length row.old.flags.items ≡ length atoms.now }
     requires sound { IsSoundChange atoms.now by.now }
-    ensures state { IfOk result (λ made. (if made then Some (plain_state atoms.now row.new) else None) ≡ turned (T.types types.now) (K.known given.now) atoms.now by.now (plain_state atoms.now row.old)) }
+    ensures state { IfOk result (λ made.
+        (if made then Some (plain_state atoms.now row.new) else None)
+        ≡ turned (T.types types.now) (K.known given.now) atoms.now by.now
+        (plain_state atoms.now row.old)) }
     ensures wide { OnOk result (length row.new.flags.items ≡ length row.old.flags.items) }
 {
     match by {
@@ -117,7 +124,10 @@ fn end<K: Known, T: Types>(
 ) -> Result<bool, AllocError>
     requires wide { length row.old.flags.items ≡ length atoms.now }
     requires sound { IsSound atoms.now action.now }
-    ensures state { IfOk result (λ made. (if made then Some (plain_state atoms.now row.new) else None) ≡ landed (T.types types.now) (K.known given.now) atoms.now action.now (plain_state atoms.now row.old)) }
+    ensures state { IfOk result (λ made.
+        (if made then Some (plain_state atoms.now row.new) else None)
+        ≡ landed (T.types types.now) (K.known given.now) atoms.now action.now
+        (plain_state atoms.now row.old)) }
     ensures wide { OnOk result (length row.new.flags.items ≡ length row.old.flags.items) }
 {
     if !passes(given, types, atoms, row, &action.over)
@@ -140,7 +150,11 @@ fn go_on<K: Known, T: Types>(
 ) -> Result<bool, AllocError>
     requires wide { length row.old.flags.items ≡ length atoms.now }
     requires sound { IsSound atoms.now action.now }
-    ensures state { IfOk result (λ made. (if made then Some (plain_state atoms.now row.new) else None) ≡ option_and_then (landed (T.types types.now) (K.known given.now) atoms.now action.now) (turned (T.types types.now) (K.known given.now) atoms.now action.now.at_start (plain_state atoms.now row.old))) }
+    ensures state { IfOk result (λ made.
+        (if made then Some (plain_state atoms.now row.new) else None)
+        ≡ option_and_then (landed (T.types types.now) (K.known given.now) atoms.now action.now)
+        (turned (T.types types.now) (K.known given.now) atoms.now action.now.at_start
+        (plain_state atoms.now row.old))) }
     ensures wide { OnOk result (length row.new.flags.items ≡ length row.old.flags.items) }
 {
     if turn(alloc, given, types, atoms, row, &action.at_start)? {
@@ -151,7 +165,7 @@ fn go_on<K: Known, T: Types>(
 }
 
 /// The row after a step of a prepared ground action. None exactly where a part of it fails: the start condition, a start effect, the
-/// over-all or the end condition after the start effects, an end effect. The only error is want of memory.
+/// over-all or the end condition after the start effects, an end effect.
 pub fn step<K: Known, T: Types>(
     alloc: Global,
     given: &K,
@@ -162,8 +176,11 @@ pub fn step<K: Known, T: Types>(
 ) -> Result<Option<Row>, AllocError>
     requires wide { length row.now.flags.items ≡ length atoms.now }
     requires sound { IsSound atoms.now action.now }
-    ensures state { IfOk result (λ next. option_map (plain_state atoms.now) next ≡ successor (T.types types.now) (K.known given.now) atoms.now (plain_state atoms.now row.now) action.now) }
-    ensures wide { IfOk result (λ next. IfSome next (λ r. length r.flags.items ≡ length row.now.flags.items)) }
+    ensures state { IfOk result (λ next. option_map (plain_state atoms.now) next
+        ≡ successor (T.types types.now) (K.known given.now) atoms.now
+        (plain_state atoms.now row.now) action.now) }
+    ensures wide { IfOk result (λ next. IfSome next (λ r. length r.flags.items
+        ≡ length row.now.flags.items)) }
 {
     if !passes(given, types, atoms, row, &action.start) {
         return Ok(None);

@@ -43,7 +43,7 @@ impl Values {
         Ok(made)
     }
 
-    /// Equal values. The only error is want of memory.
+    /// Equal values.
     pub fn copy(&self) -> Result<Values, AllocError>
         ensures { IfOk result (λ values. values ≡ self.now) }
     {
@@ -59,7 +59,7 @@ impl Values {
         self.all.get(term).copied()
     }
 
-    /// Sets these values one after another. The only error is want of memory, and then some of the first may be set.
+    /// Sets these values one after another. Where memory runs out some of the first may be set.
     pub fn insert_all(&mut self, ready: &[(Fact, Num)]) -> Result<(), AllocError>
         ensures { OnOk result (self.new ≡ fold with_value self.old ready.now) }
     {

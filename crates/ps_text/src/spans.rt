@@ -30,7 +30,7 @@ pub(crate) fn line_end(bytes: &[u8], from: usize) -> usize
     from + first_line_feed(rest).unwrap_or(rest.len())
 }
 
-/// The lines of a text, in order, each without the LF that ends it. A last line needs none. The only error is want of memory.
+/// The lines of a text, in order, each without the LF that ends it. A last line needs none.
 pub fn lines(alloc: Global, bytes: &[u8]) -> Result<Vec<Span>, AllocError>
     ensures lines { IfOk result (λ v. pieces bytes.now v.items ≡ lines_of bytes.now) }
     ensures within { IfOk result (λ v. AreWithin bytes.now v.items) }
@@ -61,7 +61,7 @@ fn without_return(bytes: &[u8], from: usize, to: usize) -> usize
 }
 
 /// The lines of a script, in order: each ends at an LF, and one CR before that LF is dropped. The last line needs no LF, and a CR at
-/// its end stays. The only error is want of memory.
+/// its end stays.
 pub fn script_lines(alloc: Global, bytes: &[u8]) -> Result<Vec<Span>, AllocError>
     ensures lines { IfOk result (λ v. pieces bytes.now v.items ≡ script_lines bytes.now) }
     ensures within { IfOk result (λ v. AreWithin bytes.now v.items) }

@@ -118,7 +118,7 @@ impl<'a> Model for Words<'a> {
 }
 
 impl<'a> Words<'a> {
-    /// The words of these bytes. The only error is want of memory.
+    /// The words of these bytes.
     pub fn of(alloc: Global, bytes: &'a [u8]) -> Result<Words<'a>, AllocError>
         ensures { IfOk result (λ w. w ≡ words bytes.now) }
     {

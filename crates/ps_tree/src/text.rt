@@ -20,7 +20,7 @@ fn status_word(status: Status) -> &'static [u8]
     }
 }
 
-/// Adds a space, a status, and what ends the line. The only error is want of memory.
+/// Adds a space, a status, and what ends the line.
 fn push_status(status: Status, text: &mut Vec<u8>) -> Result<(), AllocError>
     ensures { OnOk result (text.new.items ≡ text.old.items ++ line_end status) }
 {
@@ -30,7 +30,7 @@ fn push_status(status: Status, text: &mut Vec<u8>) -> Result<(), AllocError>
     Ok(())
 }
 
-/// Adds a line of words and a status. The only error is want of memory.
+/// Adds a line of words and a status.
 pub fn push_line(words: &[u8], status: Status, text: &mut Vec<u8>) -> Result<(), AllocError>
     ensures { OnOk result (text.new.items ≡ text.old.items ++ worded words.now status) }
 {
@@ -39,7 +39,7 @@ pub fn push_line(words: &[u8], status: Status, text: &mut Vec<u8>) -> Result<(),
     Ok(())
 }
 
-/// Adds a line of words, a number and a status. The only error is want of memory.
+/// Adds a line of words, a number and a status.
 fn push_numbered(
     alloc: Global,
     words: &[u8],
@@ -56,7 +56,7 @@ fn push_numbered(
     Ok(())
 }
 
-/// Adds the line of a wait. The only error is want of memory.
+/// Adds the line of a wait.
 fn push_wait(
     alloc: Global,
     states: &[ActState],
@@ -69,7 +69,7 @@ fn push_wait(
     push_numbered(alloc, b"    wait ", wait, status, text)
 }
 
-/// Adds the line of an act's leaf. The only error is want of memory.
+/// Adds the line of an act's leaf.
 fn push_act(
     alloc: Global,
     states: &[ActState],
@@ -82,7 +82,7 @@ fn push_act(
     push_numbered(alloc, b"    act ", act, status, text)
 }
 
-/// Adds the lines of waits. The only error is want of memory, and then some of the first may be added.
+/// Adds the lines of waits. Where memory runs out some of the first may be added.
 fn push_waits(
     alloc: Global,
     states: &[ActState],
@@ -97,7 +97,7 @@ fn push_waits(
     Ok(())
 }
 
-/// Adds the lines of an act's sequence and of its leaves. The only error is want of memory, and then some of the first may be
+/// Adds the lines of an act's sequence and of its leaves. Where memory runs out some of the first may be
 /// added.
 fn push_sequence(
     alloc: Global,
@@ -114,7 +114,7 @@ fn push_sequence(
     Ok(())
 }
 
-/// Adds the lines of the sequences of so many acts. The only error is want of memory, and then some of the first may be added.
+/// Adds the lines of the sequences of so many acts. Where memory runs out some of the first may be added.
 pub fn push_sequences(
     alloc: Global,
     states: &[ActState],

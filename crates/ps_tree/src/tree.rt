@@ -46,7 +46,7 @@ impl Model for Tree {
 }
 
 impl Tree {
-    /// The tree of these arcs, in which each act waits. The only error is want of memory.
+    /// The tree of these arcs, in which each act waits.
     pub fn build(alloc: Global, arcs: &Arcs) -> Result<Tree, AllocError>
         ensures waits { IfOk result (λ tree. tree.waits ≡ waits_of arcs.now) }
         ensures states { IfOk result (λ tree. tree.states ≡ waiting_acts arcs.now.acts) }
@@ -83,7 +83,7 @@ impl Tree {
         are_done(states, waits) && is_waiting(state_at(states, act))
     }
 
-    /// The lines of all nodes, by the states of the last tick. The only error is want of memory.
+    /// The lines of all nodes, by the states of the last tick.
     pub fn text(&self) -> Result<Vec<u8>, AllocError>
         ensures { IfOk result (λ text. text.items ≡ tree_text self.now) }
     {

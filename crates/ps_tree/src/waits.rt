@@ -21,7 +21,7 @@ impl Model for Waits {
 }
 
 impl Waits {
-    /// What an act of these arcs waits for. The only error is want of memory.
+    /// What an act of these arcs waits for.
     pub fn of(alloc: Global, arcs: &Arcs, act: u32) -> Result<Waits, AllocError>
         ensures { IfOk result (λ w. w ≡ waits_for arcs.now.pairs act) }
     {
@@ -42,7 +42,7 @@ impl Waits {
     }
 }
 
-/// What each act of these arcs waits for. The only error is want of memory.
+/// What each act of these arcs waits for.
 pub fn waits_of(alloc: Global, arcs: &Arcs) -> Result<Vec<Waits>, AllocError>
     ensures { IfOk result (λ v. v.items ≡ waits_of arcs.now) }
 {

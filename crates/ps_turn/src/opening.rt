@@ -21,7 +21,7 @@ pub struct NotOpened<V> {
 
 impl<V: Grows> TurnBook<V> {
     /// A book of this value with 1 to 16 seats, of hands 1, 2 and so on, each of which has seen the value's history. Nobody has the
-    /// turn. The only error is want of memory: all of it is found before the value is moved.
+    /// turn. All memory that it takes is found before the value is moved.
     pub fn open(
         alloc: Global,
         value: V,

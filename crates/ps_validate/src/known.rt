@@ -21,7 +21,7 @@ fn take_line(expert: &Expert, problem: &mut Problem, line: &Line) -> Result<(), 
     }
 }
 
-/// What is known after all edits of a script, of which refused ones change nothing. The only error is want of memory.
+/// What is known after all edits of a script, of which refused ones change nothing.
 pub fn known_after(alloc: Global, expert: &Expert, lines: &[Line]) -> Result<Problem, AllocError>
     ensures { IfOk result (λ p. p ≡ known_after expert.now lines.now) }
 {

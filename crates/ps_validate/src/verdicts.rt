@@ -73,7 +73,7 @@ fn text_wrong(
 }
 
 /// What is wrong with the text of a plan, if something is: there is no goal, the text is none of a plan, or the plan isn't good.
-/// The names of a text of a plan are put into the table. The only error is want of memory.
+/// The names of a text of a plan are put into the table.
 pub fn verdict(
     alloc: Global,
     names: &mut Names,

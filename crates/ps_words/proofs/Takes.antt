@@ -18,7 +18,7 @@ pub no_rows : (ks : Kinds) (known : List Row) (k : ErrorKind) → IsAmong k ks �
 no_rows [] known k h = absurd h
 no_rows (x ∷ xs) known k h = refl
 
--- an error that isn't want of memory is one of the faults
+-- an error other than memory running out is one of the faults
 pub among : (k other : ErrorKind) (ks : Kinds) → (k ≡ other) ⊎ IsAmong k ks → k ≢ other → IsAmong k ks
 among k other ks (inl same) differs = absurd (differs same)
 among k other ks (inr h) differs = h

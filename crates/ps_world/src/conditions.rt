@@ -106,7 +106,7 @@ impl Conds {
         Conds { items }
     }
 
-    /// Puts a condition at the end. The only error is want of memory, and then nothing changes.
+    /// Puts a condition at the end. Where memory runs out nothing changes.
     pub fn push(&mut self, cond: Cond) -> Result<(), AllocError>
         ensures ok { OnOk result (self.new ≡ self.old ++ cond_tree cond ∷ []) }
         ensures err { OnErr result (self.new ≡ self.old) }
@@ -138,7 +138,7 @@ impl Conds {
 }
 
 impl BoxedCond {
-    /// The condition, put into a box. The only error is want of memory.
+    /// The condition, put into a box.
     pub fn new(alloc: Global, inner: Cond) -> Result<Self, AllocError>
         ensures { IfOk result (λ b. b ≡ cond_tree inner) }
     {

@@ -56,7 +56,7 @@ impl Model for BoxedExpr {
 }
 
 impl BoxedExpr {
-    /// The expression, put into a box. The only error is want of memory.
+    /// The expression, put into a box.
     pub fn new(alloc: Global, inner: Expr) -> Result<Self, AllocError>
         ensures { IfOk result (λ b. b ≡ expr_tree inner) }
     {

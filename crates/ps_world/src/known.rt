@@ -44,7 +44,7 @@ fn copy_goal(alloc: Global, goal: Option<&Cond>) -> Result<Option<Cond>, AllocEr
 }
 
 impl Knowledge {
-    /// What is known, with another goal or none. The only error is want of memory.
+    /// What is known, with another goal or none.
     pub(crate) fn with_goal(
         &self,
         alloc: Global,

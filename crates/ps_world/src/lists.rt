@@ -8,7 +8,7 @@ use std::marker::Model;
 
 /// A value of which an equal one can be made.
 pub trait Duplicate: Drop {
-    /// An equal value. The only error is want of memory.
+    /// An equal value.
     fn copy(&self, alloc: Global) -> Result<Self, AllocError>
         ensures { IfOk result (λ c. c ≡ self.now) };
 }
@@ -75,7 +75,7 @@ impl<T> Seq<T> {
 }
 
 impl<T: Drop> Seq<T> {
-    /// Puts a value at the end. The only error is want of memory, and then nothing changes.
+    /// Puts a value at the end. Where memory runs out nothing changes.
     pub fn push(&mut self, item: T) -> Result<(), AllocError>
         ensures ok { OnOk result (self.new ≡ self.old ++ item ∷ []) }
         ensures err { OnErr result (self.new ≡ self.old) }

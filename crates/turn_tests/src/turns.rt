@@ -75,7 +75,8 @@ fn take_turn<R: Wait>(rt: &R, book: &TurnBook<Log>, seat: &mut Seat<Log>)
 
 fn take_turns<R: Wait>(rt: &R, book: &TurnBook<Log>, seat: &mut Seat<Log>, times: u32)
     requires { IsFree book.now seat.old }
-    ensures { (seat.new.book ≡ seat.old.book) × (seat.new.hand ≡ seat.old.hand) × (seat.new.holds ≡ false) }
+    ensures { (seat.new.book ≡ seat.old.book) × (seat.new.hand ≡ seat.old.hand)
+        × (seat.new.holds ≡ false) }
 {
     for _ in 0..times {
         take_turn(rt, book, seat);
@@ -85,7 +86,9 @@ fn take_turns<R: Wait>(rt: &R, book: &TurnBook<Log>, seat: &mut Seat<Log>, times
 /// Each seat takes its turns in a thread of its own.
 fn run<R: Threads + Wait + Sync>(rt: &R, book: &TurnBook<Log>, seats: &mut [Seat<Log>], times: u32)
     requires { All (IsFree book.now) seats.old }
-    ensures { (i : ℕ) (d : _) → i < length seats.old → IsFree book.now (slice_index_or seats.new i d) × ((slice_index_or seats.new i d).hand ≡ (slice_index_or seats.old i d).hand) }
+    ensures { (i : ℕ) (d : _) → i < length seats.old
+        → IsFree book.now (slice_index_or seats.new i d)
+        × ((slice_index_or seats.new i d).hand ≡ (slice_index_or seats.old i d).hand) }
 {
     thread::for_each_mut(
         rt,
@@ -93,7 +96,8 @@ fn run<R: Threads + Wait + Sync>(rt: &R, book: &TurnBook<Log>, seats: &mut [Seat
         16,
         &|_, seat: &mut Seat<Log>|
             requires { IsFree book.now seat.now }
-            ensures { (seat.exit.now.book ≡ seat.entry.now.book) × (seat.exit.now.hand ≡ seat.entry.now.hand) × (seat.exit.now.holds ≡ false) }
+            ensures { (seat.exit.now.book ≡ seat.entry.now.book)
+                × (seat.exit.now.hand ≡ seat.entry.now.hand) × (seat.exit.now.holds ≡ false) }
         { take_turns(rt, book, seat, times) },
     );
 }

@@ -31,7 +31,8 @@ pub fn facts_kept(
     facts: &[Fact],
     effects: &[Effect],
 ) -> Result<Vec<Fact>, AllocError>
-    ensures { IfOk result (λ v. v.items ≡ filter (λ f. not (list_any (deletes f) effects.now)) facts.now) }
+    ensures { IfOk result (λ v. v.items
+        ≡ filter (λ f. not (list_any (deletes f) effects.now)) facts.now) }
 {
     let mut kept = Vec::new(alloc);
     for there in facts {
@@ -58,7 +59,8 @@ pub fn facts_added(
     facts: Vec<Fact>,
     effects: &[Effect],
 ) -> Result<Vec<Fact>, AllocError>
-    ensures { IfOk result (λ v. v.items ≡ fold (insert_key fact_cmp) facts.items (filter_map added_by effects.now)) }
+    ensures { IfOk result (λ v. v.items
+        ≡ fold (insert_key fact_cmp) facts.items (filter_map added_by effects.now)) }
 {
     let mut all = facts;
     for effect in effects {

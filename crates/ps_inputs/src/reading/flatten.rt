@@ -26,7 +26,8 @@ fn open<F: Files>(
     script: &mut Script,
 ) -> Result<bool, Failure<Fault>>
     requires { length script.old.lines.items ≤ most_lines }
-    ensures { Opens plans levels file.now (F.shown files.old) (F.shown files.new) script.old script.new result }
+    ensures { Opens plans levels file.now (F.shown files.old)
+        (F.shown files.new) script.old script.new result }
 {
     if levels == 0 {
         return put_deep(script);
@@ -46,7 +47,8 @@ fn take<F: Files>(
     script: &mut Script,
 ) -> Result<bool, Failure<Fault>>
     requires { length script.old.lines.items ≤ most_lines }
-    ensures { Takes plans levels line.now (F.shown files.old) (F.shown files.new) script.old script.new result }
+    ensures { Takes plans levels line.now (F.shown files.old)
+        (F.shown files.new) script.old script.new result }
 {
     match kind_of(alloc, line)? {
         Kind::Nothing => Ok(false),
@@ -68,7 +70,8 @@ fn walk<F: Files>(
     script: &mut Script,
 ) -> Result<bool, Failure<Fault>>
     requires { length script.old.lines.items ≤ most_lines }
-    ensures { Walks plans levels text.now (F.shown files.old) (F.shown files.new) script.old script.new result }
+    ensures { Walks plans levels text.now (F.shown files.old)
+        (F.shown files.new) script.old script.new result }
 {
     let spans = script_lines(alloc, text)?;
     for span in &spans {

@@ -106,7 +106,8 @@ pub fn put_plan<F: Files>(
     requires line { is_nothing line.now ≡ false }
     requires plan { is_source line.now ≡ false }
     requires few { length script.old.lines.items ≤ most_lines }
-    ensures { PutsPlan line.now file.now (F.shown files.old) (F.shown files.new) script.old script.new result }
+    ensures { PutsPlan line.now file.now (F.shown files.old)
+        (F.shown files.new) script.old script.new result }
 {
     check_room(script.lines.as_slice())?;
     let plan = read_text(alloc, file, files)?;

@@ -54,7 +54,7 @@ impl Facts {
         self.all.contains(fact)
     }
 
-    /// An equal set. The only error is want of memory.
+    /// An equal set.
     pub fn copy(&self) -> Result<Facts, AllocError>
         ensures { IfOk result (λ facts. facts ≡ self.now) }
     {
@@ -64,7 +64,7 @@ impl Facts {
         })
     }
 
-    /// Puts a fact in, and answers whether it is new. The only error is want of memory, and then nothing changes.
+    /// Puts a fact in, and answers whether it is new. Where memory runs out nothing changes.
     pub fn insert(&mut self, fact: Fact) -> Result<bool, AllocError>
         ensures ok { OnOk result (self.new ≡ insert_key fact_cmp self.old fact) }
         ensures added { IfOk result (λ added. added ≡ not (list_any (same_fact fact) self.old)) }
@@ -96,7 +96,7 @@ impl Facts {
         leave_out_named(&mut self.all, &mut self.namings, name);
     }
 
-    /// Puts these facts in. The only error is want of memory, and then some of the first may be there.
+    /// Puts these facts in. Where memory runs out some of the first may be there.
     pub fn insert_all(&mut self, facts: &[Fact]) -> Result<(), AllocError>
         ensures ok { OnOk result (self.new ≡ fold (insert_key fact_cmp) self.old facts.now) }
         ensures err { OnErr result ((k : ℕ)
@@ -117,7 +117,7 @@ impl Facts {
         }
     }
 
-    /// The facts that effects add and that aren't there, in the order of the effects. The only error is want of memory.
+    /// The facts that effects add and that aren't there, in the order of the effects.
     pub fn fresh(&self, alloc: Global, effects: &[Effect]) -> Result<Vec<Fact>, AllocError>
         ensures fresh { IfOk result (λ v. v.items ≡ fresh_in self.now effects.now) }
         ensures rises { OnOk result (IsStrictlySortedBy fact_cmp self.now) }
@@ -135,8 +135,7 @@ impl Facts {
         Ok(fresh)
     }
 
-    /// The facts that are there, that effects delete and that none of them adds, in the order of the effects. The only error
-    /// is want of memory.
+    /// The facts that are there, that effects delete and that none of them adds, in the order of the effects.
     pub fn lost(&self, alloc: Global, effects: &[Effect]) -> Result<Vec<Fact>, AllocError>
         ensures { IfOk result (λ v. v.items ≡ lost_in self.now effects.now) }
     {
@@ -175,7 +174,7 @@ impl Facts {
         self.all.iter().copied().collect(alloc)
     }
 
-    /// The facts with this head, in their order. The only error is want of memory.
+    /// The facts with this head, in their order.
     pub fn list_of(&self, alloc: Global, head: Name) -> Result<Vec<Fact>, AllocError>
         ensures { IfOk result (λ v. v.items ≡ filter (λ f. same_name head f.head) self.now) }
     {
@@ -209,7 +208,7 @@ fn deleted(effect: &Effect) -> Option<Fact>
     }
 }
 
-/// All facts that effects add. The only error is want of memory.
+/// All facts that effects add.
 fn all_added(alloc: Global, effects: &[Effect]) -> Result<BTreeSet<Fact>, AllocError>
     ensures { IfOk result (λ s. (f : Fact) → list_any (same_fact f) s.keys
         ≡ list_any (same_fact f) (filter_map added_by effects.now)) }

@@ -55,7 +55,7 @@ impl Problem {
         self.goal.as_ref()
     }
 
-    /// The instances with their types, in the order of their names. The only error is want of memory.
+    /// The instances with their types, in the order of their names.
     pub fn instances(&self) -> Result<Vec<(Name, Name)>, AllocError>
         ensures { IfOk result (λ v. v.items ≡ self.now.instances) }
     {
@@ -82,7 +82,7 @@ impl Problem {
         self.values.list(self.alloc)
     }
 
-    /// The instances whose type is this one or below it, in their order. The only error is want of memory.
+    /// The instances whose type is this one or below it, in their order.
     pub fn instances_of(&self, expert: &Expert, kind: Name) -> Result<Vec<Name>, AllocError>
         ensures { IfOk result (λ v. v.items
             ≡ map (λ i. i.0) (filter (λ i. is_below expert.now i.1 kind) self.now.instances)) }
@@ -96,7 +96,7 @@ impl Problem {
         Ok(found)
     }
 
-    /// The facts of this predicate, in their order. The only error is want of memory.
+    /// The facts of this predicate, in their order.
     pub fn facts_of(&self, head: Name) -> Result<Vec<Fact>, AllocError>
         ensures { IfOk result (λ v. v.items ≡ filter (λ f. same_name head f.head) self.now.facts) }
     {

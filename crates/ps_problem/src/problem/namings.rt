@@ -16,7 +16,7 @@ pub struct Naming {
     pub fact: Fact,
 }
 
-/// Notes each argument of a fact with it. The only error is want of memory, and then some may be noted.
+/// Notes each argument of a fact with it. Where memory runs out some may be noted.
 pub fn note(namings: &mut BTreeSet<Naming>, fact: &Fact) -> Result<(), AllocError>
     ensures noted { OnOk result (Covers namings.new.keys fact.now) }
     ensures kept { (x : Naming) → Contains namings.old.keys x → Contains namings.new.keys x }

@@ -25,7 +25,7 @@ struct Change {
 
 impl Problem {
     /// Makes the deletes of a list of effects, then its adds, and then gives the terms these values, of which the last
-    /// counts where a term stands there twice. Answers whether anything changed. The only error is want of memory, and then
+    /// counts where a term stands there twice. Answers whether anything changed. Where memory runs out
     /// nothing has changed.
     pub fn put(&mut self, effects: &[Effect], ready: &[(Fact, Num)]) -> Result<bool, AllocError>
         ensures ok { OnOk result (self.new ≡ made self.old effects.now ready.now) }
@@ -36,7 +36,7 @@ impl Problem {
         self.make(&change, ready)
     }
 
-    /// What effects and values change. The only error is want of memory.
+    /// What effects and values change.
     fn change_of(&self, effects: &[Effect], ready: &[(Fact, Num)]) -> Result<Change, AllocError>
         ensures fresh { IfOk result (λ c. c.fresh.items ≡ fresh_in self.now.facts effects.now) }
         ensures lost { IfOk result (λ c. c.lost.items ≡ lost_in self.now.facts effects.now) }
@@ -50,7 +50,7 @@ impl Problem {
         Ok(Change { fresh, lost, held })
     }
 
-    /// Makes a change, and answers whether there was anything to change. The only error is want of memory, and then all that
+    /// Makes a change, and answers whether there was anything to change. Where memory runs out all that
     /// came is taken out, and each term has the value that it held.
     fn make(&mut self, change: &Change, ready: &[(Fact, Num)]) -> Result<bool, AllocError>
         ensures ok { OnOk result (self.new ≡ record self.old {
@@ -84,7 +84,7 @@ impl Problem {
         }
     }
 
-    /// Puts in the facts that come, and the values. The only error is want of memory, and then some may be there.
+    /// Puts in the facts that come, and the values. Where memory runs out some may be there.
     fn grow(&mut self, change: &Change, ready: &[(Fact, Num)]) -> Result<(), AllocError>
         ensures ok { OnOk result (self.new ≡ record self.old {
           facts = fold (insert_key fact_cmp) self.old.facts change.now.fresh.items;

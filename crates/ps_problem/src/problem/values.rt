@@ -48,7 +48,7 @@ impl Values {
         }
     }
 
-    /// Equal values. The only error is want of memory.
+    /// Equal values.
     pub fn copy(&self) -> Result<Values, AllocError>
         ensures { IfOk result (λ values. values ≡ self.now) }
     {
@@ -65,7 +65,7 @@ impl Values {
         self.all.get(fact).copied()
     }
 
-    /// Sets a value, and answers the one that was held there. The only error is want of memory, and then nothing changes.
+    /// Sets a value, and answers the one that was held there. Where memory runs out nothing changes.
     pub fn insert(&mut self, fact: Fact, number: Num) -> Result<Option<Num>, AllocError>
         ensures ok { OnOk result (self.new ≡ insert_entry fact_cmp self.old fact number) }
         ensures held { IfOk result (λ held. held ≡ lookup (same_fact fact) self.old) }
@@ -96,7 +96,7 @@ impl Values {
         leave_out_named(&mut self.all, &mut self.namings, name);
     }
 
-    /// Sets these values one after another. The only error is want of memory, and then some of the first may be set.
+    /// Sets these values one after another. Where memory runs out some of the first may be set.
     pub fn insert_all(&mut self, ready: &[(Fact, Num)]) -> Result<(), AllocError>
         ensures ok { OnOk result (self.new ≡ fold with_value self.old ready.now) }
         ensures err { OnErr result ((k : ℕ)
@@ -108,7 +108,7 @@ impl Values {
         Ok(())
     }
 
-    /// The terms of these values, each with the value that it has here. The only error is want of memory.
+    /// The terms of these values, each with the value that it has here.
     pub fn held(
         &self,
         alloc: Global,

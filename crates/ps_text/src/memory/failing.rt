@@ -35,7 +35,8 @@ impl MemFiles {
 
     /// Puts a text under a name, in place of one that is there. Where memory runs out nothing changes.
     pub fn put_text(&mut self, name: &str, bytes: &[u8]) -> Result<(), AllocError>
-        ensures ok { OnOk result (PutsText (text_in self.old.texts) (text_in self.new.texts) name.now (Some bytes.now)) }
+        ensures ok { OnOk result (PutsText (text_in self.old.texts)
+            (text_in self.new.texts) name.now (Some bytes.now)) }
         ensures err { OnErr result (KeepsTexts (text_in self.old.texts) (text_in self.new.texts)) }
         ensures chosen { self.new.failing.items ≡ self.old.failing.items }
         ensures calls { self.new.calls ≡ self.old.calls }
@@ -46,7 +47,8 @@ impl MemFiles {
 
     /// Chooses the read with this number to fail. Reads are counted from 0.
     pub fn fail_at(&mut self, call: u64) -> Result<(), AllocError>
-        ensures chosen { OnOk result (self.new.failing.items ≡ self.old.failing.items ++ call ∷ []) }
+        ensures chosen { OnOk result (self.new.failing.items ≡ self.old.failing.items
+            ++ call ∷ []) }
         ensures err { OnErr result (self.new.failing.items ≡ self.old.failing.items) }
         ensures calls { self.new.calls ≡ self.old.calls }
         ensures texts { KeepsTexts (text_in self.old.texts) (text_in self.new.texts) }
@@ -114,7 +116,8 @@ impl MemSink {
 
     /// Chooses the write with this number to fail. Writes are counted from 0.
     pub fn fail_at(&mut self, call: u64) -> Result<(), AllocError>
-        ensures chosen { OnOk result (self.new.failing.items ≡ self.old.failing.items ++ call ∷ []) }
+        ensures chosen { OnOk result (self.new.failing.items ≡ self.old.failing.items
+            ++ call ∷ []) }
         ensures err { OnErr result (self.new.failing.items ≡ self.old.failing.items) }
         ensures calls { self.new.calls ≡ self.old.calls }
         ensures bytes { self.new.bytes.items ≡ self.old.bytes.items }

@@ -29,8 +29,10 @@ impl SureFiles {
 
     /// Puts a text under a name, in place of one that is there. Where memory runs out nothing changes.
     pub fn put_text(&mut self, name: &str, bytes: &[u8]) -> Result<(), AllocError>
-        ensures ok { OnOk result (PutsText (sure_text_in self.old.texts) (sure_text_in self.new.texts) name.now bytes.now) }
-        ensures err { OnErr result (KeepsTexts (sure_text_in self.old.texts) (sure_text_in self.new.texts)) }
+        ensures ok { OnOk result (PutsText (sure_text_in self.old.texts)
+            (sure_text_in self.new.texts) name.now bytes.now) }
+        ensures err { OnErr result (KeepsTexts (sure_text_in self.old.texts)
+            (sure_text_in self.new.texts)) }
     {
         self.texts.put(name, bytes)
     }

@@ -23,7 +23,8 @@ impl Texts {
 
     /// Puts a text under a name, in place of one that is there. Where memory runs out nothing changes.
     pub fn put(&mut self, name: &str, bytes: &[u8]) -> Result<(), AllocError>
-        ensures ok { OnOk result (PutsText (text_in self.old) (text_in self.new) name.now (Some bytes.now)) }
+        ensures ok { OnOk result (PutsText (text_in self.old) (text_in self.new) name.now
+            (Some bytes.now)) }
         ensures err { OnErr result (KeepsTexts (text_in self.old) (text_in self.new)) }
     {
         let alloc = *self.by_name.allocator();

@@ -52,7 +52,7 @@ fn followed_by<T: Copy>(mut all: Vec<T>, item: T, rest: &[T]) -> Result<Vec<T>, 
     Ok(all)
 }
 
-/// The facts, which rise, with one more at its place, unless it is there. The only error is want of memory.
+/// The facts, which rise, with one more at its place, unless it is there.
 pub fn with_fact(alloc: Global, facts: &[Fact], fact: Fact) -> Result<Vec<Fact>, AllocError>
     ensures { IfOk result (λ v. v.items ≡ insert_key fact_cmp facts.now fact) }
 {
@@ -87,8 +87,7 @@ pub fn with_entry(
     followed_by(all, (name, kind), &[])
 }
 
-/// The values, which rise, with one more at its place, or with this number where the function has a value there. The only
-/// error is want of memory.
+/// The values, which rise, with one more at its place, or with this number where the function has a value there.
 pub fn with_number(
     alloc: Global,
     values: &[(Fact, Num)],
