@@ -47,7 +47,7 @@ IsWorkDone (work.Check names d) old new status = (status ≡ 0) × Appends old n
 IsWorkDone (work.Validation v) old new status =
     (status ≡ verdict_status (verdict_of v).0) × Appends old new (answer_line (verdict_of v))
 
--- The work is broken off: what it wrote is a prefix of what it writes.
+-- The work is broken off: what it wrote is a prefix of the text of a history, of the domain's text, or of that line.
 abbrev pub IsWorkCut : Work → Option (List ℕ) → Option (List ℕ) → Type 0
 IsWorkCut (work.Session s) old new = IsCut s.input s.names old new
 IsWorkCut (work.Check names d) old new = AppendsPrefix old new (domain_text names d)
