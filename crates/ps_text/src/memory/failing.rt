@@ -67,7 +67,8 @@ impl MemFiles {
 }
 
 impl Files for MemFiles {
-    ghost shown = { λ files. record { told = told_in files.texts; reads = files.calls; failed = files.failed } };
+    ghost shown = { λ files.
+        record { told = told_in files.texts; reads = files.calls; failed = files.failed } };
 
     fn read(&mut self, alloc: Global, name: &str) -> Result<Vec<u8>, FileRefusal> {
         let chosen = self.failing.contains(&self.calls);
@@ -143,7 +144,8 @@ impl MemSink {
 }
 
 impl Sink for MemSink {
-    ghost shown = { λ sink. record { bytes = Some sink.bytes.items; failed = sink.failed; refused = sink.refusals } };
+    ghost shown = { λ sink.
+        record { bytes = Some sink.bytes.items; failed = sink.failed; refused = sink.refusals } };
 
     fn write(&mut self, bytes: &[u8]) -> Result<usize, SinkRefusal> {
         let chosen = self.failing.contains(&self.calls);

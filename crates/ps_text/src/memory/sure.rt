@@ -39,7 +39,8 @@ impl SureFiles {
 }
 
 impl Files for SureFiles {
-    ghost shown = { λ files. record { told = λ n. is_text (sure_text_in files.texts n); reads = files.calls; failed = 0 } };
+    ghost shown = { λ files.
+        record { told = λ n. is_text (sure_text_in files.texts n); reads = files.calls; failed = 0 } };
 
     fn read(&mut self, alloc: Global, name: &str) -> Result<Vec<u8>, FileRefusal> {
         self.calls = risen(self.calls);
@@ -85,7 +86,8 @@ impl SureSink {
 }
 
 impl Sink for SureSink {
-    ghost shown = { λ sink. record { bytes = Some sink.bytes.items; failed = 0; refused = sink.refusals } };
+    ghost shown = { λ sink.
+        record { bytes = Some sink.bytes.items; failed = 0; refused = sink.refusals } };
 
     fn write(&mut self, bytes: &[u8]) -> Result<usize, SinkRefusal> {
         if self.bytes.extend_from_slice(bytes).is_err() {
