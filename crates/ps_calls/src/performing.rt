@@ -58,7 +58,8 @@ fn check<O: Sink>(
     domain: &Domain,
     out: &mut O,
 ) -> Result<u8, SinkRefusal>
-    ensures { Writes (domain_text names.now domain.now) 0 (O.shown out.old) (O.shown out.new) result }
+    ensures { Writes (domain_text names.now domain.now) 0
+        (O.shown out.old) (O.shown out.new) result }
 {
     let text = print_domain(alloc, names, domain)?;
     put(out, text.as_slice())?;
