@@ -1,3 +1,4 @@
+pub mod Clashes
 pub mod Contained
 pub mod Facts
 pub mod Faults

@@ -95,6 +95,21 @@ fault_of_flat k es = faults_from k [] es
 abbrev pub fault_of_effects : Domain → Knowledge → List Effect → Option EffectRefusal
 fault_of_effects d k es = fault_of_flat k (flat d k es)
 
+-- whether an effect gives a function term a value that one of those before it gives a value
+abbrev pub clashes : List Effect → Effect → Bool
+clashes before (Add l) = false
+clashes before (Delete l) = false
+clashes before (Number how l x) = list_any (sets (ground l)) before
+
+-- the place of the first of these effects that clashes, after those before them
+abbrev pub clash_from : List Effect → List Effect → Option ℕ
+clash_from before [] = None
+clash_from before (e ∷ es) = if clashes before e then Some (length before) else clash_from (before ++ e ∷ []) es
+
+-- the place of the first of flat effects that clashes, which is the same in every state
+abbrev pub first_clash : List Effect → Option ℕ
+first_clash es = clash_from [] es
+
 -- ---- the change
 
 -- whether an effect deletes this fact

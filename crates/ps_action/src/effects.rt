@@ -1,8 +1,8 @@
 //! What effects give, and what is at fault with them.
-ghost use Rattle.std.specs.Prelude.{◌≡◌, IfOk};
+ghost use Rattle.std.specs.Prelude.{◌≡◌, ◌↔◌, Some, IfOk, IsTrue};
 ghost use Rattle.std.specs.List.{list_any};
 ghost use Rattle.ps_world.specs.ExprViews.{expr_tree};
-ghost use Rattle.ps_action.specs.Effects.{count_after, count_fault, fault_of_effect, fault_of_effects, fault_of_flat, new_count, sets, value_set, values_of_flat, values_set};
+ghost use Rattle.ps_action.specs.Effects.{clashes, count_after, count_fault, fault_of_effect, fault_of_effects, fault_of_flat, first_clash, new_count, sets, value_set, values_of_flat, values_set};
 
 use crate::known::{Known, Types};
 use crate::refusals::EffectRefusal;
@@ -105,6 +105,73 @@ pub fn fault_of_effects<K: Known, T: Types>(
     ensures { result ≡ fault_of_effects (T.types types.now) (K.known known.now) effects.now }
 {
     fault_of_flat(known, effects)
+}
+
+/// Whether an effect gives a function term a value that one of those before it gives a value.
+fn clashes(before: &[Effect], effect: &Effect) -> bool
+    ensures { result ≡ clashes before.now effect.now }
+{
+    match effect {
+        Effect::Number(_, lifted, _) => is_set(&lifted.ground(), before),
+        _ => false,
+    }
+}
+
+/// The place of the first effect that gives a function term a value that an earlier one gives a value, if there is one. It takes no
+/// memory.
+pub fn first_clash(effects: &[Effect]) -> Option<usize>
+    ensures { result ≡ first_clash effects.now }
+{
+    for (at, effect) in effects.iter().enumerate() {
+        if clashes(&effects[..at], effect) {
+            return Some(at);
+        }
+    }
+    None
+}
+
+/// Whether this is the place of the first clash.
+fn is_at(clash: Option<usize>, at: usize) -> bool
+    ensures { IsTrue result ↔ (clash ≡ Some at) }
+{
+    match clash {
+        Some(place) => place == at,
+        None => false,
+    }
+}
+
+/// The first fault of flat effects, where the place of the first clash is known.
+fn fault_of_flat_with<K: Known>(
+    known: &K,
+    effects: &[Effect],
+    clash: Option<usize>,
+) -> Option<EffectRefusal>
+    requires { clash ≡ first_clash effects.now }
+    ensures { result ≡ fault_of_flat (K.known known.now) effects.now }
+{
+    for (at, effect) in effects.iter().enumerate() {
+        if is_at(clash, at) {
+            return Some(EffectRefusal::Clash { at });
+        }
+        let fault = fault_of_effect(known, &[], at, effect);
+        if fault.is_some() {
+            return fault;
+        }
+    }
+    None
+}
+
+/// The same as `fault_of_effects`, where the place of the first clash is known, so that no effect is held against the earlier ones.
+pub fn fault_with<K: Known, T: Types>(
+    known: &K,
+    types: &T,
+    effects: &[Effect],
+    clash: Option<usize>,
+) -> Option<EffectRefusal>
+    requires { clash ≡ first_clash effects.now }
+    ensures { result ≡ fault_of_effects (T.types types.now) (K.known known.now) effects.now }
+{
+    fault_of_flat_with(known, effects, clash)
 }
 
 /// The function term that an effect gives a value, with that value. None where it gives none, or where that isn't defined or is out

@@ -17,7 +17,7 @@ mod values;
 pub use acts::{Act, GroundAction, PlanStep};
 pub use answers::Answer;
 pub use arcs::Arcs;
-pub use effects::{fault_of_effects, values_set};
+pub use effects::{fault_of_effects, fault_with, first_clash, values_set};
 pub use known::{Known, Types};
 pub use plain::{apply_plain, holds_plain};
 pub use refusals::{EffectRefusal, GroundRefusal, PlanRefusal, PlanTextRefusal};

@@ -153,12 +153,12 @@ module _ (atoms : List Fact) (rise : IsStrictlySortedBy fact_cmp atoms) where
 -- the facts after a plain change
 abbrev altered : List Fact → Change → List Fact → List Fact
 altered atoms (Flags cleared set) fs = fold (with_at atoms) (fold (without_at atoms) fs cleared.items) set.items
-altered atoms (Effects es) fs = fs
+altered atoms (Effects es clash) fs = fs
 
 -- whether a fact is known after it, by whether it was before
 abbrev stays : List Fact → Change → Fact → Bool → Bool
 stays atoms (Flags cleared set) f b = (b && not (among atoms cleared.items f)) || among atoms set.items f
-stays atoms (Effects es) f b = b
+stays atoms (Effects es clash) f b = b
 
 module _ (atoms : List Fact) where
   known_with : (f : Fact) (is : List ℕ) (fs : List Fact) → known f (fold (with_at atoms) fs is) ≡ (known f fs || among atoms is f)
@@ -187,7 +187,7 @@ module _ (atoms : List Fact) where
   known_altered f (Flags cleared set) fs =
       known_with f set.items (fold (without_at atoms) fs cleared.items)
       ∙ ap (λ b. b || among atoms set.items f) (known_without f cleared.items fs)
-  known_altered f (Effects es) fs = refl
+  known_altered f (Effects es clash) fs = refl
 
   rises_with : (is : List ℕ) (fs : List Fact) → IsStrictlySortedBy fact_cmp fs → IsStrictlySortedBy fact_cmp (fold (with_at atoms) fs is)
   rises_with [] fs s = s
@@ -199,7 +199,7 @@ module _ (atoms : List Fact) where
 
   rises_altered : (c : Change) (fs : List Fact) → IsStrictlySortedBy fact_cmp fs → IsStrictlySortedBy fact_cmp (altered atoms c fs)
   rises_altered (Flags cleared set) fs s = rises_with set.items (fold (without_at atoms) fs cleared.items) (rises_without cleared.items fs s)
-  rises_altered (Effects es) fs s = s
+  rises_altered (Effects es clash) fs s = s
 
   -- what is at no changed place stays as it was
   stays_there : (f : Fact) (c : Change) (b : Bool) → among atoms (changed_by c) f ≡ false → stays atoms c f b ≡ b
@@ -210,7 +210,7 @@ module _ (atoms : List Fact) where
       same : (b : Bool) → ((b && true) || false) ≡ b
       same true = refl
       same false = refl
-  stays_there f (Effects es) b e = refl
+  stays_there f (Effects es clash) b e = refl
 
 -- ---- plain ground actions
 
@@ -244,7 +244,7 @@ module _ (d : Domain) (k : Knowledge) (atoms : List Fact) where
 
   plain_turned : (c : Change) (s : State) → is_plain_change c ≡ true → turned d k atoms c s ≡ Some (record { facts = altered atoms c s.facts; values = s.values })
   plain_turned (Flags cleared set) s e = refl
-  plain_turned (Effects es) s e = absurd (cc)
+  plain_turned (Effects es clash) s e = absurd (cc)
 
   -- a plain ground action leads to the facts that it leaves, where it can step
   plain_successor : (p : Prepared) (s : State) → is_plain p ≡ true → successor d k atoms s p ≡ where_so (can_step atoms p s.facts) (Some (record { facts = left_by atoms p s.facts; values = s.values }))

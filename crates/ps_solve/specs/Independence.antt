@@ -16,7 +16,7 @@ is_plain_test t = nat_eq (length t.others) 0
 -- whether a change is of flags alone
 abbrev pub is_plain_change : Change → Bool
 is_plain_change (Flags cleared set) = true
-is_plain_change (Effects es) = false
+is_plain_change (Effects es clash) = false
 
 -- whether a ground action is of atoms alone
 abbrev pub is_plain : Prepared → Bool
@@ -25,7 +25,7 @@ is_plain p = is_plain_test p.start && (is_plain_test p.over && (is_plain_test p.
 -- the places whose flags a change clears or sets
 abbrev pub changed_by : Change → List ℕ
 changed_by (Flags cleared set) = cleared.items ++ set.items
-changed_by (Effects es) = []
+changed_by (Effects es clash) = []
 
 -- the places that a ground action changes
 abbrev pub changes : Prepared → List ℕ

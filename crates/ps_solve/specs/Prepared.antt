@@ -10,6 +10,7 @@ use Rattle.ps_world.specs.declared.actions.Effect.TheVariants.{Add, Delete, Numb
 use Rattle.ps_world.specs.declared.domains.Domain.{Domain}
 use Rattle.ps_world.specs.declared.facts.Fact.{Fact}
 use Rattle.ps_world.specs.declared.known.Knowledge.{Knowledge}
+use Rattle.ps_action.specs.Effects.{first_clash}
 use Rattle.ps_action.specs.Truth.{all_true}
 use Rattle.ps_solve.specs.States.{State, at, changed, where_so}
 use Rattle.ps_solve.specs.Nodes.{Node}
@@ -38,17 +39,17 @@ pub record IsBare (p : Prepared) : Type 0 where
   pub over : IsBareTest p.over
   pub end : IsBareTest p.end
 
--- the effects of a change, where it is of effects, add atoms alone
+-- the effects of a change, where it is of effects, add atoms alone, and the first that clashes is at its place
 abbrev pub IsSoundChange : List Fact → Change → Type 0
 IsSoundChange atoms (Flags cleared set) = Unit {0}
-IsSoundChange atoms (Effects es) = AddAtoms atoms es
+IsSoundChange atoms (Effects es clash) = AddAtoms atoms es × (clash ≡ first_clash es)
 
--- so do those of both changes of a prepared ground action
+-- so it is with both changes of a prepared ground action
 pub record IsSound (atoms : List Fact) (p : Prepared) : Type 0 where
   pub start : IsSoundChange atoms p.at_start
   pub end : IsSoundChange atoms p.at_end
 
--- so do those of each of these
+-- so it is with each of these
 abbrev pub AreSound : List Fact → List Prepared → Type 0
 AreSound atoms [] = Unit {0}
 AreSound atoms (p ∷ ps) = IsSound atoms p × AreSound atoms ps
@@ -64,7 +65,7 @@ with_at atoms fs i = option_map_or (insert_key fact_cmp fs) (slice_get atoms i) 
 -- the state after a prepared change, unless an effect has a fault
 abbrev pub turned : Domain → Knowledge → List Fact → Change → State → Option State
 turned d k atoms (Flags cleared set) s = Some (record { facts = fold (with_at atoms) (fold (without_at atoms) s.facts cleared.items) set.items; values = s.values })
-turned d k atoms (Effects es) s = changed d k s es
+turned d k atoms (Effects es clash) s = changed d k s es
 
 -- the state after the end of a prepared ground action, if that doesn't fail
 abbrev pub landed : Domain → Knowledge → List Fact → Prepared → State → Option State

@@ -76,7 +76,7 @@ fn is_plain_change(change: &Change) -> bool
 {
     match change {
         Change::Flags { .. } => true,
-        Change::Effects(_) => false,
+        Change::Effects { .. } => false,
     }
 }
 
@@ -86,7 +86,7 @@ fn with_changed(bits: u64, change: &Change) -> u64
 {
     match change {
         Change::Flags { cleared, set } => with_places(with_places(bits, cleared), set),
-        Change::Effects(_) => bits,
+        Change::Effects { .. } => bits,
     }
 }
 

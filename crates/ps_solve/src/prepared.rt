@@ -20,7 +20,7 @@ ghost use Rattle.ps_solve.specs.declared.nodes.Reached.{Reached as ReachedView};
 
 use super::atoms::Atoms;
 use super::footprints::Footprint;
-use ps_action::{Act, GroundAction};
+use ps_action::{Act, GroundAction, first_clash};
 use ps_world::{Cond, Conds, Duplicate, Effect, Seq};
 use std::alloc::{AllocError, Global};
 
@@ -39,8 +39,12 @@ pub enum Change {
         cleared: Vec<usize>,
         set: Vec<usize>,
     },
-    /// The effects, some of which give numbers.
-    Effects(Seq<Effect>),
+    /// The effects, some of which give numbers, and the place of the first that gives a term a value that an earlier one gives a
+    /// value.
+    Effects {
+        effects: Seq<Effect>,
+        clash: Option<usize>,
+    },
 }
 
 /// A prepared ground action.
@@ -79,8 +83,14 @@ impl Prepared {
             start: Test::bare(alloc),
             over: Test::bare(alloc),
             end: Test::bare(alloc),
-            at_start: Change::Effects(Seq::new(alloc)),
-            at_end: Change::Effects(Seq::new(alloc)),
+            at_start: Change::Effects {
+                effects: Seq::new(alloc),
+                clash: None,
+            },
+            at_end: Change::Effects {
+                effects: Seq::new(alloc),
+                clash: None,
+            },
             footprint: Footprint {
                 plain: false,
                 changed: 0,
@@ -219,7 +229,10 @@ fn change_of(alloc: Global, atoms: &Atoms, effects: &Seq<Effect>) -> Result<Chan
     ensures sound { IfOk result (IsSoundChange atoms.now) }
 {
     if has_number(effects.as_slice()) {
-        return Ok(Change::Effects(effects.copy(alloc)?));
+        return Ok(Change::Effects {
+            effects: effects.copy(alloc)?,
+            clash: first_clash(effects.as_slice()),
+        });
     }
     let set = all_added(alloc, atoms, effects.as_slice())?;
     let cleared = all_deleted(alloc, atoms, effects.as_slice())?;

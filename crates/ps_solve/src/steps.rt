@@ -1,13 +1,14 @@
 //! Steps from a state to the next.
 ghost use Rattle.std.specs.Prelude.{◌≡◌, Some, None, if◌then◌else◌, option_and_then, option_map, length, IfOk, IfSome, OnOk};
 ghost use Rattle.ps_solve.specs.States.{at, changed};
+ghost use Rattle.ps_action.specs.Effects.{first_clash};
 ghost use Rattle.ps_solve.specs.Prepared.{IsSound, IsSoundChange, landed, successor, passes, turned};
 ghost use Rattle.ps_solve.specs.Rows.{AddAtoms, plain_state};
 
 use super::atoms::Atoms;
 use super::prepared::{Change, Prepared, Test};
 use super::rows::{Row, are_known, is_set};
-use ps_action::{Known, Types, all_true, fault_of_effects, values_set};
+use ps_action::{Known, Types, all_true, fault_with, values_set};
 use ps_world::{Effect, Fact, Name, Num};
 use std::alloc::{AllocError, Global};
 
@@ -45,8 +46,8 @@ impl<'a, K: Known> Known for At<'a, K> {
     }
 }
 
-/// Makes a list of effects in a state, and answers whether it could: false where one has a fault. Where memory runs out the row
-/// may have changed.
+/// Makes a list of effects in a state, where this is the place of their first clash, and answers whether it could: false where one
+/// has a fault. Where memory runs out the row may have changed.
 fn change<K: Known, T: Types>(
     alloc: Global,
     given: &K,
@@ -54,9 +55,11 @@ fn change<K: Known, T: Types>(
     atoms: &Atoms,
     row: &mut Row,
     effects: &[Effect],
+    clash: Option<usize>,
 ) -> Result<bool, AllocError>
     requires wide { length row.old.flags.items ≡ length atoms.now }
     requires atoms { AddAtoms atoms.now effects.now }
+    requires clash { clash ≡ first_clash effects.now }
     ensures state { IfOk result (λ made.
         (if made then Some (plain_state atoms.now row.new) else None)
         ≡ changed (T.types types.now) (K.known given.now)
@@ -68,7 +71,7 @@ fn change<K: Known, T: Types>(
         atoms,
         row: &*row,
     };
-    if fault_of_effects(&here, types, effects).is_some() {
+    if fault_with(&here, types, effects, clash).is_some() {
         return Ok(false);
     }
     let ready = values_set(alloc, &here, types, effects)?;
@@ -108,7 +111,9 @@ fn turn<K: Known, T: Types>(
             row.set_all(atoms, set);
             Ok(true)
         }
-        Change::Effects(effects) => change(alloc, given, types, atoms, row, effects.as_slice()),
+        Change::Effects { effects, clash } => {
+            change(alloc, given, types, atoms, row, effects.as_slice(), *clash)
+        }
     }
 }
 

@@ -1,5 +1,6 @@
-use Rattle.std.proofs.Common.{List, sym, subst}
+use Rattle.std.proofs.Common.{List, ap, sym, ◌∙◌, subst}
 use Rattle.ps_world.specs.declared.actions.Effect.{Effect}
+use Rattle.ps_action.specs.Effects.{first_clash}
 use Rattle.ps_solve.specs.Prepared.{IsSoundChange}
 use Rattle.ps_solve.specs.Rows.{AddAtoms}
 use Rattle.ps_solve.specs.declared.prepared.Change.{Change}
@@ -9,4 +10,9 @@ pub change-requires-clause-atoms : goal.change-requires-clause-atoms
 change-requires-clause-atoms g c =
     let P : List Effect → Type 0 = AddAtoms c.args.atoms.now in
     let Q : Change → Type 0 = IsSoundChange c.args.atoms.now in
-    subst P (sym c.as_slice.ensures) (subst Q c.in-Effects.is c.requires.sound)
+    subst P (sym c.as_slice.ensures) (subst Q c.in-Effects.is c.requires.sound).0
+
+pub change-requires-clause-clash : goal.change-requires-clause-clash
+change-requires-clause-clash g c =
+    let Q : Change → Type 0 = IsSoundChange c.args.atoms.now in
+    (subst Q c.in-Effects.is c.requires.sound).1 ∙ ap first_clash (sym c.as_slice.ensures)
