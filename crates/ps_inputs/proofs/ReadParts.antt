@@ -8,7 +8,7 @@ use Rattle.ps_world.specs.declared.failures.Failure.TheVariants.{Refused, OutOfM
 use Rattle.std.specs.Global.{Vec}
 use Rattle.ps_text.specs.Outside.{FilesView, MayHold, Reads, Told, after, next}
 use Rattle.ps_text.specs.Outside.Told.{untold, absent, text}
-use Rattle.ps_inputs.specs.Reading.{FileFault, MayBe, MayFail, MayReadNext, Reading, Texts, after_files, and_then, file_gives, longest_file, most_lines}
+use Rattle.ps_inputs.specs.Reading.{FileFault, MayBe, MayFail, MayGive, MayReadNext, Reading, Texts, after_files, and_then, file_gives, longest_file, most_lines}
 use Rattle.ps_inputs.specs.Reading.FileFault.{too_long, too_many}
 use Rattle.ps_inputs.specs.Reading.Reading.{gives, faulty, unknown}
 use Rattle.ps_inputs.specs.Faults.{IsEnded, ReadsPart, failed_after}
@@ -62,6 +62,12 @@ be_after : {B : Type 0} (files : List (List ℕ)) (z : Reading B) (j k : ℕ) (b
 be_after files (gives more w) j k b h p = (omega (arith, length-append files more, h, p.0), p.1)
 be_after files (faulty more it) j k b h p = absurd p
 be_after files (unknown more) j k b h p = omega (arith, length-append files more, h, p)
+
+-- what holds of what a part gives
+pub give_be : {A : Type 0} (x : Reading A) (j : ℕ) (a : A) (claim : A → Type 0) → MayBe x j a → claim a → MayGive x claim
+give_be (gives files v) j a claim h p = subst claim (sym h.1) p
+give_be (faulty files it) j a claim h p = absurd h
+give_be (unknown files) j a claim h p = tt
 
 -- the second part gives this
 be_second : {A B : Type 0} (x : Reading A) (y : A → Reading B) (j k : ℕ) (a : A) (b : B) → MayBe x j a → MayBe (y a) k b → MayBe (and_then x y) (j + k) b

@@ -6,9 +6,9 @@ use Rattle.ps_world.specs.declared.failures.Failure.{Failure}
 use Rattle.ps_world.specs.declared.failures.Failure.TheVariants.{Refused, OutOfMemory}
 use Rattle.ps_text.specs.Outside.{FilesView, after, next}
 use Rattle.ps_words.specs.Words.{Request, asked_of}
-use Rattle.ps_inputs.specs.Reading.{Reading, MayBe, MayFail, MayGive, MayReadNext, longest_file, most_lines}
+use Rattle.ps_inputs.specs.Reading.{Reading, Texts, MayBe, MayFail, MayGive, MayReadNext, longest_file, most_lines, read_file}
 use Rattle.ps_inputs.specs.Reading.FileFault.{too_long, too_many}
-use Rattle.ps_inputs.specs.Input.{IsAsked, IsNoDomain, IsWork, cannot_read_line, domain_line, domain_text_of, lines_line, reading_of, too_long_line, usage_line}
+use Rattle.ps_inputs.specs.Input.{IsAsked, IsNoDomain, IsWork, cannot_read_line, domain_file_of, domain_line, domain_text_of, lines_line, reading_of, too_long_line, usage_line}
 use Rattle.ps_inputs.specs.declared.works.Work.{Work}
 use Rattle.ps_inputs.specs.declared.faults.Fault.{Fault}
 use Rattle.ps_inputs.specs.declared.faults.Fault.TheVariants.{Usage, NoDomain, TooLong, Lines, Unread}
@@ -71,11 +71,16 @@ pub record ReadsPart {A B : Type 0} (part : Reading A) (old new : FilesView) (Is
 
 -- ---- loading the work
 
+-- The text of the domain's file is no domain, for this cause, where that file tells it; and no file is at fault, as far as they tell,
+-- but reading all of them gives such a text.
+pub record IsNoDomainIn (texts : Texts) (request : Request) (cause : List ℕ) : Type 0 where
+  pub domain : MayGive (read_file texts (domain_file_of request)) (λ text. IsNoDomain text cause)
+  pub all : MayGive (reading_of texts request) (λ m. IsNoDomain (domain_text_of m) cause)
+
 -- The first fault, in the order of the work: the words, the files as they are read, the domain's text.
 abbrev pub IsDue : List (List ℕ) → FilesView → FilesView → Fault → Type 0
 IsDue ws old new Usage = asked_of ws ≡ None
-IsDue ws old new (NoDomain cause) =
-    (r : Request) × (asked_of ws ≡ Some r) × MayGive (reading_of old.told r) (λ m. IsNoDomain (domain_text_of m) cause.items)
+IsDue ws old new (NoDomain cause) = (r : Request) × (asked_of ws ≡ Some r) × IsNoDomainIn old.told r cause.items
 IsDue ws old new fault = (r : Request) × (asked_of ws ≡ Some r) × IsEnded (reading_of old.told r) old new (Refused fault)
 
 -- why there is no work: a fault is due, or memory ran out

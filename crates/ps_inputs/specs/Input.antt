@@ -41,6 +41,12 @@ reading_of texts (a_validation domain_file script_file plan_file) =
     and_then (read_file texts plan_file) (λ plan.
     gives [] (for_validation domain script.lines plan))))
 
+-- the file of the domain
+abbrev pub domain_file_of : Request → List ℕ
+domain_file_of (a_session s) = s.domain
+domain_file_of (a_check file) = file
+domain_file_of (a_validation domain script plan) = domain
+
 -- the text of the domain
 abbrev pub domain_text_of : Material → List ℕ
 domain_text_of (for_session budget domain script) = domain

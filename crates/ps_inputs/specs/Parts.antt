@@ -11,11 +11,11 @@ use Rattle.ps_text.specs.ScriptLines.{script_lines}
 use Rattle.ps_script.specs.Files.{after_run, file_in, is_source}
 use Rattle.ps_script.specs.Lines.{is_nothing}
 use Rattle.ps_words.specs.Words.{Request}
-use Rattle.ps_inputs.specs.Reading.{Reading, most_lines, read_file}
+use Rattle.ps_inputs.specs.Reading.{MayGive, Reading, Texts, most_lines, read_file}
 use Rattle.ps_inputs.specs.Flats.{Flat, on_source, one_line, plain_line, plan_line, script_in, step, walk}
 use Rattle.ps_inputs.specs.Flats.Flattened.{too_deep}
 use Rattle.ps_inputs.specs.Scripts.{IsScript}
-use Rattle.ps_inputs.specs.Input.{IsAsked, IsDomain, IsNoDomain, IsWork, Material, domain_text_of, reading_of}
+use Rattle.ps_inputs.specs.Input.{IsAsked, IsDomain, IsNoDomain, IsWork, Material, domain_file_of, domain_text_of, reading_of}
 use Rattle.ps_inputs.specs.Faults.{ReadsPart}
 use Rattle.ps_inputs.specs.declared.faults.Fault.{Fault}
 use Rattle.ps_inputs.specs.declared.faults.Fault.TheVariants.{NoDomain, Lines}
@@ -91,8 +91,8 @@ abbrev pub Opens : Bool → ℕ → List ℕ → FilesView → FilesView → Scr
 Opens plans levels file old new before after r = Adds (on_source plans levels old.told (count_of before) file) old new before after r
 
 -- reading one line of a file, which may name a file
-abbrev pub Takes : Bool → ℕ → List ℕ → FilesView → FilesView → Script → Script → Result Bool (Failure Fault) → Type 0
-Takes plans levels bytes old new before after r = Adds (step plans old.told (on_source plans levels old.told) (count_of before) bytes) old new before after r
+abbrev pub ReadsFileLine : Bool → ℕ → List ℕ → FilesView → FilesView → Script → Script → Result Bool (Failure Fault) → Type 0
+ReadsFileLine plans levels bytes old new before after r = Adds (step plans old.told (on_source plans levels old.told) (count_of before) bytes) old new before after r
 
 -- reading these lines of a file
 abbrev pub WalksLines : Bool → ℕ → List (List ℕ) → FilesView → FilesView → Script → Script → Result Bool (Failure Fault) → Type 0
@@ -113,12 +113,14 @@ ReadsScript names plans file old new r = ReadsPart (script_in plans old.told fil
 
 -- ---- the work
 
--- what the files hold is the work that is asked for, or its domain's text is none
-abbrev pub IsAnswered : Request → Material → Result Work Fault → Type 0
-IsAnswered request m (Ok w) = IsAsked request w × IsWork m w
-IsAnswered request m (Err (NoDomain cause)) = IsNoDomain (domain_text_of m) cause.items
-IsAnswered request m (Err fault) = ⊥
+-- what the files hold is the work that is asked for, or its domain's text is none, and so is that of the domain's file, where it is told
+abbrev pub IsAnswered : Texts → Request → Material → Result Work Fault → Type 0
+IsAnswered texts request m (Ok w) = IsAsked request w × IsWork m w
+IsAnswered texts request m (Err (NoDomain cause)) =
+    IsNoDomain (domain_text_of m) cause.items
+    × MayGive (read_file texts (domain_file_of request)) (λ text. IsNoDomain text cause.items)
+IsAnswered texts request m (Err fault) = ⊥
 
 -- reading all files of a request, and judging the domain's text
-abbrev pub Answers : Request → FilesView → FilesView → Result (Result Work Fault) (Failure Fault) → Type 0
-Answers request old new r = ReadsPart (reading_of old.told request) old new (IsAnswered request) r
+abbrev pub LoadsRequest : Request → FilesView → FilesView → Result (Result Work Fault) (Failure Fault) → Type 0
+LoadsRequest request old new r = ReadsPart (reading_of old.told request) old new (IsAnswered old.told request) r

@@ -3,7 +3,7 @@ ghost use Rattle.std.specs.Prelude.{◌≤◌};
 ghost use Rattle.ps_words.specs.Words.{IsInRange, said, settings_said};
 ghost use Rattle.ps_words.specs.Words.Request.{a_check, a_session, a_validation};
 ghost use Rattle.ps_inputs.specs.Faults.{Loads, word_texts};
-ghost use Rattle.ps_inputs.specs.Parts.{Answers};
+ghost use Rattle.ps_inputs.specs.Parts.{LoadsRequest};
 
 use crate::faults::Fault;
 use crate::reading::{Judged, Script, read_domain_file, read_script, read_text};
@@ -22,7 +22,7 @@ fn load_session<'a, F: Files>(
     files: &mut F,
 ) -> Result<Result<Work, Fault>, Failure<Fault>>
     requires { 1 ≤ settings.budget }
-    ensures { Answers (a_session (settings_said settings.entry)) (F.shown files.old)
+    ensures { LoadsRequest (a_session (settings_said settings.entry)) (F.shown files.old)
         (F.shown files.new) result }
 {
     let Judged { names, domain } = read_domain_file(alloc, settings.domain, files)?;
@@ -47,7 +47,7 @@ fn load_check<F: Files>(
     file: &str,
     files: &mut F,
 ) -> Result<Result<Work, Fault>, Failure<Fault>>
-    ensures { Answers (a_check file.now) (F.shown files.old) (F.shown files.new) result }
+    ensures { LoadsRequest (a_check file.now) (F.shown files.old) (F.shown files.new) result }
 {
     let Judged { names, domain } = read_domain_file(alloc, file, files)?;
     match domain {
@@ -65,7 +65,7 @@ fn load_validation<F: Files>(
     plan: &str,
     files: &mut F,
 ) -> Result<Result<Work, Fault>, Failure<Fault>>
-    ensures { Answers (a_validation domain.now script.now plan.now) (F.shown files.old)
+    ensures { LoadsRequest (a_validation domain.now script.now plan.now) (F.shown files.old)
         (F.shown files.new) result }
 {
     let Judged { names, domain } = read_domain_file(alloc, domain, files)?;
@@ -92,7 +92,7 @@ fn load_asked<'a, F: Files>(
     files: &mut F,
 ) -> Result<Result<Work, Fault>, Failure<Fault>>
     requires { IsInRange (said asked) }
-    ensures { Answers (said asked.entry) (F.shown files.old) (F.shown files.new) result }
+    ensures { LoadsRequest (said asked.entry) (F.shown files.old) (F.shown files.new) result }
 {
     match asked {
         Asked::Session(settings) => load_session(alloc, settings, files),

@@ -1,7 +1,7 @@
 //! A script with the lines of its files put in place of the lines that name them.
 ghost use Rattle.std.specs.Prelude.{◌≤◌, length};
 ghost use Rattle.ps_inputs.specs.Reading.{most_lines};
-ghost use Rattle.ps_inputs.specs.Parts.{Opens, ReadsScript, Takes, Walks};
+ghost use Rattle.ps_inputs.specs.Parts.{Opens, ReadsFileLine, ReadsScript, Walks};
 
 use super::files::read_text;
 use super::scripts::{Script, put_deep, put_plain, put_plan};
@@ -47,7 +47,7 @@ fn take<F: Files>(
     script: &mut Script,
 ) -> Result<bool, Failure<Fault>>
     requires { length script.old.lines.items ≤ most_lines }
-    ensures { Takes plans levels line.now (F.shown files.old)
+    ensures { ReadsFileLine plans levels line.now (F.shown files.old)
         (F.shown files.new) script.old script.new result }
 {
     match kind_of(alloc, line)? {
