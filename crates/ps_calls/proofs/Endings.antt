@@ -202,7 +202,7 @@ module _ (ws : List (List ℕ)) (old new : FilesView) (r : Request) (asked : ask
 
   leads-due : (f : Fault) → IsDue ws old new f → LeadsTo (reading_of old.told r) (fault_status f)
   leads-due Usage due = absurd (asked-apart ws r due asked)
-  leads-due (NoDomain cause) due = here due.0 due.1 (λ part. LeadsTo part 3) (leads-no_domain (reading_of old.told due.0) cause.items due.2)
+  leads-due (NoDomain cause) due = here due.0 due.1 (λ part. LeadsTo part 3) (leads-no_domain (reading_of old.told due.0) cause.items due.2.all)
   leads-due (TooLong file) due = here due.0 due.1 (λ part. LeadsTo part 3) (leads-too_long (reading_of old.told due.0) file.items due.2.length due.2.told)
   leads-due Lines due = here due.0 due.1 (λ part. LeadsTo part 3) (leads-too_many (reading_of old.told due.0) _ due.2)
   leads-due (Unread file) due = leads-unread (reading_of old.told r)

@@ -15,13 +15,13 @@ use Rattle.ps_inputs.specs.declared.works.Validation.{Validation}
 use Rattle.ps_inputs.specs.declared.works.Work.TheVariants as work
 use Rattle.ps_session.specs.Session.{Runs, input_with}
 use Rattle.ps_session.proofs.Sessions.{nothing_written}
-use Rattle.ps_calls.specs.Headline.{Performs, Writes, answer_line, verdict_of}
+use Rattle.ps_calls.specs.Headline.{Performs, WritesWithStatus, answer_line, verdict_of}
 use Rattle.ps_calls.specs.Verdicts.{verdict_line, verdict_status}
 
 -- ---- one text
 
 -- memory ran out before anything was written
-pub unwritten : (text : List ℕ) (status : ℕ) (start : SinkView) → Writes text status start start (Err OutOfMemory)
+pub unwritten : (text : List ℕ) (status : ℕ) (start : SinkView) → WritesWithStatus text status start start (Err OutOfMemory)
 unwritten text status start = record { done = tt; cut = (0, Appends-nil start.bytes); counted = refl }
 
 counts_work : (old new : SinkView) (e : SinkRefusal) → Counts {A = Unit {0}} old new (Err e) → CountsWork {A = ℕ} old new (Err e)
@@ -29,24 +29,24 @@ counts_work old new Failed h = h
 counts_work old new OutOfMemory h = h.0
 
 -- a write of the text was refused
-pub half_written : (text : List ℕ) (status : ℕ) (old new : SinkView) (e : SinkRefusal) → Puts text old new (Err e) → Writes text status old new (Err e)
+pub half_written : (text : List ℕ) (status : ℕ) (old new : SinkView) (e : SinkRefusal) → Puts text old new (Err e) → WritesWithStatus text status old new (Err e)
 half_written text status old new e p = record { done = tt; cut = p.prefix; counted = counts_work old new e p.counted }
 
 -- the text was written
-pub written : (text : List ℕ) (status : ℕ) (old new : SinkView) → Puts text old new (Ok tt) → Writes text status old new (Ok status)
+pub written : (text : List ℕ) (status : ℕ) (old new : SinkView) → Puts text old new (Ok tt) → WritesWithStatus text status old new (Ok status)
 written text status old new p = record { done = (refl, p.whole); cut = tt; counted = p.counted }
 
 -- ---- each kind of work
 
 -- a domain's text
-pub checked : (names : Table) (d : Domain) (old new : SinkView) (r : Result ℕ SinkRefusal) → Writes (domain_text names d) 0 old new r → Performs (work.Check names d) old new r
+pub checked : (names : Table) (d : Domain) (old new : SinkView) (r : Result ℕ SinkRefusal) → WritesWithStatus (domain_text names d) 0 old new r → Performs (work.Check names d) old new r
 checked names d old new (Ok status) w = record { done = w.done; cut = tt; counted = w.counted }
 checked names d old new (Err e) w = record { done = tt; cut = w.cut; counted = w.counted }
 
 -- the line of a plan
-pub judged : (v : Validation) (wrong : Option Invalid) (after : Table) (old new : SinkView) (r : Result ℕ SinkRefusal) → (wrong, after) ≡ verdict_of v → Writes (verdict_line after wrong) (verdict_status wrong) old new r → Performs (work.Validation v) old new r
-judged v wrong after old new r same w = of_line r (subst (λ p. Writes (answer_line p) (verdict_status p.0) old new r) same w) where
-  of_line : (r : Result ℕ SinkRefusal) → Writes (answer_line (verdict_of v)) (verdict_status (verdict_of v).0) old new r → Performs (work.Validation v) old new r
+pub judged : (v : Validation) (wrong : Option Invalid) (after : Table) (old new : SinkView) (r : Result ℕ SinkRefusal) → (wrong, after) ≡ verdict_of v → WritesWithStatus (verdict_line after wrong) (verdict_status wrong) old new r → Performs (work.Validation v) old new r
+judged v wrong after old new r same w = of_line r (subst (λ p. WritesWithStatus (answer_line p) (verdict_status p.0) old new r) same w) where
+  of_line : (r : Result ℕ SinkRefusal) → WritesWithStatus (answer_line (verdict_of v)) (verdict_status (verdict_of v).0) old new r → Performs (work.Validation v) old new r
   of_line (Ok status) w = record { done = w.done; cut = tt; counted = w.counted }
   of_line (Err e) w = record { done = tt; cut = w.cut; counted = w.counted }
 

@@ -60,7 +60,7 @@ pub record Performs (w : Work) (old new : SinkView) (r : Result ℕ SinkRefusal)
   pub counted : CountsWork old new r
 
 -- Writing a text: all of it, with this status, or a prefix of it, where a write was refused or memory ran out.
-pub record Writes (text : List ℕ) (status : ℕ) (old new : SinkView) (r : Result ℕ SinkRefusal) : Type 0 where
+pub record WritesWithStatus (text : List ℕ) (status : ℕ) (old new : SinkView) (r : Result ℕ SinkRefusal) : Type 0 where
   pub done : IfOk r (λ s. (s ≡ status) × Appends old.bytes new.bytes text)
   pub cut : OnErr r (AppendsPrefix old.bytes new.bytes text)
   pub counted : CountsWork old new r

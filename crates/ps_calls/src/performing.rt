@@ -2,7 +2,7 @@
 ghost use Rattle.ps_world.specs.DomainTexts.{domain_text};
 ghost use Rattle.ps_text.specs.Names.{AreNames};
 ghost use Rattle.ps_inputs.specs.declared.works.Work.TheVariants.{Session as ASession, Validation as AValidation};
-ghost use Rattle.ps_calls.specs.Headline.{Finds, Performs, Writes, verdict_after};
+ghost use Rattle.ps_calls.specs.Headline.{Finds, Performs, WritesWithStatus, verdict_after};
 ghost use Rattle.ps_calls.specs.Verdicts.{verdict_line, verdict_status};
 
 use super::verdicts::{verdict_line, verdict_status};
@@ -58,7 +58,7 @@ fn check<O: Sink>(
     domain: &Domain,
     out: &mut O,
 ) -> Result<u8, SinkRefusal>
-    ensures { Writes (domain_text names.now domain.now) 0 (O.shown out.old)
+    ensures { WritesWithStatus (domain_text names.now domain.now) 0 (O.shown out.old)
         (O.shown out.new) result }
 {
     let text = print_domain(alloc, names, domain)?;
@@ -116,7 +116,7 @@ fn write_verdict<O: Sink>(
     wrong: &Option<Invalid>,
     out: &mut O,
 ) -> Result<u8, SinkRefusal>
-    ensures { Writes (verdict_line names.now wrong.now) (verdict_status wrong.now)
+    ensures { WritesWithStatus (verdict_line names.now wrong.now) (verdict_status wrong.now)
         (O.shown out.old) (O.shown out.new) result }
 {
     let line = verdict_line(alloc, names, wrong)?;
