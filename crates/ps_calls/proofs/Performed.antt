@@ -13,7 +13,7 @@ use Rattle.ps_validate.specs.declared.verdicts.Invalid.{Invalid}
 use Rattle.ps_inputs.specs.declared.works.Session.{Session}
 use Rattle.ps_inputs.specs.declared.works.Validation.{Validation}
 use Rattle.ps_inputs.specs.declared.works.Work.TheVariants as work
-use Rattle.ps_session.specs.Session.{Runs, input_with}
+use Rattle.ps_session.specs.Session.{Runs, RunsAll, built, input_with}
 use Rattle.ps_session.proofs.Sessions.{nothing_written}
 use Rattle.ps_calls.specs.Headline.{Performs, WritesWithStatus, answer_line, verdict_of}
 use Rattle.ps_calls.specs.Verdicts.{verdict_line, verdict_status}
@@ -55,15 +55,15 @@ pub unjudged : (v : Validation) (start : SinkView) → Performs (work.Validation
 unjudged v start = record { done = tt; cut = (0, Appends-nil start.bytes); counted = refl }
 
 -- an input of these parts
-same_input : (i : Input) (d : Domain) (lines : List Line) → d ≡ i.domain → lines ≡ i.lines → input_with d lines i.budget ≡ i
-same_input i d lines p q = λ j. record { domain = p j; lines = q j; budget = i.budget }
+same_input : (i : Input) (d : Domain) (lines : List Line) → d ≡ i.domain → lines ≡ i.lines → input_with d i.members lines i.budget i.replans ≡ built i
+same_input i d lines p q = λ j. input_with (p j) i.members (q j) i.budget i.replans
 
 -- a session's input was run
-pub ran : (s : Session) (d : Domain) (lines : List Line) (old new : SinkView) (r : Result ℕ SinkRefusal) → d ≡ s.input.domain → lines ≡ s.input.lines → Runs (input_with d lines s.input.budget) s.names old new r → Performs (work.Session s) old new r
-ran s d lines old new r p q run = of_run (subst (λ i. Runs i s.names old new r) (same_input s.input d lines p q) run) where
-  of_run : Runs s.input s.names old new r → Performs (work.Session s) old new r
+pub ran : (s : Session) (d : Domain) (lines : List Line) (old new : SinkView) (r : Result ℕ SinkRefusal) → d ≡ s.input.domain → lines ≡ s.input.lines → RunsAll d lines s.input.budget s.names old new r → Performs (work.Session s) old new r
+ran s d lines old new r p q run = of_run (subst (λ i. Runs i s.names old new r) (same_input s.input d lines p q) (run s.input.members s.input.replans)) where
+  of_run : Runs (built s.input) s.names old new r → Performs (work.Session s) old new r
   of_run run = record { done = run.done; cut = run.cut; counted = run.counted }
 
 -- memory ran out before the session began
 pub unrun : (s : Session) (start : SinkView) → Performs (work.Session s) start start (Err OutOfMemory)
-unrun s start = record { done = tt; cut = nothing_written s.input s.names start.bytes; counted = refl }
+unrun s start = record { done = tt; cut = nothing_written (built s.input) s.names start.bytes; counted = refl }

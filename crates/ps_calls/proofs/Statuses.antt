@@ -1,7 +1,7 @@
 -- The statuses of work and of faults.
 use Rattle.std.proofs.Common.{◌≡◌, ℕ, ◌<◌, ◌⊎◌, Bool, true, false, if◌then◌else◌, Option, Some, None, Ok, inl, inr, refl, sym, subst, arith}
 use Rattle.std.specs.List.{list_any}
-use Rattle.ps_machine.specs.History.{is_refusal}
+use Rattle.ps_rules.specs.History.{is_mishap}
 use Rattle.ps_text.specs.Outside.{SinkView}
 use Rattle.ps_validate.specs.declared.verdicts.Invalid.{Invalid}
 use Rattle.ps_inputs.specs.Faults.{fault_status}
@@ -20,7 +20,7 @@ flag_below false = omega arith
 
 -- finished work has a status of its kind
 pub status-performed : (w : Work) (old new : SinkView) (status : ℕ) → Performs w old new (Ok status) → IsStatusOf w status
-status-performed (work.Session s) old new status p = subst (λ n. n < 2) (sym p.done.2.answer) (flag_below (list_any (λ e. is_refusal e.what) p.done.2.journal))
+status-performed (work.Session s) old new status p = subst (λ n. n < 2) (sym p.done.2.answer) (flag_below (list_any (λ e. is_mishap e.what) p.done.2.journal))
 status-performed (work.Check names d) old new status p = p.done.0
 status-performed (work.Validation v) old new status p = p.done.0
 

@@ -18,7 +18,7 @@ use Rattle.ps_inputs.specs.declared.faults.Fault.{Fault}
 use Rattle.ps_inputs.specs.declared.works.Validation.{Validation}
 use Rattle.ps_inputs.specs.declared.works.Work.{Work}
 use Rattle.ps_inputs.specs.declared.works.Work.TheVariants as work
-use Rattle.ps_session.specs.Session.{IsCut, IsDone}
+use Rattle.ps_session.specs.Session.{IsCut, IsDone, built}
 use Rattle.ps_calls.specs.Verdicts.{verdict_line, verdict_status}
 
 -- ---- doing the work
@@ -42,14 +42,14 @@ answer_line v = verdict_line v.1 v.0
 -- The work is done, with this status: a session writes the text of a whole history, whose status it is, a check the domain's
 -- canonical text, a validation the line that says what the plan is worth.
 abbrev pub IsWorkDone : Work → Option (List ℕ) → Option (List ℕ) → ℕ → Type 0
-IsWorkDone (work.Session s) old new status = IsDone s.input s.names old new status
+IsWorkDone (work.Session s) old new status = IsDone (built s.input) s.names old new status
 IsWorkDone (work.Check names d) old new status = (status ≡ 0) × Appends old new (domain_text names d)
 IsWorkDone (work.Validation v) old new status =
     (status ≡ verdict_status (verdict_of v).0) × Appends old new (answer_line (verdict_of v))
 
 -- The work is broken off: what it wrote is a prefix of the text of a history, of the domain's text, or of that line.
 abbrev pub IsWorkCut : Work → Option (List ℕ) → Option (List ℕ) → Type 0
-IsWorkCut (work.Session s) old new = IsCut s.input s.names old new
+IsWorkCut (work.Session s) old new = IsCut (built s.input) s.names old new
 IsWorkCut (work.Check names d) old new = AppendsPrefix old new (domain_text names d)
 IsWorkCut (work.Validation v) old new = AppendsPrefix old new (answer_line (verdict_of v))
 

@@ -37,6 +37,7 @@ fn do_session<O: Sink>(alloc: Global, session: Session, out: &mut O) -> Result<u
         domain,
         lines,
         budget,
+        ..
     } = input;
     let expert = Expert::new(alloc, domain)?;
     let solver = Forward::new();

@@ -8,9 +8,12 @@ use Rattle.std.specs.Global.{Vec}
 use Rattle.ps_world.specs.Names.{Table}
 use Rattle.ps_world.specs.declared.failures.Failure.{Failure}
 use Rattle.ps_world.specs.declared.failures.Failure.TheVariants.{Refused, OutOfMemory}
-use Rattle.ps_machine.specs.declared.inputs.LineCause.TheVariants.{Nest}
+use Rattle.ps_machine.specs.declared.inputs.LineCause.TheVariants.{Nest, NotBuilt}
+use Rattle.ps_machine.specs.declared.inputs.Command.TheVariants.{RunPlan as RunPlanLine}
 use Rattle.ps_machine.specs.declared.inputs.Line.{Line}
-use Rattle.ps_machine.specs.declared.inputs.Line.TheVariants.{Bad}
+use Rattle.ps_machine.specs.declared.inputs.Line.TheVariants.{Good, Bad}
+use Rattle.ps_action.specs.declared.acts.PlanStep.{PlanStep}
+use Rattle.ps_action.specs.declared.refusals.PlanTextRefusal.{PlanTextRefusal}
 use Rattle.ps_text.specs.Outside.{FilesView}
 use Rattle.ps_text.specs.ScriptLines.{script_lines}
 use Rattle.ps_text.specs.Words.{pieces}
@@ -26,10 +29,10 @@ use Rattle.ps_inputs.specs.Reading.FileFault.{too_many}
 use Rattle.ps_inputs.specs.Reading.Reading.{gives, faulty}
 use Rattle.ps_inputs.specs.Flats.{Flat, Flattened, followed, is_quit, no_line, on_source, plain_line, plan_line, step, walk, with_room}
 use Rattle.ps_inputs.specs.Flats.Flattened.{plain, with_plan, too_deep}
-use Rattle.ps_inputs.specs.Scripts.{IsScript, given_by, table_after_plan}
+use Rattle.ps_inputs.specs.Scripts.{IsScript, given_by, plan_in}
 use Rattle.ps_inputs.specs.Scripts.IsScript.{nothing as no_script, one_more}
 use Rattle.ps_inputs.specs.Faults.{ReadsPart}
-use Rattle.ps_inputs.specs.Parts.{Adds, HasRoom, IsAdded, IsCommandLine, Opens, PutsDeep, PutsPlain, PutsPlan, ReadsText, Takes, Walks, WalksLines, count_of}
+use Rattle.ps_inputs.specs.Parts.{Adds, HasRoom, IsAdded, IsCommandLine, Opens, PutsDeep, PutsPlain, PutsPlan, ReadsText, ReadsFileLine, Walks, WalksLines, count_of}
 use Rattle.ps_inputs.specs.declared.reading.scripts.Script.{Script}
 use Rattle.ps_inputs.specs.declared.faults.Fault.{Fault}
 use Rattle.ps_inputs.specs.declared.faults.Fault.TheVariants.{Usage, NoDomain, TooLong, Lines, Unread}
@@ -47,9 +50,9 @@ scripts_join a b c xs _ ls _ h (one_more before lines table one new _ g adds) =
     (one_more (xs ++ before) (ls ++ lines) table one new c (scripts_join a b table xs before ls lines h g) adds))
 
 -- a command line is read as one line
-one_read : (t : Table) (bytes : List ℕ) (r : Read) (after : Table) → IsCommandLine bytes → IsRead t bytes r after → length (given_by r) ≡ 1
-one_read t bytes r after h read =
-    elim read as (λ r a i. length (given_by r) ≡ 1) [
+one_read : (run : Line) (t : Table) (bytes : List ℕ) (r : Read) (after : Table) → IsCommandLine bytes → IsRead t bytes r after → length (given_by run r) ≡ 1
+one_read run t bytes r after h read =
+    elim read as (λ r a i. length (given_by run r) ≡ 1) [
       | nothing e ↦ absurd (cc (h.0, e))
       | source file some is e ↦ elim h.1 [ inl n ↦ absurd (cc (n, is)) | inr n ↦ absurd (cc (n, e)) ]
       | source_nothing some is e ↦ refl
@@ -90,16 +93,17 @@ more_few : (before after : Script) (new : List Line) → count_of before < most_
 more_few before after new lt e one = omega (arith, ap length e, length-append before.lines.items new, one)
 
 -- a command line is read
-pub plain_added : (bytes : List ℕ) (before after : Script) (r : Read) (ends : Bool) → ends ≡ is_quit bytes → IsCommandLine bytes → count_of before < most_lines → IsRead before.names bytes r after.names → after.lines.items ≡ before.lines.items ++ given_by r → PutsPlain bytes before after (Ok ends)
+pub plain_added : (bytes : List ℕ) (before after : Script) (r : Read) (ends : Bool) → ends ≡ is_quit bytes → IsCommandLine bytes → count_of before < most_lines → IsRead before.names bytes r after.names → after.lines.items ≡ before.lines.items ++ given_by (Bad NotBuilt) r → PutsPlain bytes before after (Ok ends)
 plain_added bytes before after r ends e line lt read pushed files =
-    let one : length (given_by r) ≡ 1 = one_read before.names bytes r after.names line read in
+    let here = given_by (Bad NotBuilt) r in
+    let one : length here ≡ 1 = one_read (Bad NotBuilt) before.names bytes r after.names line read in
     let flat : Flat = record { lines = plain bytes ∷ []; ended = is_quit bytes } in
     let added : IsAdded before after flat ends = record {
-      lines = given_by r;
-      read = one_more [] [] before.names (plain bytes) (given_by r) after.names no_script (r, read, refl);
+      lines = here;
+      read = one_more [] [] before.names (plain bytes) here after.names no_script (r, read, refl);
       added = pushed;
       count = one;
-      few = more_few before after (given_by r) lt pushed one;
+      few = more_few before after here lt pushed one;
       ends = sym e;
     } in
     room_read (count_of before) (gives [] flat) files files (Ok ends) lt (read_nothing files flat ends added)
@@ -124,15 +128,19 @@ deep_added before after lt same pushed files =
 abbrev with_its_plan : List ℕ → List ℕ → Reading Flat
 with_its_plan bytes plan = gives [] (record { lines = with_plan bytes plan ∷ []; ended = false })
 
-pub plan_added : (bytes file : List ℕ) (old new : FilesView) (before after : Script) (v : Vec ℕ) (r : Read) (between : Table) → IsCommandLine bytes → count_of before < most_lines → ReadsText file old new (Ok v) → IsRead before.names bytes r between → after.names ≡ table_after_plan between v.items → after.lines.items ≡ before.lines.items ++ given_by r → PutsPlan bytes file old new before after (Ok false)
-plan_added bytes file old new before after v r between line lt text read names pushed =
-    let one : length (given_by r) ≡ 1 = one_read before.names bytes r between line read in
+pub plan_added : (bytes file : List ℕ) (old new : FilesView) (before after : Script) (v : Vec ℕ) (r : Read) (between : Table) (plan : Result (List PlanStep) PlanTextRefusal) → IsCommandLine bytes → count_of before < most_lines → ReadsText file old new (Ok v) → IsRead before.names bytes r between → plan_in between v.items ≡ (plan, after.names) → after.lines.items ≡ before.lines.items ++ given_by (Good (RunPlanLine plan)) r → PutsPlan bytes file old new before after (Ok false)
+plan_added bytes file old new before after v r between plan line lt text read names pushed =
+    let run = Good (RunPlanLine plan) in
+    let here = given_by run r in
+    let one : length here ≡ 1 = one_read run before.names bytes r between line read in
+    let of : (t : List ℕ) → v.items ≡ t → (plan, after.names) ≡ plan_in between t = λ t e. sym names ∙ ap (plan_in between) e in
     let added : (t : List ℕ) → v.items ≡ t → IsAdded before after (record { lines = with_plan bytes t ∷ []; ended = false }) false = λ t e. record {
-      lines = given_by r;
-      read = one_more [] [] before.names (with_plan bytes t) (given_by r) after.names no_script (r, between, read, refl, names ∙ ap (table_after_plan between) e);
+      lines = here;
+      read = one_more [] [] before.names (with_plan bytes t) here after.names no_script
+          (r, between, read, ap (λ p. given_by (Good (RunPlanLine p.0)) r) (of t e), ap (λ p. p.1) (of t e));
       added = pushed;
       count = one;
-      few = more_few before after (given_by r) lt pushed one;
+      few = more_few before after here lt pushed one;
       ends = refl;
     } in
     room_read (count_of before) (and_then (read_file old.told file) (with_its_plan bytes)) old new (Ok false) lt
@@ -168,12 +176,12 @@ opens_nothing plans levels file old new before after m why e h =
 pub none_added : (script : Script) → length script.lines.items ≤ most_lines → IsAdded script script no_line false
 none_added script few = record { lines = []; read = no_script; added = sym (append-nil script.lines.items); count = refl; few = few; ends = refl }
 
-pub takes_nothing : (plans : Bool) (levels : ℕ) (bytes : List ℕ) (files : FilesView) (script : Script) → length script.lines.items ≤ most_lines → IsKind bytes Nothing → Takes plans levels bytes files files script script (Ok false)
+pub takes_nothing : (plans : Bool) (levels : ℕ) (bytes : List ℕ) (files : FilesView) (script : Script) → length script.lines.items ≤ most_lines → IsKind bytes Nothing → ReadsFileLine plans levels bytes files files script script (Ok false)
 takes_nothing plans levels bytes files script few is = rw is (read_nothing files no_line false (none_added script few))
 
 module _ (plans : Bool) (levels : ℕ) (bytes : List ℕ) (old : FilesView) (before after : Script) (r : Result Bool (Failure Fault)) where
   -- a line that runs the plan in a file, where the files of plans aren't read
-  pub takes_no_plan : (file : List ℕ) → plans ≡ false → IsKind bytes (RunPlan file) → PutsPlain bytes before after r → Takes plans levels bytes old old before after r
+  pub takes_no_plan : (file : List ℕ) → plans ≡ false → IsKind bytes (RunPlan file) → PutsPlain bytes before after r → ReadsFileLine plans levels bytes old old before after r
   takes_no_plan file e is h = rw (is.0, is.1, e) (h old)
 
   -- a line without `source` and `run plan`, or one of these that names no file
@@ -187,7 +195,7 @@ module _ (plans : Bool) (levels : ℕ) (bytes : List ℕ) (old : FilesView) (bef
     by_both true = h old
     by_both false = h old
 
-  pub takes_command : IsKind bytes Command → PutsPlain bytes before after r → Takes plans levels bytes old old before after r
+  pub takes_command : IsKind bytes Command → PutsPlain bytes before after r → ReadsFileLine plans levels bytes old old before after r
   takes_command is h =
       elim is.1 [
         | inl s ↦ rw (is.0, s.0, s.1) (h old)
@@ -228,11 +236,11 @@ count_after flat first middle b h = omega (arith, ap length h.added, length-appe
 
 module _ (plans : Bool) (levels : ℕ) (bytes : List ℕ) (rest : List (List ℕ)) (old new : FilesView) (first : Script) where
   -- the line wasn't read
-  pub line_ended : (last : Script) (why : Failure Fault) → Takes plans levels bytes old new first last (Err why) → WalksLines plans levels (bytes ∷ rest) old new first last (Err why)
+  pub line_ended : (last : Script) (why : Failure Fault) → ReadsFileLine plans levels bytes old new first last (Err why) → WalksLines plans levels (bytes ∷ rest) old new first last (Err why)
   line_ended last why h = then_ended (step plans old.told (on_source plans levels old.told) (count_of first) bytes) (rest_of plans levels (count_of first) rest old.told) old new why h
 
   -- the line ends the script
-  pub line_last : (last : Script) → Takes plans levels bytes old new first last (Ok true) → WalksLines plans levels (bytes ∷ rest) old new first last (Ok true)
+  pub line_last : (last : Script) → ReadsFileLine plans levels bytes old new first last (Ok true) → WalksLines plans levels (bytes ∷ rest) old new first last (Ok true)
   line_last last h =
       then_read (step plans old.told (on_source plans levels old.told) (count_of first) bytes) (rest_of plans levels (count_of first) rest) old new new true (Ok true) h
       (λ flat added. ended_here flat added flat.ended added.ends) where
@@ -240,7 +248,7 @@ module _ (plans : Bool) (levels : ℕ) (bytes : List ℕ) (rest : List (List ℕ
         ended_here flat added b e = rw e (read_nothing new flat true added)
 
   -- it doesn't
-  pub line_next : (middle last : Script) (end : FilesView) (r : Result Bool (Failure Fault)) → Takes plans levels bytes old new first middle (Ok false) → WalksLines plans levels rest new end middle last r → WalksLines plans levels (bytes ∷ rest) old end first last r
+  pub line_next : (middle last : Script) (end : FilesView) (r : Result Bool (Failure Fault)) → ReadsFileLine plans levels bytes old new first middle (Ok false) → WalksLines plans levels rest new end middle last r → WalksLines plans levels (bytes ∷ rest) old end first last r
   line_next middle last end r h g =
       then_read (step plans old.told (on_source plans levels old.told) (count_of first) bytes) (rest_of plans levels (count_of first) rest) old new end false r h
       (λ flat added. goes_on flat added flat.ended added.ends) where
@@ -277,18 +285,18 @@ module _ (plans : Bool) (levels : ℕ) (text : List ℕ) (spans : List Span) (i 
   here : (end : FilesView) (s : Script) (r : Result Bool (Failure Fault)) → WalksLines plans levels (line_at text spans i ∷ pieces text (drop (i + 1) spans)) now end middle s r → WalksLines plans levels all old end first s r
   here end s r h = follows end s r (subst (λ (ls : List (List ℕ)). WalksLines plans levels ls now end middle s r) (sym (rest-cons text spans i lt)) h)
 
-  pub loop_ended : (why : Failure Fault) → Takes plans levels (line_at text spans i) now new middle last (Err why) → WalksLines plans levels all old new first last (Err why)
+  pub loop_ended : (why : Failure Fault) → ReadsFileLine plans levels (line_at text spans i) now new middle last (Err why) → WalksLines plans levels all old new first last (Err why)
   loop_ended why h = here new last (Err why) (line_ended plans levels (line_at text spans i) (pieces text (drop (i + 1) spans)) now new middle last why h)
 
-  pub loop_last : (b : Bool) → b ≡ true → Takes plans levels (line_at text spans i) now new middle last (Ok b) → WalksLines plans levels all old new first last (Ok true)
+  pub loop_last : (b : Bool) → b ≡ true → ReadsFileLine plans levels (line_at text spans i) now new middle last (Ok b) → WalksLines plans levels all old new first last (Ok true)
   loop_last b e h =
       here new last (Ok true)
-      (line_last plans levels (line_at text spans i) (pieces text (drop (i + 1) spans)) now new middle last (subst (λ (x : Bool). Takes plans levels (line_at text spans i) now new middle last (Ok x)) e h))
+      (line_last plans levels (line_at text spans i) (pieces text (drop (i + 1) spans)) now new middle last (subst (λ (x : Bool). ReadsFileLine plans levels (line_at text spans i) now new middle last (Ok x)) e h))
 
-  pub loop_next : (b : Bool) → b ≡ false → Takes plans levels (line_at text spans i) now new middle last (Ok b) → Follows plans levels all (pieces text (drop (i + 1) spans)) old new first last
+  pub loop_next : (b : Bool) → b ≡ false → ReadsFileLine plans levels (line_at text spans i) now new middle last (Ok b) → Follows plans levels all (pieces text (drop (i + 1) spans)) old new first last
   loop_next b e h end s r g =
       here end s r
-      (line_next plans levels (line_at text spans i) (pieces text (drop (i + 1) spans)) now new middle last s end r (subst (λ (x : Bool). Takes plans levels (line_at text spans i) now new middle last (Ok x)) e h) g)
+      (line_next plans levels (line_at text spans i) (pieces text (drop (i + 1) spans)) now new middle last s end r (subst (λ (x : Bool). ReadsFileLine plans levels (line_at text spans i) now new middle last (Ok x)) e h) g)
 
 -- all lines were read
 pub loop_done : (plans : Bool) (levels : ℕ) (text : List ℕ) (spans : List Span) (i : ℕ) (all : List (List ℕ)) (old now : FilesView) (first middle : Script) → i ≡ length spans → length middle.lines.items ≤ most_lines → Follows plans levels all (pieces text (drop i spans)) old now first middle → WalksLines plans levels all old now first middle (Ok false)

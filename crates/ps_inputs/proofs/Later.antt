@@ -1,10 +1,10 @@
 -- What can be printed with a table of names can be printed with each greater one.
-use Rattle.std.proofs.Common.{ℕ, ◌≤◌, All, List, arith}
+use Rattle.std.proofs.Common.{ℕ, ◌≤◌, All, List, Ok, Err, arith}
 use Rattle.std.proofs.lemmas.List.Elements.{All-weaker}
 use Rattle.ps_world.specs.Trees.{ExprTree, number, value_of, negated, operated, CondTree, CondTrees, all_of, no, holds, same, compares, is_a, none, more}
 use Rattle.ps_world.specs.CondViews.{cond_tree}
 use Rattle.ps_world.specs.Tables.{IsOf, IsFactOf, IsGroundTermOf, IsGroundOf, IsGroundExprOf, IsGoalOf, AreGoalsOf, IsEditOf}
-use Rattle.ps_machine.specs.Tables.{IsQueryOf, IsLineOf}
+use Rattle.ps_machine.specs.Tables.{IsActOf, IsQueryOf, IsStepOf, IsLineOf}
 use Rattle.ps_world.specs.declared.schemas.Term.{Term}
 use Rattle.ps_world.specs.declared.schemas.Term.TheVariants.{Var, Const}
 use Rattle.ps_world.specs.declared.schemas.Lifted.{Lifted}
@@ -12,6 +12,8 @@ use Rattle.ps_world.specs.declared.facts.Fact.{Fact}
 use Rattle.ps_world.specs.declared.domains.Param.{Param}
 use Rattle.ps_world.specs.declared.edits.Edit.{Edit}
 use Rattle.ps_world.specs.declared.edits.Edit.TheVariants.{AddInstance, RemoveInstance, AddFact, RemoveFact, SetValue, RemoveValue, SetGoal, RemoveGoal}
+use Rattle.ps_action.specs.declared.acts.Act.{Act}
+use Rattle.ps_action.specs.declared.acts.PlanStep.{PlanStep}
 use Rattle.ps_machine.specs.declared.inputs.Query.{Query}
 use Rattle.ps_machine.specs.declared.inputs.Query.TheVariants as query
 use Rattle.ps_machine.specs.declared.inputs.Command.TheVariants as command
@@ -74,12 +76,19 @@ module _ (m n : ℕ) (h : m ≤ n) where
   query-later query.Plan p = p
   query-later query.Tree p = p
 
+  act-later : (act : Act) → IsActOf m act → IsActOf n act
+  act-later act p = (omega (arith, p.0), All-weaker (IsOf m) (IsOf n) (λ x q. omega (arith, q)) act.args p.1)
+
+  step-later : (step : PlanStep) → IsStepOf m step → IsStepOf n step
+  step-later step p = act-later step.act p
+
   pub line-later : (line : Line) → IsLineOf m line → IsLineOf n line
   line-later (Good (command.Edit edit)) p = edit-later edit p
   line-later (Good (command.Ask q)) p = query-later q p
   line-later (Good command.Run) p = p
-  line-later (Good (command.RunAction act)) p = (omega (arith, p.0), All-weaker (IsOf m) (IsOf n) (λ x q. omega (arith, q)) act.args p.1)
-  line-later (Good command.RunPlan) p = p
+  line-later (Good (command.RunAction act)) p = act-later act p
+  line-later (Good (command.RunPlan (Ok steps))) p = All-weaker (IsStepOf m) (IsStepOf n) step-later steps p
+  line-later (Good (command.RunPlan (Err why))) p = p
   line-later (Good command.Quit) p = p
   line-later (Bad cause) p = p
 

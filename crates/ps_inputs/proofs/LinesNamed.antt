@@ -20,6 +20,8 @@ use Rattle.ps_world.specs.declared.conditions.Cond.TheVariants as cond
 use Rattle.ps_machine.specs.declared.inputs.Command.{Command}
 use Rattle.ps_machine.specs.declared.inputs.Command.TheVariants as command
 use Rattle.ps_machine.specs.declared.inputs.LineCause.{LineCause}
+use Rattle.ps_machine.specs.declared.inputs.LineCause.TheVariants.{NotBuilt}
+use Rattle.ps_machine.specs.declared.inputs.Line.{Line}
 use Rattle.ps_machine.specs.declared.inputs.Line.TheVariants.{Good, Bad}
 use Rattle.ps_text.specs.Names.{interned, AreNames}
 use Rattle.ps_text.specs.Tokens.{AreTokens}
@@ -194,7 +196,7 @@ module _ (after : Table) (first : 0 < length after) where
 pub record IsNamed (before after : Table) (r : Read) : Type 0 where
   pub names : AreNames after
   pub grows : length before ≤ length after
-  pub named : All (IsLineOf (length after)) (given_by r)
+  pub named : All (IsLineOf (length after)) (given_by (Bad NotBuilt) r)
 
 lexemes_grow : (bytes : List ℕ) (t : Table) (tokens : List Token) → length t ≤ length (lexemes_of bytes t tokens).1
 lexemes_grow bytes t [] = omega arith
@@ -209,7 +211,7 @@ with_run_plan_names t n =
     AreNames-interned (interned t (codes "run")) (codes "plan") (AreNames-interned t (codes "run") n (record { name = refl; lower_case = refl })) (record { name = refl; lower_case = refl })
 
 -- a line that has no names leaves the table as it was
-same_table : (t : Table) (r : Read) → AreNames t → All (IsLineOf (length t)) (given_by r) → IsNamed t t r
+same_table : (t : Table) (r : Read) → AreNames t → All (IsLineOf (length t)) (given_by (Bad NotBuilt) r) → IsNamed t t r
 same_table t r n h = record { names = n; grows = omega arith; named = h }
 
 -- a bad line has no names
@@ -240,7 +242,7 @@ named_after t bytes r after n h =
       | run_plan file some other is e ↦ record {
         names = with_run_plan_names t n;
         grows = omega (arith, length-interned t (codes "run"), length-interned (interned t (codes "run")) (codes "plan"));
-        named = All-cons (IsLineOf (length (with_run_plan t))) (Good command.RunPlan) [] tt (All-nil (IsLineOf (length (with_run_plan t))));
+        named = bad_named (length (with_run_plan t)) NotBuilt;
       }
       | run_nothing some other is e ↦ same_table t _ n (bad_named (length t) _)
       | without_class at plain fault ↦ same_table t _ n (bad_named (length t) _)
@@ -249,3 +251,10 @@ named_after t bytes r after n h =
       | without_shape form tokens i plain are is fault ↦ same_table t _ n (bad_named (length t) _)
       | good form tokens ls a ts command is words spelt e ↦ good_named t bytes form tokens ls a ts command n is.are_tokens words spelt e
     ]
+
+-- the same where a line that runs the plan in a file gives another line, whose names are in the table
+pub named_with : (count : ℕ) (run : Line) (r : Read) → IsLineOf count run → All (IsLineOf count) (given_by (Bad NotBuilt) r) → All (IsLineOf count) (given_by run r)
+named_with count run read.Nothing here h = h
+named_with count run (read.Line line) here h = h
+named_with count run (read.Source file) here h = h
+named_with count run (read.RunPlan file) here h = All-cons (IsLineOf count) run [] here (All-nil (IsLineOf count))

@@ -52,12 +52,14 @@ told_fault file old new j fault e h =
     give_be (read_file old.told file) h.given.0 h.given.1 (λ text. IsJudgedAs text j.names (Err fault)) h.given.2 (subst (IsJudgedAs h.given.1 j.names) e h.given.4)
 
 -- a domain and the lines of a script are an input
-is_input : (budget : ℕ) (text : List ℕ) (flat : Flat) (j : Judged) (script : Script) (d : Domain) (i : Input) (names : Table) → j.domain ≡ Ok d → names ≡ script.names → i.domain ≡ d → i.lines ≡ script.lines.items → i.budget ≡ budget → IsJudged text j → IsScriptFrom j.names flat script → IsInput budget text flat.lines i names
-is_input budget text flat j script d i names e same domain lines bounded is are = record {
+is_input : (budget : ℕ) (text : List ℕ) (flat : Flat) (j : Judged) (script : Script) (d : Domain) (i : Input) (names : Table) → j.domain ≡ Ok d → names ≡ script.names → i.domain ≡ d → i.lines ≡ script.lines.items → i.budget ≡ budget → i.members ≡ [] → i.replans ≡ 0 → IsJudged text j → IsScriptFrom j.names flat script → IsInput budget text flat.lines i names
+is_input budget text flat j script d i names e same domain lines bounded alone once is are = record {
   between = j.names;
   read = subst (λ (x : Domain). IsDomain text x j.names) (sym domain) (judged_domain text j d e is);
   lines = subst (λ (t : Table). IsScript j.names flat.lines i.lines t) (sym same) (subst (λ (ls : List Line). IsScript j.names flat.lines ls script.names) (sym lines) are.read);
   bounded = bounded;
+  alone = alone;
+  once = once;
 }
 
 -- Their names are in the table.
@@ -120,10 +122,10 @@ module _ (s : SessionRequest) (old : FilesView) where
         then_read (read_file old.told s.domain) session_after old middle new j (Ok r) first
         (λ d is. then_read (script_in false middle.told s.script) (λ t flat. session_of d flat) middle new new script (Ok r) h (λ flat are. read_nothing new (for_session s.budget d flat.lines) r (f d flat is are)))
 
-    pub session_good : (script : Script) (d : Domain) (w : Session) → j.domain ≡ Ok d → w.names ≡ script.names → w.input.domain ≡ d → w.input.lines ≡ script.lines.items → w.input.budget ≡ s.budget → ReadsScript j.names false s.script middle new (Ok script) → LoadsRequest (a_session s) old new (Ok (Ok (work.Session w)))
-    session_good script d w e names domain lines budget h =
+    pub session_good : (script : Script) (d : Domain) (w : Session) → j.domain ≡ Ok d → w.names ≡ script.names → w.input.domain ≡ d → w.input.lines ≡ script.lines.items → w.input.budget ≡ s.budget → w.input.members ≡ [] → w.input.replans ≡ 0 → ReadsScript j.names false s.script middle new (Ok script) → LoadsRequest (a_session s) old new (Ok (Ok (work.Session w)))
+    session_good script d w e names domain lines budget alone once h =
         session_read script (Ok (work.Session w)) h
-        (λ text flat is are. (tt, is_input s.budget text flat j script d w.input w.names e names domain lines budget is are))
+        (λ text flat is are. (tt, is_input s.budget text flat j script d w.input w.names e names domain lines budget alone once is are))
 
     pub session_bad : (script : Script) (fault : Fault) → j.domain ≡ Err fault → ReadsScript j.names false s.script middle new (Ok script) → LoadsRequest (a_session s) old new (Ok (Err fault))
     session_bad script fault e h =
@@ -172,10 +174,10 @@ module _ (domain_file script_file plan_file : List ℕ) (old : FilesView) where
           (λ flat are. then_read (read_file later.told plan_file) (λ t x. validation_of d flat x) later new new plan (Ok r) h
           (λ x e. read_nothing new (for_validation d flat.lines x) r (subst (λ (y : List ℕ). IsAnswered old.told validation_request (for_validation d flat.lines y) r) e (f d flat is are)))))
 
-      pub validation_good : (plan : Vec ℕ) (d : Domain) (w : Validation) → j.domain ≡ Ok d → w.names ≡ script.names → w.input.domain ≡ d → w.input.lines ≡ script.lines.items → w.input.budget ≡ 0 → w.plan ≡ plan → ReadsText plan_file later new (Ok plan) → LoadsRequest validation_request old new (Ok (Ok (work.Validation w)))
-      validation_good plan d w e names domain lines budget same h =
+      pub validation_good : (plan : Vec ℕ) (d : Domain) (w : Validation) → j.domain ≡ Ok d → w.names ≡ script.names → w.input.domain ≡ d → w.input.lines ≡ script.lines.items → w.input.budget ≡ 0 → w.input.members ≡ [] → w.input.replans ≡ 0 → w.plan ≡ plan → ReadsText plan_file later new (Ok plan) → LoadsRequest validation_request old new (Ok (Ok (work.Validation w)))
+      validation_good plan d w e names domain lines budget alone once same h =
           validation_read plan (Ok (work.Validation w)) h
-          (λ text flat is are. (tt, (is_input 0 text flat j script d w.input w.names e names domain lines budget is are, ap (λ (v : Vec ℕ). v.items) same)))
+          (λ text flat is are. (tt, (is_input 0 text flat j script d w.input w.names e names domain lines budget alone once is are, ap (λ (v : Vec ℕ). v.items) same)))
 
       pub validation_bad : (plan : Vec ℕ) (fault : Fault) → j.domain ≡ Err fault → ReadsText plan_file later new (Ok plan) → LoadsRequest validation_request old new (Ok (Err fault))
       validation_bad plan fault e h =

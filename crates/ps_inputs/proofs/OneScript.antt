@@ -1,10 +1,14 @@
 -- A script is read as one list of lines at most.
 use Rattle.std.proofs.Common.{◌≡◌, List, [], ◌∷◌, ◌++◌, refl, sym, ap, subst, ◌∙◌}
 use Rattle.ps_world.specs.Names.{Table}
+use Rattle.ps_machine.specs.declared.inputs.LineCause.TheVariants.{NotBuilt}
+use Rattle.ps_machine.specs.declared.inputs.Command.TheVariants.{RunPlan}
 use Rattle.ps_machine.specs.declared.inputs.Line.{Line}
+use Rattle.ps_machine.specs.declared.inputs.Line.TheVariants.{Good, Bad}
+use Rattle.ps_script.specs.declared.reading.Read.{Read}
 use Rattle.ps_script.proofs.OneAnswer.{lines_are_read_as_one}
 use Rattle.ps_inputs.specs.Laws.{ScriptsAreReadAsOne}
-use Rattle.ps_inputs.specs.Scripts.{Adds, IsScript, given_by, table_after_plan}
+use Rattle.ps_inputs.specs.Scripts.{Adds, IsScript, given_by, plan_in}
 use Rattle.ps_inputs.specs.Scripts.IsScript.{nothing, one_more}
 use Rattle.ps_inputs.specs.Flats.{Flattened}
 use Rattle.ps_inputs.specs.Flats.Flattened.{plain, with_plan, too_deep}
@@ -13,10 +17,11 @@ use Rattle.ps_inputs.specs.Flats.Flattened.{plain, with_plan, too_deep}
 adds_one : (table : Table) (one : Flattened) (new more : List Line) (after other : Table) → Adds table one new after → Adds table one more other → (new ≡ more) × (after ≡ other)
 adds_one table (plain bytes) new more after other h g =
     let same = lines_are_read_as_one table bytes h.0 g.0 after other h.1 g.1 in
-    (h.2 ∙ ap given_by same.0 ∙ sym g.2, same.1)
+    (h.2 ∙ ap (given_by (Bad NotBuilt)) same.0 ∙ sym g.2, same.1)
 adds_one table (with_plan bytes text) new more after other h g =
     let same = lines_are_read_as_one table bytes h.0 g.0 h.1 g.1 h.2 g.2 in
-    (h.3 ∙ ap given_by same.0 ∙ sym g.3, h.4 ∙ ap (λ t. table_after_plan t text) same.1 ∙ sym g.4)
+    let run : Read → Table → List Line = λ r t. given_by (Good (RunPlan (plan_in t text).0)) r in
+    (h.3 ∙ ap (λ r. run r h.1) same.0 ∙ ap (run g.0) same.1 ∙ sym g.3, h.4 ∙ ap (λ t. (plan_in t text).1) same.1 ∙ sym g.4)
 adds_one table too_deep new more after other h g = (h.0 ∙ sym g.0, h.1 ∙ sym g.1)
 
 -- two lists with an item at their ends are the same only where the items are, and what stands before them

@@ -5,17 +5,19 @@ use Rattle.std.proofs.lemmas.List.{length-append}
 use Rattle.std.proofs.lemmas.List.Elements.{All-nil, All-append, All-weaker}
 use Rattle.ps_world.specs.Names.{Table}
 use Rattle.ps_machine.specs.Tables.{IsLineOf}
-use Rattle.ps_machine.specs.declared.inputs.LineCause.TheVariants.{Nest}
+use Rattle.ps_machine.specs.declared.inputs.LineCause.TheVariants.{Nest, NotBuilt}
+use Rattle.ps_machine.specs.declared.inputs.Command.TheVariants.{RunPlan}
 use Rattle.ps_machine.specs.declared.inputs.Line.{Line}
+use Rattle.ps_machine.specs.declared.inputs.Line.TheVariants.{Good, Bad}
 use Rattle.ps_text.specs.Names.{AreNames}
 use Rattle.ps_script.specs.declared.reading.Read.{Read}
 use Rattle.ps_script.specs.declared.reading.Read.TheVariants as read
-use Rattle.ps_inputs.specs.Scripts.{Adds, IsScript, given_by}
+use Rattle.ps_inputs.specs.Scripts.{Adds, IsScript, given_by, plan_in}
 use Rattle.ps_inputs.specs.Scripts.IsScript.{nothing, one_more}
 use Rattle.ps_inputs.specs.Flats.{Flattened}
 use Rattle.ps_inputs.specs.Flats.Flattened.{plain, with_plan, too_deep}
 use Rattle.ps_inputs.proofs.Later.{line-later}
-use Rattle.ps_inputs.proofs.LinesNamed.{bad_named, named_after}
+use Rattle.ps_inputs.proofs.LinesNamed.{bad_named, named_after, named_with}
 use Rattle.ps_inputs.proofs.PlanNames.{after_plan}
 
 -- What a script leaves: a table of names that has at least those before, among them the names of all its lines, and as
@@ -27,26 +29,29 @@ pub record IsLeft (before after : Table) (script : List Flattened) (lines : List
   pub few : length lines ≤ length script
 
 -- a line that is read gives one line at most
-one_at_most : (r : Read) → length (given_by r) ≤ 1
-one_at_most read.Nothing = omega arith
-one_at_most (read.Line line) = omega arith
-one_at_most (read.Source file) = omega arith
-one_at_most (read.RunPlan file) = omega arith
+one_at_most : (run : Line) (r : Read) → length (given_by run r) ≤ 1
+one_at_most run read.Nothing = omega arith
+one_at_most run (read.Line line) = omega arith
+one_at_most run (read.Source file) = omega arith
+one_at_most run (read.RunPlan file) = omega arith
 
 -- a command line adds to a table of names, and its names are among those of the table after it
 adds_named : (table : Table) (one : Flattened) (new : List Line) (after : Table) → AreNames table → Adds table one new after → AreNames after × (length table ≤ length after) × All (IsLineOf (length after)) new × (length new ≤ 1)
 adds_named table (plain bytes) new after n h =
     let own = named_after table bytes h.0 after n h.1 in
-    (own.names, own.grows, subst (All (IsLineOf (length after))) (sym h.2) own.named, subst (λ (ls : List Line). length ls ≤ 1) (sym h.2) (one_at_most h.0))
+    (own.names, own.grows, subst (All (IsLineOf (length after))) (sym h.2) own.named, subst (λ (ls : List Line). length ls ≤ 1) (sym h.2) (one_at_most (Bad NotBuilt) h.0))
 adds_named table (with_plan bytes text) new after n h =
     let between = h.1 in
     let own = named_after table bytes h.0 between n h.2 in
     let last = after_plan between text own.names in
-    let grows : length between ≤ length after = subst (λ (t : Table). length between ≤ length t) (sym h.4) last.1 in
-    let here : All (IsLineOf (length between)) new = subst (All (IsLineOf (length between))) (sym h.3) own.named in
-    let few : length new ≤ 1 = subst (λ (ls : List Line). length ls ≤ 1) (sym h.3) (one_at_most h.0) in
-    let all : All (IsLineOf (length after)) new = All-weaker (IsLineOf (length between)) (IsLineOf (length after)) (line-later (length between) (length after) grows) new here in
-    (subst AreNames (sym h.4) last.0, omega (arith, own.grows, grows), all, few)
+    let run : Line = Good (RunPlan (plan_in between text).0) in
+    let grows : length between ≤ length after = subst (λ (t : Table). length between ≤ length t) (sym h.4) last.grows in
+    let plan : IsLineOf (length after) run = subst (λ (t : Table). IsLineOf (length t) run) (sym h.4) last.named in
+    let line : All (IsLineOf (length after)) (given_by (Bad NotBuilt) h.0) =
+    All-weaker (IsLineOf (length between)) (IsLineOf (length after)) (line-later (length between) (length after) grows) (given_by (Bad NotBuilt) h.0) own.named in
+    let all : All (IsLineOf (length after)) new = subst (All (IsLineOf (length after))) (sym h.3) (named_with (length after) run h.0 plan line) in
+    let few : length new ≤ 1 = subst (λ (ls : List Line). length ls ≤ 1) (sym h.3) (one_at_most run h.0) in
+    (subst AreNames (sym h.4) last.names, omega (arith, own.grows, grows), all, few)
 adds_named table too_deep new after n h =
     rw (h.0, h.1) (n, omega arith, bad_named (length table) Nest, omega arith)
 

@@ -64,12 +64,15 @@ abbrev pub IsDomain : List ℕ → Domain → Table → Type 0
 IsDomain text d after = IsRead first_names text (Ok d) after
 
 -- The text of a domain and the command lines of a script are read as this input, with this table after them. Names are numbered in the
--- order in which the texts have them, the domain's first. A solver may look at as many states as the budget says.
+-- order in which the texts have them, the domain's first. A solver may look at as many states as the budget says. No members are read
+-- yet, and nothing is planned anew.
 pub record IsInput (budget : ℕ) (domain : List ℕ) (script : List Flattened) (i : Input) (names : Table) : Type 0 where
   pub between : Table
   pub read : IsDomain domain i.domain between
   pub lines : IsScript between script i.lines names
   pub bounded : i.budget ≡ budget
+  pub alone : i.members ≡ []
+  pub once : i.replans ≡ 0
 
 -- the texts are read as this work
 abbrev pub IsWork : Material → Work → Type 0

@@ -1,5 +1,5 @@
 -- That the names of a line are in a table is a proposition.
-use Rattle.std.proofs.Common.{ℕ}
+use Rattle.std.proofs.Common.{ℕ, Ok, Err}
 use Rattle.std.proofs.Props.{props}
 use Rattle.ps_world.specs.Trees.{ExprTree, number, value_of, negated, operated, CondTree, CondTrees, all_of, no, holds, same, compares, is_a, none, more}
 use Rattle.ps_world.specs.CondViews.{cond_tree}
@@ -73,6 +73,7 @@ module _ (n : ℕ) where
   line_prop (Good (command.Ask q)) = query-prop q
   line_prop (Good command.Run) = hlevel props
   line_prop (Good (command.RunAction act)) = hlevel props
-  line_prop (Good command.RunPlan) = hlevel props
+  line_prop (Good (command.RunPlan (Ok steps))) = hlevel props
+  line_prop (Good (command.RunPlan (Err why))) = hlevel props
   line_prop (Good command.Quit) = hlevel props
   line_prop (Bad cause) = hlevel props

@@ -1,11 +1,12 @@
 -- The lines of a script.
-use Rattle.std.specs.Prelude.{◌≡◌, ℕ, Option, Some, None, List, [], ◌∷◌, ◌++◌}
+use Rattle.std.specs.Prelude.{◌≡◌, ℕ, Option, Some, None, Result, Ok, Err, List, [], ◌∷◌, ◌++◌}
 use Rattle.ps_world.specs.Names.{Table}
-use Rattle.ps_machine.specs.declared.inputs.LineCause.TheVariants.{Nest}
+use Rattle.ps_machine.specs.declared.inputs.LineCause.TheVariants.{Nest, NotBuilt}
 use Rattle.ps_machine.specs.declared.inputs.Line.{Line}
 use Rattle.ps_machine.specs.declared.inputs.Line.TheVariants.{Good, Bad}
 use Rattle.ps_machine.specs.declared.inputs.Command.TheVariants.{RunPlan}
 use Rattle.ps_plan.specs.PlanText.{plan_fault, planned, said_by}
+use Rattle.ps_action.specs.declared.acts.PlanStep.{PlanStep}
 use Rattle.ps_action.specs.declared.refusals.PlanTextRefusal.{PlanTextRefusal}
 use Rattle.ps_script.specs.Lines.{IsRead}
 use Rattle.ps_script.specs.declared.reading.Read.{Read}
@@ -13,26 +14,30 @@ use Rattle.ps_script.specs.declared.reading.Read.TheVariants as read
 use Rattle.ps_inputs.specs.Flats.{Flattened}
 use Rattle.ps_inputs.specs.Flats.Flattened.{plain, with_plan, too_deep}
 
--- The lines that a line gives, by what it is read as: none where it says nothing, or where the lines of a file stand in its place.
-abbrev pub given_by : Read → List Line
-given_by read.Nothing = []
-given_by (read.Line line) = line ∷ []
-given_by (read.Source file) = []
-given_by (read.RunPlan file) = Good RunPlan ∷ []
+-- The lines that a line gives, by what it is read as: none where it says nothing, or where the lines of a file stand in its place, and
+-- this line where it runs the plan in a file.
+abbrev pub given_by : Line → Read → List Line
+given_by run read.Nothing = []
+given_by run (read.Line line) = line ∷ []
+given_by run (read.Source file) = []
+given_by run (read.RunPlan file) = run ∷ []
 
--- the table after the text of a plan, which gives no names where it has a fault
-abbrev pub unless_faulty : Table → List ℕ → Option PlanTextRefusal → Table
-unless_faulty table text (Some fault) = table
-unless_faulty table text None = (planned table [] (said_by text)).1
+-- the steps of a plan's text with the table after it, where the text has no fault; else its fault, and no names
+abbrev pub unless_faulty : Table → List ℕ → Option PlanTextRefusal → Result (List PlanStep) PlanTextRefusal × Table
+unless_faulty table text (Some fault) = (Err fault, table)
+unless_faulty table text None = (Ok (planned table [] (said_by text)).0, (planned table [] (said_by text)).1)
 
-abbrev pub table_after_plan : Table → List ℕ → Table
-table_after_plan table text = unless_faulty table text (plan_fault text)
+-- what the text of a plan's file gives, and the table after it
+abbrev pub plan_in : Table → List ℕ → Result (List PlanStep) PlanTextRefusal × Table
+plan_in table text = unless_faulty table text (plan_fault text)
 
 -- What a command line adds to those before it, with a table before it and the table after it. The text of a plan's file stands
--- after the words of its line.
+-- after the words of its line; a line that runs a plan whose file isn't read can't be done yet.
 abbrev pub Adds : Table → Flattened → List Line → Table → Type 0
-Adds table (plain bytes) new after = (r : Read) × IsRead table bytes r after × (new ≡ given_by r)
-Adds table (with_plan bytes text) new after = (r : Read) × (between : Table) × IsRead table bytes r between × (new ≡ given_by r) × (after ≡ table_after_plan between text)
+Adds table (plain bytes) new after = (r : Read) × IsRead table bytes r after × (new ≡ given_by (Bad NotBuilt) r)
+Adds table (with_plan bytes text) new after =
+    (r : Read) × (between : Table) × IsRead table bytes r between
+    × (new ≡ given_by (Good (RunPlan (plan_in between text).0)) r) × (after ≡ (plan_in between text).1)
 Adds table too_deep new after = (new ≡ Bad Nest ∷ []) × (after ≡ table)
 
 -- These command lines, read one after another, are these lines of the terminal: the first is read with the first table, each

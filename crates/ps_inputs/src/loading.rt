@@ -33,8 +33,10 @@ fn load_session<'a, F: Files>(
             names,
             input: Input {
                 domain,
+                members: Seq::new(alloc),
                 lines: Seq::of(lines),
                 budget,
+                replans: 0,
             },
         }))),
         Err(fault) => Ok(Err(fault)),
@@ -76,8 +78,10 @@ fn load_validation<F: Files>(
             names,
             input: Input {
                 domain,
+                members: Seq::new(alloc),
                 lines: Seq::of(lines),
                 budget: 0,
+                replans: 0,
             },
             plan,
         }))),

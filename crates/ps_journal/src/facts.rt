@@ -1,196 +1,124 @@
-//! The texts of names, facts, values, goals and steps.
+//! The texts of facts, values, goals, acts, steps and edits.
 ghost use Rattle.std.specs.Prelude.{◌≡◌, ◌++◌, OnOk};
-ghost use Rattle.std.specs.Fmt.{decimal};
-ghost use Rattle.ps_world.specs.Names.{name_text};
 ghost use Rattle.ps_world.specs.Numbers.{number_text};
+ghost use Rattle.ps_world.specs.Texts.{args_text, fact_text, value_text, goal_text, edit_text};
 ghost use Rattle.ps_action.specs.Texts.{step_line};
-ghost use Rattle.ps_world.specs.Texts.{args_text, fact_text, value_text, goal_text};
+ghost use Rattle.ps_machine.specs.Texts.{act_text};
 
-use ps_action::PlanStep;
+use super::printed::{Printed, push_after, push_both};
+use ps_action::{Act, PlanStep};
 use ps_print::push_condition;
 use ps_text::{NUMBER_BYTES, Names, print_number};
-use ps_world::{Cond, Fact, Name, Num};
-use std::alloc::{AllocError, Global};
+use ps_world::{Cond, Edit, Fact, Name, Num};
+use std::alloc::AllocError;
 
-/// Adds a number in decimal digits.
-pub fn push_number(alloc: Global, number: u64, text: &mut Vec<u8>) -> Result<(), AllocError>
-    ensures { OnOk result (text.new.items ≡ text.old.items ++ decimal number) }
-{
-    let digits = number.to_string(alloc)?;
-    text.extend_from_slice(digits.as_bytes())?;
-    Ok(())
-}
+impl Printed for Num {
+    ghost text = { λ names number. number_text number };
 
-/// Adds words, and a number in decimal digits after them.
-pub fn push_number_after(
-    alloc: Global,
-    words: &[u8],
-    number: u64,
-    text: &mut Vec<u8>,
-) -> Result<(), AllocError>
-    ensures { OnOk result (text.new.items ≡ text.old.items ++ (words.now ++ decimal number)) }
-{
-    text.extend_from_slice(words)?;
-    push_number(alloc, number, text)?;
-    Ok(())
-}
-
-/// Adds a number with three decimals.
-fn push_decimals(number: Num, text: &mut Vec<u8>) -> Result<(), AllocError>
-    ensures { OnOk result (text.new.items ≡ text.old.items ++ number_text number) }
-{
-    let mut bytes = [0; NUMBER_BYTES];
-    let count = print_number(number, &mut bytes);
-    text.extend_from_slice(&bytes[..count])?;
-    Ok(())
-}
-
-/// The text of a name, or nothing where the table hasn't the name.
-pub fn name_text(names: &Names, name: Name) -> &[u8]
-    ensures { result.now ≡ name_text names.now name }
-{
-    if name.0 < names.len() as u64 {
-        names.text(name)
-    } else {
-        b""
+    fn print(&self, _names: &Names, out: &mut Vec<u8>) -> Result<(), AllocError> {
+        let mut bytes = [0; NUMBER_BYTES];
+        let count = print_number(*self, &mut bytes);
+        out.extend_from_slice(&bytes[..count])
     }
-}
-
-/// Adds a name. One that the table hasn't adds nothing.
-fn push_name(names: &Names, name: Name, text: &mut Vec<u8>) -> Result<(), AllocError>
-    ensures { OnOk result (text.new.items ≡ text.old.items ++ name_text names.now name) }
-{
-    text.extend_from_slice(name_text(names, name))?;
-    Ok(())
-}
-
-/// Adds words, and a name after them.
-pub fn push_name_after(
-    names: &Names,
-    words: &[u8],
-    name: Name,
-    text: &mut Vec<u8>,
-) -> Result<(), AllocError>
-    ensures { OnOk result (text.new.items ≡ text.old.items
-        ++ (words.now ++ name_text names.now name)) }
-{
-    text.extend_from_slice(words)?;
-    push_name(names, name, text)?;
-    Ok(())
-}
-
-/// Adds words, an instance, what stands between, and its type.
-pub fn push_instance_after(
-    names: &Names,
-    words: &[u8],
-    name: Name,
-    between: &[u8],
-    kind: Name,
-    text: &mut Vec<u8>,
-) -> Result<(), AllocError>
-    ensures { OnOk result (text.new.items ≡ text.old.items
-        ++ (words.now ++ (name_text names.now name ++ (between.now ++ name_text names.now kind)))) }
-{
-    push_name_after(names, words, name, text)?;
-    push_name_after(names, between, kind, text)?;
-    Ok(())
 }
 
 /// Adds names, each after a space.
-fn push_args(names: &Names, args: &[Name], text: &mut Vec<u8>) -> Result<(), AllocError>
-    ensures { OnOk result (text.new.items ≡ text.old.items ++ args_text names.now args.now) }
+fn push_args(args: &[Name], names: &Names, out: &mut Vec<u8>) -> Result<(), AllocError>
+    ensures { OnOk result (out.new.items ≡ out.old.items ++ args_text names.now args.now) }
 {
     for name in args {
-        text.push(b' ')?;
-        push_name(names, *name, text)?;
+        push_after(b" ", name, names, out)?;
     }
     Ok(())
 }
 
-/// Adds a fact.
-pub fn push_fact(names: &Names, fact: &Fact, text: &mut Vec<u8>) -> Result<(), AllocError>
-    ensures { OnOk result (text.new.items ≡ text.old.items ++ fact_text names.now fact.now) }
-{
-    text.push(b'(')?;
-    push_name(names, fact.head, text)?;
-    push_args(names, fact.args.as_slice(), text)?;
-    text.push(b')')?;
-    Ok(())
+impl Printed for Fact {
+    ghost text = { fact_text };
+
+    fn print(&self, names: &Names, out: &mut Vec<u8>) -> Result<(), AllocError> {
+        push_after(b"(", &self.head, names, out)?;
+        push_args(self.args.as_slice(), names, out)?;
+        out.extend_from_slice(b")")
+    }
 }
 
-/// Adds words, and a fact after them.
-pub fn push_fact_after(
-    names: &Names,
+/// Adds words, and the value of a function at its arguments after them.
+fn push_value_after(
     words: &[u8],
     fact: &Fact,
-    text: &mut Vec<u8>,
-) -> Result<(), AllocError>
-    ensures { OnOk result (text.new.items ≡ text.old.items
-        ++ (words.now ++ fact_text names.now fact.now)) }
-{
-    text.extend_from_slice(words)?;
-    push_fact(names, fact, text)?;
-    Ok(())
-}
-
-/// Adds the value of a function at its arguments.
-pub fn push_value(
+    number: &Num,
     names: &Names,
-    fact: &Fact,
-    number: Num,
-    text: &mut Vec<u8>,
+    out: &mut Vec<u8>,
 ) -> Result<(), AllocError>
-    ensures { OnOk result (text.new.items ≡ text.old.items
-        ++ value_text names.now fact.now number) }
+    ensures { OnOk result (out.new.items ≡ out.old.items
+        ++ (words.now ++ value_text names.now fact.now number.now)) }
 {
-    text.extend_from_slice(b"(= ")?;
-    push_fact(names, fact, text)?;
-    text.push(b' ')?;
-    push_decimals(number, text)?;
-    text.push(b')')?;
-    Ok(())
+    out.extend_from_slice(words)?;
+    push_both(b"(= ", fact, b" ", number, names, out)?;
+    out.extend_from_slice(b")")
 }
 
-/// Adds words, and the value of a function after them.
-pub fn push_value_after(
-    names: &Names,
-    words: &[u8],
-    fact: &Fact,
-    number: Num,
-    text: &mut Vec<u8>,
-) -> Result<(), AllocError>
-    ensures { OnOk result (text.new.items ≡ text.old.items
-        ++ (words.now ++ value_text names.now fact.now number)) }
-{
-    text.extend_from_slice(words)?;
-    push_value(names, fact, number, text)?;
-    Ok(())
+/// The text of the value of a function at its arguments.
+impl Printed for (Fact, Num) {
+    ghost text = { λ names value. value_text names value.0 value.1 };
+
+    fn print(&self, names: &Names, out: &mut Vec<u8>) -> Result<(), AllocError> {
+        push_value_after(b"", &self.0, &self.1, names, out)
+    }
 }
 
-/// Adds words, and a goal after them.
-pub fn push_goal_after(
-    names: &Names,
-    words: &[u8],
-    goal: &Cond,
-    text: &mut Vec<u8>,
-) -> Result<(), AllocError>
-    ensures { OnOk result (text.new.items ≡ text.old.items
-        ++ (words.now ++ goal_text names.now goal.now)) }
-{
-    text.extend_from_slice(words)?;
-    push_condition(text, names, &[], goal)?;
-    Ok(())
+/// The text of a goal, in which every term is a name.
+impl Printed for Cond {
+    ghost text = { goal_text };
+
+    fn print(&self, names: &Names, out: &mut Vec<u8>) -> Result<(), AllocError> {
+        push_condition(out, names, &[], self)
+    }
 }
 
-/// Adds a step of a plan.
-pub fn push_step(names: &Names, step: &PlanStep, text: &mut Vec<u8>) -> Result<(), AllocError>
-    ensures { OnOk result (text.new.items ≡ text.old.items ++ step_line names.now step.now) }
-{
-    push_decimals(step.time, text)?;
-    push_name_after(names, b": (", step.act.action, text)?;
-    push_args(names, step.act.args.as_slice(), text)?;
-    text.extend_from_slice(b") [")?;
-    push_decimals(step.duration, text)?;
-    text.push(b']')?;
-    Ok(())
+/// The text of an act, after a space.
+impl Printed for Act {
+    ghost text = { act_text };
+
+    fn print(&self, names: &Names, out: &mut Vec<u8>) -> Result<(), AllocError> {
+        push_after(b" (", &self.action, names, out)?;
+        push_args(self.args.as_slice(), names, out)?;
+        out.extend_from_slice(b")")
+    }
+}
+
+impl Printed for PlanStep {
+    ghost text = { step_line };
+
+    fn print(&self, names: &Names, out: &mut Vec<u8>) -> Result<(), AllocError> {
+        self.time.print(names, out)?;
+        push_after(b":", &self.act, names, out)?;
+        push_after(b" [", &self.duration, names, out)?;
+        out.extend_from_slice(b"]")
+    }
+}
+
+/// The text of an edit, as a line of the terminal says it.
+impl Printed for Edit {
+    ghost text = { edit_text };
+
+    fn print(&self, names: &Names, out: &mut Vec<u8>) -> Result<(), AllocError> {
+        match self {
+            Edit::AddInstance(name, kind) => {
+                push_both(b"set instance ", name, b" ", kind, names, out)
+            }
+            Edit::RemoveInstance(name) => push_after(b"remove instance ", name, names, out),
+            Edit::AddFact(fact) => push_after(b"set predicate ", fact, names, out),
+            Edit::RemoveFact(fact) => push_after(b"remove predicate ", fact, names, out),
+            Edit::SetValue(fact, number) => {
+                push_value_after(b"set function ", fact, number, names, out)
+            }
+            Edit::RemoveValue(fact) => push_after(b"remove function ", fact, names, out),
+            Edit::SetGoal(goal) => push_after(b"set goal ", goal, names, out),
+            Edit::RemoveGoal => {
+                out.extend_from_slice(b"remove goal")?;
+                Ok(())
+            }
+        }
+    }
 }

@@ -1,12 +1,13 @@
 //! The texts of the journal's entries and of the replies to queries.
 #![tactic(auto)]
 
-mod edits;
+mod causes;
 mod entries;
 mod facts;
 mod known;
+mod printed;
 mod replies;
 
-pub use edits::push_arity;
-pub use entries::entry_text;
-pub use facts::{name_text, push_name_after, push_number, push_number_after};
+pub use entries::print_entry;
+pub use printed::{Printed, name_text, push_after, push_number};
+pub use replies::{Told, entry_text};

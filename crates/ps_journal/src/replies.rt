@@ -1,175 +1,192 @@
 //! The lines that answer queries.
-ghost use Rattle.std.specs.Prelude.{◌≡◌, ◌∷◌, [], ◌++◌, ℕ, map, OnOk};
+ghost use Rattle.std.specs.Prelude.{◌≡◌, List, [], ◌∷◌, ◌++◌, map, IfOk, OnOk};
 ghost use Rattle.std.specs.Option.{option_copied, option_map_or};
 ghost use Rattle.ps_world.specs.Lines.{line_end, lines_of};
 ghost use Rattle.ps_world.specs.Names.{name_text};
 ghost use Rattle.ps_world.specs.DomainTexts.{action_lines, decl_text, domain_lines};
-ghost use Rattle.ps_action.specs.Texts.{step_line};
-ghost use Rattle.ps_machine.specs.Journal.{answer_lines, reply_lines, reply_mark, reply_text};
-ghost use Rattle.ps_journal.specs.Steps.{asked_steps, told_steps};
+ghost use Rattle.ps_machine.specs.declared.inputs.Input.{Input as InputView};
+ghost use Rattle.ps_machine.specs.declared.journal.Entry.{Entry as EntryView};
+ghost use Rattle.ps_machine.specs.declared.journal.Event.TheVariants as event;
+ghost use Rattle.ps_rules.specs.Known.{know};
+ghost use Rattle.ps_rules.specs.Journal.{answer_lines, entry_text, reply_mark, reply_text};
+ghost use Rattle.ps_journal.specs.Told.{IsTold};
 
-use super::facts::{name_text, push_step};
-use super::known::{push_facts, push_goal, push_instances, push_values};
+use super::known::{push_goal, push_in_order};
+use super::printed::{Printed, push_after};
 use ps_action::PlanStep;
 use ps_domain::Expert;
-use ps_machine::{Event, Query};
+use ps_machine::{Entry, Event, Query};
 use ps_print::{print_domain, push_action, push_decl};
 use ps_problem::Problem;
 use ps_text::{Names, lines};
-use ps_world::{ActionDef, Decl, Domain, Param};
+use ps_world::{ActionDef, Decl, Domain, Param, Seq};
 use std::alloc::{AllocError, Global};
 
-/// Adds the reply lines of an event, with the steps of the plan that it tells, if it tells one. Only a query has any.
-pub fn push_replies(
+/// What the reply to an entry tells beside what is declared and known: the steps of a plan, or the text of a tree.
+#[derive(Drop)]
+pub struct Told {
+    pub steps: Seq<PlanStep>,
+    pub tree: Seq<u8>,
+}
+
+impl Told {
+    /// What most entries tell.
+    pub fn nothing(alloc: Global) -> Told
+        ensures steps { result.steps ≡ [] }
+        ensures tree { result.tree ≡ [] }
+    {
+        Told {
+            steps: Seq::new(alloc),
+            tree: Seq::new(alloc),
+        }
+    }
+}
+
+/// The text of an entry: its line, and the lines that answer a query. A name that the table hasn't is printed as nothing.
+pub fn entry_text(
     alloc: Global,
     names: &Names,
     expert: &Expert,
     problem: &Problem,
-    event: &Event,
-    steps: &[PlanStep],
-    text: &mut Vec<u8>,
-) -> Result<(), AllocError>
-    ensures { (budget : ℕ) → steps.now ≡ told_steps expert.now budget problem.now event.now
-        → OnOk result (text.new.items ≡ text.old.items
-        ++ reply_text (reply_lines names.now expert.now budget problem.now event.now)) }
+    entry: &Entry,
+    told: &Told,
+) -> Result<Vec<u8>, AllocError>
+    ensures { IfOk result (λ text. (i : InputView) (es : List EntryView)
+        → expert.now ≡ i.domain → problem.now ≡ know i es → IsTold i es entry.now.what told.now
+        → text.items ≡ entry_text names.now i es entry.now) }
 {
-    match event {
-        Event::Ask(query) => push_answer(alloc, names, expert, problem, query, steps, text),
-        Event::Edit { .. } | Event::Refused { .. } | Event::Quit => Ok(()),
+    let mut text = Vec::new(alloc);
+    entry.print(names, &mut text)?;
+    text.push(b'\n')?;
+    if let Event::Ask(query) = &entry.what {
+        push_answer(alloc, names, expert, problem, query, told, &mut text)?;
     }
+    Ok(text)
 }
 
-/// Adds the lines that answer a query, with the steps of the plan that it asks for, if it asks for one.
+/// Adds the lines that answer a query, with what is told of the plan or the tree that it asks for, if it asks for one.
 fn push_answer(
     alloc: Global,
     names: &Names,
     expert: &Expert,
     problem: &Problem,
     query: &Query,
-    steps: &[PlanStep],
-    text: &mut Vec<u8>,
+    told: &Told,
+    out: &mut Vec<u8>,
 ) -> Result<(), AllocError>
-    ensures { (budget : ℕ) → steps.now ≡ asked_steps expert.now budget problem.now query.now
-        → OnOk result (text.new.items ≡ text.old.items
-        ++ reply_text (answer_lines names.now expert.now budget problem.now query.now)) }
+    ensures { (i : InputView) (es : List EntryView)
+        → expert.now ≡ i.domain → problem.now ≡ know i es
+        → IsTold i es (event.Ask query.now) told.now
+        → OnOk result (out.new.items ≡ out.old.items
+        ++ reply_text (answer_lines names.now i es query.now)) }
 {
     let domain = expert.domain();
     match query {
-        Query::ModelTypes => push_types(names, domain.types.as_slice(), text),
-        Query::ModelPredicates => push_decls(names, domain.predicates.as_slice(), text),
-        Query::ModelFunctions => push_decls(names, domain.functions.as_slice(), text),
-        Query::ModelActions => push_action_names(names, domain.actions.as_slice(), text),
-        Query::ModelPredicate(name) => push_found_decl(names, expert.predicate(*name), text),
-        Query::ModelAction(name) => push_found_action(alloc, names, expert.action(*name), text),
-        Query::Domain => push_domain(alloc, names, domain, text),
-        Query::ProblemInstances => push_instances(alloc, names, problem, text),
-        Query::ProblemPredicates => push_facts(alloc, names, problem, text),
-        Query::ProblemFunctions => push_values(alloc, names, problem, text),
-        Query::ProblemGoal => push_goal(alloc, names, problem.goal(), text),
-        Query::Plan => push_steps(names, steps, text),
-        Query::Tree => Ok(()),
+        Query::ModelTypes => push_types(domain.types.as_slice(), names, out),
+        Query::ModelPredicates => push_replies(domain.predicates.as_slice(), names, out),
+        Query::ModelFunctions => push_replies(domain.functions.as_slice(), names, out),
+        Query::ModelActions => push_action_names(domain.actions.as_slice(), names, out),
+        Query::ModelPredicate(name) => push_found_decl(expert.predicate(*name), names, out),
+        Query::ModelAction(name) => push_found_action(alloc, expert.action(*name), names, out),
+        Query::Domain => push_domain(alloc, domain, names, out),
+        Query::ProblemInstances => {
+            push_in_order(alloc, problem.instances()?.as_slice(), names, out)
+        }
+        Query::ProblemPredicates => push_in_order(alloc, problem.facts()?.as_slice(), names, out),
+        Query::ProblemFunctions => push_in_order(alloc, problem.values()?.as_slice(), names, out),
+        Query::ProblemGoal => push_goal(alloc, problem.goal(), names, out),
+        Query::Plan => push_replies(told.steps.as_slice(), names, out),
+        Query::Tree => push_indented(alloc, told.tree.as_slice(), out),
     }
 }
 
 /// Adds a reply line: two spaces, the line and its end.
-pub fn push_reply(line: &[u8], text: &mut Vec<u8>) -> Result<(), AllocError>
-    ensures { OnOk result (text.new.items ≡ text.old.items
+pub fn push_reply(line: &[u8], out: &mut Vec<u8>) -> Result<(), AllocError>
+    ensures { OnOk result (out.new.items ≡ out.old.items
         ++ (reply_mark ++ (line.now ++ line_end))) }
 {
-    text.extend_from_slice(b"  ")?;
-    text.extend_from_slice(line)?;
-    text.push(b'\n')?;
+    out.extend_from_slice(b"  ")?;
+    out.extend_from_slice(line)?;
+    out.extend_from_slice(b"\n")
+}
+
+/// Adds a value's text as a reply.
+fn push_reply_of<T: Printed>(value: &T, names: &Names, out: &mut Vec<u8>) -> Result<(), AllocError>
+    ensures { OnOk result (out.new.items ≡ out.old.items
+        ++ (reply_mark ++ (T.text names.now value.now ++ line_end))) }
+{
+    push_after(b"  ", value, names, out)?;
+    out.extend_from_slice(b"\n")
+}
+
+/// Adds the texts of values, each as a reply.
+fn push_replies<T: Printed>(
+    values: &[T],
+    names: &Names,
+    out: &mut Vec<u8>,
+) -> Result<(), AllocError>
+    ensures { OnOk result (out.new.items ≡ out.old.items
+        ++ reply_text (map (T.text names.now) values.now)) }
+{
+    for value in values {
+        push_reply_of(value, names, out)?;
+    }
     Ok(())
 }
 
 /// Adds the names of types, each as a reply.
-fn push_types(names: &Names, types: &[Param], text: &mut Vec<u8>) -> Result<(), AllocError>
-    ensures { OnOk result (text.new.items ≡ text.old.items
+fn push_types(types: &[Param], names: &Names, out: &mut Vec<u8>) -> Result<(), AllocError>
+    ensures { OnOk result (out.new.items ≡ out.old.items
         ++ reply_text (map (λ p. name_text names.now p.name) types.now)) }
 {
     for param in types {
-        push_reply(name_text(names, param.name), text)?;
+        push_reply_of(&param.name, names, out)?;
     }
     Ok(())
 }
 
 /// Adds the names of actions, each as a reply.
 fn push_action_names(
-    names: &Names,
     actions: &[ActionDef],
-    text: &mut Vec<u8>,
+    names: &Names,
+    out: &mut Vec<u8>,
 ) -> Result<(), AllocError>
-    ensures { OnOk result (text.new.items ≡ text.old.items
+    ensures { OnOk result (out.new.items ≡ out.old.items
         ++ reply_text (map (λ a. name_text names.now a.name) actions.now)) }
 {
     for action in actions {
-        push_reply(name_text(names, action.name), text)?;
+        push_reply_of(&action.name, names, out)?;
     }
     Ok(())
 }
 
-/// Adds a declaration as a reply.
-fn push_decl_reply(names: &Names, decl: &Decl, text: &mut Vec<u8>) -> Result<(), AllocError>
-    ensures { OnOk result (text.new.items ≡ text.old.items
-        ++ (reply_mark ++ (decl_text names.now decl.now ++ line_end))) }
-{
-    text.extend_from_slice(b"  ")?;
-    push_decl(text, names, decl)?;
-    text.push(b'\n')?;
-    Ok(())
-}
+/// The text of a declaration.
+impl Printed for Decl {
+    ghost text = { decl_text };
 
-/// Adds declarations, each as a reply.
-fn push_decls(names: &Names, decls: &[Decl], text: &mut Vec<u8>) -> Result<(), AllocError>
-    ensures { OnOk result (text.new.items ≡ text.old.items
-        ++ reply_text (map (decl_text names.now) decls.now)) }
-{
-    for decl in decls {
-        push_decl_reply(names, decl, text)?;
+    fn print(&self, names: &Names, out: &mut Vec<u8>) -> Result<(), AllocError> {
+        push_decl(out, names, self)
     }
-    Ok(())
-}
-
-/// Adds a step of a plan as a reply.
-fn push_step_reply(names: &Names, step: &PlanStep, text: &mut Vec<u8>) -> Result<(), AllocError>
-    ensures { OnOk result (text.new.items ≡ text.old.items
-        ++ (reply_mark ++ (step_line names.now step.now ++ line_end))) }
-{
-    text.extend_from_slice(b"  ")?;
-    push_step(names, step, text)?;
-    text.push(b'\n')?;
-    Ok(())
-}
-
-/// Adds the steps of a plan, each as a reply.
-fn push_steps(names: &Names, steps: &[PlanStep], text: &mut Vec<u8>) -> Result<(), AllocError>
-    ensures { OnOk result (text.new.items ≡ text.old.items
-        ++ reply_text (map (step_line names.now) steps.now)) }
-{
-    for step in steps {
-        push_step_reply(names, step, text)?;
-    }
-    Ok(())
 }
 
 /// Adds a declaration that was asked for as a reply. Where it isn't declared there is none.
-fn push_found_decl(names: &Names, decl: Option<&Decl>, text: &mut Vec<u8>) -> Result<(), AllocError>
-    ensures { OnOk result (text.new.items ≡ text.old.items ++ reply_text
+fn push_found_decl(decl: Option<&Decl>, names: &Names, out: &mut Vec<u8>) -> Result<(), AllocError>
+    ensures { OnOk result (out.new.items ≡ out.old.items ++ reply_text
         (option_map_or (λ decl. decl_text names.now decl ∷ []) (option_copied decl.entry) [])) }
 {
     match decl {
         None => Ok(()),
-        Some(decl) => push_decl_reply(names, decl, text),
+        Some(decl) => push_reply_of(decl, names, out),
     }
 }
 
 /// Adds the lines of a text, each as a reply.
-fn push_indented(alloc: Global, block: &[u8], text: &mut Vec<u8>) -> Result<(), AllocError>
-    ensures { OnOk result (text.new.items ≡ text.old.items ++ reply_text (lines_of block.now)) }
+fn push_indented(alloc: Global, block: &[u8], out: &mut Vec<u8>) -> Result<(), AllocError>
+    ensures { OnOk result (out.new.items ≡ out.old.items ++ reply_text (lines_of block.now)) }
 {
     let spans = lines(alloc, block)?;
     for span in &spans {
-        push_reply(&block[span.from..span.to], text)?;
+        push_reply(&block[span.from..span.to], out)?;
     }
     Ok(())
 }
@@ -177,50 +194,50 @@ fn push_indented(alloc: Global, block: &[u8], text: &mut Vec<u8>) -> Result<(), 
 /// Adds the lines of an action that was asked for, each as a reply. Where it isn't declared there are none.
 fn push_found_action(
     alloc: Global,
-    names: &Names,
     action: Option<&ActionDef>,
-    text: &mut Vec<u8>,
+    names: &Names,
+    out: &mut Vec<u8>,
 ) -> Result<(), AllocError>
-    ensures { OnOk result (text.new.items ≡ text.old.items
+    ensures { OnOk result (out.new.items ≡ out.old.items
         ++ reply_text (option_map_or (action_lines names.now) (option_copied action.entry) [])) }
 {
     match action {
         None => Ok(()),
-        Some(action) => push_action_replies(alloc, names, action, text),
+        Some(action) => push_action_replies(alloc, action, names, out),
     }
 }
 
 /// Adds the lines of an action, each as a reply.
 fn push_action_replies(
     alloc: Global,
-    names: &Names,
     action: &ActionDef,
-    text: &mut Vec<u8>,
+    names: &Names,
+    out: &mut Vec<u8>,
 ) -> Result<(), AllocError>
-    ensures { OnOk result (text.new.items ≡ text.old.items
+    ensures { OnOk result (out.new.items ≡ out.old.items
         ++ reply_text (action_lines names.now action.now)) }
 {
     // A table says of its length that its texts are names, which are lines.
     let _count = names.len();
     let mut block = Vec::new(alloc);
     push_action(&mut block, names, action)?;
-    push_indented(alloc, block.as_slice(), text)?;
+    push_indented(alloc, block.as_slice(), out)?;
     Ok(())
 }
 
 /// Adds the lines of a domain's canonical text, each as a reply.
 fn push_domain(
     alloc: Global,
-    names: &Names,
     domain: &Domain,
-    text: &mut Vec<u8>,
+    names: &Names,
+    out: &mut Vec<u8>,
 ) -> Result<(), AllocError>
-    ensures { OnOk result (text.new.items ≡ text.old.items
+    ensures { OnOk result (out.new.items ≡ out.old.items
         ++ reply_text (domain_lines names.now domain.now)) }
 {
     // A table says of its length that its texts are names, which are lines.
     let _count = names.len();
     let block = print_domain(alloc, names, domain)?;
-    push_indented(alloc, block.as_slice(), text)?;
+    push_indented(alloc, block.as_slice(), out)?;
     Ok(())
 }

@@ -1,3 +1,1 @@
 pub mod EntryLines
-pub mod Journals
-pub mod ReadBack

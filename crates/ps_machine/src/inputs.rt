@@ -1,5 +1,6 @@
 //! The input of a session.
-use ps_action::Act;
+use super::members::Member;
+use ps_action::{Act, PlanStep, PlanTextRefusal};
 use ps_world::{Domain, Duplicate, Edit, Name, Seq};
 use std::alloc::{AllocError, Global};
 
@@ -16,6 +17,8 @@ pub enum LineCause {
     Shape { at: usize },
     /// The file to read stands in too many others.
     Nest,
+    /// A session can't do what the line asks for yet.
+    NotBuilt,
 }
 
 /// What a line asks for.
@@ -58,8 +61,8 @@ pub enum Command {
     Run,
     /// A run of one act.
     RunAction(Act),
-    /// A run of the plan in a file.
-    RunPlan,
+    /// A run of the plan in a file, whose text gives these steps or has this fault.
+    RunPlan(Result<Seq<PlanStep>, PlanTextRefusal>),
     /// Nothing more is read.
     Quit,
 }
@@ -78,7 +81,8 @@ impl Duplicate for Command {
             Command::Ask(query) => Command::Ask(*query),
             Command::Run => Command::Run,
             Command::RunAction(act) => Command::RunAction(*act),
-            Command::RunPlan => Command::RunPlan,
+            Command::RunPlan(Ok(steps)) => Command::RunPlan(Ok(steps.copy(alloc)?)),
+            Command::RunPlan(Err(why)) => Command::RunPlan(Err(*why)),
             Command::Quit => Command::Quit,
         })
     }
@@ -97,18 +101,24 @@ impl Duplicate for Line {
 #[derive(PartialEq, Eq, Drop)]
 pub struct Input {
     pub domain: Domain,
+    /// The members, in the order of the words.
+    pub members: Seq<Member>,
     /// The command lines of the script, in order. What stands after a `quit` counts for nothing.
     pub lines: Seq<Line>,
     /// How many states a solver may look at before it gives up.
     pub budget: u32,
+    /// How many times a run may be planned anew.
+    pub replans: u8,
 }
 
 impl Duplicate for Input {
     fn copy(&self, alloc: Global) -> Result<Self, AllocError> {
         Ok(Input {
             domain: self.domain.copy(alloc)?,
+            members: self.members.copy(alloc)?,
             lines: self.lines.copy(alloc)?,
             budget: self.budget,
+            replans: self.replans,
         })
     }
 }

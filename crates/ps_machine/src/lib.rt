@@ -1,12 +1,12 @@
-//! The planning machine of one thread: its input, the entries of its journal, and which of them may come one after another.
+//! The plain data of the planning machine: its input, its members, and the entries of its journal, with their texts.
 #![tactic(auto)]
 
 mod grows;
 mod inputs;
 mod journal;
-mod laws;
+mod members;
 
 pub use grows::Grows;
 pub use inputs::{Command, Input, Line, LineCause, Query};
-pub use journal::{By, Entry, Event, Refusal};
-pub use laws::{entries_are_read_back, sample_is_right};
+pub use journal::{By, CancelWhy, Entry, Event, FailWhy, Outcome, PassWhy, Refusal, RunKind};
+pub use members::{Member, Observer, Performer, Unit};

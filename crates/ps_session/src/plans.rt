@@ -4,8 +4,9 @@ ghost use Rattle.ps_machine.specs.declared.inputs.Query.TheVariants.{Plan as Pla
 ghost use Rattle.ps_machine.specs.declared.journal.Event.TheVariants.{Refused};
 ghost use Rattle.ps_session.specs.Answers.{GivesLeast, answer_of_query};
 
-use ps_action::{Answer, PlanStep};
+use ps_action::Answer;
 use ps_domain::Expert;
+use ps_journal::Told;
 use ps_machine::{By, Event, Query, Refusal};
 use ps_plan::{Solver, timed};
 use ps_problem::Problem;
@@ -17,24 +18,27 @@ use std::alloc::{AllocError, Global};
 pub struct Answered {
     /// What happened.
     pub what: Event,
-    /// The steps of the plan that it tells, if it tells one.
-    pub steps: Seq<PlanStep>,
+    /// What its reply tells.
+    pub told: Told,
 }
 
 impl Answered {
-    /// The answer that tells no plan. It takes no memory.
+    /// The answer whose reply tells no plan. It takes no memory.
     pub fn without_plan(alloc: Global, what: Event) -> Answered
-        ensures { result ≡ record { what = what; steps = [] } }
+        ensures { result ≡ record { what = what; told = record { steps = []; tree = [] } } }
     {
         Answered {
             what,
-            steps: Seq::new(alloc),
+            told: Told::nothing(alloc),
         }
     }
 
     /// The answer that refuses. It takes no memory.
     pub fn refusing(alloc: Global, by: By, why: Refusal) -> Answered
-        ensures { result ≡ record { what = Refused by why; steps = [] } }
+        ensures { result ≡ record {
+          what = Refused by why;
+          told = record { steps = []; tree = [] };
+        } }
     {
         Answered::without_plan(alloc, Event::Refused { by, why })
     }
@@ -89,9 +93,12 @@ fn answer_plan<S: Solver>(
     match solver.solve(alloc, expert, problem, budget)? {
         Answer::Plan(acts) => {
             let steps = timed(alloc, expert, problem, acts.as_slice())?;
+            let told = Told {
+                steps: Seq::of(steps),
+                tree: Seq::new(alloc),
+            };
             let what = Event::Ask(Query::Plan);
-            let steps = Seq::of(steps);
-            Ok(Answered { what, steps })
+            Ok(Answered { what, told })
         }
         Answer::NoPlan => Ok(Answered::refusing(alloc, by, Refusal::NoPlan)),
         Answer::Spent { depth } => Ok(Answered::refusing(alloc, by, Refusal::Spent(depth))),

@@ -1,20 +1,21 @@
 //! The session: each line of the terminal in turn, with its entry and its reply lines.
-ghost use Rattle.std.specs.Prelude.{◌≡◌, ◌<◌, ◌≤◌, ◌^◌, length, IfOk, OnErr, All};
+ghost use Rattle.std.specs.Prelude.{◌≡◌, [], ◌<◌, ◌≤◌, ◌^◌, length, IfOk, OnErr, All};
 ghost use Rattle.ps_text.specs.Names.{AreNames};
 ghost use Rattle.ps_world.specs.Knowledge.{opening};
-ghost use Rattle.ps_machine.specs.History.{due_lines, known_after};
+ghost use Rattle.ps_rules.specs.History.{is_mishap};
+ghost use Rattle.ps_rules.specs.Known.{known_after};
+ghost use Rattle.ps_rules.specs.Lines.{due_lines};
 ghost use Rattle.ps_world.specs.Tables.{IsKnownOf};
 ghost use Rattle.ps_machine.specs.Tables.{IsLineOf, IsEventOf};
 ghost use Rattle.ps_print.specs.CanonicalWords.{IsParamOf};
 ghost use Rattle.ps_session.specs.Events.{by_terminal, event_of_edit};
 ghost use Rattle.ps_session.specs.Answers.{AnswersLine, GivesLeast, WritesEntry};
-ghost use Rattle.ps_session.specs.Session.{Runs, input_with};
+ghost use Rattle.ps_session.specs.Session.{RunsAll};
 
 use super::plans::{Answered, answer_query};
-use ps_action::PlanStep;
 use ps_domain::Expert;
-use ps_journal::entry_text;
-use ps_machine::{By, Command, Entry, Event, Line, Refusal};
+use ps_journal::{Told, entry_text};
+use ps_machine::{By, Command, Entry, Event, Line, LineCause, Outcome, Refusal};
 use ps_plan::Solver;
 use ps_problem::Problem;
 use ps_text::{Names, Sink, SinkRefusal, put};
@@ -38,7 +39,7 @@ pub fn run<S: Solver, O: Sink>(
     requires named { All (IsLineOf (length names.now)) lines.now }
     requires constants { All (IsParamOf (length names.now)) expert.now.constants }
     requires names { AreNames names.now }
-    ensures { Runs (input_with expert.now lines.now budget) names.now
+    ensures { RunsAll expert.now lines.now budget names.now
         (O.shown out.old) (O.shown out.new) result }
 {
     let mut problem = Problem::new(alloc, expert)?;
@@ -72,7 +73,7 @@ fn write_journal<S: Solver, O: Sink>(
     requires constants { All (IsParamOf (length names.now)) expert.now.constants }
     requires names { AreNames names.now }
     requires opening { problem.old ≡ opening expert.now }
-    ensures { Runs (input_with expert.now lines.now budget) names.now
+    ensures { RunsAll expert.now lines.now budget names.now
         (O.shown out.old) (O.shown out.new) result }
 {
     put(out, b"plansys-journal 1\n")?;
@@ -99,7 +100,7 @@ fn due_lines(lines: &[Line]) -> &[Line]
 }
 
 /// Writes the entry of an answer and its reply lines by one `put`. All names of the entry and of what is known are in the table.
-/// Answers whether the entry tells that a line was refused.
+/// Answers whether it refuses a line.
 fn write_answered<O: Sink>(
     alloc: Global,
     names: &Names,
@@ -111,30 +112,43 @@ fn write_answered<O: Sink>(
     requires event { IsEventOf (length names.now) answered.what }
     requires known { IsKnownOf (length names.now) problem.now }
     ensures { WritesEntry names.now expert.now problem.now (by_terminal answered.what)
-        answered.steps (O.shown out.old) (O.shown out.new) result }
+        answered.told (O.shown out.old) (O.shown out.new) result }
 {
-    let Answered { what, steps } = answered;
+    let Answered { what, told } = answered;
     let entry = Entry { hand: 0, what };
-    write_entry(alloc, names, expert, problem, &entry, steps.as_slice(), out)
+    write_entry(alloc, names, expert, problem, &entry, &told, out)
 }
 
-/// Writes an entry and its reply lines, with the steps of the plan that it tells, by one `put`. Answers whether it tells that a line
-/// was refused.
+/// Writes an entry and its reply lines by one `put`. Answers whether it refuses a line or ends a run without success.
 fn write_entry<O: Sink>(
     alloc: Global,
     names: &Names,
     expert: &Expert,
     problem: &Problem,
     entry: &Entry,
-    steps: &[PlanStep],
+    told: &Told,
     out: &mut O,
 ) -> Result<bool, SinkRefusal>
-    ensures { WritesEntry names.now expert.now problem.now entry.now steps.now
+    ensures { WritesEntry names.now expert.now problem.now entry.now told.now
         (O.shown out.old) (O.shown out.new) result }
 {
-    let text = entry_text(alloc, names, expert, problem, entry, steps)?;
+    let text = entry_text(alloc, names, expert, problem, entry, told)?;
     put(out, text.as_slice())?;
-    Ok(matches!(entry.what, Event::Refused { .. }))
+    Ok(is_mishap(&entry.what))
+}
+
+/// Whether an event refuses a line of the terminal, or ends a run without success.
+fn is_mishap(event: &Event) -> bool
+    ensures { result ≡ is_mishap event.now }
+{
+    match event {
+        Event::Refused {
+            by: By::Terminal(_),
+            ..
+        } => true,
+        Event::Over(outcome) => !matches!(outcome, Outcome::Success),
+        _ => false,
+    }
 }
 
 /// What a line is answered with. An edit that is accepted is made.
@@ -161,9 +175,9 @@ fn answer<S: Solver>(
             let answered = answer_query(alloc, expert, solver, problem, budget, by, *query)?;
             Ok(answered)
         }
-        Line::Good(Command::Run | Command::RunAction(_) | Command::RunPlan) => {
-            Ok(Answered::refusing(alloc, by, Refusal::NotBuilt))
-        }
+        Line::Good(Command::Run | Command::RunAction(_) | Command::RunPlan(_)) => Ok(
+            Answered::refusing(alloc, by, Refusal::Line(LineCause::NotBuilt)),
+        ),
         Line::Good(Command::Quit) => Ok(Answered::without_plan(alloc, Event::Quit)),
         Line::Bad(cause) => Ok(Answered::refusing(alloc, by, Refusal::Line(*cause))),
     }
@@ -178,7 +192,7 @@ fn answer_edit(
     edit: &Edit,
 ) -> Result<Event, AllocError>
     ensures event { IfOk result (λ e. e ≡ event_of_edit expert.now problem.old by edit.now) }
-    ensures known { IfOk result (λ e. problem.new ≡ known_after expert.now problem.old e) }
+    ensures known { IfOk result (λ e. problem.new ≡ known_after expert.now [] problem.old e) }
     ensures err { OnErr result (problem.new ≡ problem.old) }
 {
     let copy = edit.copy(alloc)?;

@@ -38,6 +38,16 @@ impl Duplicate for Edit {
     }
 }
 
+impl Duplicate for (Option<Cond>, Edit) {
+    fn copy(&self, alloc: Global) -> Result<Self, AllocError> {
+        let edit = self.1.copy(alloc)?;
+        match &self.0 {
+            None => Ok((None, edit)),
+            Some(cond) => Ok((Some(cond.copy(alloc)?), edit)),
+        }
+    }
+}
+
 /// Why an edit is refused. Arguments are counted from 0.
 #[derive(Clone, Copy, PartialEq, Eq, Debug)]
 pub enum EditRefusal {

@@ -22,6 +22,12 @@ impl Duplicate for Name {
     }
 }
 
+impl Duplicate for Option<Name> {
+    fn copy(&self, _alloc: Global) -> Result<Self, AllocError> {
+        Ok(*self)
+    }
+}
+
 /// The most arguments of a fact or an action, and the most parameters of a declaration.
 pub const MOST_ARGUMENTS: usize = 6;
 

@@ -41,8 +41,10 @@ impl Log {
             entries: Vec::new(alloc),
             input: Input {
                 domain,
+                members: Seq::new(alloc),
                 lines: Seq::new(alloc),
                 budget: 0,
+                replans: 0,
             },
         }
     }

@@ -4,16 +4,17 @@ ghost use Rattle.ps_script.specs.Files.{is_source};
 ghost use Rattle.ps_script.specs.Lines.{is_nothing};
 ghost use Rattle.ps_inputs.specs.Flats.{is_quit};
 ghost use Rattle.ps_inputs.specs.Reading.{most_lines};
-ghost use Rattle.ps_inputs.specs.Scripts.{given_by, table_after_plan};
+ghost use Rattle.ps_inputs.specs.Scripts.{given_by, plan_in};
 ghost use Rattle.ps_inputs.specs.Parts.{HasRoom, IsCommandLine, PutsDeep, PutsPlain, PutsPlan};
 
 use super::files::read_text;
 use crate::faults::Fault;
+use ps_action::{PlanStep, PlanTextRefusal};
 use ps_machine::{Command, Line, LineCause};
 use ps_plan::read_plan;
 use ps_script::{Read, read_line};
 use ps_text::{Files, Names, Words};
-use ps_world::Failure;
+use ps_world::{Failure, Seq};
 use std::alloc::{AllocError, Global};
 
 /// The most command lines of a script with its files.
@@ -44,9 +45,9 @@ fn is_quit(alloc: Global, line: &[u8]) -> Result<bool, AllocError>
     Ok(words.len() == 1 && words.reads(0, b"quit"))
 }
 
-/// Puts the line that a line of a file is read as at the end of those before it, if it is one.
-fn push_read(read: Read, all: &mut Vec<Line>) -> Result<(), AllocError>
-    ensures { OnOk result (all.new.items ≡ all.old.items ++ given_by read) }
+/// Puts the line that a line of a file is read as at the end of those before it, if it is one: `run` where it runs the plan in a file.
+fn push_read(read: Read, run: Line, all: &mut Vec<Line>) -> Result<(), AllocError>
+    ensures { OnOk result (all.new.items ≡ all.old.items ++ given_by run read) }
 {
     match read {
         Read::Nothing | Read::Source(_) => Ok(()),
@@ -55,23 +56,28 @@ fn push_read(read: Read, all: &mut Vec<Line>) -> Result<(), AllocError>
             Ok(())
         }
         Read::RunPlan(_) => {
-            all.push(Line::Good(Command::RunPlan))?;
+            all.push(run)?;
             Ok(())
         }
     }
 }
 
-/// Puts the names of a plan's text into the table, unless it has a fault.
-fn put_plan_names(alloc: Global, names: &mut Names, text: &[u8]) -> Result<(), AllocError>
-    ensures { OnOk result (names.new ≡ table_after_plan names.old text.now) }
+/// The steps of a plan's text, or its first fault. Its names are put into the table, unless it has a fault.
+fn plan_in(
+    alloc: Global,
+    names: &mut Names,
+    text: &[u8],
+) -> Result<Result<Seq<PlanStep>, PlanTextRefusal>, AllocError>
+    ensures { IfOk result (λ plan. plan_in names.old text.now ≡ (plan, names.new)) }
 {
     match read_plan(alloc, names, text) {
-        Ok(_) | Err(Failure::Refused(_)) => Ok(()),
+        Ok(steps) => Ok(Ok(Seq::of(steps))),
+        Err(Failure::Refused(fault)) => Ok(Err(fault)),
         Err(Failure::OutOfMemory) => Err(AllocError),
     }
 }
 
-/// Puts a command line that names no file at the end of those before it. Answers whether it ends the script.
+/// Puts a command line whose file isn't read, or that names none, at the end of those before it. Answers whether it ends the script.
 pub fn put_plain(alloc: Global, line: &[u8], script: &mut Script) -> Result<bool, Failure<Fault>>
     requires line { IsCommandLine line.now }
     requires few { length script.old.lines.items ≤ most_lines }
@@ -80,7 +86,7 @@ pub fn put_plain(alloc: Global, line: &[u8], script: &mut Script) -> Result<bool
     check_room(script.lines.as_slice())?;
     let ends = is_quit(alloc, line)?;
     let read = read_line(alloc, &mut script.names, line)?;
-    push_read(read, &mut script.lines)?;
+    push_read(read, Line::Bad(LineCause::NotBuilt), &mut script.lines)?;
     Ok(ends)
 }
 
@@ -94,7 +100,7 @@ pub fn put_deep(script: &mut Script) -> Result<bool, Failure<Fault>>
     Ok(false)
 }
 
-/// Puts a line that runs the plan in a file at the end of those before it, and the names of the plan into the table. It doesn't end
+/// Puts a line that runs the plan in a file at the end of those before it, with the plan, and its names into the table. It doesn't end
 /// the script.
 pub fn put_plan<F: Files>(
     alloc: Global,
@@ -110,9 +116,9 @@ pub fn put_plan<F: Files>(
         (F.shown files.new) script.old script.new result }
 {
     check_room(script.lines.as_slice())?;
-    let plan = read_text(alloc, file, files)?;
+    let text = read_text(alloc, file, files)?;
     let read = read_line(alloc, &mut script.names, line)?;
-    put_plan_names(alloc, &mut script.names, plan.as_slice())?;
-    push_read(read, &mut script.lines)?;
+    let plan = plan_in(alloc, &mut script.names, text.as_slice())?;
+    push_read(read, Line::Good(Command::RunPlan(plan)), &mut script.lines)?;
     Ok(false)
 }

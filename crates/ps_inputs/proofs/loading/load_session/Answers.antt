@@ -31,7 +31,7 @@ pub returns-in-Ok : goal.returns-in-Ok
 returns-in-Ok g c =
     let e : c.in_ok-names.field-0.domain ≡ Ok c.in-Ok.domain = cc in
     session_good (settings_said c.args.settings) (g.F.Files.shown c.args.files.now) (g.F.Files.shown c.read_domain_file.new.files) (g.F.Files.shown c.read_script.new.files) c.in_ok-names.field-0 c.in_ok-names.ensures
-    c.in_ok-names-2.field-0 c.in-Ok.domain _ e refl refl c.of.ensures refl c.in_ok-names-2.ensures
+    c.in_ok-names-2.field-0 c.in-Ok.domain _ e refl refl c.of.ensures refl c.new.ensures refl c.in_ok-names-2.ensures
 
 pub returns-in-Err : goal.returns-in-Err
 returns-in-Err g c =

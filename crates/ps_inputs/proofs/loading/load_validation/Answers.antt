@@ -27,7 +27,7 @@ pub returns-in-Ok : goal.returns-in-Ok
 returns-in-Ok g c =
     let e : c.in_ok-names.field-0.domain ≡ Ok c.in-Ok.domain = cc in
     validation_good c.args.domain.now c.args.script.now c.args.plan.now (g.F.Files.shown c.args.files.now) (g.F.Files.shown c.read_domain_file.new.files) c.in_ok-names.field-0 c.in_ok-names.ensures
-    (g.F.Files.shown c.read_script.new.files) (g.F.Files.shown c.read_text.new.files) c.in_ok-names-2.field-0 c.in_ok-names-2.ensures c.in_ok-plan.plan c.in-Ok.domain _ e refl refl c.of.ensures refl refl c.in_ok-plan.ensures
+    (g.F.Files.shown c.read_script.new.files) (g.F.Files.shown c.read_text.new.files) c.in_ok-names-2.field-0 c.in_ok-names-2.ensures c.in_ok-plan.plan c.in-Ok.domain _ e refl refl c.of.ensures refl c.new.ensures refl refl c.in_ok-plan.ensures
 
 pub returns-in-Err : goal.returns-in-Err
 returns-in-Err g c =

@@ -1,0 +1,127 @@
+//! What has a text, and the texts of numbers and names.
+ghost use Rattle.std.specs.Prelude.{◌≡◌, ◌++◌, OnOk};
+ghost use Rattle.std.specs.Fmt.{decimal};
+ghost use Rattle.std.specs.List.{flat_map};
+ghost use Rattle.ps_world.specs.Names.{name_text};
+
+use ps_text::Names;
+use ps_world::Name;
+use std::alloc::{AllocError, Global};
+
+/// A value that has a text, with a table of names. A name that the table hasn't is written as nothing.
+pub trait Printed {
+    ghost use Rattle.std.specs.Prelude.{ℕ, List};
+    ghost use Rattle.ps_world.specs.Names.{Table};
+
+    /// Its text.
+    ghost text: { Table → Self → List ℕ };
+
+    /// Adds its text.
+    fn print(&self, names: &Names, out: &mut Vec<u8>) -> Result<(), AllocError>
+        ensures { OnOk result (out.new.items ≡ out.old.items ++ text names.now self.now) };
+}
+
+/// Adds words, and a value's text after them.
+pub fn push_after<T: Printed>(
+    words: &[u8],
+    value: &T,
+    names: &Names,
+    out: &mut Vec<u8>,
+) -> Result<(), AllocError>
+    ensures { OnOk result (out.new.items ≡ out.old.items
+        ++ (words.now ++ T.text names.now value.now)) }
+{
+    out.extend_from_slice(words)?;
+    value.print(names, out)
+}
+
+/// Adds words, a value's text, what stands between, and another value's text.
+pub fn push_both<T: Printed, U: Printed>(
+    words: &[u8],
+    first: &T,
+    between: &[u8],
+    second: &U,
+    names: &Names,
+    out: &mut Vec<u8>,
+) -> Result<(), AllocError>
+    ensures { OnOk result (out.new.items ≡ out.old.items ++ (words.now
+        ++ (T.text names.now first.now ++ (between.now ++ U.text names.now second.now)))) }
+{
+    push_after(words, first, names, out)?;
+    push_after(between, second, names, out)
+}
+
+/// Adds the texts of values, one after the other.
+pub fn push_all<T: Printed>(
+    values: &[T],
+    names: &Names,
+    out: &mut Vec<u8>,
+) -> Result<(), AllocError>
+    ensures { OnOk result (out.new.items ≡ out.old.items
+        ++ flat_map (T.text names.now) values.now) }
+{
+    for value in values {
+        value.print(names, out)?;
+    }
+    Ok(())
+}
+
+/// Adds a number in decimal digits.
+pub fn push_number(alloc: Global, number: u64, text: &mut Vec<u8>) -> Result<(), AllocError>
+    ensures { OnOk result (text.new.items ≡ text.old.items ++ decimal number) }
+{
+    let digits = number.to_string(alloc)?;
+    text.extend_from_slice(digits.as_bytes())
+}
+
+impl Printed for u64 {
+    ghost text = { λ names n. decimal n };
+
+    fn print(&self, _names: &Names, out: &mut Vec<u8>) -> Result<(), AllocError> {
+        let alloc = *out.allocator();
+        push_number(alloc, *self, out)
+    }
+}
+
+impl Printed for u32 {
+    ghost text = { λ names n. decimal n };
+
+    fn print(&self, names: &Names, out: &mut Vec<u8>) -> Result<(), AllocError> {
+        u64::from(*self).print(names, out)
+    }
+}
+
+impl Printed for u8 {
+    ghost text = { λ names n. decimal n };
+
+    fn print(&self, names: &Names, out: &mut Vec<u8>) -> Result<(), AllocError> {
+        u64::from(*self).print(names, out)
+    }
+}
+
+impl Printed for usize {
+    ghost text = { λ names n. decimal n };
+
+    fn print(&self, names: &Names, out: &mut Vec<u8>) -> Result<(), AllocError> {
+        (*self as u64).print(names, out)
+    }
+}
+
+/// The text of a name, or nothing where the table hasn't the name.
+pub fn name_text(names: &Names, name: Name) -> &[u8]
+    ensures { result.now ≡ name_text names.now name }
+{
+    if name.0 < names.len() as u64 {
+        names.text(name)
+    } else {
+        b""
+    }
+}
+
+impl Printed for Name {
+    ghost text = { name_text };
+
+    fn print(&self, names: &Names, out: &mut Vec<u8>) -> Result<(), AllocError> {
+        out.extend_from_slice(name_text(names, *self))
+    }
+}

@@ -1,5 +1,0 @@
-use Rattle.ps_machine.proofs.ReadBack.{AreEntriesIn-journal_text}
-use Rattle.ps_machine.proofs.laws.entries_are_read_back.Goals as goal
-
-pub returns : goal.returns
-returns c = AreEntriesIn-journal_text

@@ -1,0 +1,15 @@
+pub mod Between
+pub mod Cart
+pub mod Choosing
+pub mod Counting
+pub mod Going
+pub mod InOrder
+pub mod JournalTexts
+pub mod Kept
+pub mod Longest
+pub mod Notes
+pub mod Prefixes
+pub mod Pushed
+pub mod ReadBack
+pub mod SameThings
+pub mod Speaking
