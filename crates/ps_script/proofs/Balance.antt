@@ -36,12 +36,12 @@ is_shut (InGoal part) = true
 is_shut _ = false
 
 -- how many parentheses are open before these
-abbrev open_before : List Symbol → ℕ
+abbrev pub open_before : List Symbol → ℕ
 open_before [] = 0
 open_before (s ∷ st) = if is_open s then open_before st - 1 else weight s + open_before st
 
 -- these symbols are of a line, and each parenthesis that opens is closed by what follows
-abbrev are_paired : List Symbol → Bool
+abbrev pub are_paired : List Symbol → Bool
 are_paired [] = true
 are_paired (s ∷ st) = (if is_open s then nat_le 1 (open_before st) else is_shut s) && are_paired st
 
@@ -154,7 +154,8 @@ one_mark s st m ms new false e leads paired later =
     let shut : is_shut s ≡ true = rw e at own.0 in
     rw e (goes_on s st m ms new leads shut (λ all. later (paired_more new st all own.1)))
 
-balanced : (st : List Symbol) (ms : List Mark) → Derives st ms → are_paired st ≡ true → is_balanced (open_before st) ms ≡ true
+-- marks that are derived are balanced where the symbols are paired
+pub balanced : (st : List Symbol) (ms : List Mark) → Derives st ms → are_paired st ≡ true → is_balanced (open_before st) ms ≡ true
 balanced _ _ nothing paired = refl
 balanced _ _ (by_rule s st m ms new leads rest) paired =
     one_mark s st m ms new (is_open s) refl leads paired (λ more. balanced (new ++ st) ms rest more)

@@ -31,7 +31,7 @@ use Rattle.ps_script.specs.declared.reading.Read.TheVariants.{Line, RunPlan, Sou
 use Rattle.ps_script.proofs.Balance.{balanced_line}
 
 -- the marks of a text's words are those of its tokens
-marks_same : (bytes : List ℕ) (table : Table) (tokens : List Token) → marks (lexemes_of bytes table tokens).0 ≡ marks_of bytes tokens
+pub marks_same : (bytes : List ℕ) (table : Table) (tokens : List Token) → marks (lexemes_of bytes table tokens).0 ≡ marks_of bytes tokens
 marks_same bytes table [] = refl
 marks_same bytes table (t ∷ ts) = ap (λ ms. (lexeme_of bytes table t).mark ∷ ms) (marks_same bytes (table_after bytes table t) ts)
 

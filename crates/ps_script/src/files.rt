@@ -39,7 +39,7 @@ fn is_run_byte(b: u8) -> bool
 }
 
 /// Whether a word is this fixed text, in any case of its letters.
-fn reads_as(word: &[u8], fixed: &[u8]) -> bool
+pub fn reads_as(word: &[u8], fixed: &[u8]) -> bool
     ensures { result ≡ reads_as word.now fixed.now }
 {
     if word.len() != fixed.len() {
@@ -89,7 +89,7 @@ pub fn trimmed(bytes: &[u8]) -> &[u8]
 }
 
 /// What stands before the blanks at the end.
-fn without_end(bytes: &[u8]) -> &[u8]
+pub fn without_end(bytes: &[u8]) -> &[u8]
     ensures { result.now ≡ without_end bytes.now }
 {
     let mut to = bytes.len();
@@ -100,7 +100,7 @@ fn without_end(bytes: &[u8]) -> &[u8]
 }
 
 /// The first run of bytes of a longer word, after blanks.
-fn first_run(bytes: &[u8]) -> &[u8]
+pub fn first_run(bytes: &[u8]) -> &[u8]
     ensures { result.now ≡ first_run bytes.now }
 {
     let text = trimmed(bytes);

@@ -9,8 +9,10 @@ mod kinds;
 mod laws;
 mod reading;
 
-pub use files::FileName;
-pub use forms::Form;
+pub use commands::command_of;
+pub use files::{FileName, after_run, first_run, reads_as, trimmed, without_end};
+pub use forms::{Form, form_of};
+pub use goals::first_condition;
 pub use kinds::{Kind, kind_of};
 pub use laws::lines_are_read_as_one;
-pub use reading::{Read, read_line};
+pub use reading::{Read, cause_of, is_nothing, marks_of, place, read_line};

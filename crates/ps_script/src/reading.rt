@@ -50,7 +50,7 @@ fn bad(cause: LineCause) -> Read
 }
 
 /// Why a line with a word without a class is bad.
-fn cause_of(refusal: LexRefusal) -> LineCause
+pub fn cause_of(refusal: LexRefusal) -> LineCause
     ensures { result ≡ cause_of refusal }
 {
     match refusal {
@@ -78,7 +78,7 @@ fn mark_of_token(bytes: &[u8], token: Token) -> Mark
 }
 
 /// What each token is to the grammar.
-fn marks_of(alloc: Global, bytes: &[u8], tokens: &[Token]) -> Result<Vec<Mark>, AllocError>
+pub fn marks_of(alloc: Global, bytes: &[u8], tokens: &[Token]) -> Result<Vec<Mark>, AllocError>
     requires { AreTokens bytes.now tokens.now }
     ensures { IfOk result (λ v. v.items ≡ marks_of bytes.now tokens.now) }
 {
@@ -90,7 +90,7 @@ fn marks_of(alloc: Global, bytes: &[u8], tokens: &[Token]) -> Result<Vec<Mark>, 
 }
 
 /// The byte at which a token begins, or the line's length past the last.
-fn place(bytes: &[u8], tokens: &[Token], i: usize) -> usize
+pub fn place(bytes: &[u8], tokens: &[Token], i: usize) -> usize
     ensures { result ≡ place bytes.now tokens.now i }
 {
     match tokens.get(i) {

@@ -1,0 +1,9 @@
+pub mod Answers
+pub mod Args
+pub mod Feedback
+pub mod Forms
+pub mod Laws
+pub mod Lines
+pub mod Members
+pub mod Moves
+pub mod Parts
