@@ -1,0 +1,14 @@
+pub mod Acting
+pub mod Blocks
+pub mod DeadEnd
+pub mod Engaged
+pub mod Held
+pub mod Lists
+pub mod Offers
+pub mod Passes
+pub mod Picking
+pub mod Quiet
+pub mod Requests
+pub mod SoundMembers
+pub mod Units
+pub mod Working

@@ -1,0 +1,2 @@
+pub mod DeadEnd
+pub mod Engaged
