@@ -1,0 +1,10 @@
+pub mod Acts
+pub mod Answers
+pub mod Kept
+pub mod Ledger
+pub mod Legal
+pub mod Lines
+pub mod Members
+pub mod Requests
+pub mod Runs
+pub mod Work
