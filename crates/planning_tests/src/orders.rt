@@ -49,6 +49,78 @@ const PAIRS: [(&str, &str, bool); 20] = [
     ("(fill leia)", "(last leia)", false),
 ];
 
+/// What robots do in rooms.
+const ROOMS: &str = "(define (domain rooms) (:types robot room)
+(:predicates (robot_at ?r - robot ?ro - room) (connected ?a ?b - room) (battery_full ?r - robot) (battery_low ?r - robot)
+ (charging_point_at ?ro - room))
+(:durative-action move :parameters (?r - robot ?a ?b - room) :duration (= ?duration 5)
+ :condition (and (at start (connected ?a ?b)) (at start (robot_at ?r ?a)) (over all (battery_full ?r)))
+ :effect (and (at start (not (robot_at ?r ?a))) (at end (robot_at ?r ?b))))
+(:durative-action askcharge :parameters (?r - robot ?a ?b - room) :duration (= ?duration 5)
+ :condition (and (at start (robot_at ?r ?a)) (at start (charging_point_at ?b)))
+ :effect (and (at start (not (robot_at ?r ?a))) (at end (robot_at ?r ?b))))
+(:durative-action charge :parameters (?r - robot ?ro - room) :duration (= ?duration 5)
+ :condition (and (at start (robot_at ?r ?ro)) (at start (charging_point_at ?ro)))
+ :effect (and (at end (not (battery_low ?r))) (at end (battery_full ?r)))))";
+
+const FLAT: &str = "set instance leia robot
+set instance r2 robot
+set instance entrance room
+set instance kitchen room
+set instance bedroom room
+set instance chargingroom room";
+
+/// Plans, one act a line, and the arcs of each.
+const PLANS: [(&str, &str); 2] = [
+    (
+        "(move leia entrance kitchen)\n(move r2 entrance kitchen)",
+        "",
+    ),
+    (
+        "(askcharge leia entrance chargingroom)\n(charge leia chargingroom)\n(move leia chargingroom kitchen)\n(move leia kitchen bedroom)",
+        "0-1\n0-2\n1-2\n1-3\n2-3\n",
+    ),
+];
+
+/// The arcs of a plan, one a line.
+fn arcs_told(alloc: Global, arcs: &Arcs) -> Result<String, Fail> {
+    let mut told = String::new(alloc);
+    for j in 0..arcs.acts() {
+        for i in 0..j {
+            if arcs.has(i, j) {
+                write!(told, "{i}-{j}\n")?;
+            }
+        }
+    }
+    Ok(told)
+}
+
+fn plan_arcs(alloc: Global, world: &mut World, plan: &str) -> Result<Arcs, Fail> {
+    let mut grounds = Vec::new(alloc);
+    for act in plan.lines() {
+        grounds.push(ground_of(alloc, world, act)?)?;
+    }
+    if grounds.len() > 256 {
+        return Err(Fail::from("no plan"));
+    }
+    Ok(arcs_of(alloc, &grounds)?)
+}
+
+fn keeps_so(rt: &impl Abort, alloc: Global, world: &mut World) -> Result<(), Fail> {
+    for (plan, want) in PLANS {
+        let arcs = plan_arcs(alloc, world, plan)?;
+        assert_eq!(rt; arcs_told(alloc, &arcs)?.as_str(), want);
+        assert_eq!(rt; arcs.count() as usize, want.lines().count());
+    }
+    Ok(())
+}
+
+#[test]
+fn plans_keep_these_orders(rt: HostRuntime) -> Result<(), Fail> {
+    let mut world = world_of(rt.alloc(), ROOMS, FLAT)?;
+    keeps_so(&rt, rt.alloc(), &mut world)
+}
+
 /// The arcs of two acts.
 fn arcs_between(alloc: Global, world: &mut World, one: &str, other: &str) -> Result<Arcs, Fail> {
     let one = ground_of(alloc, world, one)?;
