@@ -1,4 +1,5 @@
 //! Laws of orders. A call does nothing: its contract is the law.
+ghost use Rattle.ps_orders.specs.Beginnings.{AnyBeginning};
 ghost use Rattle.ps_orders.specs.Orders.{AnyOrder};
 ghost use Rattle.ps_orders.specs.Standing.{OrdersStand};
 
@@ -11,6 +12,12 @@ pub trait Knowing<X> {
 /// From where a plan is good, each order of starts and ends that its arcs allow goes well, and comes to what the plan comes to.
 pub fn any_order<K: Knowing<X>, X>()
     ensures { AnyOrder K X K.same }
+{}
+
+/// From where a plan is good, wherever starts and ends that its arcs allow lead to, each act that waits and is ready can start, each
+/// one that runs has its over-all condition true and can end, and where all have ended, the state is what the plan comes to.
+pub fn any_beginning<K: Knowing<X>, X>()
+    ensures { AnyBeginning K X K.same }
 {}
 
 /// The orders are the lists in which each start and each end stands once, and none before one that has to stand before it.
