@@ -105,7 +105,7 @@ not_found t ts e c = true_false (list_any (same_thing t) ts) (among t ts c) e
 
 -- what holds of each thing that is found
 module _ (P : Touched → Type 0) where
-  each_so : (ts : List Touched) → ((t : Touched) → list_any (same_thing t) ts ≡ true → P t) → All P ts
+  pub each_so : (ts : List Touched) → ((t : Touched) → list_any (same_thing t) ts ≡ true → P t) → All P ts
   each_so [] h = All-nil P
   each_so (x ∷ xs) h =
       All-cons P x xs (h x (ap (λ b. b || list_any (same_thing x) xs) (thing_itself x)))

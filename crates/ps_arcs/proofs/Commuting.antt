@@ -1,18 +1,25 @@
 -- That each order of starts and ends that the arcs of a good plan's ground actions allow goes well.
-use Rattle.std.proofs.Common.{◌≡◌, ℕ, zero, suc, ◌<◌, true, Some, None, Result, Ok, Err, List, [], ◌∷◌, length, slice_get, refl, ap, sym, ◌∙◌, subst, arith}
+use Rattle.std.proofs.Common.{◌≡◌, ℕ, zero, suc, ◌<◌, true, Some, None, is_some, is_ok as is_fine, Result, Ok, Err, List, [], ◌∷◌, length, slice_get, refl, ap, sym, ◌∙◌, subst, arith}
 use Rattle.std.specs.Result.{result_ok}
 use Rattle.ps_world.specs.declared.domains.Domain.{Domain}
 use Rattle.ps_world.specs.declared.known.Knowledge.{Knowledge}
 use Rattle.ps_action.specs.Effects.{effect}
 use Rattle.ps_action.specs.declared.acts.GroundAction.{GroundAction}
 use Rattle.ps_action.specs.declared.refusals.EffectRefusal.{EffectRefusal}
-use Rattle.ps_orders.proofs.Going.{any_order}
+use Rattle.ps_orders.proofs.Going.{any_beginning, any_order}
+use Rattle.ps_orders.specs.Beginnings.{CanGoOn as CanAllGoOn, Comes}
+use Rattle.ps_orders.specs.Beginnings.Comes.{opened as all_opened, started as all_started, closed as all_closed, retold as all_retold}
 use Rattle.ps_orders.specs.Acts.{GoodPlan}
 use Rattle.ps_orders.specs.Orders.{AllHold as AllHolds, Event, begins, ends, GoesWell, IsOrder, Stage, running, ended, all_waiting, moved}
 use Rattle.ps_action.specs.Arcs.{is_arc}
 use Rattle.ps_arcs.specs.Commuting.{AllHold, GoWell, IsGood, OrdersGoWell, TellTheSame}
-use Rattle.ps_arcs.proofs.Acting.{Told, SameAt, starts, lasts, closes, begun, finished, acts_of, acting}
+use Rattle.ps_arcs.specs.Beginnings.{BeginningsGoWell, CanGoOn, Come, TruthReadsWhatIsTold}
+use Rattle.ps_arcs.specs.Beginnings.Come.{opened, started, closed, retold}
+use Rattle.ps_arcs.proofs.Acting.{each_so, Told, SameAt, starts, lasts, closes, begun, finished, acts_of, acting}
 use Rattle.ps_arcs.proofs.Steps.{parts}
+use Rattle.ps_eval.specs.Laws.{Agree}
+use Rattle.ps_action.specs.Touching.{read_by_list}
+use Rattle.ps_eval.proofs.Reading.{truth_reads_what_is_named}
 
 -- ---- a good plan
 
@@ -139,3 +146,44 @@ orders_go_well d k last gs es g o =
     let plan = good_plan d last gs k g in
     let goes = any_order Knowledge Told SameAt n (acts_of d gs) (acting d gs n) k plan es o in
     go_well d gs last es all_waiting k (plan.before n) (last_at d last gs k g) o goes
+
+-- ---- a beginning
+
+fine : (r : Result Knowledge EffectRefusal) → is_some (result_ok r) ≡ true → is_fine r ≡ true
+fine (Ok k) e = refl
+fine (Err r) e = absurd (cc)
+
+told_at : (k l : Knowledge) → TellTheSame k l → (x : Told) → SameAt k l x
+told_at k l t None = (t.instances, t.goal)
+told_at k l t (Some u) = t.things u
+
+module _ (d : Domain) (gs : List GroundAction) (first : Knowledge) where
+  all_come : (now : ℕ → Stage) (k : Knowledge) → Come d gs first now k → Comes SameAt (length gs) (acts_of d gs) first now k
+  all_come _ _ opened = all_opened
+  all_come _ l (started now k _ i a c e w ready made) =
+      all_started now k l i (all_come now k c) (within gs i a e) w ready (subst (λ o. begun d o k ≡ Some l) (sym e) (ap result_ok made))
+  all_come _ l (closed now k _ i a c e w made) =
+      all_closed now k l i (all_come now k c) (within gs i a e) w (subst (λ o. finished d o k ≡ Some l) (sym e) (ap result_ok made))
+  all_come now l (retold _ k _ c t) = all_retold now k l (all_come now k c) (told_at k l t)
+
+  go_on : (last end : Knowledge) (now : ℕ → Stage) (k : Knowledge) → end ≡ last → CanAllGoOn SameAt (length gs) (acts_of d gs) end now k → CanGoOn d gs last now k
+  go_on last end now k same c = record {
+    start = λ i a e w ready.
+        let s = c.start i (within gs i a e) w ready in
+        (subst (λ o. starts d o k ≡ true) e s.0, fine (effect d k a.effects.at_start) (subst (λ o. is_some (begun d o k) ≡ true) e s.1));
+    hold = holds_all d gs last now k c.hold;
+    end = λ i a e w.
+        let s = c.end i (within gs i a e) w in
+        (subst (λ o. closes d o k ≡ true) e s.0, fine (effect d k a.effects.at_end) (subst (λ o. is_some (finished d o k) ≡ true) e s.1));
+    come = λ h. tell_the_same d gs last k end same (c.come h);
+  }
+
+pub beginnings_go_well : BeginningsGoWell
+unfolding good_plan
+beginnings_go_well d k last gs now l g c =
+    let plan = good_plan d last gs k g in
+    go_on d gs k last (plan.before (length gs)) now l (last_at d last gs k g)
+    (any_beginning Knowledge Told SameAt (length gs) (acts_of d gs) (acting d gs (length gs)) k plan now l (all_come d gs k now l c))
+
+pub truth_reads_what_is_told : TruthReadsWhatIsTold
+truth_reads_what_is_told d one other cs t = truth_reads_what_is_named d one other cs (each_so (Agree one other) (read_by_list cs) (λ u e. t.things u))

@@ -1,4 +1,5 @@
 //! Laws of what ground actions read and change. A call does nothing: its contract is the law.
+ghost use Rattle.ps_arcs.specs.Beginnings.{BeginningsGoWell, TruthReadsWhatIsTold};
 ghost use Rattle.ps_arcs.specs.Commuting.{JudgedIsGood, JudgedIsGrounded, OrdersGoWell};
 ghost use Rattle.ps_arcs.specs.Laws.{ArcsAreListed, ConditionsReadThings, EffectsLeaveOthers, EffectsReadThings, NoArcLeavesAlone};
 
@@ -46,4 +47,15 @@ pub fn judged_is_good()
 /// well, and comes to what the plan comes to.
 pub fn orders_go_well()
     ensures { OrdersGoWell }
+{}
+
+/// From where ground actions are a good plan, wherever starts and ends that their arcs allow lead to, each one that is ready can start,
+/// each one that runs has its over-all condition true and can end, and where all have ended, all is known that the plan comes to.
+pub fn beginnings_go_well()
+    ensures { BeginningsGoWell }
+{}
+
+/// Where two states tell the same, the same conditions hold.
+pub fn truth_reads_what_is_told()
+    ensures { TruthReadsWhatIsTold }
 {}

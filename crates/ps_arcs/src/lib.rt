@@ -9,6 +9,7 @@ mod users;
 
 pub use arcs::arcs_of;
 pub use laws::{
-    arcs_are_listed, conditions_read_things, effects_leave_others, effects_read_things,
-    judged_is_good, judged_is_grounded, no_arc_leaves_alone, orders_go_well,
+    arcs_are_listed, beginnings_go_well, conditions_read_things, effects_leave_others,
+    effects_read_things, judged_is_good, judged_is_grounded, no_arc_leaves_alone, orders_go_well,
+    truth_reads_what_is_told,
 };
