@@ -1,0 +1,4 @@
+pub mod Going
+pub mod Grounded
+pub mod Telling
+pub mod Walking
