@@ -135,7 +135,7 @@ forced_alone : (i : Input) (es : List Entry) (hand : ℕ) (b : Bool) (bs : List 
 forced_alone i es hand true bs e = ap (λ bs. map (cancels hand cancel.OverAll) bs ++ map (cancels hand cancel.Stop) (sound i es)) e
 forced_alone i es hand false bs e = ap (λ bs. map (cancels hand cancel.OverAll) bs ++ (if any_of bs then map (cancels hand cancel.Stop) (sound i es) else [])) e
 
--- ---- fronts
+-- ---- prefixes
 
 -- what stands first: a cancel that is due, or a legal event
 abbrev Head : Input → List Entry → List Entry → List Entry → List Entry → Type 0
@@ -165,18 +165,18 @@ forced_are i es hand e =
     cancels_are hand cancel.OverAll (broken i es) (if is_fail e || any_of (broken i es) then map (cancels hand cancel.Stop) (sound i es) else [])
     (stops_are hand (is_fail e || any_of (broken i es)) (sound i es))
 
--- after the first of entries, the others lead on
-cut : (i : Input) (front due before es last : List Entry) → AreCancels due → Leads i front due (before ++ es) last
-    → (now : List Entry) × AreCancels now × Leads i (front ++ before) now es last
-cut i front due [] es last h l = (due, h, subst (λ t. Leads i t due es last) (sym (append-nil front)) l)
-cut i front due (b ∷ before) es last h l =
-    let join = append_assoc front (b ∷ []) before in
-    elim (head_of i front due (b ∷ (before ++ es)) last l) [
+-- after the first of some entries, the others lead on
+cut : (i : Input) (past due before es last : List Entry) → AreCancels due → Leads i past due (before ++ es) last
+    → (now : List Entry) × AreCancels now × Leads i (past ++ before) now es last
+cut i past due [] es last h l = (due, h, subst (λ t. Leads i t due es last) (sym (append-nil past)) l)
+cut i past due (b ∷ before) es last h l =
+    let join = append_assoc past (b ∷ []) before in
+    elim (head_of i past due (b ∷ (before ++ es)) last l) [
       | inl w ↦
-          let g = cut i (front ++ b ∷ []) w.0 before es last (subst AreCancels w.1 h).1 w.2 in
+          let g = cut i (past ++ b ∷ []) w.0 before es last (subst AreCancels w.1 h).1 w.2 in
           (g.0, g.1, subst (λ t. Leads i t g.0 es last) join g.2)
       | inr w ↦
-          let g = cut i (front ++ b ∷ []) (forced i front b) before es last (forced_are i (front ++ b ∷ []) b.hand b.what) w.2 in
+          let g = cut i (past ++ b ∷ []) (forced i past b) before es last (forced_are i (past ++ b ∷ []) b.hand b.what) w.2 in
           (g.0, g.1, subst (λ t. Leads i t g.0 es last) join g.2)
     ]
 

@@ -41,7 +41,8 @@ is_edit e = false
 abbrev pub NoEditCounts : Input → List Entry → List Entry → Type 0
 NoEditCounts i before [] = Unit {0}
 NoEditCounts i before (e ∷ es) =
-    (IsTrue (is_edit e.what) → TellTheSame (know i before) (know i (before ++ e ∷ []))) × NoEditCounts i (before ++ e ∷ []) es
+    (IsTrue (is_edit e.what) → TellTheSame (know i before) (know i (before ++ e ∷ [])))
+    × NoEditCounts i (before ++ e ∷ []) es
 
 -- whether an event tells that the plan went wrong by itself: an act failed by its end condition or its end effects, an over-all
 -- condition broke, or the run is blocked
@@ -59,6 +60,10 @@ is_given_up (event.Over outcome.Success) = false
 is_given_up (event.Over how) = true
 is_given_up e = false
 
+-- no event of these entries passes this test
+abbrev pub NoneIs : (Event → Bool) → List Entry → Type 0
+NoneIs test es = AllByRecursion (λ e. IsFalse (test e.what)) es
+
 -- Take entries of a history that follow one that makes a good plan, up to the end of the plan or less far, where no edit among them
 -- changed what is known. Then none of them tells that the plan went wrong by itself; and if no act failed, none leaves the plan
 -- without success.
@@ -69,5 +74,4 @@ InTheJournal =
     → IsTrue (makes_good_plan e.what)
     → IsOfOnePlan es
     → NoEditCounts i (before ++ e ∷ []) es
-    → AllByRecursion (λ f. IsFalse (is_own_fault f.what)) es
-    × (AllByRecursion (λ f. IsFalse (is_fail f.what)) es → AllByRecursion (λ f. IsFalse (is_given_up f.what)) es)
+    → NoneIs is_own_fault es × (NoneIs is_fail es → NoneIs is_given_up es)

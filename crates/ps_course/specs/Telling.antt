@@ -7,4 +7,5 @@ use Rattle.ps_rules.specs.Known.{know}
 
 -- what is known after some entries and after others tells the same exactly where it is equal, since its lists are kept in order
 abbrev pub ToldIsKnown : Type 0
-ToldIsKnown = (i : Input) (es fs : List Entry) → TellTheSame (know i es) (know i fs) ↔ (know i es ≡ know i fs)
+ToldIsKnown =
+    (i : Input) (es fs : List Entry) → TellTheSame (know i es) (know i fs) ↔ (know i es ≡ know i fs)
