@@ -1,0 +1,3 @@
+pub mod Laws
+pub mod Sayable
+pub mod WordNames

@@ -1,0 +1,94 @@
+-- The edits, queries and acts that a line of the terminal can say, where these are the names.
+use Rattle.std.specs.Prelude.{◌≡◌, ℕ, ◌≤◌, true, List, length, All}
+use Rattle.ps_world.specs.Names.{Table, name_text}
+use Rattle.ps_world.specs.Numbers.{IsCount}
+use Rattle.ps_world.specs.Trees.{ExprTree, number, value_of, negated, operated, CondTree, CondTrees, all_of, no, holds, same, compares, is_a, none, more}
+use Rattle.ps_world.specs.CondViews.{cond_tree}
+use Rattle.ps_world.specs.declared.names.Name.{Name}
+use Rattle.ps_world.specs.declared.facts.Fact.{Fact}
+use Rattle.ps_world.specs.declared.schemas.Lifted.{Lifted}
+use Rattle.ps_world.specs.declared.conditions.Cond.{Cond}
+use Rattle.ps_world.specs.declared.edits.Edit.{Edit}
+use Rattle.ps_world.specs.declared.edits.Edit.TheVariants.{AddInstance, RemoveInstance, AddFact, RemoveFact, SetValue, RemoveValue, SetGoal, RemoveGoal}
+use Rattle.ps_action.specs.declared.acts.Act.{Act}
+use Rattle.ps_machine.specs.declared.inputs.Query.{Query}
+use Rattle.ps_machine.specs.declared.inputs.Query.TheVariants.{ModelPredicate, ModelAction}
+use Rattle.ps_rules.specs.Sound.{cond_opens}
+use Rattle.ps_text.specs.declared.lexing.Class.TheVariants as class
+use Rattle.ps_shape.specs.Marks.{is_goal_name}
+use Rattle.ps_forms.specs.Lexemes.{mark_of}
+use Rattle.ps_print.specs.CanonicalWords.{IsCondOf, IsNameOf}
+
+-- ---- facts
+
+-- a head and its arguments: the names stand in the table, and there are at most 6 arguments
+pub record IsHeadOf (count : ℕ) (n : Name) (ns : List Name) : Type 0 where
+  pub head : IsNameOf count n
+  pub args : All (IsNameOf count) ns
+  pub few : length ns ≤ 6
+
+-- the same of a fact
+abbrev pub IsFactOf : ℕ → Fact → Type 0
+IsFactOf count f = IsHeadOf count f.head f.args
+
+-- the same of an act
+abbrev pub IsActOf : ℕ → Act → Type 0
+IsActOf count act = IsHeadOf count act.action act.args
+
+-- ---- goals
+
+-- at most 6 arguments
+abbrev pub IsShort : Lifted → Type 0
+IsShort l = length l.terms ≤ 6
+
+-- a name may stand at the head of a fact in a goal: it is none of `and`, `not`, `or`, `imply`, `exists`, `forall` and `when`
+abbrev pub IsGoalHead : Table → Name → Type 0
+IsGoalHead names n = is_goal_name (mark_of class.Name (name_text names n)) ≡ true
+
+-- an expression in which each function has at most 6 arguments
+abbrev pub IsShortExpr : ExprTree → Type 0
+IsShortExpr (number n) = Unit {0}
+IsShortExpr (value_of l) = IsShort l
+IsShortExpr (negated x) = IsShortExpr x
+IsShortExpr (operated op x y) = IsShortExpr x × IsShortExpr y
+
+abbrev mutual
+  -- a condition in which each fact and function has at most 6 arguments, and each fact a head that may stand there
+  pub HasGoalHeads : Table → CondTree → Type 0
+  HasGoalHeads names (all_of cs) = HaveGoalHeads names cs
+  HasGoalHeads names (no c) = HasGoalHeads names c
+  HasGoalHeads names (holds l) = IsShort l × IsGoalHead names l.head
+  HasGoalHeads names (same s t) = Unit {0}
+  HasGoalHeads names (compares rel x y) = IsShortExpr x × IsShortExpr y
+  HasGoalHeads names (is_a t kind) = Unit {0}
+
+  -- the same of several
+  pub HaveGoalHeads : Table → CondTrees → Type 0
+  HaveGoalHeads names none = Unit {0}
+  HaveGoalHeads names (more c cs) = HasGoalHeads names c × HaveGoalHeads names cs
+
+-- A goal that a line can say: its names stand in the table, its numbers are in range, no variable stands in it and none in it says that
+-- an instance has a type, its heads may stand where they do, and at most 64 parentheses are open at one place.
+pub record IsGoalOf (names : Table) (goal : Cond) : Type 0 where
+  pub known : IsCondOf (length names) 0 (cond_tree goal)
+  pub heads : HasGoalHeads names (cond_tree goal)
+  pub shallow : cond_opens (cond_tree goal) ≤ 64
+
+-- ---- edits and queries
+
+-- an edit that a line can say
+abbrev pub IsEditOf : Table → Edit → Type 0
+IsEditOf names (AddInstance n kind) = IsNameOf (length names) n × IsNameOf (length names) kind
+IsEditOf names (RemoveInstance n) = IsNameOf (length names) n
+IsEditOf names (AddFact f) = IsFactOf (length names) f
+IsEditOf names (RemoveFact f) = IsFactOf (length names) f
+IsEditOf names (SetValue f x) = IsFactOf (length names) f × IsCount x
+IsEditOf names (RemoveValue f) = IsFactOf (length names) f
+IsEditOf names (SetGoal goal) = IsGoalOf names goal
+IsEditOf names RemoveGoal = Unit {0}
+
+-- a query that a line can say
+abbrev pub IsQueryOf : Table → Query → Type 0
+IsQueryOf names (ModelPredicate n) = IsNameOf (length names) n
+IsQueryOf names (ModelAction n) = IsNameOf (length names) n
+IsQueryOf names q = Unit {0}
