@@ -1,0 +1,37 @@
+-- Marks that symbols derive, without too many levels.
+use Rattle.std.proofs.Common.{◌≡◌, suc, ◌<◌, ◌≤◌, List, [], ◌∷◌, ◌++◌, take, Some, unwrap_or, sym, ap, subst, inl, inr}
+use Rattle.std.specs.Option.{option_and_then}
+use Rattle.std.proofs.lemmas.Bool.{cases_lt}
+use Rattle.ps_shape.specs.Rules.{step}
+use Rattle.ps_shape.specs.Shape.{Derives, IsShallowFrom, deepest, run}
+use Rattle.ps_shape.specs.Shape.Derives.{nothing, by_rule}
+use Rattle.ps_shape.specs.Symbols.{level}
+use Rattle.ps_shape.specs.declared.marks.Mark.{Mark}
+use Rattle.ps_shape.specs.declared.marks.Mark.TheVariants.{Open}
+use Rattle.ps_shape.specs.declared.symbols.Symbol.{Symbol}
+
+-- the mark may stand where so many levels are open
+abbrev pub HasRoom : List Symbol → Mark → Type 0
+HasRoom st m = m ≡ Open → level st < deepest
+
+-- the symbols derive the marks, and none of these opens too many levels
+pub data Runs : List Symbol → List Mark → Type 0 where
+  ends : Runs [] []
+  goes : (s : Symbol) (st : List Symbol) (m : Mark) (ms : List Mark) (new : List Symbol) → step s m ≡ Some new → HasRoom (s ∷ st) m → Runs (new ++ st) ms → Runs (s ∷ st) (m ∷ ms)
+
+room_of : (s : Symbol) (st : List Symbol) (m : Mark) (ms : List Mark) → IsShallowFrom (s ∷ st) (m ∷ ms) → HasRoom (s ∷ st) m
+room_of s st m ms flat opens =
+    elim (cases_lt (level (s ∷ st)) deepest) [
+      | inl h ↦ h
+      | inr h ↦ absurd (flat 0 (ap Some opens, h))
+    ]
+
+later_flat : (s : Symbol) (st : List Symbol) (m : Mark) (ms : List Mark) (new : List Symbol) → step s m ≡ Some new → IsShallowFrom (s ∷ st) (m ∷ ms) → IsShallowFrom (new ++ st) ms
+later_flat s st m ms new leads flat at deep =
+    let same : run (s ∷ st) (m ∷ take at ms) ≡ run (new ++ st) (take at ms) = ap (λ o. option_and_then (λ next. run next (take at ms)) (option_and_then (λ x. Some (x ++ st)) o)) leads in
+    flat (suc at) (deep.0, subst (λ o. deepest ≤ level (unwrap_or o [])) (sym same) deep.1)
+
+pub runs_of : (st : List Symbol) (ms : List Mark) → Derives st ms → IsShallowFrom st ms → Runs st ms
+runs_of _ _ nothing flat = ends
+runs_of _ _ (by_rule s st m ms new leads rest) flat =
+    goes s st m ms new leads (room_of s st m ms flat) (runs_of (new ++ st) ms rest (later_flat s st m ms new leads flat))

@@ -1,0 +1,274 @@
+-- Words that nested lists are written with, where a goal is wanted: no list in them is too deep, and a list stands wherever a condition
+-- is looked for.
+use Rattle.std.proofs.Common.{◌≡◌, ℕ, suc, ◌+◌, ◌<◌, ◌≤◌, true, if◌then◌else◌, List, [], ◌∷◌, ◌++◌, Some, refl, ◌∙◌, ap, subst, append_assoc, arith}
+use Rattle.std.proofs.lemmas.Bool.{and_parts}
+use Rattle.std.proofs.lemmas.List.{map-append}
+use Rattle.ps_shape.specs.Marks.{is}
+use Rattle.ps_shape.specs.Rules.{step}
+use Rattle.ps_shape.specs.Shape.{deepest}
+use Rattle.ps_shape.specs.Symbols.{level}
+use Rattle.ps_shape.specs.declared.marks.Mark.{Mark}
+use Rattle.ps_shape.specs.declared.marks.Mark.TheVariants.{Open, Close, And, Not}
+use Rattle.ps_shape.specs.declared.symbols.Symbol.{Symbol}
+use Rattle.ps_shape.specs.declared.symbols.Symbol.TheVariants.{The, AnyName, InGoal}
+use Rattle.ps_shape.specs.declared.symbols.GoalPart.TheVariants as goal
+use Rattle.ps_shape.proofs.Levels.{level_more}
+use Rattle.ps_forms.specs.Lexemes.{marks}
+use Rattle.ps_forms.specs.Nested.{Nested, Nesteds, rank, ranks}
+use Rattle.ps_forms.specs.Places.{rest}
+use Rattle.ps_forms.specs.Spelling.{Spells, SpellAll}
+use Rattle.ps_forms.specs.Spelling.Spells.{plain, between}
+use Rattle.ps_forms.specs.Spelling.SpellAll.{nothing, one_more}
+use Rattle.ps_forms.specs.declared.lexemes.Lexeme.{Lexeme}
+use Rattle.ps_rules.specs.Sound.{IsScriptCond}
+use Rattle.ps_script.specs.Goals.{condition, first_condition}
+use Rattle.ps_sound.proofs.GoalMarks.{HasRoom, Runs}
+use Rattle.ps_sound.proofs.GoalMarks.Runs.{goes}
+use Rattle.ps_sound.proofs.GoalSymbols.{closes, closes_level, closes_twice, is_last, is_one, last_close, last_level, last_open, last_word, one_close, one_level, one_open, one_word}
+use Rattle.ps_sound.proofs.GoalTrees.{IsFine, are_formed, begins_formed, condition_fine, is_form, is_formed}
+
+-- ---- one mark
+
+-- what follows a mark
+pub record Next (s : Symbol) (st : List Symbol) (m : Mark) (ms : List Mark) : Type 0 where
+  pub new : List Symbol
+  pub leads : step s m ≡ Some new
+  pub room : HasRoom (s ∷ st) m
+  pub runs : Runs (new ++ st) ms
+
+next : (s : Symbol) (st : List Symbol) (m : Mark) (ms : List Mark) → Runs (s ∷ st) (m ∷ ms) → Next s st m ms
+next _ _ _ _ (goes s st m ms new leads room rest) = record { new = new; leads = leads; room = room; runs = rest }
+
+-- a word where one word or list is wanted
+after_word : (s : Symbol) (st : List Symbol) (m : Mark) (ms : List Mark) → is_one s ≡ true → (m ≡ Open → ⊥) → (m ≡ Close → ⊥) → Runs (s ∷ st) (m ∷ ms) → Runs st ms
+after_word s st m ms e o c runs =
+    let n = next s st m ms runs in
+    subst (λ x. Runs (x ++ st) ms) (one_word s m n.new n.leads e o c) n.runs
+
+-- a parenthesis that closes, where all up to it is wanted
+after_close : (s : Symbol) (st : List Symbol) (ms : List Mark) → is_last s ≡ true → Runs (s ∷ st) (Close ∷ ms) → Runs st ms
+after_close s st ms e runs =
+    let n = next s st Close ms runs in
+    subst (λ x. Runs (x ++ st) ms) (last_close s n.new n.leads e) n.runs
+
+-- all up to a parenthesis is still wanted here
+pub record Inside (st : List Symbol) (ms : List Mark) : Type 0 where
+  pub new : List Symbol
+  pub closing : closes new ≡ true
+  pub runs : Runs (new ++ st) ms
+
+word_inside : (s : Symbol) (st : List Symbol) (m : Mark) (ms : List Mark) → is_last s ≡ true → (m ≡ Open → ⊥) → (m ≡ Close → ⊥) → Runs (s ∷ st) (m ∷ ms) → Inside st ms
+word_inside s st m ms e o c runs =
+    let n = next s st m ms runs in
+    record { new = n.new; closing = last_word s m n.new n.leads e o c; runs = n.runs }
+
+-- a parenthesis that opens, where one word or list is wanted
+pub record Opened (st : List Symbol) (ms : List Mark) : Type 0 where
+  pub room : level st < deepest
+  pub inside : Inside st ms
+
+open_one : (s : Symbol) (st : List Symbol) (ms : List Mark) → is_one s ≡ true → Runs (s ∷ st) (Open ∷ ms) → Opened st ms
+open_one s st ms e runs =
+    let n = next s st Open ms runs in
+    let room = n.room refl in
+    record {
+      room = omega (arith, room, one_level s e);
+      inside = record { new = n.new; closing = one_open s n.new n.leads e; runs = n.runs };
+    }
+
+-- the same, where all up to a parenthesis is wanted: it is wanted again after the list
+pub record OpenedInside (st : List Symbol) (ms : List Mark) : Type 0 where
+  pub first : Symbol
+  pub later : List Symbol
+  pub is_first : is_last first ≡ true
+  pub closing : closes later ≡ true
+  pub room : 1 + level st < deepest
+  pub runs : Runs (first ∷ (later ++ st)) ms
+
+split_open : (new st : List Symbol) (ms : List Mark) → 1 + level st < deepest → closes_twice new ≡ true → Runs (new ++ st) ms → OpenedInside st ms
+split_open [] st ms room e runs = absurd (cc)
+split_open (s ∷ later) st ms room e runs =
+    let parts = and_parts (is_last s) (closes later) e in
+    record { first = s; later = later; is_first = parts.0; closing = parts.1; room = room; runs = runs }
+
+open_inside : (s : Symbol) (st : List Symbol) (ms : List Mark) → is_last s ≡ true → Runs (s ∷ st) (Open ∷ ms) → OpenedInside st ms
+open_inside s st ms e runs =
+    let n = next s st Open ms runs in
+    let room = n.room refl in
+    split_open n.new st ms (omega (arith, room, last_level s e)) (last_open s n.new n.leads e) n.runs
+
+-- ---- words of lists
+
+group_marks : (left right : Lexeme) (ls : List Lexeme) (ms : List Mark) → left.mark ≡ Open → right.mark ≡ Close → marks (left ∷ (ls ++ right ∷ [])) ++ ms ≡ Open ∷ (marks ls ++ Close ∷ ms)
+group_marks left right ls ms o c =
+    ap (λ x. left.mark ∷ (x ++ ms)) (map-append (λ l. l.mark) ls (right ∷ [])) ∙ ap (λ x. left.mark ∷ x) (append_assoc (marks ls) (right.mark ∷ []) ms) ∙ ap (λ m. m ∷ (marks ls ++ right.mark ∷ ms)) o ∙ ap (λ m. Open ∷ (marks ls ++ m ∷ ms)) c
+
+marks_more : (ls ks : List Lexeme) (ms : List Mark) → marks (ls ++ ks) ++ ms ≡ marks ls ++ (marks ks ++ ms)
+marks_more ls ks ms = ap (λ x. x ++ ms) (map-append (λ l. l.mark) ls ks) ∙ append_assoc (marks ls) (marks ks) ms
+
+-- the words of a list are within the levels, and the marks after them run on
+abbrev pub Passes : ℕ → List Symbol → List Mark → Type 0
+Passes n st ms = (level st + n ≤ deepest) × Runs st ms
+
+-- the same, where all up to a parenthesis is still wanted
+abbrev PassesInside : ℕ → List Symbol → List Mark → Type 0
+PassesInside n st ms = (suc (level st) + n ≤ deepest) × Inside st ms
+
+mutual
+  -- a word or list, where one is wanted
+  pub pass_one : (t : Nested) (ls : List Lexeme) → Spells t ls → (s : Symbol) (st : List Symbol) (ms : List Mark) → is_one s ≡ true → level st ≤ deepest → Runs (s ∷ st) (marks ls ++ ms) → Passes (rank t) st ms
+  pass_one _ _ (plain l o c) s st ms e few runs = (omega (arith, few), after_word s st l.mark ms e o c runs)
+  pass_one _ _ (between left right ts ls o c a) s st ms e few runs =
+      let k = open_one s st (marks ls ++ Close ∷ ms) e (subst (Runs (s ∷ st)) (group_marks left right ls ms o c) runs) in
+      let p = pass_all ts ls a k.inside.new st ms k.inside.closing k.room k.inside.runs in
+      (omega (arith, p.0), p.1)
+
+  -- a word or list, where all up to a parenthesis is wanted
+  pass_inside : (t : Nested) (ls : List Lexeme) → Spells t ls → (s : Symbol) (st : List Symbol) (ms : List Mark) → is_last s ≡ true → level st < deepest → Runs (s ∷ st) (marks ls ++ ms) → PassesInside (rank t) st ms
+  pass_inside _ _ (plain l o c) s st ms e few runs = (omega (arith, few), word_inside s st l.mark ms e o c runs)
+  pass_inside _ _ (between left right ts ls o c a) s st ms e few runs =
+      let k = open_inside s st (marks ls ++ Close ∷ ms) e (subst (Runs (s ∷ st)) (group_marks left right ls ms o c) runs) in
+      let high = level_more k.later st in
+      let one = closes_level k.later k.closing in
+      let room = k.room in
+      let p = pass_all ts ls a (k.first ∷ []) (k.later ++ st) ms k.is_first (omega (arith, high, one, room)) k.runs in
+      (omega (arith, p.0, high, one), record { new = k.later; closing = k.closing; runs = p.1 })
+
+  -- all up to a parenthesis, and the parenthesis
+  pub pass_all : (ts : Nesteds) (ls : List Lexeme) → SpellAll ts ls → (new st : List Symbol) (ms : List Mark) → closes new ≡ true → level st < deepest → Runs (new ++ st) (marks ls ++ Close ∷ ms) → Passes (suc (ranks ts)) st ms
+  pass_all _ _ nothing [] st ms e few runs = absurd (cc)
+  pass_all _ _ nothing (s ∷ []) st ms e few runs = (omega (arith, few), after_close s st ms e runs)
+  pass_all _ _ nothing (s ∷ t ∷ later) st ms e few runs =
+      let n = next s ((t ∷ later) ++ st) Close ms runs in
+      absurd (one_close s n.new n.leads (and_parts (is_one s) (closes (t ∷ later)) e).0)
+  pass_all _ _ (one_more t ts ls ks a b) [] st ms e few runs = absurd (cc)
+  pass_all _ _ (one_more t ts ls ks a b) (s ∷ []) st ms e few runs =
+      let p = pass_inside t ls a s st (marks ks ++ Close ∷ ms) e few (subst (Runs (s ∷ st)) (marks_more ls ks (Close ∷ ms)) runs) in
+      let q = pass_all ts ks b p.1.new st ms p.1.closing few p.1.runs in
+      (omega (arith, p.0, q.0), q.1)
+  pass_all _ _ (one_more t ts ls ks a b) (s ∷ u ∷ later) st ms e few runs =
+      let parts = and_parts (is_one s) (closes (u ∷ later)) e in
+      let high = level_more (u ∷ later) st in
+      let one = closes_level (u ∷ later) parts.1 in
+      let p = pass_one t ls a s ((u ∷ later) ++ st) (marks ks ++ Close ∷ ms) parts.0 (omega (arith, high, one, few)) (subst (Runs (s ∷ ((u ∷ later) ++ st))) (marks_more ls ks (Close ∷ ms)) runs) in
+      let q = pass_all ts ks b (u ∷ later) st ms parts.1 few p.1 in
+      (omega (arith, p.0, q.0, high, one), q.1)
+
+-- ---- conditions
+
+abbrev condition_wanted : Symbol
+condition_wanted = InGoal goal.Condition
+
+abbrev conditions_wanted : Symbol
+conditions_wanted = InGoal goal.Conditions
+
+abbrev head_wanted : Symbol
+head_wanted = InGoal goal.Head
+
+no_word : (m : Mark) (new : List Symbol) → (m ≡ Open → ⊥) → step condition_wanted m ≡ Some new → ⊥
+no_word Open new o e = o refl
+no_word _ new o e = cc
+
+no_word_more : (m : Mark) (new : List Symbol) → (m ≡ Open → ⊥) → (m ≡ Close → ⊥) → step conditions_wanted m ≡ Some new → ⊥
+no_word_more Open new o c e = o refl
+no_word_more Close new o c e = c refl
+no_word_more _ new o c e = cc
+
+open_condition : (st : List Symbol) (ms : List Mark) → Runs (condition_wanted ∷ st) (Open ∷ ms) → Runs (head_wanted ∷ st) ms
+open_condition st ms runs =
+    let n = next condition_wanted st Open ms runs in
+    let same : n.new ≡ head_wanted ∷ [] = let leads = n.leads in cc in
+    subst (λ x. Runs (x ++ st) ms) same n.runs
+
+open_more : (st : List Symbol) (ms : List Mark) → Runs (conditions_wanted ∷ st) (Open ∷ ms) → Runs (head_wanted ∷ (conditions_wanted ∷ st)) ms
+open_more st ms runs =
+    let n = next conditions_wanted st Open ms runs in
+    let same : n.new ≡ head_wanted ∷ conditions_wanted ∷ [] = let leads = n.leads in cc in
+    subst (λ x. Runs (x ++ st) ms) same n.runs
+
+after_and : (st : List Symbol) (ms : List Mark) → Runs (head_wanted ∷ st) (And ∷ ms) → Runs (conditions_wanted ∷ st) ms
+after_and st ms runs =
+    let n = next head_wanted st And ms runs in
+    let same : n.new ≡ conditions_wanted ∷ [] = let leads = n.leads in cc in
+    subst (λ x. Runs (x ++ st) ms) same n.runs
+
+after_not : (st : List Symbol) (ms : List Mark) → Runs (head_wanted ∷ st) (Not ∷ ms) → Runs (condition_wanted ∷ The Close ∷ st) ms
+after_not st ms runs =
+    let n = next head_wanted st Not ms runs in
+    let same : n.new ≡ condition_wanted ∷ The Close ∷ [] = let leads = n.leads in cc in
+    subst (λ x. Runs (x ++ st) ms) same n.runs
+
+-- by the head
+form_by : (m : Mark) (ts : Nesteds) → (m ≡ And → are_formed ts ≡ true) → (m ≡ Not → begins_formed ts ≡ true) → (if is And m then are_formed ts else (if is Not m then begins_formed ts else true)) ≡ true
+form_by And ts f g = f refl
+form_by Not ts f g = g refl
+form_by _ ts f g = refl
+
+mutual
+  pub formed_one : (t : Nested) (ls : List Lexeme) → Spells t ls → (st : List Symbol) (ms : List Mark) → Runs (condition_wanted ∷ st) (marks ls ++ ms) → is_formed t ≡ true
+  formed_one _ _ (plain l o c) st ms runs =
+      let n = next condition_wanted st l.mark ms runs in
+      absurd (no_word l.mark n.new o n.leads)
+  formed_one _ _ (between left right ts ls o c a) st ms runs =
+      formed_head ts ls a st ms (open_condition st (marks ls ++ Close ∷ ms) (subst (Runs (condition_wanted ∷ st)) (group_marks left right ls ms o c) runs))
+
+  formed_head : (ts : Nesteds) (ls : List Lexeme) → SpellAll ts ls → (st : List Symbol) (ms : List Mark) → Runs (head_wanted ∷ st) (marks ls ++ Close ∷ ms) → is_form ts ≡ true
+  formed_head _ _ nothing st ms runs = refl
+  formed_head _ _ (one_more _ ts _ ks (between left right us js o c a) b) st ms runs = refl
+  formed_head _ _ (one_more _ ts _ ks (plain l o c) b) st ms runs =
+      form_by l.mark ts
+      (λ e. formed_all ts ks b st ms (after_and st (marks ks ++ Close ∷ ms) (subst (λ m. Runs (head_wanted ∷ st) (m ∷ (marks ks ++ Close ∷ ms))) e runs)))
+      (λ e. formed_first ts ks b (The Close ∷ st) (Close ∷ ms) (after_not st (marks ks ++ Close ∷ ms) (subst (λ m. Runs (head_wanted ∷ st) (m ∷ (marks ks ++ Close ∷ ms))) e runs)))
+
+  formed_first : (ts : Nesteds) (ls : List Lexeme) → SpellAll ts ls → (st : List Symbol) (ms : List Mark) → Runs (condition_wanted ∷ st) (marks ls ++ ms) → begins_formed ts ≡ true
+  formed_first _ _ nothing st ms runs = refl
+  formed_first _ _ (one_more t ts ls ks a b) st ms runs =
+      formed_one t ls a st (marks ks ++ ms) (subst (Runs (condition_wanted ∷ st)) (marks_more ls ks ms) runs)
+
+  formed_all : (ts : Nesteds) (ls : List Lexeme) → SpellAll ts ls → (st : List Symbol) (ms : List Mark) → Runs (conditions_wanted ∷ st) (marks ls ++ Close ∷ ms) → are_formed ts ≡ true
+  formed_all _ _ nothing st ms runs = refl
+  formed_all _ _ (one_more _ ts _ ks (plain l o c) b) st ms runs =
+      let n = next conditions_wanted st l.mark (marks ks ++ Close ∷ ms) runs in
+      absurd (no_word_more l.mark n.new o c n.leads)
+  formed_all _ _ (one_more _ ts _ ks (between left right us js o c a) b) st ms runs =
+      let last = Close ∷ ms in
+      let all = subst (Runs (conditions_wanted ∷ st)) (marks_more (left ∷ (js ++ right ∷ [])) ks last ∙ group_marks left right js (marks ks ++ last) o c) runs in
+      let n = next conditions_wanted st Open (marks js ++ Close ∷ (marks ks ++ last)) all in
+      let now = open_more st (marks js ++ Close ∷ (marks ks ++ last)) all in
+      let here : is_form us ≡ true = formed_head us js a (conditions_wanted ∷ st) (marks ks ++ last) now in
+      let p = pass_all us js a (head_wanted ∷ []) (conditions_wanted ∷ st) (marks ks ++ last) refl (n.room refl) now in
+      rw here (formed_all ts ks b st ms p.1)
+
+-- ---- goals of lines
+
+no_run : (s : Symbol) (st : List Symbol) (ms : List Mark) → Runs (s ∷ st) ms → ms ≡ [] → ⊥
+no_run _ _ _ (goes s st m ms new leads room rest) e = cc
+
+begin : (ls ks : List Lexeme) (st : List Symbol) → Runs st (marks (ls ++ ks)) → Runs st (marks ls ++ marks ks)
+begin ls ks st runs = subst (Runs st) (map-append (λ l. l.mark) ls ks) runs
+
+-- what follows a name
+pub record AfterName (ts : Nesteds) (st : List Symbol) : Type 0 where
+  pub words : List Lexeme
+  pub spelt : SpellAll (rest ts) words
+  pub runs : Runs st (marks words)
+
+pub after_name : (ts : Nesteds) (ls : List Lexeme) → SpellAll ts ls → (st : List Symbol) → level st ≤ deepest → Runs (AnyName ∷ st) (marks ls) → AfterName ts st
+after_name _ _ nothing st few runs = absurd (no_run AnyName st [] runs refl)
+after_name _ _ (one_more t ts ls ks a b) st few runs = record {
+  words = ks;
+  spelt = b;
+  runs = (pass_one t ls a AnyName st (marks ks) refl few (begin ls ks (AnyName ∷ st) runs)).1;
+}
+
+script_cond : (n : ℕ) (t : Nested) → IsFine n (condition t) → n ≤ 64 → IsScriptCond (condition t)
+script_cond n t fine few = record { named = fine.0; shallow = omega (arith, few, fine.1) }
+
+-- the condition that stands first is one that a script may write
+pub script_goal : (ts : Nesteds) (ls : List Lexeme) → SpellAll ts ls → Runs (condition_wanted ∷ []) (marks ls) → IsScriptCond (first_condition ts)
+script_goal _ _ nothing runs = record { named = refl; shallow = omega arith }
+script_goal _ _ (one_more t ts ls ks a b) runs =
+    let now = begin ls ks (condition_wanted ∷ []) runs in
+    let formed = formed_one t ls a [] (marks ks) now in
+    let p = pass_one t ls a condition_wanted [] (marks ks) refl (omega arith) now in
+    script_cond (rank t) t (condition_fine t formed) (omega (arith, p.0))

@@ -1,0 +1,8 @@
+mod GoalMarks
+mod GoalSymbols
+mod GoalTexts
+mod GoalTrees
+pub mod ShortPlans
+pub mod SoundLines
+pub mod SoundMembers
+mod SoundUnits
