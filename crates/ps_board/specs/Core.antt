@@ -1,0 +1,81 @@
+-- What a board keeps.
+use Rattle.std.specs.Prelude.{◌≡◌, ℕ, ◌≤◌, ◌<◌, IsTrue, Bool, true, false, Option, Some, None, if◌then◌else◌, List, [], length, slice_get, slice_index_or}
+use Rattle.std.specs.Option.{option_map_or, unwrap_or}
+use Rattle.std.specs.Vec.{vec_capacity}
+use Rattle.ps_world.specs.Trees.{CondTree}
+use Rattle.ps_action.specs.declared.acts.GroundAction.{GroundAction}
+use Rattle.ps_action.specs.declared.states.ActState.{ActState}
+use Rattle.ps_action.specs.declared.states.ActState.TheVariants.{Waiting}
+use Rattle.ps_machine.specs.declared.journal.Event.{Event}
+use Rattle.ps_machine.specs.declared.journal.Event.TheVariants as event
+use Rattle.ps_rules.specs.Runs.{is_active, plan, says_plan, says_state, state}
+use Rattle.ps_rules.specs.Known.{grounds, know, known_after}
+use Rattle.ps_rules.specs.Legal.{has_hand, is_legal}
+use Rattle.ps_rules.specs.History.{IsHistory}
+use Rattle.ps_rules.specs.Sound.{IsSound}
+use Rattle.ps_ledger.specs.Legal.{HasMembersOf}
+use Rattle.ps_rules.specs.Choices.{with_block}
+use Rattle.ps_ledger.specs.declared.ledger.Ledger.{Ledger}
+use Rattle.ps_ledger.specs.Ledger.{HasRoom, TellsAll}
+use Rattle.ps_monitor.specs.declared.monitor.Monitor.{Monitor}
+use Rattle.ps_monitor.specs.Watched.{watched}
+use Rattle.ps_board.specs.declared.whole.Core.{Core}
+
+-- what an act needs while it runs
+abbrev pub over_in : List GroundAction → ℕ → List CondTree
+over_in gs act = option_map_or (λ g. g.conditions.over_all) (slice_get gs act) []
+
+-- the condition that is watched for an act in this state
+abbrev pub watch_for : List GroundAction → ℕ → ActState → Option (List CondTree)
+watch_for gs act s = if is_active s then Some (over_in gs act) else None
+
+-- the state that a ledger keeps of an act
+abbrev pub state_in : Ledger → ℕ → ActState
+state_in b act = slice_index_or b.acts.states.items act Waiting
+
+-- a monitor watches exactly the active acts
+abbrev pub IsWatching : Monitor → Ledger → List GroundAction → Type 0
+IsWatching m b gs = (act : ℕ) → watched m act ≡ watch_for gs act (state_in b act)
+
+-- What holds between calls.
+pub record Stands (c : Core) : Type 0 where
+  pub sound : IsSound c.input
+  pub members : HasMembersOf c.input c.present.ledger
+  pub domain : c.present.expert ≡ c.input.domain
+  pub history : IsHistory c.input c.entries.items
+  pub told : TellsAll c.entries.items c.present.ledger
+  pub known : c.present.problem ≡ know c.input c.entries.items
+  pub acts : c.present.grounds.items ≡ grounds c.input.domain (plan c.entries.items)
+  pub watching : IsWatching c.monitor c.present.ledger c.present.grounds.items
+  pub few : length (plan c.entries.items) ≤ 256
+  pub all : length c.present.grounds.items ≡ length (plan c.entries.items)
+
+-- What holds where the block of an event is due: it is legal, there is memory for its block, and what is known, the plan's ground
+-- actions and the watches are as they are after it.
+pub record IsDue (c : Core) (hand : ℕ) (e : Event) : Type 0 where
+  pub sound : IsSound c.input
+  pub members : HasMembersOf c.input c.present.ledger
+  pub domain : c.present.expert ≡ c.input.domain
+  pub history : IsHistory c.input c.entries.items
+  pub told : TellsAll c.entries.items c.present.ledger
+  pub known : c.present.problem ≡ known_after c.input.domain (plan c.entries.items) (know c.input c.entries.items) e
+  pub acts : c.present.grounds.items ≡ grounds c.input.domain (unwrap_or (says_plan e) (plan c.entries.items))
+  pub watching : (act : ℕ) → watched c.monitor act ≡ watch_for c.present.grounds.items act (unwrap_or (says_state act e) (state act c.entries.items))
+  pub few : length (unwrap_or (says_plan e) (plan c.entries.items)) ≤ 256
+  pub all : length c.present.grounds.items ≡ length (unwrap_or (says_plan e) (plan c.entries.items))
+  pub legal : IsTrue (is_legal c.input c.entries.items e)
+  pub by : IsTrue (has_hand e hand)
+  pub room : HasRoom e c.present.ledger
+  pub short : length c.entries.items < 18446744073709551615
+  pub space : length (with_block c.input hand c.entries.items e) ≤ vec_capacity c.entries
+
+-- whether an event leaves what is known, the plan and the states of its acts
+abbrev pub is_quiet : Event → Bool
+is_quiet (event.Edit by edit) = false
+is_quiet (event.Run for acts) = false
+is_quiet (event.Replan acts) = false
+is_quiet (event.Start act) = false
+is_quiet (event.End act) = false
+is_quiet (event.Fail act why) = false
+is_quiet (event.Cancel act why) = false
+is_quiet e = true

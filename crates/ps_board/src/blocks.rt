@@ -1,0 +1,120 @@
+//! Blocks of entries: an event, and the cancels that it forces.
+ghost use Rattle.std.specs.Prelude.{◌≡◌, ℕ, IsTrue, if◌then◌else◌, ◌+◌, ◌<◌, ◌≤◌, List, [], ◌∷◌, ◌++◌, length, map, OnOk};
+ghost use Rattle.std.specs.Vec.{vec_capacity};
+ghost use Rattle.ps_machine.specs.declared.journal.Entry.{Entry as EntryView};
+ghost use Rattle.ps_action.specs.declared.acts.GroundAction.{GroundAction as GroundActionView};
+ghost use Rattle.ps_rules.specs.History.{any_of, cancels, is_fail};
+ghost use Rattle.ps_machine.specs.declared.inputs.Input.{Input as InputView};
+ghost use Rattle.ps_ledger.specs.Ledger.{TellsAll};
+ghost use Rattle.ps_ledger.specs.Legal.{HasMembersOf};
+ghost use Rattle.ps_monitor.specs.Watched.{marked};
+ghost use Rattle.ps_board.specs.Core.{IsWatching};
+
+use ps_ledger::Ledger;
+use ps_machine::{CancelWhy, Entry, Event};
+use ps_monitor::{Acts, Monitor};
+use std::alloc::AllocError;
+
+/// Puts an entry at the end, for which there is memory.
+pub fn push(entries: &mut Vec<Entry>, entry: Entry)
+    requires { length entries.old.items < vec_capacity entries.old }
+    ensures items { entries.new.items ≡ entries.old.items ++ entry ∷ [] }
+    ensures len { length entries.new.items ≡ length entries.old.items + 1 }
+    ensures capacity { vec_capacity entries.old ≤ vec_capacity entries.new }
+{
+    if entries.push(entry).is_err() {
+        unreachable!();
+    }
+}
+
+/// Makes room for so many entries more, at least one. The only error is that memory ran out, and then nothing changes.
+pub fn reserve(entries: &mut Vec<Entry>, more: usize) -> Result<(), AllocError>
+    requires { 1 ≤ more }
+    ensures items { entries.new.items ≡ entries.old.items }
+    ensures room { OnOk result (length entries.new.items + more ≤ vec_capacity entries.new) }
+    ensures short { OnOk result (length entries.new.items < 18446744073709551615) }
+{
+    entries.reserve(more)?;
+    let _capacity = entries.capacity();
+    Ok(())
+}
+
+/// Whether an event is a failure.
+pub fn is_fail(event: &Event) -> bool
+    ensures { result ≡ is_fail event.now }
+{
+    match event {
+        Event::Fail { act: _, why: _ } => true,
+        _ => false,
+    }
+}
+
+/// These acts if they are to be, else none.
+pub fn only_if(is_due: bool, acts: Acts) -> Acts
+    ensures { (n : ℕ) → marked result n ≡ (if is_due then marked acts n else []) }
+{
+    if is_due { acts } else { Acts::none() }
+}
+
+/// Cancels an act, if it is to be.
+fn cancel_if(
+    entries: &mut Vec<Entry>,
+    ledger: &mut Ledger,
+    monitor: &mut Monitor,
+    hand: u8,
+    why: CancelWhy,
+    act: u32,
+    is_due: bool,
+)
+    requires there { act < length ledger.old.acts.states.items }
+    requires room { IsTrue is_due → length entries.old.items < vec_capacity entries.old }
+    ensures entries { entries.new.items ≡ entries.old.items ++ map (cancels hand why) (if is_due then act ∷ [] else []) }
+    ensures told { (es : List EntryView) → TellsAll es ledger.old → TellsAll (es ++ map (cancels hand why) (if is_due then act ∷ [] else [])) ledger.new }
+    ensures watching { (gs : List GroundActionView) → IsWatching monitor.old ledger.old gs → IsWatching monitor.new ledger.new gs }
+    ensures members { (i : InputView) → HasMembersOf i ledger.old → HasMembersOf i ledger.new }
+    ensures acts { length ledger.new.acts.states.items ≡ length ledger.old.acts.states.items }
+    ensures len { length entries.new.items ≡ length entries.old.items + length (if is_due then act ∷ [] else []) }
+    ensures capacity { vec_capacity entries.old ≤ vec_capacity entries.new }
+{
+    if is_due {
+        push(
+            entries,
+            Entry {
+                hand,
+                what: Event::Cancel { act, why },
+            },
+        );
+        ledger.cancel(act);
+        monitor.unwatch(act);
+    }
+}
+
+/// Cancels each of these acts. Answers whether there was one.
+pub fn cancel_all(
+    entries: &mut Vec<Entry>,
+    ledger: &mut Ledger,
+    monitor: &mut Monitor,
+    hand: u8,
+    why: CancelWhy,
+    acts: &Acts,
+) -> bool
+    requires few { length ledger.old.acts.states.items ≤ 256 }
+    requires room { length entries.old.items + length (marked acts.now (length ledger.old.acts.states.items)) ≤ vec_capacity entries.old }
+    ensures entries { entries.new.items ≡ entries.old.items ++ map (cancels hand why) (marked acts.now (length ledger.old.acts.states.items)) }
+    ensures told { (es : List EntryView) → TellsAll es ledger.old → TellsAll (es ++ map (cancels hand why) (marked acts.now (length ledger.old.acts.states.items))) ledger.new }
+    ensures watching { (gs : List GroundActionView) → IsWatching monitor.old ledger.old gs → IsWatching monitor.new ledger.new gs }
+    ensures members { (i : InputView) → HasMembersOf i ledger.old → HasMembersOf i ledger.new }
+    ensures acts { length ledger.new.acts.states.items ≡ length ledger.old.acts.states.items }
+    ensures len { length entries.new.items ≡ length entries.old.items + length (marked acts.now (length ledger.old.acts.states.items)) }
+    ensures capacity { vec_capacity entries.old ≤ vec_capacity entries.new }
+    ensures any { result ≡ any_of (marked acts.now (length ledger.old.acts.states.items)) }
+{
+    let mut any = false;
+    let count = ledger.acts.states.len() as u32;
+    for act in 0..count {
+        let is_due = acts.has(act);
+        cancel_if(entries, ledger, monitor, hand, why, act, is_due);
+        any |= is_due;
+    }
+    any
+}
