@@ -14,7 +14,11 @@ use Rattle.ps_rules.specs.Legal.{has_hand, is_legal}
 use Rattle.ps_rules.specs.History.{IsHistory}
 use Rattle.ps_rules.specs.Sound.{IsSound}
 use Rattle.ps_ledger.specs.Legal.{HasMembersOf}
-use Rattle.ps_rules.specs.Choices.{with_block}
+use Rattle.ps_world.specs.declared.names.Name.{Name}
+use Rattle.ps_world.specs.declared.edits.Edit.{Edit}
+use Rattle.ps_machine.specs.declared.journal.By.{By}
+use Rattle.ps_machine.specs.declared.journal.Entry.{Entry}
+use Rattle.ps_rules.specs.Choices.{edit_event, observer_turn, with_block}
 use Rattle.ps_ledger.specs.declared.ledger.Ledger.{Ledger}
 use Rattle.ps_ledger.specs.Ledger.{HasRoom, TellsAll}
 use Rattle.ps_monitor.specs.declared.monitor.Monitor.{Monitor}
@@ -79,3 +83,23 @@ is_quiet (event.End act) = false
 is_quiet (event.Fail act why) = false
 is_quiet (event.Cancel act why) = false
 is_quiet e = true
+
+-- this event may come next in the journal
+abbrev pub MayCome : Core → Event → Type 0
+MayCome c e = IsTrue (is_legal c.input c.entries.items e)
+
+-- the journal has the block of this event more, and no other entry
+abbrev pub HasBlock : Core → ℕ → Event → Core → Type 0
+HasBlock old hand e new = new.entries.items ≡ with_block old.input hand old.entries.items e
+
+-- what records an edit that the terminal or a member makes
+abbrev pub edit_of : Core → By → Edit → Event
+edit_of c by edit = edit_event c.input c.entries.items by edit
+
+-- the edit that the observer of this name makes in its turn, recorded, if it makes one
+abbrev pub observed_by : Core → Name → Option Event
+observed_by c name = observer_turn c.input name c.entries.items
+
+-- the entries with the block of what is done, if something is
+abbrev pub with_turn : Core → ℕ → Option Event → List Entry
+with_turn c hand done = option_map_or (with_block c.input hand c.entries.items) done c.entries.items

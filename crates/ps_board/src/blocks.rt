@@ -1,14 +1,9 @@
 //! Blocks of entries: an event, and the cancels that it forces.
 ghost use Rattle.std.specs.Prelude.{◌≡◌, ℕ, IsTrue, if◌then◌else◌, ◌+◌, ◌<◌, ◌≤◌, List, [], ◌∷◌, ◌++◌, length, map, OnOk};
 ghost use Rattle.std.specs.Vec.{vec_capacity};
-ghost use Rattle.ps_machine.specs.declared.journal.Entry.{Entry as EntryView};
-ghost use Rattle.ps_action.specs.declared.acts.GroundAction.{GroundAction as GroundActionView};
 ghost use Rattle.ps_rules.specs.History.{any_of, cancels, is_fail};
-ghost use Rattle.ps_machine.specs.declared.inputs.Input.{Input as InputView};
-ghost use Rattle.ps_ledger.specs.Ledger.{TellsAll};
-ghost use Rattle.ps_ledger.specs.Legal.{HasMembersOf};
 ghost use Rattle.ps_monitor.specs.Watched.{marked};
-ghost use Rattle.ps_board.specs.Core.{IsWatching};
+ghost use Rattle.ps_board.specs.Blocks.{due_act, KeepsMembers, KeepsWatching, planned, TakesCancels};
 
 use ps_ledger::Ledger;
 use ps_machine::{CancelWhy, Entry, Event};
@@ -68,12 +63,14 @@ fn cancel_if(
 )
     requires there { act < length ledger.old.acts.states.items }
     requires room { IsTrue is_due → length entries.old.items < vec_capacity entries.old }
-    ensures entries { entries.new.items ≡ entries.old.items ++ map (cancels hand why) (if is_due then act ∷ [] else []) }
-    ensures told { (es : List EntryView) → TellsAll es ledger.old → TellsAll (es ++ map (cancels hand why) (if is_due then act ∷ [] else [])) ledger.new }
-    ensures watching { (gs : List GroundActionView) → IsWatching monitor.old ledger.old gs → IsWatching monitor.new ledger.new gs }
-    ensures members { (i : InputView) → HasMembersOf i ledger.old → HasMembersOf i ledger.new }
+    ensures entries { entries.new.items
+        ≡ entries.old.items ++ map (cancels hand why) (due_act act is_due) }
+    ensures told { TakesCancels hand why (due_act act is_due) ledger.old ledger.new }
+    ensures watching { KeepsWatching monitor.old ledger.old monitor.new ledger.new }
+    ensures members { KeepsMembers ledger.old ledger.new }
     ensures acts { length ledger.new.acts.states.items ≡ length ledger.old.acts.states.items }
-    ensures len { length entries.new.items ≡ length entries.old.items + length (if is_due then act ∷ [] else []) }
+    ensures len { length entries.new.items
+        ≡ length entries.old.items + length (due_act act is_due) }
     ensures capacity { vec_capacity entries.old ≤ vec_capacity entries.new }
 {
     if is_due {
@@ -99,15 +96,18 @@ pub fn cancel_all(
     acts: &Acts,
 ) -> bool
     requires few { length ledger.old.acts.states.items ≤ 256 }
-    requires room { length entries.old.items + length (marked acts.now (length ledger.old.acts.states.items)) ≤ vec_capacity entries.old }
-    ensures entries { entries.new.items ≡ entries.old.items ++ map (cancels hand why) (marked acts.now (length ledger.old.acts.states.items)) }
-    ensures told { (es : List EntryView) → TellsAll es ledger.old → TellsAll (es ++ map (cancels hand why) (marked acts.now (length ledger.old.acts.states.items))) ledger.new }
-    ensures watching { (gs : List GroundActionView) → IsWatching monitor.old ledger.old gs → IsWatching monitor.new ledger.new gs }
-    ensures members { (i : InputView) → HasMembersOf i ledger.old → HasMembersOf i ledger.new }
+    requires room { length entries.old.items + length (planned acts.now ledger.old)
+        ≤ vec_capacity entries.old }
+    ensures entries { entries.new.items
+        ≡ entries.old.items ++ map (cancels hand why) (planned acts.now ledger.old) }
+    ensures told { TakesCancels hand why (planned acts.now ledger.old) ledger.old ledger.new }
+    ensures watching { KeepsWatching monitor.old ledger.old monitor.new ledger.new }
+    ensures members { KeepsMembers ledger.old ledger.new }
     ensures acts { length ledger.new.acts.states.items ≡ length ledger.old.acts.states.items }
-    ensures len { length entries.new.items ≡ length entries.old.items + length (marked acts.now (length ledger.old.acts.states.items)) }
+    ensures len { length entries.new.items
+        ≡ length entries.old.items + length (planned acts.now ledger.old) }
     ensures capacity { vec_capacity entries.old ≤ vec_capacity entries.new }
-    ensures any { result ≡ any_of (marked acts.now (length ledger.old.acts.states.items)) }
+    ensures any { result ≡ any_of (planned acts.now ledger.old) }
 {
     let mut any = false;
     let count = ledger.acts.states.len() as u32;

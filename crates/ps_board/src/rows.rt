@@ -45,7 +45,8 @@ impl Core {
     /// The edit that an observer makes next, where it may be made now.
     fn seen_by<'a>(&self, observer: &'a Observer) -> Option<&'a Edit>
         requires { Stands self.now }
-        ensures { option_copied result ≡ seen_by self.now.input observer.now self.now.entries.items }
+        ensures { option_copied result
+            ≡ seen_by self.now.input observer.now self.now.entries.items }
     {
         let done = self.present.ledger.observers.observed(observer.name);
         match observer.units.as_slice().get(done as usize) {

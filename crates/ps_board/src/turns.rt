@@ -1,9 +1,7 @@
 //! The turns of members.
 ghost use Rattle.std.specs.Prelude.{◌≡◌, ◌≤◌, ◌&&◌, nat_le, true, IsTrue, is_some, IfOk, OnOk, OnErr};
-ghost use Rattle.std.specs.Option.{option_map_or};
-ghost use Rattle.ps_rules.specs.Choices.{observer_turn, with_block};
 ghost use Rattle.ps_rules.specs.Runs.{is_running};
-ghost use Rattle.ps_board.specs.Core.{Stands};
+ghost use Rattle.ps_board.specs.Core.{observed_by, Stands, with_turn};
 
 use super::whole::Core;
 use ps_machine::By;
@@ -18,8 +16,9 @@ impl Core {
         requires running { is_running self.now.entries.items ≡ true }
         requires hand { IsTrue (nat_le 1 hand && nat_le hand 16) }
         ensures stands { Stands self.new }
-        ensures answer { IfOk result (λ did. did ≡ is_some (observer_turn self.old.input name self.old.entries.items)) }
-        ensures ok { OnOk result (self.new.entries.items ≡ option_map_or (with_block self.old.input hand self.old.entries.items) (observer_turn self.old.input name self.old.entries.items) self.old.entries.items) }
+        ensures answer { IfOk result (λ did. did ≡ is_some (observed_by self.old name)) }
+        ensures ok { OnOk result (self.new.entries.items
+            ≡ with_turn self.old hand (observed_by self.old name)) }
         ensures err { OnErr result (self.new.entries.items ≡ self.old.entries.items) }
         ensures input { self.new.input ≡ self.old.input }
     {

@@ -1,9 +1,8 @@
 //! What a board is made of.
 ghost use Rattle.std.specs.Prelude.{◌≡◌, ◌≤◌, IsTrue, length, OnOk, OnErr};
 ghost use Rattle.ps_machine.specs.declared.journal.Event.TheVariants.{End, Fail, Start};
-ghost use Rattle.ps_rules.specs.Legal.{has_hand, is_legal};
-ghost use Rattle.ps_rules.specs.Choices.{edit_event, with_block};
-ghost use Rattle.ps_board.specs.Core.{is_quiet, IsDue, Stands};
+ghost use Rattle.ps_rules.specs.Legal.{has_hand};
+ghost use Rattle.ps_board.specs.Core.{edit_of, HasBlock, is_quiet, IsDue, MayCome, Stands};
 
 use super::blocks::{cancel_all, is_fail, only_if, push, reserve};
 use ps_action::GroundAction;
@@ -43,7 +42,7 @@ impl Core {
     fn append(&mut self, hand: u8, what: Event)
         requires { IsDue self.now hand what }
         ensures stands { Stands self.new }
-        ensures entries { self.new.entries.items ≡ with_block self.old.input hand self.old.entries.items what }
+        ensures entries { HasBlock self.old hand what self.new }
         ensures input { self.new.input ≡ self.old.input }
     {
         let fails = is_fail(&what);
@@ -77,10 +76,10 @@ impl Core {
     pub fn commit(&mut self, hand: u8, what: Event) -> Result<(), AllocError>
         requires stands { Stands self.now }
         requires quiet { IsTrue (is_quiet what) }
-        requires legal { IsTrue (is_legal self.now.input self.now.entries.items what) }
+        requires legal { MayCome self.now what }
         requires by { IsTrue (has_hand what hand) }
         ensures stands { Stands self.new }
-        ensures ok { OnOk result (self.new.entries.items ≡ with_block self.old.input hand self.old.entries.items what) }
+        ensures ok { OnOk result (HasBlock self.old hand what self.new) }
         ensures err { OnErr result (self.new.entries.items ≡ self.old.entries.items) }
         ensures input { self.new.input ≡ self.old.input }
     {
@@ -93,10 +92,10 @@ impl Core {
     /// Starts an act whose start is legal. The only error is that memory ran out, and then no entry is appended.
     pub fn start(&mut self, hand: u8, act: u32) -> Result<(), AllocError>
         requires stands { Stands self.now }
-        requires legal { IsTrue (is_legal self.now.input self.now.entries.items (Start act)) }
+        requires legal { MayCome self.now (Start act) }
         requires by { IsTrue (has_hand (Start act) hand) }
         ensures stands { Stands self.new }
-        ensures ok { OnOk result (self.new.entries.items ≡ with_block self.old.input hand self.old.entries.items (Start act)) }
+        ensures ok { OnOk result (HasBlock self.old hand (Start act) self.new) }
         ensures err { OnErr result (self.new.entries.items ≡ self.old.entries.items) }
         ensures input { self.new.input ≡ self.old.input }
     {
@@ -124,10 +123,10 @@ impl Core {
     /// Ends an act whose end is legal. The only error is that memory ran out, and then no entry is appended.
     pub fn end(&mut self, hand: u8, act: u32) -> Result<(), AllocError>
         requires stands { Stands self.now }
-        requires legal { IsTrue (is_legal self.now.input self.now.entries.items (End act)) }
+        requires legal { MayCome self.now (End act) }
         requires by { IsTrue (has_hand (End act) hand) }
         ensures stands { Stands self.new }
-        ensures ok { OnOk result (self.new.entries.items ≡ with_block self.old.input hand self.old.entries.items (End act)) }
+        ensures ok { OnOk result (HasBlock self.old hand (End act) self.new) }
         ensures err { OnErr result (self.new.entries.items ≡ self.old.entries.items) }
         ensures input { self.new.input ≡ self.old.input }
     {
@@ -152,10 +151,10 @@ impl Core {
     /// Fails an act whose failure is legal. The only error is that memory ran out, and then no entry is appended.
     pub fn fail(&mut self, hand: u8, act: u32, why: FailWhy) -> Result<(), AllocError>
         requires stands { Stands self.now }
-        requires legal { IsTrue (is_legal self.now.input self.now.entries.items (Fail act why)) }
+        requires legal { MayCome self.now (Fail act why) }
         requires by { IsTrue (has_hand (Fail act why) hand) }
         ensures stands { Stands self.new }
-        ensures ok { OnOk result (self.new.entries.items ≡ with_block self.old.input hand self.old.entries.items (Fail act why)) }
+        ensures ok { OnOk result (HasBlock self.old hand (Fail act why) self.new) }
         ensures err { OnErr result (self.new.entries.items ≡ self.old.entries.items) }
         ensures input { self.new.input ≡ self.old.input }
     {
@@ -171,10 +170,10 @@ impl Core {
     /// ran out, and then no entry is appended.
     pub fn record(&mut self, hand: u8, by: By, edit: Edit) -> Result<(), AllocError>
         requires stands { Stands self.now }
-        requires legal { IsTrue (is_legal self.now.input self.now.entries.items (edit_event self.now.input self.now.entries.items by edit)) }
-        requires hand { IsTrue (has_hand (edit_event self.now.input self.now.entries.items by edit) hand) }
+        requires legal { MayCome self.now (edit_of self.now by edit) }
+        requires hand { IsTrue (has_hand (edit_of self.now by edit) hand) }
         ensures stands { Stands self.new }
-        ensures ok { OnOk result (self.new.entries.items ≡ with_block self.old.input hand self.old.entries.items (edit_event self.old.input self.old.entries.items by edit)) }
+        ensures ok { OnOk result (HasBlock self.old hand (edit_of self.old by edit) self.new) }
         ensures err { OnErr result (self.new.entries.items ≡ self.old.entries.items) }
         ensures input { self.new.input ≡ self.old.input }
     {
