@@ -1,0 +1,100 @@
+-- What is kept, before an event is taken and after.
+use Rattle.std.proofs.Common.{◌≡◌, ℕ, ◌≤◌, Option, List, [], ◌∷◌, ◌++◌, length, refl, ap, sym, ◌∙◌, subst}
+use Rattle.std.specs.Option.{unwrap_or}
+use Rattle.ps_world.specs.declared.domains.Domain.{Domain}
+use Rattle.ps_world.specs.declared.known.Knowledge.{Knowledge}
+use Rattle.ps_action.specs.Arcs.{arcs_of}
+use Rattle.ps_action.specs.declared.acts.Act.{Act}
+use Rattle.ps_action.specs.declared.acts.GroundAction.{GroundAction}
+use Rattle.ps_machine.specs.declared.inputs.Input.{Input}
+use Rattle.ps_machine.specs.declared.journal.CancelWhy.{CancelWhy}
+use Rattle.ps_machine.specs.declared.journal.Entry.{Entry}
+use Rattle.ps_machine.specs.declared.journal.Event.{Event}
+use Rattle.ps_machine.specs.declared.journal.Event.TheVariants as event
+use Rattle.ps_rules.specs.History.{cancels}
+use Rattle.ps_rules.specs.Known.{grounds, know, known_after}
+use Rattle.ps_rules.specs.Runs.{plan, says_plan}
+use Rattle.ps_rules.proofs.Pushed.{know-push, read-push}
+use Rattle.ps_ledger.specs.Kept.{Takes, TakesCancel}
+use Rattle.ps_ledger.specs.Ledger.{HasSameMembers, TellsAll}
+use Rattle.ps_ledger.specs.Legal.{HasMembersOf}
+use Rattle.ps_ledger.specs.declared.ledger.Ledger.{Ledger}
+use Rattle.ps_rows.specs.Present.{Stands}
+use Rattle.ps_rows.specs.Table.{after_edit, Awaits, HasSameRest, MayBegin}
+use Rattle.ps_rows.specs.Taking.{GoesOn, grounds_next, known_next}
+use Rattle.ps_rows.specs.declared.present.Present.{Present}
+
+-- an event that was judged is awaited
+pub awaits : (i : Input) (es : List Entry) (e : Event) (old new : Present) → Stands i es old → HasSameRest old new → new.problem ≡ after_edit old.expert old.problem e → Awaits i es e new
+awaits i es e old new s r m = record {
+  domain = r.expert ∙ s.domain;
+  due = r.due ∙ s.due;
+  known = m ∙ ap (λ d. after_edit d old.problem e) s.domain ∙ ap (λ k. after_edit i.domain k e) s.known;
+  members = subst (HasMembersOf i) (sym r.ledger) s.members;
+  told = subst (TellsAll es) (sym r.ledger) s.told;
+  few = s.few;
+  grounds = ap (λ v. v.items) r.grounds ∙ s.grounds;
+  arcs = ap (λ a. a.pairs) r.arcs ∙ s.arcs ∙ ap (λ v. arcs_of v.items) (sym r.grounds);
+}
+
+-- the plan after one more entry
+pub plan-push : (es : List Entry) (e : Entry) → plan (es ++ e ∷ []) ≡ unwrap_or (says_plan e.what) (plan es)
+plan-push es e = read-push (λ a f. unwrap_or (says_plan f) a) [] es e
+
+known-then : (d : Domain) (acts : List Act) (k : Knowledge) (e : Event) → known_next d (grounds d acts) (after_edit d k e) e ≡ known_after d acts k e
+known-then d acts k (event.Edit by edit) = refl
+known-then d acts k (event.Start act) = refl
+known-then d acts k (event.End act) = refl
+known-then d acts k e = refl
+
+grounds-then : (d : Domain) (acts : List Act) (e : Event) → grounds_next d (grounds d acts) e ≡ grounds d (unwrap_or (says_plan e) acts)
+grounds-then d acts (event.Run for new) = refl
+grounds-then d acts (event.Replan new) = refl
+grounds-then d acts e = refl
+
+few-then : (acts : List Act) (e : Event) (p : Present) → MayBegin e p → length acts ≤ 256 → length (unwrap_or (says_plan e) acts) ≤ 256
+few-then acts (event.Run for new) p may few = may.few
+few-then acts (event.Replan new) p may few = may.few
+few-then acts e p may few = few
+
+-- what stands after an event that was awaited
+pub takes : (i : Input) (es : List Entry) (e : Entry) (what : Event) (old mid : Present) (l : Ledger) → e.what ≡ what → Awaits i es what old → MayBegin what old → GoesOn what old mid
+    → Takes TellsAll what mid.ledger l → HasSameMembers mid.ledger l → Stands i (es ++ e ∷ []) (record mid { ledger = l })
+takes i es e what old mid l is a may g t m =
+    let d : old.expert ≡ i.domain = a.domain in
+    let pushed : plan (es ++ e ∷ []) ≡ unwrap_or (says_plan what) (plan es) = plan-push es e ∙ ap (λ f. unwrap_or (says_plan f) (plan es)) is in
+    record {
+      domain = g.base.expert ∙ d;
+      due = g.base.due ∙ a.due;
+      known =
+          g.known ∙ ap (λ x. known_next x old.grounds.items old.problem what) d ∙ ap (λ gs. known_next i.domain gs old.problem what) a.grounds
+          ∙ ap (λ k. known_next i.domain (grounds i.domain (plan es)) k what) a.known ∙ known-then i.domain (plan es) (know i es) what
+          ∙ ap (known_after i.domain (plan es) (know i es)) (sym is) ∙ sym (know-push i es e);
+      members = record {
+        performers = m.performers ∙ ap (λ x. x.performers.names.items) g.base.ledger ∙ a.members.performers;
+        observers = m.observers ∙ ap (λ x. x.observers.names.items) g.base.ledger ∙ a.members.observers;
+      };
+      told = t es e is (subst (TellsAll es) (sym g.base.ledger) a.told);
+      few = subst (λ acts. length acts ≤ 256) (sym pushed) (few-then (plan es) what old may a.few);
+      grounds =
+          g.grounds ∙ ap (λ x. grounds_next x old.grounds.items what) d ∙ ap (λ gs. grounds_next i.domain gs what) a.grounds
+          ∙ grounds-then i.domain (plan es) what ∙ ap (grounds i.domain) (sym pushed);
+      arcs = g.arcs a.arcs;
+    }
+
+-- what stands after the cancel of an act
+pub takes-cancel : (i : Input) (es : List Entry) (hand act : ℕ) (why : CancelWhy) (old : Present) (l : Ledger) → Stands i es old
+    → TakesCancel TellsAll act old.ledger l → HasSameMembers old.ledger l → Stands i (es ++ cancels hand why act ∷ []) (record old { ledger = l })
+takes-cancel i es hand act why old l s t m =
+    let c : Entry = cancels hand why act in
+    let pushed : plan (es ++ c ∷ []) ≡ plan es = plan-push es c in
+    record {
+      domain = s.domain;
+      due = s.due;
+      known = s.known ∙ sym (know-push i es c);
+      members = record { performers = m.performers ∙ s.members.performers; observers = m.observers ∙ s.members.observers };
+      told = t es hand why s.told;
+      few = subst (λ acts. length acts ≤ 256) (sym pushed) s.few;
+      grounds = s.grounds ∙ ap (grounds i.domain) (sym pushed);
+      arcs = s.arcs;
+    }

@@ -1,0 +1,9 @@
+pub mod Acts
+pub mod Forced
+pub mod Lines
+pub mod Names
+pub mod Plans
+pub mod Present
+pub mod Same
+pub mod Table
+pub mod Taking

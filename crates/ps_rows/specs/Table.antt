@@ -1,0 +1,97 @@
+-- What the table of events asks of edits, and how an event that was judged leaves what is kept.
+use Rattle.std.specs.Prelude.{◌≡◌, ℕ, ◌≤◌, ◌+◌, ◌==◌, ◌&&◌, Bool, Option, is_ok, option_and_then, List, [], ◌∷◌, ◌++◌, All, IsOk, length}
+use Rattle.ps_world.specs.Knowledge.{edited}
+use Rattle.ps_world.specs.declared.domains.Domain.{Domain}
+use Rattle.ps_world.specs.declared.edits.Edit.{Edit}
+use Rattle.ps_world.specs.declared.known.Knowledge.{Knowledge}
+use Rattle.ps_action.specs.Arcs.{arcs_of}
+use Rattle.ps_action.specs.Grounding.{ground_act}
+use Rattle.ps_action.specs.Plans.{judged}
+use Rattle.ps_action.specs.declared.acts.Act.{Act}
+use Rattle.ps_action.specs.declared.acts.PlanStep.{PlanStep}
+use Rattle.ps_machine.specs.declared.inputs.Input.{Input}
+use Rattle.ps_machine.specs.declared.journal.By.{By}
+use Rattle.ps_machine.specs.declared.journal.By.TheVariants.{Terminal, Performer, Observer}
+use Rattle.ps_machine.specs.declared.journal.Entry.{Entry}
+use Rattle.ps_machine.specs.declared.journal.Refusal.{Refusal}
+use Rattle.ps_machine.specs.declared.journal.Event.{Event}
+use Rattle.ps_machine.specs.declared.journal.Event.TheVariants as event
+use Rattle.ps_rules.specs.Runs.{plan}
+use Rattle.ps_rules.specs.Known.{grounds, kept, know}
+use Rattle.ps_rules.specs.Legal.{is_edit, line_edit}
+use Rattle.ps_rules.specs.Lines.{acts_of, answered, due_lines, edit_refusal, next_line}
+use Rattle.ps_rules.specs.Same.{same_acts}
+use Rattle.ps_rules.specs.Members.{next_edit, next_seen}
+use Rattle.ps_ledger.specs.Ledger.{TellsAll}
+use Rattle.ps_ledger.specs.Legal.{HasMembersOf}
+use Rattle.ps_rules.specs.History.{cancels}
+use Rattle.ps_machine.specs.declared.journal.CancelWhy.{CancelWhy}
+use Rattle.ps_rows.specs.Present.{Stands}
+use Rattle.ps_rows.specs.declared.present.Present.{Present}
+
+-- whether this edit is the one that this terminal, performer or observer makes next
+abbrev pub is_asked : Input → List Entry → By → Edit → Bool
+is_asked i es (Terminal n) edit = (n == answered es + 1) && is_edit edit (line_edit (next_line i es))
+is_asked i es (Performer r p) edit = is_edit edit (next_edit i r p es)
+is_asked i es (Observer o) edit = is_edit edit (next_seen i o es)
+
+-- why an edit is refused, if there is one and it is
+abbrev pub refusal_of_edit : Domain → Knowledge → Option Edit → Option Refusal
+refusal_of_edit d k edit = option_and_then (λ e. edit_refusal (edited d k e)) edit
+
+-- whether these acts are those of a file's plan, and a good plan
+abbrev pub follows : Domain → Knowledge → List Act → List PlanStep → Bool
+follows d k acts steps = same_acts acts (acts_of steps) && is_ok (judged d k acts)
+
+-- whether these acts are this one alone, which can be grounded
+abbrev pub is_one : Domain → Knowledge → List Act → Act → Bool
+is_one d k acts act = same_acts acts (act ∷ []) && is_ok (ground_act d k.instances act)
+
+-- what is known after an event, if it is an edit
+abbrev pub after_edit : Domain → Knowledge → Event → Knowledge
+after_edit d k (event.Edit by edit) = kept k (edited d k edit)
+after_edit d k e = k
+
+-- What is kept is what these entries tell, but for this event, which comes after them: if it is an edit it has been made.
+pub record Awaits (i : Input) (es : List Entry) (e : Event) (p : Present) : Type 0 where
+  pub domain : p.expert ≡ i.domain
+  pub due : p.due ≡ length (due_lines i.lines)
+  pub known : p.problem ≡ after_edit i.domain (know i es) e
+  pub members : HasMembersOf i p.ledger
+  pub told : TellsAll es p.ledger
+  pub few : length (plan es) ≤ 256
+  pub grounds : p.grounds.items ≡ grounds i.domain (plan es)
+  pub arcs : p.arcs.pairs ≡ arcs_of p.grounds.items
+
+-- All is as it was, but for what is known.
+pub record HasSameRest (old new : Present) : Type 0 where
+  pub expert : new.expert ≡ old.expert
+  pub due : new.due ≡ old.due
+  pub ledger : new.ledger ≡ old.ledger
+  pub grounds : new.grounds ≡ old.grounds
+  pub arcs : new.arcs ≡ old.arcs
+
+-- these are at most 256 acts that can be grounded
+pub record MayBePlan (d : Domain) (k : Knowledge) (acts : List Act) : Type 0 where
+  pub few : length acts ≤ 256
+  pub grounded : All (λ act. IsOk (ground_act d k.instances act)) acts
+
+-- an event that makes a plan makes it of acts that can be grounded
+abbrev pub MayBegin : Event → Present → Type 0
+MayBegin (event.Run for acts) p = MayBePlan p.expert p.problem acts
+MayBegin (event.Replan acts) p = MayBePlan p.expert p.problem acts
+MayBegin e p = Unit {0}
+
+-- what awaits an event still does
+abbrev pub KeepsAwaiting : Present → Present → Type 0
+KeepsAwaiting old new = (i : Input) (es : List Entry) (e : Event) → Awaits i es e old → Awaits i es e new
+
+-- what awaited an event stands after it
+abbrev pub TakesEvent : Event → Present → Present → Type 0
+TakesEvent event old new =
+    (i : Input) (es : List Entry) (e : Entry) → e.what ≡ event → Awaits i es event old → Stands i (es ++ e ∷ []) new
+
+-- what stands still does after the cancel of an act
+abbrev pub TakesCancelOf : ℕ → Present → Present → Type 0
+TakesCancelOf act old new =
+    (i : Input) (es : List Entry) (hand : ℕ) (why : CancelWhy) → Stands i es old → Stands i (es ++ cancels hand why act ∷ []) new
