@@ -1,0 +1,11 @@
+pub mod HeadWords
+pub mod JournalLines
+pub mod KnownNames
+pub mod Numbers
+pub mod OneEntry
+pub mod PrintedActs
+pub mod PrintedCauses
+pub mod PrintedEvents
+pub mod ReadTables
+pub mod SaidOnce
+pub mod WordNames

@@ -1,0 +1,12 @@
+use Rattle.std.proofs.Common.{◌+◌, drop}
+use Rattle.ps_text.specs.Names.{Keeps}
+use Rattle.ps_text.specs.Words.{pieces}
+use Rattle.ps_entries.proofs.JournalLines.{Follows}
+use Rattle.ps_entries.proofs.journals.read_lines.Given as goal
+
+-- what the lines that are left are, all lines are, with the entries so far before
+abbrev pub invariant-loop-i : goal.invariant-loop-i
+invariant-loop-i l = record {
+  follows : Follows l.fn.names (pieces l.bytes l.lines) (l.i + 2) (pieces l.bytes (drop l.i l.lines)) l.entries.items l.names;
+  kept : Keeps l.fn.names l.names;
+}

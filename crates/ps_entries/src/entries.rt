@@ -1,0 +1,205 @@
+//! The entry of a line.
+ghost use Rattle.std.specs.Prelude.{◌≡◌, ◌&&◌, ◌-◌, ◌^◌, if◌then◌else◌, IfOk, None, Some, codes, length, false, true};
+ghost use Rattle.ps_world.specs.Lines.{same_text};
+ghost use Rattle.ps_machine.specs.Texts.{entry_line};
+ghost use Rattle.ps_text.specs.Names.{Keeps};
+ghost use Rattle.ps_entries.specs.Words.{number_at, reads, up_to};
+ghost use Rattle.ps_entries.specs.Events.{by_of};
+ghost use Rattle.ps_entries.specs.Forms.{is_entry};
+ghost use Rattle.ps_entries.specs.Says.{Finds, FindsEntry, edit_in, query_in};
+ghost use Rattle.ps_entries.specs.EntryLines.{IsLineOf};
+
+use super::events::{by_of, feedback_of, plain_event};
+use super::forms::is_entry;
+use super::words::{byte, head_of, names_of, number_at, tail_of};
+use ps_journal::print_entry;
+use ps_machine::{By, Command, Entry, Event, Line, Query};
+use ps_script::{Read, read_line};
+use ps_text::{Names, Words};
+use ps_world::{Edit, Name};
+use std::alloc::{AllocError, Global};
+
+/// The edit that a line is read as.
+fn edit_in(read: Read) -> Option<Edit>
+    ensures { result ≡ edit_in read }
+{
+    match read {
+        Read::Line(Line::Good(Command::Edit(edit))) => Some(edit),
+        _ => None,
+    }
+}
+
+/// The query that a line is read as.
+fn query_in(read: Read) -> Option<Query>
+    ensures { result ≡ query_in read }
+{
+    match read {
+        Read::Line(Line::Good(Command::Ask(query))) => Some(query),
+        _ => None,
+    }
+}
+
+/// The event of an edit by somebody, which a terminal line says.
+fn edit_by(
+    alloc: Global,
+    names: &mut Names,
+    words: &Words,
+    known: &[Name],
+    tail: &[u8],
+    by: By,
+) -> Result<Option<Event>, AllocError>
+    requires edit { reads words.now 1 (codes "edit") ≡ true }
+    requires by { by_of words.now known.now ≡ Some by }
+    ensures finds { IfOk result (λ o. Finds names.old words.now known.now tail.now o names.new) }
+    ensures kept { Keeps names.old names.new }
+{
+    match edit_in(read_line(alloc, names, tail)?) {
+        Some(edit) => Ok(Some(Event::Edit { by, edit })),
+        None => Ok(None),
+    }
+}
+
+/// The event of an edit, which a terminal line says.
+fn edit_of(
+    alloc: Global,
+    names: &mut Names,
+    words: &Words,
+    known: &[Name],
+    tail: &[u8],
+) -> Result<Option<Event>, AllocError>
+    requires { reads words.now 1 (codes "edit") ≡ true }
+    ensures finds { IfOk result (λ o. Finds names.old words.now known.now tail.now o names.new) }
+    ensures kept { Keeps names.old names.new }
+{
+    match by_of(words, known) {
+        Some(by) => edit_by(alloc, names, words, known, tail, by),
+        None => Ok(None),
+    }
+}
+
+/// The event of a query, which a terminal line says.
+fn ask_of(
+    alloc: Global,
+    names: &mut Names,
+    words: &Words,
+    known: &[Name],
+    tail: &[u8],
+) -> Result<Option<Event>, AllocError>
+    requires no_edit { reads words.now 1 (codes "edit") ≡ false }
+    requires ask { reads words.now 1 (codes "ask") ≡ true }
+    ensures finds { IfOk result (λ o. Finds names.old words.now known.now tail.now o names.new) }
+    ensures kept { Keeps names.old names.new }
+{
+    match query_in(read_line(alloc, names, tail)?) {
+        Some(query) => Ok(Some(Event::Ask(query))),
+        None => Ok(None),
+    }
+}
+
+/// The event that words say, with what stands after them.
+fn event_of(
+    alloc: Global,
+    names: &mut Names,
+    words: &Words,
+    known: &[Name],
+    tail: &[u8],
+) -> Result<Option<Event>, AllocError>
+    ensures finds { IfOk result (λ o. Finds names.old words.now known.now tail.now o names.new) }
+    ensures kept { Keeps names.old names.new }
+{
+    if words.reads(1, b"edit") {
+        edit_of(alloc, names, words, known, tail)
+    } else if words.reads(1, b"ask") {
+        ask_of(alloc, names, words, known, tail)
+    } else if words.reads(1, b"feedback") {
+        feedback_of(alloc, words, known, tail)
+    } else {
+        plain_event(alloc, words, known)
+    }
+}
+
+/// The entry of a hand that words say, with what stands after them.
+fn entry_by(
+    alloc: Global,
+    names: &mut Names,
+    words: &Words,
+    known: &[Name],
+    tail: &[u8],
+    hand: u8,
+) -> Result<Option<Entry>, AllocError>
+    requires { up_to (2 ^ 8 - 1) (number_at words.now 0) ≡ Some hand }
+    ensures finds { IfOk result (λ o. FindsEntry names.old words.now known.now tail.now o
+        names.new) }
+    ensures kept { Keeps names.old names.new }
+{
+    match event_of(alloc, names, words, known, tail)? {
+        Some(what) => Ok(Some(Entry { hand, what })),
+        None => Ok(None),
+    }
+}
+
+/// The entry that words say, with what stands after them.
+fn entry_of(
+    alloc: Global,
+    names: &mut Names,
+    words: &Words,
+    known: &[Name],
+    tail: &[u8],
+) -> Result<Option<Entry>, AllocError>
+    ensures finds { IfOk result (λ o. FindsEntry names.old words.now known.now tail.now o
+        names.new) }
+    ensures kept { Keeps names.old names.new }
+{
+    match byte(number_at(words, 0)) {
+        Some(hand) => entry_by(alloc, names, words, known, tail, hand),
+        None => Ok(None),
+    }
+}
+
+/// Whether an entry is in form, and this is its text.
+fn is_printed(alloc: Global, names: &Names, entry: &Entry, line: &[u8]) -> Result<bool, AllocError>
+    ensures { IfOk result (λ b. b ≡ (is_entry (length names.now) entry.now
+        && same_text (entry_line names.now entry.now) line.now)) }
+{
+    let printed = print_entry(alloc, names, entry)?;
+    Ok(is_entry(names.len(), entry) && printed.as_slice() == line)
+}
+
+/// An entry that the words of a line say, if this is its line.
+fn believed(
+    alloc: Global,
+    names: &Names,
+    entry: Entry,
+    line: &[u8],
+) -> Result<Option<Entry>, AllocError>
+    ensures { IfOk result (λ o. o ≡ (if is_entry (length names.now) entry
+        && same_text (entry_line names.now entry) line.now then Some entry else None)) }
+{
+    if is_printed(alloc, names, &entry, line)? {
+        Ok(Some(entry))
+    } else {
+        Ok(None)
+    }
+}
+
+/// The entry whose line this is, if there is one.
+///
+/// The names of the line, but for those of a note, are put into the table. Old names keep their numbers and texts, and where no entry
+/// has the line or memory runs out, there may be new names too.
+pub fn read_entry(
+    alloc: Global,
+    names: &mut Names,
+    line: &[u8],
+) -> Result<Option<Entry>, AllocError>
+    ensures read { IfOk result (λ o. IsLineOf names.old line.now o names.new) }
+    ensures kept { Keeps names.old names.new }
+{
+    // A look at the table tells that its texts are names, none twice.
+    let _count = names.len();
+    let words = Words::of(alloc, head_of(line))?;
+    let known = names_of(alloc, names, &words)?;
+    match entry_of(alloc, names, &words, &known, tail_of(line))? {
+        Some(entry) => believed(alloc, names, entry, line),
+        None => Ok(None),
+    }
+}

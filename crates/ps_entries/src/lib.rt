@@ -1,0 +1,15 @@
+//! Reading journals: the entry of each line, and the first line that is none.
+#![tactic(auto)]
+
+mod acts;
+mod causes;
+mod entries;
+mod events;
+mod forms;
+mod journals;
+mod laws;
+mod words;
+
+pub use entries::read_entry;
+pub use journals::{JournalRefusal, read_journal};
+pub use laws::lines_are_one_entry;
