@@ -21,7 +21,7 @@ use Rattle.ps_ledger.specs.Legal.{HasMembersOf}
 use Rattle.ps_ledger.specs.declared.ledger.Ledger.{Ledger}
 use Rattle.ps_rows.specs.Present.{Stands}
 use Rattle.ps_rows.specs.Table.{after_edit, Awaits, HasSameRest, MayBegin}
-use Rattle.ps_rows.specs.Taking.{GoesOn, grounds_next, known_next}
+use Rattle.ps_rows.specs.Taking.{acts_next, GoesOn, grounds_next, known_next}
 use Rattle.ps_rows.specs.declared.present.Present.{Present}
 
 -- an event that was judged is awaited
@@ -35,6 +35,7 @@ awaits i es e old new s r m = record {
   few = s.few;
   grounds = ap (λ v. v.items) r.grounds ∙ s.grounds;
   arcs = ap (λ a. a.pairs) r.arcs ∙ s.arcs ∙ ap (λ v. arcs_of v.items) (sym r.grounds);
+  acts = ap (λ a. a.acts) r.arcs ∙ s.acts;
 }
 
 -- the plan after one more entry
@@ -51,6 +52,11 @@ grounds-then : (d : Domain) (acts : List Act) (e : Event) → grounds_next d (gr
 grounds-then d acts (event.Run for new) = refl
 grounds-then d acts (event.Replan new) = refl
 grounds-then d acts e = refl
+
+acts-then : (acts : List Act) (e : Event) → acts_next (length acts) e ≡ length (unwrap_or (says_plan e) acts)
+acts-then acts (event.Run for new) = refl
+acts-then acts (event.Replan new) = refl
+acts-then acts e = refl
 
 few-then : (acts : List Act) (e : Event) (p : Present) → MayBegin e p → length acts ≤ 256 → length (unwrap_or (says_plan e) acts) ≤ 256
 few-then acts (event.Run for new) p may few = may.few
@@ -80,6 +86,7 @@ takes i es e what old mid l is a may g t m =
           g.grounds ∙ ap (λ x. grounds_next x old.grounds.items what) d ∙ ap (λ gs. grounds_next i.domain gs what) a.grounds
           ∙ grounds-then i.domain (plan es) what ∙ ap (grounds i.domain) (sym pushed);
       arcs = g.arcs a.arcs;
+      acts = g.acts ∙ ap (λ n. acts_next n what) a.acts ∙ acts-then (plan es) what ∙ ap length (sym pushed);
     }
 
 -- what stands after the cancel of an act
@@ -97,4 +104,5 @@ takes-cancel i es hand act why old l s t m =
       few = subst (λ acts. length acts ≤ 256) (sym pushed) s.few;
       grounds = s.grounds ∙ ap (grounds i.domain) (sym pushed);
       arcs = s.arcs;
+      acts = s.acts ∙ ap length (sym pushed);
     }

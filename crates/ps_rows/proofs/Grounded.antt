@@ -3,7 +3,7 @@ use Rattle.std.proofs.Common.{◌≡◌, ℕ, suc, ◌+◌, ◌≤◌, ◌<◌, 
 use Rattle.std.specs.List.{cons_option}
 use Rattle.std.specs.Option.{option_map}
 use Rattle.std.proofs.lemmas.List.{take_more}
-use Rattle.std.proofs.lemmas.List.Elements.{All-cons, All-nil, filter_map-append}
+use Rattle.std.proofs.lemmas.List.Elements.{All-cons, All-head, All-nil, All-tail, filter_map-append}
 use Rattle.ps_world.specs.Knowledge.{action_of}
 use Rattle.ps_world.specs.declared.actions.ActionDef.{ActionDef}
 use Rattle.ps_world.specs.declared.domains.Domain.{Domain}
@@ -69,6 +69,17 @@ good-each d k acts h = judged-each d k acts (judged d k acts) refl h
 -- one act that can be grounded
 pub one-each : (d : Domain) (k : Knowledge) (act : Act) → IsOk (ground_act d k.instances act) → All (λ a. IsOk (ground_act d k.instances a)) (act ∷ [])
 one-each d k act h = All-cons (λ a. IsOk (ground_act d k.instances a)) act [] h (All-nil (λ a. IsOk (ground_act d k.instances a)))
+
+ok-ground : (d : Domain) (is : List (Name × Name)) (act : Act) (r : Result GroundAction GroundRefusal) → ground_act d is act ≡ r → is_ok r ≡ true → (g : GroundAction) × (ground_of d act ≡ Some g)
+ok-ground d is act (Ok g) e h = (g, ground-is d is act g e)
+ok-ground d is act (Err why) e h = absurd (cc)
+
+-- acts that can be grounded have as many ground actions
+pub as-many : (d : Domain) (is : List (Name × Name)) (acts : List Act) → All (λ act. IsOk (ground_act d is act)) acts → length (grounds d acts) ≡ length acts
+as-many d is [] h = refl
+as-many d is (act ∷ acts) h =
+    let one = ok-ground d is act (ground_act d is act) refl (All-head (λ a. IsOk (ground_act d is a)) act acts h) in
+    ap (λ o. length (cons_option o (grounds d acts))) one.1 ∙ ap (λ (n : ℕ). suc n) (as-many d is acts (All-tail (λ a. IsOk (ground_act d is a)) act acts h))
 
 few-case : (o : Option GroundAction) (gs : List GroundAction) (n : ℕ) → length gs ≤ n → length (cons_option o gs) ≤ suc n
 few-case None gs n h = omega (arith, h)

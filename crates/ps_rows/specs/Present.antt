@@ -11,7 +11,7 @@ use Rattle.ps_ledger.specs.Legal.{HasMembersOf}
 use Rattle.ps_rows.specs.declared.present.Present.{Present}
 
 -- What is kept is what these entries of this input tell: the domain, how many lines are due, what is known, the ledger of the input's
--- members, and the ground actions of the plan, at most 256, with their arcs.
+-- members, and the ground actions of the plan, at most 256 and one for each act, with their arcs.
 pub record Stands (i : Input) (es : List Entry) (p : Present) : Type 0 where
   pub domain : p.expert ≡ i.domain
   pub due : p.due ≡ length (due_lines i.lines)
@@ -21,6 +21,7 @@ pub record Stands (i : Input) (es : List Entry) (p : Present) : Type 0 where
   pub few : length (plan es) ≤ 256
   pub grounds : p.grounds.items ≡ grounds i.domain (plan es)
   pub arcs : p.arcs.pairs ≡ arcs_of p.grounds.items
+  pub acts : p.arcs.acts ≡ length (plan es)
 
 -- this is what an input and its entries say, of which this is kept
 abbrev pub SaysFor : {A : Type 0} → Input → Present → A → (List Entry → A) → Type 0

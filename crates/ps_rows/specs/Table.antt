@@ -62,6 +62,7 @@ pub record Awaits (i : Input) (es : List Entry) (e : Event) (p : Present) : Type
   pub few : length (plan es) ≤ 256
   pub grounds : p.grounds.items ≡ grounds i.domain (plan es)
   pub arcs : p.arcs.pairs ≡ arcs_of p.grounds.items
+  pub acts : p.arcs.acts ≡ length (plan es)
 
 -- All is as it was, but for what is known.
 pub record HasSameRest (old new : Present) : Type 0 where

@@ -1,5 +1,5 @@
 -- How an event changes what is kept beside the ledger.
-use Rattle.std.specs.Prelude.{◌≡◌, ℕ, List, [], slice_get}
+use Rattle.std.specs.Prelude.{◌≡◌, ℕ, List, [], length, slice_get}
 use Rattle.std.specs.Option.{option_map_or}
 use Rattle.ps_action.specs.Arcs.{arcs_of}
 use Rattle.ps_action.specs.declared.acts.Act.{Act}
@@ -27,6 +27,12 @@ grounds_next d gs (event.Run for acts) = grounds d acts
 grounds_next d gs (event.Replan acts) = grounds d acts
 grounds_next d gs e = gs
 
+-- how many acts the plan has after an event, where it had so many
+abbrev pub acts_next : ℕ → Event → ℕ
+acts_next n (event.Run for acts) = length acts
+acts_next n (event.Replan acts) = length acts
+acts_next n e = n
+
 -- All is as it was, but for what is known and the ground actions with their arcs.
 pub record HasSameBase (old new : Present) : Type 0 where
   pub expert : new.expert ≡ old.expert
@@ -38,4 +44,5 @@ pub record GoesOn (e : Event) (old new : Present) : Type 0 where
   pub base : HasSameBase old new
   pub known : new.problem ≡ known_next old.expert old.grounds.items old.problem e
   pub grounds : new.grounds.items ≡ grounds_next old.expert old.grounds.items e
+  pub acts : new.arcs.acts ≡ acts_next old.arcs.acts e
   pub arcs : old.arcs.pairs ≡ arcs_of old.grounds.items → new.arcs.pairs ≡ arcs_of new.grounds.items

@@ -119,6 +119,7 @@ impl Present {
         requires { MayBePlan self.now.expert self.now.problem acts.now }
         ensures grounds { OnOk result (self.new.grounds.items ≡ grounds self.old.expert acts.now) }
         ensures arcs { OnOk result (self.new.arcs.pairs ≡ arcs_of self.new.grounds.items) }
+        ensures acts { OnOk result (self.new.arcs.acts ≡ length acts.now) }
         ensures known { self.new.problem ≡ self.old.problem }
         ensures base { HasSameBase self.old self.new }
     {
