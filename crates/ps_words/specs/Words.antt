@@ -7,8 +7,8 @@ use Rattle.std.specs.declared.string.String.{String}
 use Rattle.clap.specs.Faults.{fault_of}
 use Rattle.clap.specs.Kinds.{Kinds}
 use Rattle.clap.specs.Simple.{App, matches_of, new_rule, new_shape}
-use Rattle.clap.specs.Walk.{Row, Rule, Text, first_of}
-use Rattle.clap.specs.declared.builder.action.ArgAction.TheVariants.{Set, SetTrue}
+use Rattle.clap.specs.Walk.{Row, Rule, Text, all_of, first_of}
+use Rattle.clap.specs.declared.builder.action.ArgAction.TheVariants.{Append, Set, SetTrue}
 use Rattle.ps_world.specs.Lines.{same_text}
 use Rattle.ps_words.specs.declared.asked.Asked.{Asked}
 use Rattle.ps_words.specs.declared.asked.Asked.TheVariants.{Session, Check, Validate}
@@ -22,10 +22,11 @@ word_texts words = map string_bytes words
 
 -- ---- what is asked for
 
--- what a session is to do: its files, how many workers there are, how many states a search may reach, and whether turns are ordered
+-- what a session is to do: its files, those of its members last, how many workers there are, how many states a search may reach, and whether turns are ordered
 pub record SessionRequest : Type 0 where
   pub domain : Text
   pub script : Text
+  pub members : List Text
   pub workers : ℕ
   pub budget : ℕ
   pub ordered : Bool
@@ -52,7 +53,14 @@ IsInRange (a_validation domain script plan) = Unit {0}
 
 -- what these settings of a session say
 abbrev pub settings_said : Settings → SessionRequest
-settings_said s = record { domain = s.domain.now; script = s.script.now; workers = s.workers; budget = s.budget; ordered = s.ordered }
+settings_said s = record {
+  domain = s.domain.now;
+  script = s.script.now;
+  members = map (λ t. t.now) s.members.items;
+  workers = s.workers;
+  budget = s.budget;
+  ordered = s.ordered;
+}
 
 -- what a value of the program's type says
 abbrev pub said : Asked → Request
@@ -134,7 +142,7 @@ options_stand_first awaited [] = true
 options_stand_first awaited (word ∷ words) =
     if is_option word || awaited then options_stand_first (awaits_value word) words else not (has_option words)
 
--- the words after the mode have the form of options with their values, whatever the options are called
+-- the words after the mode have the form of options with their values, and of member words after them, whatever the options are called
 abbrev pub is_well_formed : List Text → Bool
 is_well_formed words = has_no_bare words && (has_distinct_options words && (has_good_values words && options_stand_first false words))
 
@@ -148,6 +156,10 @@ option_rule id required = record (new_rule id) { long = Some id; action = Some S
 abbrev pub flag_rule : Text → Rule
 flag_rule id = record (new_rule id) { long = Some id; action = Some SetTrue }
 
+-- any number of words after the options
+abbrev pub words_rule : Text → Rule
+words_rule id = record (new_rule id) { action = Some Append }
+
 -- a command with these options, which has no help and no version of its own
 abbrev pub command_of : Text → List Rule → App
 command_of name rules = record {
@@ -155,12 +167,12 @@ command_of name rules = record {
   subs = [];
 }
 
--- session --domain F --script F, and what may be set
+-- session --domain F --script F, what may be set, and members
 unfoldable pub session_app : App
 session_app = command_of (codes "session") (
     option_rule (codes "domain") true ∷ option_rule (codes "script") true
     ∷ option_rule (codes "workers") false ∷ option_rule (codes "budget") false ∷ option_rule (codes "replans") false
-    ∷ flag_rule (codes "ordered") ∷ [])
+    ∷ flag_rule (codes "ordered") ∷ words_rule (codes "members") ∷ [])
 
 -- check --domain F
 unfoldable pub check_app : App
@@ -191,6 +203,10 @@ rows_read app words = unless_faulty (fault_of app words) (matches_of app words)
 -- the text of an option
 abbrev pub text_in : Text → List Row → Text
 text_in id rows = unwrap_or (first_of id rows) []
+
+-- the words after the options
+abbrev pub words_in : Text → List Row → List Text
+words_in id rows = unwrap_or (all_of id rows) []
 
 -- whether an option with no value was given
 abbrev pub is_set_in : Text → List Row → Bool
@@ -244,6 +260,7 @@ abbrev pub session_with : List Row → ℕ → ℕ → Request
 session_with rows workers budget = a_session (record {
   domain = text_in (codes "domain") rows;
   script = text_in (codes "script") rows;
+  members = words_in (codes "members") rows;
   workers = workers;
   budget = budget;
   ordered = is_set_in (codes "ordered") rows;
@@ -286,7 +303,7 @@ asked_by words rest None = None
 asked_by words rest (Some m) = if is_well_formed rest then asked_in m words else None
 
 -- What the words ask for, or nothing where they aren't in the grammar: the first is a mode, the others have the form of options
--- with their values, the mode's command takes them, and each number has its form and its range.
+-- with their values before member words, the mode's command takes them, and each number has its form and its range.
 unfoldable pub asked_of : List Text → Option Request
 asked_of [] = None
 asked_of (first ∷ rest) = asked_by (first ∷ rest) rest (mode_of first)

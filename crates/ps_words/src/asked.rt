@@ -1,22 +1,24 @@
 //! What the words ask for.
-ghost use Rattle.std.specs.Prelude.{◌≡◌, IfOk, IfSome, option_map};
+ghost use Rattle.std.specs.Prelude.{◌≡◌, IfOk, IfSome, codes, map, option_map};
 ghost use Rattle.clap.specs.Matches.{found_of};
 ghost use Rattle.clap.specs.Walk.{rows_of};
-ghost use Rattle.ps_words.specs.Words.{word_texts, said, session_of, asked_from, asked_in, asked_of, IsInRange};
+ghost use Rattle.ps_words.specs.Words.{word_texts, said, session_of, words_in, asked_from, asked_in, asked_of, IsInRange};
 
-use super::commands::{Mode, is_set, mode_command, mode_of, taken, text_of, value_of};
+use super::commands::{Mode, is_set, mode_command, mode_of, taken, text_of, value_of, words_of};
 use super::form::is_well_formed;
 use super::numbers::number_or;
 use clap::ArgMatches;
 use std::alloc::{AllocError, Global};
 
 /// The settings of a session.
-#[derive(Clone, Copy, PartialEq, Eq, Debug)]
+#[derive(Drop)]
 pub struct Settings<'a> {
     /// The file of the domain.
     pub domain: &'a str,
     /// The file of the script.
     pub script: &'a str,
+    /// The files of the members.
+    pub members: Vec<&'a str>,
     /// How many workers there are: 1 to 16, usually 2.
     pub workers: u32,
     /// How many states a search for a plan may reach before it gives up: 1 to 200,000, usually 20,000.
@@ -26,7 +28,7 @@ pub struct Settings<'a> {
 }
 
 /// What the words ask for.
-#[derive(Clone, Copy, PartialEq, Eq, Debug)]
+#[derive(Drop)]
 pub enum Asked<'a> {
     /// To do the lines of a script.
     Session(Settings<'a>),
@@ -46,8 +48,9 @@ pub enum Asked<'a> {
     },
 }
 
-/// The session that is asked for, where each number has its form and its range.
-fn session_of<'a>(matches: &ArgMatches<'a>) -> Option<Asked<'a>>
+/// The session of these members that is asked for, where each number has its form and its range.
+fn session_with<'a>(matches: &ArgMatches<'a>, members: Vec<&'a str>) -> Option<Asked<'a>>
+    requires { map (λ t. t.now) members.items ≡ words_in (codes "members") (rows_of (found_of matches.now)) }
     ensures { option_map said result ≡ session_of (rows_of (found_of matches.now)) }
 {
     let workers = number_or(value_of(matches, "workers"), 2, 1, 16)?;
@@ -56,26 +59,40 @@ fn session_of<'a>(matches: &ArgMatches<'a>) -> Option<Asked<'a>>
     Some(Asked::Session(Settings {
         domain: text_of(matches, "domain"),
         script: text_of(matches, "script"),
+        members,
         workers,
         budget,
         ordered: is_set(matches, "ordered"),
     }))
 }
 
-/// What the words ask for in a mode, by what they give for the options of its command.
-fn asked_from<'a>(mode: Mode, matches: &ArgMatches<'a>) -> Option<Asked<'a>>
-    ensures { option_map said result ≡ asked_from mode (rows_of (found_of matches.now)) }
+/// The session that is asked for, where each number has its form and its range.
+fn session_of<'a>(alloc: Global, matches: &ArgMatches<'a>) -> Result<Option<Asked<'a>>, AllocError>
+    ensures { IfOk result (λ a. option_map said a ≡ session_of (rows_of (found_of matches.now))) }
+{
+    let members = words_of(alloc, matches, "members")?;
+    Ok(session_with(matches, members))
+}
+
+/// What the words ask for in a mode, by what they give for its command.
+fn asked_from<'a>(
+    alloc: Global,
+    mode: Mode,
+    matches: &ArgMatches<'a>,
+) -> Result<Option<Asked<'a>>, AllocError>
+    ensures { IfOk result (λ a. option_map said a
+        ≡ asked_from mode (rows_of (found_of matches.now))) }
 {
     match mode {
-        Mode::Session => session_of(matches),
-        Mode::Check => Some(Asked::Check {
+        Mode::Session => session_of(alloc, matches),
+        Mode::Check => Ok(Some(Asked::Check {
             domain: text_of(matches, "domain"),
-        }),
-        Mode::Validate => Some(Asked::Validate {
+        })),
+        Mode::Validate => Ok(Some(Asked::Validate {
             domain: text_of(matches, "domain"),
             script: text_of(matches, "script"),
             plan: text_of(matches, "plan"),
-        }),
+        })),
     }
 }
 
@@ -89,7 +106,7 @@ fn asked_in<'a>(
 {
     let command = mode_command(alloc, mode)?;
     match taken(command, words)? {
-        Some(matches) => Ok(asked_from(mode, &matches)),
+        Some(matches) => asked_from(alloc, mode, &matches),
         None => Ok(None),
     }
 }
@@ -98,7 +115,8 @@ fn asked_in<'a>(
 /// memory, which may come of words that aren't in the grammar, too.
 ///
 /// The first word is the mode, and options follow it, each at most once, as `--name value` or `--name=value`, or as `--ordered`
-/// alone. A value isn't empty and doesn't begin with `-`. A number has 1 to 9 decimal digits.
+/// alone. A value isn't empty and doesn't begin with `-`. A number has 1 to 9 decimal digits. Last come a session's members, each
+/// a file; after the first of them no option stands.
 pub fn read_words<'a>(alloc: Global, words: &'a [String]) -> Result<Option<Asked<'a>>, AllocError>
     ensures asked { IfOk result (λ a. option_map said a ≡ asked_of (word_texts words.now)) }
     ensures ranges { IfOk result (λ a. IfSome (option_map said a) IsInRange) }

@@ -1,10 +1,10 @@
 //! The modes, and the command of each.
-ghost use Rattle.std.specs.Prelude.{◌≡◌, IfOk, option_map, true, []};
+ghost use Rattle.std.specs.Prelude.{◌≡◌, IfOk, map, option_map, true, []};
 ghost use Rattle.clap.specs.Faults.{is_simple_and_free};
 ghost use Rattle.clap.specs.Matches.{found_of};
 ghost use Rattle.clap.specs.Simple.{App, app_of, with_rule};
 ghost use Rattle.clap.specs.Walk.{first_of, rows_of};
-ghost use Rattle.ps_words.specs.Words.{word_texts, command_of, option_rule, flag_rule, session_app, check_app, validate_app, mode_app, rows_read, text_in, is_set_in, mode_of};
+ghost use Rattle.ps_words.specs.Words.{word_texts, command_of, option_rule, flag_rule, words_rule, session_app, check_app, validate_app, mode_app, rows_read, text_in, words_in, is_set_in, mode_of};
 
 use clap::error::ErrorKind;
 use clap::{Arg, ArgAction, ArgMatches, Command};
@@ -74,6 +74,20 @@ fn with_flag<'a>(
     command.arg(flag)
 }
 
+/// The command, if it could be made so far, with any number of words after its options, which have this id.
+fn with_words<'a>(
+    alloc: Global,
+    command: Result<Command<'a>, AllocError>,
+    id: &'a str,
+) -> Result<Command<'a>, AllocError>
+    ensures { (app : App) → IfOk command.entry (λ c. app_of c ≡ app)
+        → IfOk result (λ c. app_of c ≡ with_rule app (words_rule id.now)) }
+{
+    let command = command?;
+    let words = Arg::new(alloc, id).action(ArgAction::Append);
+    command.arg(words)
+}
+
 /// The command of a session.
 fn session_command<'a>(alloc: Global) -> Result<Command<'a>, AllocError>
     ensures { IfOk result (λ c. app_of c ≡ session_app) }
@@ -84,7 +98,8 @@ fn session_command<'a>(alloc: Global) -> Result<Command<'a>, AllocError>
     let command = with_option(alloc, command, "workers", false);
     let command = with_option(alloc, command, "budget", false);
     let command = with_option(alloc, command, "replans", false);
-    with_flag(alloc, command, "ordered")
+    let command = with_flag(alloc, command, "ordered");
+    with_words(alloc, command, "members")
 }
 
 /// The command of a check.
@@ -147,6 +162,21 @@ pub fn text_of<'a>(matches: &ArgMatches<'a>, id: &str) -> &'a str
     match value_of(matches, id) {
         Some(text) => text,
         None => "",
+    }
+}
+
+/// The words that were given after the options.
+pub fn words_of<'a>(
+    alloc: Global,
+    matches: &ArgMatches<'a>,
+    id: &str,
+) -> Result<Vec<&'a str>, AllocError>
+    ensures { IfOk result (λ v. map (λ t. t.now) v.items
+        ≡ words_in id.now (rows_of (found_of matches.now))) }
+{
+    match matches.get_strs(id) {
+        Some(all) => Vec::from_slice(alloc, all),
+        None => Ok(Vec::new(alloc)),
     }
 }
 

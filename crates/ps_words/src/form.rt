@@ -155,7 +155,8 @@ fn options_stand_first(words: &[String]) -> bool
     true
 }
 
-/// Whether the words after the mode have the form of options with their values, whatever the options are called.
+/// Whether the words after the mode have the form of options with their values, and of member words after them, whatever the options are
+/// called.
 pub fn is_well_formed(words: &[String]) -> bool
     ensures { result ≡ is_well_formed (word_texts words.now) }
 {

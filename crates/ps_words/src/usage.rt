@@ -2,14 +2,15 @@
 
 /// The modes, each with its options, their ranges and defaults, and an example.
 pub const USAGE: &str = "\
-plansys session --domain FILE --script FILE [--workers N] [--budget N] [--replans 0] [--ordered]
+plansys session --domain FILE --script FILE [--workers N] [--budget N] [--replans 0] [--ordered] [MEMBER ..]
     Does the lines of a script over a domain, and writes the journal. A line `source FILE` stands for the lines of that file,
-    on at most four levels, and `quit` ends the script.
+    on at most four levels, and `quit` ends the script. Each MEMBER is the file of a performer or an observer; they have no part in
+    a session yet, but are read and judged.
     --workers N   how many workers a run has, from 1 to 16; 2 if it isn't given; it changes nothing yet
     --budget N    how many states a search for a plan may reach before it gives up, from 1 to 200000; 20000 if it isn't given
     --replans 0   how often a plan may be made anew; only 0, which it is if it isn't given
     --ordered     the workers' turns come in a fixed order; it changes nothing yet
-    plansys session --domain samples/rooms/domain.pddl --script samples/rooms/script
+    plansys session --domain samples/rooms/domain.pddl --script samples/rooms/script samples/rooms/asker samples/rooms/charger samples/rooms/mover
 plansys check --domain FILE
     Reads a domain, and writes it in its canonical text.
     plansys check --domain samples/rooms/domain.pddl
@@ -19,7 +20,7 @@ plansys validate --domain FILE --script FILE --plan FILE
     plansys validate --domain samples/rooms/domain.pddl --script samples/rooms/goal --plan samples/rooms/plan
 plansys --help
 plansys --version
-An option stands once, as `--name value` or `--name=value`, in any place after the mode. A value isn't empty and doesn't begin
+An option stands once, as `--name value` or `--name=value`, after the mode and before the members. A value isn't empty and doesn't begin
 with `-`. A number has 1 to 9 decimal digits.
 ";
 

@@ -4,7 +4,7 @@ use ps_words::{Asked, Settings, read_words};
 use std::alloc::{AllocError, Global};
 use std::test::Fail;
 
-/// Command lines of sessions, and the domain, the script, the workers, the budget, and whether turns are ordered.
+/// Command lines of sessions, and the domain, the script, the workers, the budget, whether turns are ordered, and the members.
 const SESSIONS: &str = "\
 session --domain d --script s -> session d s 2 20000 false
 session --script=s --domain=d -> session d s 2 20000 false
@@ -37,7 +37,7 @@ session --domain d --script s --replans 1 -> none
 session --domain d --script s --ordered=x -> none
 session --domain d --script s --ordered=true -> none
 session --domain d --script s --ordered --ordered -> none
-session --domain d --script s --ordered true -> none
+session --domain d --script s --ordered true -> session d s 2 20000 true true
 session --domain d --script s --domain d -> none
 session --domain d --script s --domain=d -> none
 session --domain=d --script s --domain=e -> none
@@ -55,8 +55,18 @@ session --domain d --script s --version -> none
 session --domain d --script s -h -> none
 session x --domain d --script s -> none
 session --domain d x --script s -> none
-session --domain d --script s x -> none
-session --domain d --script s --ordered x -> none";
+session --domain d --script s x -> session d s 2 20000 false x
+session --domain d --script s --ordered x -> session d s 2 20000 true x
+session --domain d --script=s m=1 m m -> session d s 2 20000 false m=1 m m
+session --ordered --domain d --script s --budget 7 session --script -> none
+session --domain d --script s x --ordered -> none
+session --domain d --script s x --ordered y -> none
+session --domain d --script s x -y -> none
+session --domain d --script s --ordered=x y -> none
+session --domain d --script s x  y -> none
+session --domain d --script s x - -> none
+session --domain d --script s x -- y -> none
+session x y -> none";
 
 /// Other command lines, and what they ask for.
 const OTHERS: &str = "\
@@ -126,11 +136,16 @@ fn told_of_session(alloc: Global, settings: Settings<'_>) -> Result<String, Allo
     let Settings {
         domain,
         script,
+        members,
         workers,
         budget,
         ordered,
     } = settings;
-    format!(in alloc; "session {domain} {script} {workers} {budget} {ordered}")
+    let mut told = format!(in alloc; "session {domain} {script} {workers} {budget} {ordered}")?;
+    for member in &members {
+        write!(told, " {member}")?;
+    }
+    Ok(told)
 }
 
 fn told(alloc: Global, line: &str) -> Result<String, AllocError> {
