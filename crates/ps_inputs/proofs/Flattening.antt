@@ -35,7 +35,7 @@ use Rattle.ps_inputs.specs.Faults.{ReadsPart}
 use Rattle.ps_inputs.specs.Parts.{Adds, HasRoom, IsAdded, IsCommandLine, Opens, PutsDeep, PutsPlain, PutsPlan, ReadsText, ReadsFileLine, Walks, WalksLines, count_of}
 use Rattle.ps_inputs.specs.declared.reading.scripts.Script.{Script}
 use Rattle.ps_inputs.specs.declared.faults.Fault.{Fault}
-use Rattle.ps_inputs.specs.declared.faults.Fault.TheVariants.{Usage, NoDomain, TooLong, Lines, Unread}
+use Rattle.ps_inputs.specs.declared.faults.Fault.TheVariants.{Usage, NoDomain, NoMember, Crowd, Twice, TooLong, Lines, Unread}
 use Rattle.ps_inputs.proofs.ReadParts.{read_nothing, then_ended, then_read}
 
 -- ---- scripts
@@ -83,6 +83,9 @@ no_room n part le ge =
 pub full : {B : Type 0} {P : Flat → B → Type 0} (n : ℕ) (part : Reading Flat) (files : FilesView) (why : Failure Fault) → n ≤ most_lines → HasRoom n (Err why) → ReadsPart (with_room n part) files files P (Err why)
 full n part files (Refused Usage) le h = absurd h
 full n part files (Refused (NoDomain cause)) le h = absurd h
+full n part files (Refused (NoMember file cause)) le h = absurd h
+full n part files (Refused Crowd) le h = absurd h
+full n part files (Refused (Twice name)) le h = absurd h
 full n part files (Refused (TooLong file)) le h = absurd h
 full n part files (Refused Lines) le h = record { given = tt; ended = no_room n part le h; failed = refl; same = refl }
 full n part files (Refused (Unread file)) le h = absurd h

@@ -1,9 +1,13 @@
 pub mod Flattening
+pub mod JudgedMembers
 pub mod Later
 pub mod LinesNamed
 pub mod Loaded
+pub mod MemberTexts
 pub mod OneScript
 pub mod PlanNames
 pub mod ReadParts
 pub mod ScriptLines
+pub mod Soundness
 pub mod TableNames
+pub mod Together

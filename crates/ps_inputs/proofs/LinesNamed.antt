@@ -18,7 +18,6 @@ use Rattle.ps_world.specs.declared.conditions.Rel.TheVariants.{Eq}
 use Rattle.ps_world.specs.declared.conditions.Cond.{Cond}
 use Rattle.ps_world.specs.declared.conditions.Cond.TheVariants as cond
 use Rattle.ps_machine.specs.declared.inputs.Command.{Command}
-use Rattle.ps_machine.specs.declared.inputs.Command.TheVariants as command
 use Rattle.ps_machine.specs.declared.inputs.LineCause.{LineCause}
 use Rattle.ps_machine.specs.declared.inputs.LineCause.TheVariants.{NotBuilt}
 use Rattle.ps_machine.specs.declared.inputs.Line.{Line}

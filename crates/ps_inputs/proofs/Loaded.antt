@@ -1,9 +1,14 @@
 -- The work, by what its files hold.
-use Rattle.std.proofs.Common.{◌≡◌, ℕ, ◌<◌, ◌^◌, true, false, Result, Ok, Err, List, [], All, length, refl, sym, ap, subst, arith}
+use Rattle.std.proofs.Common.{◌≡◌, ℕ, ◌≤◌, Bool, true, false, Result, Ok, Err, List, [], All, length, map, take, sym, ap, ◌∙◌, subst, arith}
 use Rattle.std.specs.Global.{Vec}
+use Rattle.std.proofs.lemmas.List.{length-take}
+use Rattle.std.proofs.lemmas.List.Elements.{All-weaker}
 use Rattle.ps_world.specs.Names.{Table}
 use Rattle.ps_world.specs.declared.failures.Failure.{Failure}
+use Rattle.ps_world.specs.declared.failures.Failure.TheVariants.{Refused, OutOfMemory}
+use Rattle.ps_text.specs.Names.{Keeps}
 use Rattle.ps_text.specs.Outside.{FilesView}
+use Rattle.ps_text.proofs.Kept.{kept_front}
 use Rattle.ps_world.specs.declared.domains.Domain.{Domain}
 use Rattle.ps_machine.specs.Tables.{IsLineOf}
 use Rattle.ps_machine.specs.declared.inputs.Input.{Input}
@@ -15,20 +20,24 @@ use Rattle.ps_inputs.specs.Reading.{MayGive, Reading, Texts, and_then, read_file
 use Rattle.ps_inputs.specs.Reading.Reading.{gives}
 use Rattle.ps_inputs.specs.Flats.{Flat, script_in}
 use Rattle.ps_inputs.specs.Scripts.{IsScript}
-use Rattle.ps_inputs.specs.Input.{IsDomain, IsInput, Material, domain_file_of, domain_text_of, first_names, reading_of}
+use Rattle.ps_inputs.specs.Members.{AreAtFault, AreMembers, NamedText}
+use Rattle.ps_inputs.specs.Input.{HasBadMembers, InputTexts, IsBegun, IsDomain, IsInput, Material, domain_file_of, domain_text_of, first_names, named_texts, reading_of, texts_in, texts_of}
 use Rattle.ps_inputs.specs.Input.Material.{for_session, for_check, for_validation}
-use Rattle.ps_inputs.specs.Parts.{IsAnswered, IsJudged, IsJudgedAs, IsScriptFrom, LoadsRequest, ReadsDomainFile, ReadsScript, ReadsText}
+use Rattle.ps_inputs.specs.Parts.{Fits, IsAnswered, IsJudged, IsJudgedAs, IsJudgedInput, IsScriptFrom, IsUnjudged, Joins, Judges, LoadsRequest, ReadsDomainFile, ReadsInput, ReadsMembers, ReadsScript, ReadsText, named}
+use Rattle.ps_inputs.specs.declared.judging.Loaded.{Loaded}
 use Rattle.ps_inputs.specs.declared.reading.domains.Judged.{Judged}
+use Rattle.ps_inputs.specs.declared.reading.inputs.Unjudged.{Unjudged}
+use Rattle.ps_inputs.specs.declared.reading.members.MemberText.{MemberText}
 use Rattle.ps_inputs.specs.declared.reading.scripts.Script.{Script}
 use Rattle.ps_inputs.specs.declared.faults.Fault.{Fault}
-use Rattle.ps_inputs.specs.declared.faults.Fault.TheVariants.{Usage, NoDomain, TooLong, Lines, Unread}
+use Rattle.ps_inputs.specs.declared.faults.Fault.TheVariants.{Usage, NoDomain, NoMember, Crowd, Twice, TooLong, Lines, Unread}
 use Rattle.ps_inputs.specs.declared.works.Session.{Session}
 use Rattle.ps_inputs.specs.declared.works.Validation.{Validation}
 use Rattle.ps_inputs.specs.declared.works.Work.{Work}
 use Rattle.ps_inputs.specs.declared.works.Work.TheVariants as work
 use Rattle.ps_inputs.specs.declared.works.Work.TheVariants.{Check}
-use Rattle.ps_inputs.proofs.Later.{params-later}
-use Rattle.ps_inputs.proofs.ReadParts.{give_be, read_nothing, then_ended, then_read}
+use Rattle.ps_inputs.proofs.Later.{line-later, params-later}
+use Rattle.ps_inputs.proofs.ReadParts.{give_be, out_of_memory, read_nothing, then_ended, then_read}
 use Rattle.ps_inputs.proofs.ScriptLines.{IsLeft, left_after}
 use Rattle.ps_inputs.proofs.TableNames.{AreNames-first, after_read, domain_within}
 
@@ -40,44 +49,19 @@ judged_domain text j d e is = subst (IsJudgedAs text j.names) e is
 
 -- one that isn't has its fault
 judged_fault : (texts : Texts) (names : Table) (request : Request) (m : Material) (fault : Fault) → IsJudgedAs (domain_text_of m) names (Err fault) → MayGive (read_file texts (domain_file_of request)) (λ text. IsJudgedAs text names (Err fault)) → IsAnswered texts request m (Err fault)
-judged_fault texts names request m Usage is told = is
+judged_fault texts names request m Usage is told = absurd is
 judged_fault texts names request m (NoDomain cause) is told = (is, told)
-judged_fault texts names request m (TooLong file) is told = is
-judged_fault texts names request m Lines is told = is
-judged_fault texts names request m (Unread file) is told = is
+judged_fault texts names request m (NoMember file cause) is told = absurd is
+judged_fault texts names request m Crowd is told = absurd is
+judged_fault texts names request m (Twice name) is told = absurd is
+judged_fault texts names request m (TooLong file) is told = absurd is
+judged_fault texts names request m Lines is told = absurd is
+judged_fault texts names request m (Unread file) is told = absurd is
 
--- and so has the text of its file, where that is told
-told_fault : (file : List ℕ) (old new : FilesView) (j : Judged) (fault : Fault) → j.domain ≡ Err fault → ReadsDomainFile file old new (Ok j) → MayGive (read_file old.told file) (λ text. IsJudgedAs text j.names (Err fault))
-told_fault file old new j fault e h =
-    give_be (read_file old.told file) h.given.0 h.given.1 (λ text. IsJudgedAs text j.names (Err fault)) h.given.2 (subst (IsJudgedAs h.given.1 j.names) e h.given.4)
-
--- a domain and the lines of a script are an input
-is_input : (budget : ℕ) (text : List ℕ) (flat : Flat) (j : Judged) (script : Script) (d : Domain) (i : Input) (names : Table) → j.domain ≡ Ok d → names ≡ script.names → i.domain ≡ d → i.lines ≡ script.lines.items → i.budget ≡ budget → i.members ≡ [] → i.replans ≡ 0 → IsJudged text j → IsScriptFrom j.names flat script → IsInput budget text flat.lines i names
-is_input budget text flat j script d i names e same domain lines bounded alone once is are = record {
-  between = j.names;
-  read = subst (λ (x : Domain). IsDomain text x j.names) (sym domain) (judged_domain text j d e is);
-  lines = subst (λ (t : Table). IsScript j.names flat.lines i.lines t) (sym same) (subst (λ (ls : List Line). IsScript j.names flat.lines ls script.names) (sym lines) are.read);
-  bounded = bounded;
-  alone = alone;
-  once = once;
-}
-
--- Their names are in the table.
-pub record Fits (script : Script) (d : Domain) : Type 0 where
-  pub few : length script.lines.items < 2 ^ 32
-  pub named : All (IsLineOf (length script.names)) script.lines.items
-  pub constants : All (IsParamOf (length script.names)) d.constants
-
-pub input_fits : (text : List ℕ) (flat : Flat) (j : Judged) (script : Script) (d : Domain) → j.domain ≡ Ok d → IsJudged text j → IsScriptFrom j.names flat script → Fits script d
-input_fits text flat j script d e is are =
-    let read : IsDomain text d j.names = judged_domain text j d e is in
-    let left : IsLeft j.names script.names flat.lines script.lines.items = left_after j.names flat.lines script.lines.items script.names (after_read first_names j.names text (Ok d) read AreNames-first) are.read in
-    let within = domain_within first_names text d j.names AreNames-first read in
-    record {
-      few = omega (arith, are.few);
-      named = left.named;
-      constants = params-later (length j.names) (length script.names) left.grows d.constants within.constants;
-    }
+-- the text of a domain's file is judged too, where that is told
+told_judged : (file : List ℕ) (old new : FilesView) (j : Judged) (judged : Result Domain Fault) → j.domain ≡ judged → ReadsDomainFile file old new (Ok j) → MayGive (read_file old.told file) (λ text. IsJudgedAs text j.names judged)
+told_judged file old new j judged e h =
+    give_be (read_file old.told file) h.given.0 h.given.1 (λ text. IsJudgedAs text j.names judged) h.given.2 (subst (IsJudgedAs h.given.1 j.names) e h.given.4)
 
 -- ---- a check
 
@@ -94,43 +78,174 @@ module _ (file : List ℕ) (old new : FilesView) where
   check_good j d e h = check_read j (Ok (Check j.names d)) h (λ text is. (tt, judged_domain text j d e is))
 
   pub check_bad : (j : Judged) (fault : Fault) → j.domain ≡ Err fault → ReadsDomainFile file old new (Ok j) → LoadsRequest (a_check file) old new (Ok (Err fault))
-  check_bad j fault e h = check_read j (Err fault) h (λ text is. judged_fault old.told j.names (a_check file) (for_check text) fault (subst (IsJudgedAs text j.names) e is) (told_fault file old new j fault e h))
+  check_bad j fault e h = check_read j (Err fault) h (λ text is. judged_fault old.told j.names (a_check file) (for_check text) fault (subst (IsJudgedAs text j.names) e is) (told_judged file old new j (Err fault) e h))
+
+-- ---- the texts of an input
+
+module _ (plans : Bool) (domain_file script_file : List ℕ) (member_files : List (List ℕ)) (old : FilesView) where
+  -- what the members' texts give
+  abbrev input_of : List ℕ → Flat → List NamedText → Reading InputTexts
+  input_of d flat members = gives [] (record { domain = d; script = flat.lines; members = members })
+
+  abbrev members_after : Texts → List ℕ → Flat → Reading InputTexts
+  members_after t d flat = and_then (named_texts t member_files) (input_of d flat)
+
+  abbrev script_after : Texts → List ℕ → Reading InputTexts
+  script_after t d = and_then (script_in plans t script_file) (members_after t d)
+
+  pub input_undomained : (new : FilesView) (why : Failure Fault) → ReadsDomainFile domain_file old new (Err why) → ReadsInput plans domain_file script_file member_files old new (Err why)
+  unfolding texts_in
+  input_undomained new why h = then_ended (read_file old.told domain_file) (script_after old.told) old new why h
+
+  module _ (middle : FilesView) (j : Judged) (first : ReadsDomainFile domain_file old middle (Ok j)) where
+    pub input_unscripted : (new : FilesView) (why : Failure Fault) → ReadsScript j.names plans script_file middle new (Err why) → ReadsInput plans domain_file script_file member_files old new (Err why)
+    unfolding texts_in
+    input_unscripted new why h =
+        then_read (read_file old.told domain_file) script_after old middle new j (Err why) first (λ d is. then_ended (script_in plans middle.told script_file) (members_after middle.told d) middle new why h)
+
+    module _ (later new : FilesView) (script : Script) (second : ReadsScript j.names plans script_file middle later (Ok script)) where
+      pub input_unmembered : (why : Failure Fault) → ReadsMembers member_files later new (Err why) → ReadsInput plans domain_file script_file member_files old new (Err why)
+      unfolding texts_in
+      input_unmembered why h =
+          then_read (read_file old.told domain_file) script_after old middle new j (Err why) first
+          (λ d is. then_read (script_in plans middle.told script_file) (λ t flat. members_after t d flat) middle later new script (Err why) second
+          (λ flat are. then_ended (named_texts later.told member_files) (input_of d flat) later new why h))
+
+      unjudged : (u : Unjudged) (d : List ℕ) (flat : Flat) (members : List NamedText) → u.names ≡ script.names → u.domain ≡ j.domain → u.lines.items ≡ script.lines.items → IsJudged d j → IsScriptFrom j.names flat script → map named u.members.items ≡ members → IsUnjudged old.told domain_file (record { domain = d; script = flat.lines; members = members }) u
+      unjudged u d flat members names domain lines is are same = record {
+        between = j.names;
+        judged = subst (IsJudgedAs d j.names) (sym domain) is;
+        told_judged = told_judged domain_file old middle j u.domain (sym domain) first;
+        lines = subst (λ (t : Table). IsScript j.names flat.lines u.lines.items t) (sym names) (subst (λ (ls : List Line). IsScript j.names flat.lines ls script.names) (sym lines) are.read);
+        few = subst (λ (ls : List Line). length ls ≤ 10000) (sym lines) are.few;
+        members = same;
+      }
+
+      pub input_read : (u : Unjudged) (v : Vec MemberText) → u.names ≡ script.names → u.domain ≡ j.domain → u.lines.items ≡ script.lines.items → u.members.items ≡ v.items → ReadsMembers member_files later new (Ok v) → ReadsInput plans domain_file script_file member_files old new (Ok u)
+      unfolding texts_in
+      input_read u v names domain lines kept h =
+          then_read (read_file old.told domain_file) script_after old middle new j (Ok u) first
+          (λ d is. then_read (script_in plans middle.told script_file) (λ t flat. members_after t d flat) middle later new script (Ok u) second
+          (λ flat are. then_read (named_texts later.told member_files) (λ t members. input_of d flat members) later new new v (Ok u) h
+          (λ members same. read_nothing new (record { domain = d; script = flat.lines; members = members }) u (unjudged u d flat members names domain lines is are (ap (map named) kept ∙ same)))))
+
+-- ---- the input that texts are
+
+kept_longer : (t u : Table) → Keeps t u → length t ≤ length u
+kept_longer t u kept =
+    let same : length (take (length t) u) ≡ length t = ap length (kept_front t u kept) in
+    omega (arith, same, length-take (length t) u)
+
+module _ (told : Texts) (domain_file : List ℕ) (texts : InputTexts) (u : Unjudged) (budget : ℕ) (read : IsUnjudged told domain_file texts u) where
+  module _ (d : Domain) (good : u.domain ≡ Ok d) where
+    read_domain : IsDomain texts.domain d read.between
+    read_domain = subst (IsJudgedAs texts.domain read.between) good read.judged
+
+    script_left : IsLeft read.between u.names texts.script u.lines.items
+    script_left = left_after read.between texts.script u.lines.items u.names (after_read first_names read.between texts.domain (Ok d) read_domain AreNames-first) read.lines
+
+    begun : IsBegun texts d u.names
+    begun = record { between = read.between; read = read_domain; given = u.lines.items; lines = read.lines }
+
+    -- the members are at fault
+    bad_members : (fault : Fault) → AreAtFault d u.names (map named u.members.items) fault → HasBadMembers texts fault
+    bad_members fault is = (d, u.names, begun, subst (λ (ts : List NamedText). AreAtFault d u.names ts fault) read.members is)
+
+    joined_input : (l : Loaded) → Joins u.names d u.lines.items (map named u.members.items) budget (Ok l) → IsInput budget texts l.input l.names
+    joined_input l is = record {
+      between = read.between;
+      read = subst (λ (x : Domain). IsDomain texts.domain x read.between) (sym is.4) read_domain;
+      named = u.names;
+      lines = subst (λ (ls : List Line). IsScript read.between texts.script ls u.names) (sym is.5) read.lines;
+      members = subst (λ (x : Domain). AreMembers x u.names texts.members l.input.members l.names) (sym is.4) (subst (λ (ts : List NamedText). AreMembers d u.names ts l.input.members l.names) read.members is.0);
+      few = is.1;
+      apart = is.2;
+      bounded = is.6;
+      once = is.7;
+    }
+
+    joined_fits : (l : Loaded) → Joins u.names d u.lines.items (map named u.members.items) budget (Ok l) → Fits l.input l.names
+    joined_fits l is =
+        let grows : length u.names ≤ length l.names = kept_longer u.names l.names is.3 in
+        let within = domain_within first_names texts.domain d read.between AreNames-first read_domain in
+        let between : length read.between ≤ length l.names = omega (arith, grows, script_left.grows) in
+        let constants : All (IsParamOf (length l.names)) d.constants = params-later (length read.between) (length l.names) between d.constants within.constants in
+        let lines : All (IsLineOf (length l.names)) u.lines.items = All-weaker (IsLineOf (length u.names)) (IsLineOf (length l.names)) (line-later (length u.names) (length l.names) grows) u.lines.items script_left.named in
+        record {
+          few = omega (arith, ap length is.5, read.few);
+          named = subst (All (IsLineOf (length l.names))) (sym is.5) lines;
+          constants = subst (λ (x : Domain). All (IsParamOf (length l.names)) x.constants) (sym is.4) constants;
+        }
+
+    pub judged_input : (r : Result Loaded (Failure Fault)) → Joins u.names d u.lines.items (map named u.members.items) budget r → IsJudgedInput told domain_file texts budget r
+    judged_input (Ok l) is = (joined_input l is, joined_fits l is)
+    judged_input (Err (Refused Usage)) is = absurd is
+    judged_input (Err (Refused (NoDomain cause))) is = absurd is
+    judged_input (Err (Refused (NoMember file cause))) is = bad_members (NoMember file cause) is
+    judged_input (Err (Refused Crowd)) is = bad_members Crowd is
+    judged_input (Err (Refused (Twice name))) is = bad_members (Twice name) is
+    judged_input (Err (Refused (TooLong file))) is = absurd is
+    judged_input (Err (Refused Lines)) is = absurd is
+    judged_input (Err (Refused (Unread file))) is = absurd is
+    judged_input (Err OutOfMemory) is = tt
+
+  no_domain : (fault : Fault) → IsJudgedAs texts.domain read.between (Err fault) → MayGive (read_file told domain_file) (λ text. IsJudgedAs text read.between (Err fault)) → IsJudgedInput told domain_file texts budget (Err (Refused fault))
+  no_domain Usage is also = absurd is
+  no_domain (NoDomain cause) is also = (is, also)
+  no_domain (NoMember file cause) is also = absurd is
+  no_domain Crowd is also = absurd is
+  no_domain (Twice name) is also = absurd is
+  no_domain (TooLong file) is also = absurd is
+  no_domain Lines is also = absurd is
+  no_domain (Unread file) is also = absurd is
+
+  -- the domain's text is none
+  pub undomained : (fault : Fault) → u.domain ≡ Err fault → IsJudgedInput told domain_file texts budget (Err (Refused fault))
+  undomained fault bad =
+      no_domain fault (subst (IsJudgedAs texts.domain read.between) bad read.judged)
+      (subst (λ (r : Result Domain Fault). MayGive (read_file told domain_file) (λ text. IsJudgedAs text read.between r)) bad read.told_judged)
+
+-- a fault of the texts is the answer
+answered_fault : (told : Texts) (request : Request) (m : Material) (budget : ℕ) (fault : Fault) → IsJudgedInput told (domain_file_of request) (texts_of m) budget (Err (Refused fault)) → IsAnswered told request m (Err fault)
+answered_fault told request m budget Usage is = is
+answered_fault told request m budget (NoDomain cause) is = is
+answered_fault told request m budget (NoMember file cause) is = is
+answered_fault told request m budget Crowd is = is
+answered_fault told request m budget (Twice name) is = is
+answered_fault told request m budget (TooLong file) is = is
+answered_fault told request m budget Lines is = is
+answered_fault told request m budget (Unread file) is = is
 
 -- ---- a session
 
-module _ (s : SessionRequest) (old : FilesView) where
-  -- what the script gives
-  abbrev session_of : List ℕ → Flat → Reading Material
-  session_of d flat = gives [] (for_session s.budget d flat.lines)
+module _ (s : SessionRequest) (old new : FilesView) where
+  -- what its texts give
+  abbrev session_of : InputTexts → Reading Material
+  session_of input = gives [] (for_session s.budget input)
 
-  abbrev session_after : Texts → List ℕ → Reading Material
-  session_after t d = and_then (script_in false t s.script) (session_of d)
-
-  pub session_unread : (new : FilesView) (why : Failure Fault) → ReadsDomainFile s.domain old new (Err why) → LoadsRequest (a_session s) old new (Err why)
+  pub session_unread : (why : Failure Fault) → ReadsInput false s.domain s.script s.members old new (Err why) → LoadsRequest (a_session s) old new (Err why)
   unfolding reading_of
-  session_unread new why h = then_ended (read_file old.told s.domain) (session_after old.told) old new why h
+  session_unread why h = then_ended (texts_in false old.told s.domain s.script s.members) session_of old new why h
 
-  module _ (middle new : FilesView) (j : Judged) (first : ReadsDomainFile s.domain old middle (Ok j)) where
-    pub session_unscripted : (why : Failure Fault) → ReadsScript j.names false s.script middle new (Err why) → LoadsRequest (a_session s) old new (Err why)
+  module _ (u : Unjudged) (h : ReadsInput false s.domain s.script s.members old new (Ok u)) where
+    session_read : (r : Result Work Fault) → ((input : InputTexts) → IsUnjudged old.told s.domain input u → IsAnswered old.told (a_session s) (for_session s.budget input) r) → LoadsRequest (a_session s) old new (Ok r)
     unfolding reading_of
-    session_unscripted why h =
-        then_read (read_file old.told s.domain) session_after old middle new j (Err why) first (λ d is. then_ended (script_in false middle.told s.script) (session_of d) middle new why h)
+    session_read r f =
+        then_read (texts_in false old.told s.domain s.script s.members) (λ t input. session_of input) old new new u (Ok r) h
+        (λ input is. read_nothing new (for_session s.budget input) r (f input is))
 
-    session_read : (script : Script) (r : Result Work Fault) → ReadsScript j.names false s.script middle new (Ok script) → ((d : List ℕ) (flat : Flat) → IsJudged d j → IsScriptFrom j.names flat script → IsAnswered old.told (a_session s) (for_session s.budget d flat.lines) r) → LoadsRequest (a_session s) old new (Ok r)
-    unfolding reading_of
-    session_read script r h f =
-        then_read (read_file old.told s.domain) session_after old middle new j (Ok r) first
-        (λ d is. then_read (script_in false middle.told s.script) (λ t flat. session_of d flat) middle new new script (Ok r) h (λ flat are. read_nothing new (for_session s.budget d flat.lines) r (f d flat is are)))
+    pub session_good : (l : Loaded) (w : Session) → w.names ≡ l.names → w.input ≡ l.input → Judges u s.budget (Ok l) → LoadsRequest (a_session s) old new (Ok (Ok (work.Session w)))
+    session_good l w names input judges =
+        session_read (Ok (work.Session w))
+        (λ texts is. (tt, subst (λ (t : Table). IsInput s.budget texts w.input t) (sym names) (subst (λ (i : Input). IsInput s.budget texts i l.names) (sym input) (judges old.told s.domain texts is).0)))
 
-    pub session_good : (script : Script) (d : Domain) (w : Session) → j.domain ≡ Ok d → w.names ≡ script.names → w.input.domain ≡ d → w.input.lines ≡ script.lines.items → w.input.budget ≡ s.budget → w.input.members ≡ [] → w.input.replans ≡ 0 → ReadsScript j.names false s.script middle new (Ok script) → LoadsRequest (a_session s) old new (Ok (Ok (work.Session w)))
-    session_good script d w e names domain lines budget alone once h =
-        session_read script (Ok (work.Session w)) h
-        (λ text flat is are. (tt, is_input s.budget text flat j script d w.input w.names e names domain lines budget alone once is are))
+    pub session_bad : (fault : Fault) → Judges u s.budget (Err (Refused fault)) → LoadsRequest (a_session s) old new (Ok (Err fault))
+    session_bad fault judges =
+        session_read (Err fault) (λ texts is. answered_fault old.told (a_session s) (for_session s.budget texts) s.budget fault (judges old.told s.domain texts is))
 
-    pub session_bad : (script : Script) (fault : Fault) → j.domain ≡ Err fault → ReadsScript j.names false s.script middle new (Ok script) → LoadsRequest (a_session s) old new (Ok (Err fault))
-    session_bad script fault e h =
-        session_read script (Err fault) h
-        (λ text flat is are. judged_fault old.told j.names (a_session s) (for_session s.budget text flat.lines) fault (subst (IsJudgedAs text j.names) e is) (told_fault s.domain old middle j fault e first))
+    -- memory runs out after all files are read
+    pub session_starved : LoadsRequest (a_session s) old new (Err OutOfMemory)
+    session_starved = out_of_memory (reading_of old.told (a_session s)) old new h.failed h.same
 
 -- ---- a plan that is to be validated
 
@@ -139,47 +254,46 @@ module _ (domain_file script_file plan_file : List ℕ) (old : FilesView) where
   validation_request = a_validation domain_file script_file plan_file
 
   -- what the plan's text gives
-  abbrev validation_of : List ℕ → Flat → List ℕ → Reading Material
-  validation_of d flat plan = gives [] (for_validation d flat.lines plan)
+  abbrev validation_of : InputTexts → List ℕ → Reading Material
+  validation_of input plan = gives [] (for_validation input plan)
 
-  abbrev plan_after : Texts → List ℕ → Flat → Reading Material
-  plan_after t d flat = and_then (read_file t plan_file) (validation_of d flat)
+  abbrev plan_after : Texts → InputTexts → Reading Material
+  plan_after t input = and_then (read_file t plan_file) (validation_of input)
 
-  abbrev script_after : Texts → List ℕ → Reading Material
-  script_after t d = and_then (script_in true t script_file) (plan_after t d)
-
-  pub validation_unread : (new : FilesView) (why : Failure Fault) → ReadsDomainFile domain_file old new (Err why) → LoadsRequest validation_request old new (Err why)
+  pub validation_unread : (new : FilesView) (why : Failure Fault) → ReadsInput true domain_file script_file [] old new (Err why) → LoadsRequest validation_request old new (Err why)
   unfolding reading_of
-  validation_unread new why h = then_ended (read_file old.told domain_file) (script_after old.told) old new why h
+  validation_unread new why h = then_ended (texts_in true old.told domain_file script_file []) (plan_after old.told) old new why h
 
-  module _ (middle : FilesView) (j : Judged) (first : ReadsDomainFile domain_file old middle (Ok j)) where
-    pub validation_unscripted : (new : FilesView) (why : Failure Fault) → ReadsScript j.names true script_file middle new (Err why) → LoadsRequest validation_request old new (Err why)
+  module _ (middle new : FilesView) (u : Unjudged) (first : ReadsInput true domain_file script_file [] old middle (Ok u)) where
+    pub validation_unplanned : (why : Failure Fault) → ReadsText plan_file middle new (Err why) → LoadsRequest validation_request old new (Err why)
     unfolding reading_of
-    validation_unscripted new why h =
-        then_read (read_file old.told domain_file) script_after old middle new j (Err why) first (λ d is. then_ended (script_in true middle.told script_file) (plan_after middle.told d) middle new why h)
+    validation_unplanned why h =
+        then_read (texts_in true old.told domain_file script_file []) plan_after old middle new u (Err why) first
+        (λ input is. then_ended (read_file middle.told plan_file) (validation_of input) middle new why h)
 
-    module _ (later new : FilesView) (script : Script) (second : ReadsScript j.names true script_file middle later (Ok script)) where
-      pub validation_unplanned : (why : Failure Fault) → ReadsText plan_file later new (Err why) → LoadsRequest validation_request old new (Err why)
+    module _ (plan : Vec ℕ) (h : ReadsText plan_file middle new (Ok plan)) where
+      validation_read : (r : Result Work Fault) → ((input : InputTexts) → IsUnjudged old.told domain_file input u → IsAnswered old.told validation_request (for_validation input plan.items) r) → LoadsRequest validation_request old new (Ok r)
       unfolding reading_of
-      validation_unplanned why h =
-          then_read (read_file old.told domain_file) script_after old middle new j (Err why) first
-          (λ d is. then_read (script_in true middle.told script_file) (λ t flat. plan_after t d flat) middle later new script (Err why) second
-          (λ flat are. then_ended (read_file later.told plan_file) (validation_of d flat) later new why h))
+      validation_read r f =
+          then_read (texts_in true old.told domain_file script_file []) plan_after old middle new u (Ok r) first
+          (λ input is. then_read (read_file middle.told plan_file) (λ t x. validation_of input x) middle new new plan (Ok r) h
+          (λ x e. read_nothing new (for_validation input x) r (subst (λ (y : List ℕ). IsAnswered old.told validation_request (for_validation input y) r) e (f input is))))
 
-      validation_read : (plan : Vec ℕ) (r : Result Work Fault) → ReadsText plan_file later new (Ok plan) → ((d : List ℕ) (flat : Flat) → IsJudged d j → IsScriptFrom j.names flat script → IsAnswered old.told validation_request (for_validation d flat.lines plan.items) r) → LoadsRequest validation_request old new (Ok r)
-      unfolding reading_of
-      validation_read plan r h f =
-          then_read (read_file old.told domain_file) script_after old middle new j (Ok r) first
-          (λ d is. then_read (script_in true middle.told script_file) (λ t flat. plan_after t d flat) middle later new script (Ok r) second
-          (λ flat are. then_read (read_file later.told plan_file) (λ t x. validation_of d flat x) later new new plan (Ok r) h
-          (λ x e. read_nothing new (for_validation d flat.lines x) r (subst (λ (y : List ℕ). IsAnswered old.told validation_request (for_validation d flat.lines y) r) e (f d flat is are)))))
+      pub validation_good : (l : Loaded) (w : Validation) → w.names ≡ l.names → w.input ≡ l.input → w.plan ≡ plan → Judges u 0 (Ok l) → LoadsRequest validation_request old new (Ok (Ok (work.Validation w)))
+      validation_good l w names input same judges =
+          validation_read (Ok (work.Validation w))
+          (λ texts is. (
+            tt,
+            (
+              subst (λ (t : Table). IsInput 0 texts w.input t) (sym names) (subst (λ (i : Input). IsInput 0 texts i l.names) (sym input) (judges old.told domain_file texts is).0),
+              ap (λ (v : Vec ℕ). v.items) same,
+            ),
+          ))
 
-      pub validation_good : (plan : Vec ℕ) (d : Domain) (w : Validation) → j.domain ≡ Ok d → w.names ≡ script.names → w.input.domain ≡ d → w.input.lines ≡ script.lines.items → w.input.budget ≡ 0 → w.input.members ≡ [] → w.input.replans ≡ 0 → w.plan ≡ plan → ReadsText plan_file later new (Ok plan) → LoadsRequest validation_request old new (Ok (Ok (work.Validation w)))
-      validation_good plan d w e names domain lines budget alone once same h =
-          validation_read plan (Ok (work.Validation w)) h
-          (λ text flat is are. (tt, (is_input 0 text flat j script d w.input w.names e names domain lines budget alone once is are, ap (λ (v : Vec ℕ). v.items) same)))
+      pub validation_bad : (fault : Fault) → Judges u 0 (Err (Refused fault)) → LoadsRequest validation_request old new (Ok (Err fault))
+      validation_bad fault judges =
+          validation_read (Err fault) (λ texts is. answered_fault old.told validation_request (for_validation texts plan.items) 0 fault (judges old.told domain_file texts is))
 
-      pub validation_bad : (plan : Vec ℕ) (fault : Fault) → j.domain ≡ Err fault → ReadsText plan_file later new (Ok plan) → LoadsRequest validation_request old new (Ok (Err fault))
-      validation_bad plan fault e h =
-          validation_read plan (Err fault) h
-          (λ text flat is are. judged_fault old.told j.names validation_request (for_validation text flat.lines plan.items) fault (subst (IsJudgedAs text j.names) e is) (told_fault domain_file old middle j fault e first))
+      -- memory runs out after all files are read
+      pub validation_starved : LoadsRequest validation_request old new (Err OutOfMemory)
+      validation_starved = out_of_memory (reading_of old.told validation_request) old new (h.failed ∙ first.failed) (h.same ∙ first.same)

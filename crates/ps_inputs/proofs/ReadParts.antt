@@ -14,7 +14,7 @@ use Rattle.ps_inputs.specs.Reading.Reading.{gives, faulty, unknown}
 use Rattle.ps_inputs.specs.Faults.{IsEnded, ReadsPart, failed_after}
 use Rattle.ps_inputs.specs.Parts.{ReadsText}
 use Rattle.ps_inputs.specs.declared.faults.Fault.{Fault}
-use Rattle.ps_inputs.specs.declared.faults.Fault.TheVariants.{Usage, NoDomain, TooLong, Lines, Unread}
+use Rattle.ps_inputs.specs.declared.faults.Fault.TheVariants.{Usage, NoDomain, NoMember, Crowd, Twice, TooLong, Lines, Unread}
 
 -- ---- counts and lists
 
@@ -109,6 +109,9 @@ next_second (unknown files) y j n a file h g = inr (omega (arith, h))
 pub ended_first : {A B : Type 0} (x : Reading A) (y : A → Reading B) (old new : FilesView) (why : Failure Fault) → IsEnded x old new why → IsEnded (and_then x y) old new why
 ended_first x y old new (Refused Usage) h = h
 ended_first x y old new (Refused (NoDomain cause)) h = h
+ended_first x y old new (Refused (NoMember file cause)) h = h
+ended_first x y old new (Refused Crowd) h = h
+ended_first x y old new (Refused (Twice name)) h = h
 ended_first x y old new (Refused (TooLong file)) h = record { length = h.length; long = h.long; told = fail_first x y (too_long file.items h.length) h.told }
 ended_first x y old new (Refused Lines) h = fail_first x y (too_many (most_lines + 1)) h
 ended_first x y old new (Refused (Unread file)) h = record { before = h.before; counted = h.counted; named = next_first x y h.before file.items h.named }
@@ -118,6 +121,9 @@ ended_first x y old new OutOfMemory h = tt
 ended_second : {A B : Type 0} (x : Reading A) (y : A → Reading B) (j : ℕ) (a : A) (old middle new : FilesView) (why : Failure Fault) → MayBe x j a → middle.reads ≡ after j old.reads → IsEnded (y a) middle new why → IsEnded (and_then x y) old new why
 ended_second x y j a old middle new (Refused Usage) h c g = g
 ended_second x y j a old middle new (Refused (NoDomain cause)) h c g = g
+ended_second x y j a old middle new (Refused (NoMember file cause)) h c g = g
+ended_second x y j a old middle new (Refused Crowd) h c g = g
+ended_second x y j a old middle new (Refused (Twice name)) h c g = g
 ended_second x y j a old middle new (Refused (TooLong file)) h c g = record { length = g.length; long = g.long; told = fail_second x y j a (too_long file.items g.length) h g.told }
 ended_second x y j a old middle new (Refused Lines) h c g = fail_second x y j a (too_many (most_lines + 1)) h g
 ended_second x y j a old middle new (Refused (Unread file)) h c g =
@@ -135,6 +141,9 @@ ended_second x y j a old middle new OutOfMemory h c g = tt
 failed-alike : (B D : Type 0) (why : Failure Fault) (m n : ℕ) → n ≡ failed_after {B = B} (Err why) m → n ≡ failed_after {B = D} (Err why) m
 failed-alike B D (Refused Usage) m n e = e
 failed-alike B D (Refused (NoDomain cause)) m n e = e
+failed-alike B D (Refused (NoMember file cause)) m n e = e
+failed-alike B D (Refused Crowd) m n e = e
+failed-alike B D (Refused (Twice name)) m n e = e
 failed-alike B D (Refused (TooLong file)) m n e = e
 failed-alike B D (Refused Lines) m n e = e
 failed-alike B D (Refused (Unread file)) m n e = e

@@ -8,10 +8,10 @@ use Rattle.ps_text.specs.Outside.{FilesView, after, next}
 use Rattle.ps_words.specs.Words.{Request, asked_of}
 use Rattle.ps_inputs.specs.Reading.{Reading, Texts, MayBe, MayFail, MayGive, MayReadNext, longest_file, most_lines, read_file}
 use Rattle.ps_inputs.specs.Reading.FileFault.{too_long, too_many}
-use Rattle.ps_inputs.specs.Input.{IsAsked, IsNoDomain, IsWork, cannot_read_line, domain_file_of, domain_line, domain_text_of, lines_line, reading_of, too_long_line, usage_line}
+use Rattle.ps_inputs.specs.Input.{HasBadMembers, IsAsked, IsNoDomain, IsWork, cannot_read_line, crowd_line, domain_file_of, domain_line, domain_text_of, lines_line, member_line, reading_of, texts_of, too_long_line, twice_line, usage_line}
 use Rattle.ps_inputs.specs.declared.works.Work.{Work}
 use Rattle.ps_inputs.specs.declared.faults.Fault.{Fault}
-use Rattle.ps_inputs.specs.declared.faults.Fault.TheVariants.{Usage, NoDomain, TooLong, Lines, Unread}
+use Rattle.ps_inputs.specs.declared.faults.Fault.TheVariants.{Usage, NoDomain, NoMember, Crowd, Twice, TooLong, Lines, Unread}
 
 -- the bytes of each word
 abbrev pub word_texts : List (String Global) → List (List ℕ)
@@ -21,6 +21,9 @@ word_texts ws = map string_bytes ws
 abbrev pub fault_status : Fault → ℕ
 fault_status Usage = 2
 fault_status (NoDomain cause) = 3
+fault_status (NoMember file cause) = 3
+fault_status Crowd = 3
+fault_status (Twice name) = 3
 fault_status (TooLong file) = 3
 fault_status Lines = 3
 fault_status (Unread file) = 4
@@ -29,6 +32,9 @@ fault_status (Unread file) = 4
 abbrev pub fault_line : Fault → List ℕ
 fault_line Usage = usage_line
 fault_line (NoDomain cause) = domain_line cause.items
+fault_line (NoMember file cause) = member_line file.items cause.items
+fault_line Crowd = crowd_line
+fault_line (Twice name) = twice_line name.items
 fault_line (TooLong file) = too_long_line file.items
 fault_line Lines = lines_line
 fault_line (Unread file) = cannot_read_line file.items
@@ -51,6 +57,9 @@ pub record IsTooLong {A : Type 0} (part : Reading A) (file : List ℕ) : Type 0 
 abbrev pub IsEnded : {A : Type 0} → Reading A → FilesView → FilesView → Failure Fault → Type 0
 IsEnded part old new (Refused Usage) = ⊥
 IsEnded part old new (Refused (NoDomain cause)) = ⊥
+IsEnded part old new (Refused (NoMember file cause)) = ⊥
+IsEnded part old new (Refused Crowd) = ⊥
+IsEnded part old new (Refused (Twice name)) = ⊥
 IsEnded part old new (Refused (TooLong file)) = IsTooLong part file.items
 IsEnded part old new (Refused Lines) = MayFail part (too_many (most_lines + 1))
 IsEnded part old new (Refused (Unread file)) = IsLastRead part old new file.items
@@ -77,10 +86,19 @@ pub record IsNoDomainIn (texts : Texts) (request : Request) (cause : List ℕ) :
   pub domain : MayGive (read_file texts (domain_file_of request)) (λ text. IsNoDomain text cause)
   pub all : MayGive (reading_of texts request) (λ m. IsNoDomain (domain_text_of m) cause)
 
--- The first fault, in the order of the work: the words, the files as they are read, the domain's text.
+-- No file is at fault, as far as they tell, but reading all of them gives texts of members that are.
+abbrev pub IsMembersDue : List (List ℕ) → FilesView → Fault → Type 0
+IsMembersDue ws old fault =
+    (r : Request) × (asked_of ws ≡ Some r) × MayGive (reading_of old.told r) (λ m. HasBadMembers (texts_of m) fault)
+
+-- The first fault, in the order of the work: the words, the files as they are read, the domain's text, the members' texts, their count,
+-- their names.
 abbrev pub IsDue : List (List ℕ) → FilesView → FilesView → Fault → Type 0
 IsDue ws old new Usage = asked_of ws ≡ None
 IsDue ws old new (NoDomain cause) = (r : Request) × (asked_of ws ≡ Some r) × IsNoDomainIn old.told r cause.items
+IsDue ws old new (NoMember file cause) = IsMembersDue ws old (NoMember file cause)
+IsDue ws old new Crowd = IsMembersDue ws old Crowd
+IsDue ws old new (Twice name) = IsMembersDue ws old (Twice name)
 IsDue ws old new fault = (r : Request) × (asked_of ws ≡ Some r) × IsEnded (reading_of old.told r) old new (Refused fault)
 
 -- why there is no work: a fault is due, or memory ran out

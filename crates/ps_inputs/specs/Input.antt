@@ -1,9 +1,10 @@
 -- The input of a call: what its words and the texts of its files say.
-use Rattle.std.specs.Prelude.{◌≡◌, ℕ, Bool, true, false, ◌||◌, Ok, Err, List, [], ◌∷◌, ◌++◌, codes, slice_index_or}
+use Rattle.std.specs.Prelude.{◌≡◌, ℕ, Bool, true, false, ◌||◌, None, Ok, Err, List, [], ◌∷◌, ◌++◌, codes, slice_index_or}
 use Rattle.ps_world.specs.Names.{Table}
 use Rattle.ps_world.specs.Lines.{same_text, line_end}
 use Rattle.ps_world.specs.declared.domains.Domain.{Domain}
 use Rattle.ps_machine.specs.declared.inputs.Input.{Input}
+use Rattle.ps_machine.specs.declared.inputs.Line.{Line}
 use Rattle.ps_words.specs.Words.{Request}
 use Rattle.ps_words.specs.Words.Request.{a_session, a_check, a_validation}
 use Rattle.ps_pddl.specs.Reading.{IsRead}
@@ -13,33 +14,56 @@ use Rattle.ps_inputs.specs.Reading.{Reading, Texts, and_then, read_file}
 use Rattle.ps_inputs.specs.Reading.Reading.{gives}
 use Rattle.ps_inputs.specs.Flats.{Flattened, script_in}
 use Rattle.ps_inputs.specs.Scripts.{IsScript}
+use Rattle.ps_inputs.specs.Members.{AreAtFault, AreMembers, NamedText, first_repeated, is_crowd}
+use Rattle.ps_inputs.specs.declared.faults.Fault.{Fault}
+use Rattle.ps_inputs.specs.declared.faults.Fault.TheVariants.{NoDomain}
 use Rattle.ps_inputs.specs.declared.works.Work.{Work}
 use Rattle.ps_inputs.specs.declared.works.Work.TheVariants.{Session, Check, Validation}
 
 -- ---- the texts
 
--- What the files of a request hold: for a session its budget, the text of the domain and the command lines of the script; for a check
--- the domain's text; for a plan to be validated that text and those lines, and the text of the plan.
-pub data Material : Type 0 where
-  for_session : ℕ → List ℕ → List Flattened → Material
-  for_check : List ℕ → Material
-  for_validation : List ℕ → List Flattened → List ℕ → Material
+-- The texts of an input: that of the domain, the command lines of the script, and those of the members.
+pub record InputTexts : Type 0 where
+  pub domain : List ℕ
+  pub script : List Flattened
+  pub members : List NamedText
 
--- Reading the files of a request: the domain's, the script's with the files that it names where they stand, then the plan's. A
--- session doesn't read the files of plans that its script names.
+-- What the files of a request hold: for a session its budget and its input's texts; for a check the domain's text; for a plan to be
+-- validated an input's texts and the text of the plan.
+pub data Material : Type 0 where
+  for_session : ℕ → InputTexts → Material
+  for_check : List ℕ → Material
+  for_validation : InputTexts → List ℕ → Material
+
+-- reading files, one after another
+abbrev pub named_texts : Texts → List (List ℕ) → Reading (List NamedText)
+named_texts texts [] = gives [] []
+named_texts texts (file ∷ files) =
+    and_then (read_file texts file) (λ t.
+    and_then (named_texts texts files) (λ more.
+    gives [] (record { file = file; text = t } ∷ more)))
+
+-- Reading the files of an input: the domain's, the script's with the files that it names where they stand, and with those of plans where
+-- these are read, then the members'.
+unfoldable pub texts_in : Bool → Texts → List ℕ → List ℕ → List (List ℕ) → Reading InputTexts
+texts_in plans texts domain_file script_file member_files =
+    and_then (read_file texts domain_file) (λ domain.
+    and_then (script_in plans texts script_file) (λ script.
+    and_then (named_texts texts member_files) (λ members.
+    gives [] (record { domain = domain; script = script.lines; members = members }))))
+
+-- Reading the files of a request: the input's, then the plan's. A session doesn't read the files of plans that its script names.
 unfoldable pub reading_of : Texts → Request → Reading Material
 reading_of texts (a_session s) =
-    and_then (read_file texts s.domain) (λ domain.
-    and_then (script_in false texts s.script) (λ script.
-    gives [] (for_session s.budget domain script.lines)))
+    and_then (texts_in false texts s.domain s.script s.members) (λ input.
+    gives [] (for_session s.budget input))
 reading_of texts (a_check file) =
     and_then (read_file texts file) (λ domain.
     gives [] (for_check domain))
 reading_of texts (a_validation domain_file script_file plan_file) =
-    and_then (read_file texts domain_file) (λ domain.
-    and_then (script_in true texts script_file) (λ script.
+    and_then (texts_in true texts domain_file script_file []) (λ input.
     and_then (read_file texts plan_file) (λ plan.
-    gives [] (for_validation domain script.lines plan))))
+    gives [] (for_validation input plan)))
 
 -- the file of the domain
 abbrev pub domain_file_of : Request → List ℕ
@@ -47,11 +71,15 @@ domain_file_of (a_session s) = s.domain
 domain_file_of (a_check file) = file
 domain_file_of (a_validation domain script plan) = domain
 
+-- the texts of the input; a check has that of the domain alone
+abbrev pub texts_of : Material → InputTexts
+texts_of (for_session budget input) = input
+texts_of (for_check domain) = record { domain = domain; script = []; members = [] }
+texts_of (for_validation input plan) = input
+
 -- the text of the domain
 abbrev pub domain_text_of : Material → List ℕ
-domain_text_of (for_session budget domain script) = domain
-domain_text_of (for_check domain) = domain
-domain_text_of (for_validation domain script plan) = domain
+domain_text_of m = (texts_of m).domain
 
 -- ---- what the texts are read as
 
@@ -63,22 +91,25 @@ first_names = codes "object" ∷ []
 abbrev pub IsDomain : List ℕ → Domain → Table → Type 0
 IsDomain text d after = IsRead first_names text (Ok d) after
 
--- The text of a domain and the command lines of a script are read as this input, with this table after them. Names are numbered in the
--- order in which the texts have them, the domain's first. A solver may look at as many states as the budget says. No members are read
--- yet, and nothing is planned anew.
-pub record IsInput (budget : ℕ) (domain : List ℕ) (script : List Flattened) (i : Input) (names : Table) : Type 0 where
+-- Texts are read as this input, with this table after them. Names are numbered in the order in which the texts have them, the domain's
+-- first, then the script's and the members'. There are at most 64 performers and 16 observers, and no name stands twice. A solver may look
+-- at as many states as the budget says, and nothing is planned anew.
+pub record IsInput (budget : ℕ) (texts : InputTexts) (i : Input) (names : Table) : Type 0 where
   pub between : Table
-  pub read : IsDomain domain i.domain between
-  pub lines : IsScript between script i.lines names
+  pub read : IsDomain texts.domain i.domain between
+  pub named : Table
+  pub lines : IsScript between texts.script i.lines named
+  pub members : AreMembers i.domain named texts.members i.members names
+  pub few : is_crowd i.members ≡ false
+  pub apart : first_repeated i.members ≡ None
   pub bounded : i.budget ≡ budget
-  pub alone : i.members ≡ []
   pub once : i.replans ≡ 0
 
 -- the texts are read as this work
 abbrev pub IsWork : Material → Work → Type 0
-IsWork (for_session budget domain script) (Session s) = IsInput budget domain script s.input s.names
+IsWork (for_session budget input) (Session s) = IsInput budget input s.input s.names
 IsWork (for_check domain) (Check names d) = IsDomain domain d names
-IsWork (for_validation domain script plan) (Validation v) = IsInput 0 domain script v.input v.names × (v.plan.items ≡ plan)
+IsWork (for_validation input plan) (Validation v) = IsInput 0 input v.input v.names × (v.plan.items ≡ plan)
 IsWork m w = ⊥
 
 -- the work is of the kind that is asked for
@@ -97,6 +128,18 @@ usage_line = codes "plansys: usage" ++ line_end
 -- the domain's text is no domain, for this cause
 abbrev pub domain_line : List ℕ → List ℕ
 domain_line cause = codes "plansys: domain: " ++ (cause ++ line_end)
+
+-- the text of a file is no member, for this cause
+abbrev pub member_line : List ℕ → List ℕ → List ℕ
+member_line file cause = codes "plansys: " ++ (file ++ (codes ": " ++ (cause ++ line_end)))
+
+-- there are too many members
+abbrev pub crowd_line : List ℕ
+crowd_line = codes "plansys: members: Limit" ++ line_end
+
+-- a member has the name of an earlier one
+abbrev pub twice_line : List ℕ → List ℕ
+twice_line name = codes "plansys: members: Twice " ++ (name ++ line_end)
 
 -- a file can't be read
 abbrev pub cannot_read_line : List ℕ → List ℕ
@@ -124,6 +167,24 @@ pub record IsNoDomain (text cause : List ℕ) : Type 0 where
   pub after : Table
   pub read : IsRead first_names text (Err refusal) after
   pub said : cause_text after refusal ≡ cause
+
+-- ---- what is at fault with the texts
+
+-- Texts are those of a domain and of a script's lines, with this table after them.
+pub record IsBegun (texts : InputTexts) (d : Domain) (names : Table) : Type 0 where
+  pub between : Table
+  pub read : IsDomain texts.domain d between
+  pub given : List Line
+  pub lines : IsScript between texts.script given names
+
+-- the texts of the members are at fault, where the domain's is good
+abbrev pub HasBadMembers : InputTexts → Fault → Type 0
+HasBadMembers texts fault = (d : Domain) × (names : Table) × IsBegun texts d names × AreAtFault d names texts.members fault
+
+-- what is at fault with the texts of an input: the domain's text is none, or else the members are at fault
+abbrev pub HasFault : InputTexts → Fault → Type 0
+HasFault texts (NoDomain cause) = IsNoDomain texts.domain cause.items
+HasFault texts fault = HasBadMembers texts fault
 
 -- ---- the mode
 

@@ -3,6 +3,7 @@ pub mod Faults
 pub mod Flats
 pub mod Input
 pub mod Laws
+pub mod Members
 pub mod Parts
 pub mod Propositions
 pub mod Reading

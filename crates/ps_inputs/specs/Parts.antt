@@ -1,25 +1,37 @@
 -- What reading each part of the input comes to.
-use Rattle.std.specs.Prelude.{◌≡◌, ℕ, ◌≤◌, ◌<◌, ◌⊎◌, Bool, false, Result, Ok, Err, None, Some, List, ◌++◌, length}
+use Rattle.std.specs.Prelude.{◌≡◌, ℕ, ◌≤◌, ◌<◌, ◌^◌, ◌⊎◌, Bool, true, false, Result, Ok, Err, None, Some, List, ◌++◌, All, length, map}
 use Rattle.std.specs.Global.{Vec}
-use Rattle.ps_world.specs.Names.{Table}
+use Rattle.ps_world.specs.Names.{Table, name_text}
 use Rattle.ps_world.specs.declared.failures.Failure.{Failure}
-use Rattle.ps_world.specs.declared.failures.Failure.TheVariants.{Refused}
+use Rattle.ps_world.specs.declared.failures.Failure.TheVariants.{Refused, OutOfMemory}
+use Rattle.ps_world.specs.declared.names.Name.{Name}
 use Rattle.ps_world.specs.declared.domains.Domain.{Domain}
+use Rattle.ps_machine.specs.Tables.{IsLineOf}
+use Rattle.ps_machine.specs.declared.inputs.Input.{Input}
 use Rattle.ps_machine.specs.declared.inputs.Line.{Line}
+use Rattle.ps_machine.specs.declared.members.Member.{Member}
+use Rattle.ps_print.specs.CanonicalWords.{IsParamOf}
+use Rattle.ps_members.specs.Members.{IsMember}
+use Rattle.ps_members.specs.declared.refusals.ScriptRefusal.{ScriptRefusal}
+use Rattle.ps_text.specs.Names.{Keeps}
 use Rattle.ps_text.specs.Outside.{FilesView}
 use Rattle.ps_text.specs.ScriptLines.{script_lines}
 use Rattle.ps_script.specs.Files.{after_run, file_in, is_source}
 use Rattle.ps_script.specs.Lines.{is_nothing}
 use Rattle.ps_words.specs.Words.{Request}
 use Rattle.ps_inputs.specs.Reading.{MayGive, Reading, Texts, most_lines, read_file}
+use Rattle.ps_inputs.specs.Members.{AreAtFault, AreMembers, IsNoMember, NamedText, first_repeated, is_crowd, member_cause}
 use Rattle.ps_inputs.specs.Flats.{Flat, on_source, one_line, plain_line, plan_line, script_in, step, walk}
 use Rattle.ps_inputs.specs.Flats.Flattened.{too_deep}
 use Rattle.ps_inputs.specs.Scripts.{IsScript}
-use Rattle.ps_inputs.specs.Input.{IsAsked, IsDomain, IsNoDomain, IsWork, Material, domain_file_of, domain_text_of, reading_of}
+use Rattle.ps_inputs.specs.Input.{HasBadMembers, InputTexts, IsAsked, IsDomain, IsInput, IsNoDomain, IsWork, Material, domain_file_of, domain_text_of, named_texts, reading_of, texts_in, texts_of}
 use Rattle.ps_inputs.specs.Faults.{ReadsPart}
 use Rattle.ps_inputs.specs.declared.faults.Fault.{Fault}
-use Rattle.ps_inputs.specs.declared.faults.Fault.TheVariants.{NoDomain, Lines}
+use Rattle.ps_inputs.specs.declared.faults.Fault.TheVariants.{NoDomain, NoMember, Crowd, Twice, Lines}
 use Rattle.ps_inputs.specs.declared.reading.domains.Judged.{Judged}
+use Rattle.ps_inputs.specs.declared.reading.members.MemberText.{MemberText}
+use Rattle.ps_inputs.specs.declared.reading.inputs.Unjudged.{Unjudged}
+use Rattle.ps_inputs.specs.declared.judging.Loaded.{Loaded}
 use Rattle.ps_inputs.specs.declared.reading.scripts.Script.{Script}
 use Rattle.ps_inputs.specs.declared.works.Work.{Work}
 
@@ -111,16 +123,105 @@ pub record IsScriptFrom (names : Table) (flat : Flat) (script : Script) : Type 0
 abbrev pub ReadsScript : Table → Bool → List ℕ → FilesView → FilesView → Result Script (Failure Fault) → Type 0
 ReadsScript names plans file old new r = ReadsPart (script_in plans old.told file) old new (IsScriptFrom names) r
 
+-- ---- members
+
+-- the text of a member
+abbrev pub named : MemberText → NamedText
+named m = record { file = m.file.items; text = m.text.items }
+
+-- reading the texts of members
+abbrev pub ReadsMembers : List (List ℕ) → FilesView → FilesView → Result (Vec MemberText) (Failure Fault) → Type 0
+ReadsMembers member_files old new r = ReadsPart (named_texts old.told member_files) old new (λ texts v. map named v.items ≡ texts) r
+
+-- reading the text of one member: it is one, or this is its fault
+abbrev pub ReadsMember : Domain → Table → NamedText → Table → Result Member (Failure Fault) → Type 0
+ReadsMember d table one after (Ok m) = IsMember d table one.text (Ok m) after
+ReadsMember d table one after (Err (Refused (NoMember file cause))) =
+    (refusal : ScriptRefusal) × IsMember d table one.text (Err refusal) after
+    × (file.items ≡ one.file) × (cause.items ≡ member_cause refusal)
+ReadsMember d table one after (Err (Refused fault)) = ⊥
+ReadsMember d table one after (Err OutOfMemory) = Unit {0}
+
+-- reading texts: they are these members, or the first that is none is at fault
+abbrev pub ReadsAll : Domain → Table → List NamedText → Table → Result (Vec Member) (Failure Fault) → Type 0
+ReadsAll d first texts after (Ok ms) = AreMembers d first texts ms.items after
+ReadsAll d first texts after (Err (Refused (NoMember file cause))) = IsNoMember d first texts file.items cause.items
+ReadsAll d first texts after (Err (Refused fault)) = ⊥
+ReadsAll d first texts after (Err OutOfMemory) = Unit {0}
+
+-- the members aren't too many, and no name stands twice, or one of these isn't so
+abbrev pub MayBeTogether : Table → List Member → Result (Unit {0}) (Failure Fault) → Type 0
+MayBeTogether names ms (Ok u) = (is_crowd ms ≡ false) × (first_repeated ms ≡ None)
+MayBeTogether names ms (Err (Refused Crowd)) = is_crowd ms ≡ true
+MayBeTogether names ms (Err (Refused (Twice name))) =
+    (is_crowd ms ≡ false) × (again : Name) × (first_repeated ms ≡ Some again) × (name.items ≡ name_text names again)
+MayBeTogether names ms (Err (Refused fault)) = ⊥
+MayBeTogether names ms (Err OutOfMemory) = Unit {0}
+
+-- judging the texts of members: they are these members, who may be together, or they are at fault
+abbrev pub JudgesMembers : Domain → Table → List NamedText → Table → Result (Vec Member) (Failure Fault) → Type 0
+JudgesMembers d first texts after (Ok ms) =
+    AreMembers d first texts ms.items after × (is_crowd ms.items ≡ false) × (first_repeated ms.items ≡ None)
+JudgesMembers d first texts after (Err (Refused fault)) = AreAtFault d first texts fault
+JudgesMembers d first texts after (Err OutOfMemory) = Unit {0}
+
+-- ---- the input
+
+-- What was read of the texts of an input, whose domain stands in this file: the domain is judged, and so is the text of its file, where
+-- that is told; the lines are those of the script, with the table after them; the members' texts are kept.
+pub record IsUnjudged (told : Texts) (domain_file : List ℕ) (texts : InputTexts) (u : Unjudged) : Type 0 where
+  pub between : Table
+  pub judged : IsJudgedAs texts.domain between u.domain
+  pub told_judged : MayGive (read_file told domain_file) (λ text. IsJudgedAs text between u.domain)
+  pub lines : IsScript between texts.script u.lines.items u.names
+  pub few : length u.lines.items ≤ most_lines
+  pub members : map named u.members.items ≡ texts.members
+
+-- reading the texts of an input
+abbrev pub ReadsInput : Bool → List ℕ → List ℕ → List (List ℕ) → FilesView → FilesView → Result Unjudged (Failure Fault) → Type 0
+ReadsInput plans domain_file script_file member_files old new r =
+    ReadsPart (texts_in plans old.told domain_file script_file member_files) old new (IsUnjudged old.told domain_file) r
+
+-- What an input's names are in: the table has all those of its lines, of which there are few, and of the domain's constants.
+pub record Fits (i : Input) (names : Table) : Type 0 where
+  pub few : length i.lines < 2 ^ 32
+  pub named : All (IsLineOf (length names)) i.lines
+  pub constants : All (IsParamOf (length names)) i.domain.constants
+
+-- judging members beside a domain and lines, with the table after these
+abbrev pub Joins : Table → Domain → List Line → List NamedText → ℕ → Result Loaded (Failure Fault) → Type 0
+Joins first d lines texts budget (Ok l) =
+    AreMembers d first texts l.input.members l.names
+    × (is_crowd l.input.members ≡ false) × (first_repeated l.input.members ≡ None) × Keeps first l.names
+    × (l.input.domain ≡ d) × (l.input.lines ≡ lines) × (l.input.budget ≡ budget) × (l.input.replans ≡ 0)
+Joins first d lines texts budget (Err (Refused fault)) = AreAtFault d first texts fault
+Joins first d lines texts budget (Err OutOfMemory) = Unit {0}
+
+-- texts are an input, or they have this fault; and where it is that of the domain, so has its file, where that is told
+abbrev pub IsJudgedInput : Texts → List ℕ → InputTexts → ℕ → Result Loaded (Failure Fault) → Type 0
+IsJudgedInput told domain_file texts budget (Ok l) = IsInput budget texts l.input l.names × Fits l.input l.names
+IsJudgedInput told domain_file texts budget (Err (Refused (NoDomain cause))) =
+    IsNoDomain texts.domain cause.items × MayGive (read_file told domain_file) (λ text. IsNoDomain text cause.items)
+IsJudgedInput told domain_file texts budget (Err (Refused fault)) = HasBadMembers texts fault
+IsJudgedInput told domain_file texts budget (Err OutOfMemory) = Unit {0}
+
+-- judging what was read of any texts
+abbrev pub Judges : Unjudged → ℕ → Result Loaded (Failure Fault) → Type 0
+Judges u budget r =
+    (told : Texts) (domain_file : List ℕ) (texts : InputTexts) → IsUnjudged told domain_file texts u
+    → IsJudgedInput told domain_file texts budget r
+
 -- ---- the work
 
--- what the files hold is the work that is asked for, or its domain's text is none, and so is that of the domain's file, where it is told
+-- what the files hold is the work that is asked for, or it has this fault; where its domain's text is none, so is that of the domain's
+-- file, where it is told
 abbrev pub IsAnswered : Texts → Request → Material → Result Work Fault → Type 0
 IsAnswered texts request m (Ok w) = IsAsked request w × IsWork m w
 IsAnswered texts request m (Err (NoDomain cause)) =
     IsNoDomain (domain_text_of m) cause.items
     × MayGive (read_file texts (domain_file_of request)) (λ text. IsNoDomain text cause.items)
-IsAnswered texts request m (Err fault) = ⊥
+IsAnswered texts request m (Err fault) = HasBadMembers (texts_of m) fault
 
--- reading all files of a request, and judging the domain's text
+-- reading all files of a request, and judging their texts
 abbrev pub LoadsRequest : Request → FilesView → FilesView → Result (Result Work Fault) (Failure Fault) → Type 0
 LoadsRequest request old new r = ReadsPart (reading_of old.told request) old new (IsAnswered old.told request) r

@@ -1,9 +1,13 @@
-//! Why a text is no domain, in words.
+//! Why a text is no domain or no member, in words.
 ghost use Rattle.std.specs.Prelude.{◌≡◌, ◌++◌, [], codes, IfOk};
 ghost use Rattle.ps_inputs.specs.DomainFaults.{at_place, at_place_with, cap_text, cause_text, form_text};
+ghost use Rattle.ps_inputs.specs.Members.{member_cause};
+ghost use Rattle.ps_members.specs.declared.refusals.ScriptRefusal.TheVariants.{Line};
 ghost use Rattle.ps_pddl.specs.declared.refusals.DomainRefusal.TheVariants.{Unsupported};
 
-use ps_journal::{name_text, push_number};
+use ps_journal::{name_text, push_after, push_number};
+use ps_machine::LineCause;
+use ps_members::ScriptRefusal;
 use ps_pddl::{Cap, DomainRefusal, Form};
 use ps_text::Names;
 use std::alloc::{AllocError, Global};
@@ -103,5 +107,36 @@ pub fn cause_text(
         DomainRefusal::Limit { at, which } => {
             at_place_with(alloc, b"Limit", at, cap_text(which))
         }
+    }
+}
+
+/// A bad line with its number.
+fn line_cause(
+    alloc: Global,
+    names: &Names,
+    n: usize,
+    cause: &LineCause,
+) -> Result<Vec<u8>, AllocError>
+    ensures { IfOk result (λ text. text.items ≡ member_cause (Line n cause.now)) }
+{
+    let mut text = at_place(alloc, b"Line", n)?;
+    push_after(b" ", cause, names, &mut text)?;
+    Ok(text)
+}
+
+/// Why a text is no member, with the line, counted from 1.
+pub fn member_cause(
+    alloc: Global,
+    names: &Names,
+    refusal: ScriptRefusal,
+) -> Result<Vec<u8>, AllocError>
+    ensures { IfOk result (λ text. text.items ≡ member_cause refusal) }
+{
+    match refusal {
+        ScriptRefusal::Line { n, cause } => line_cause(alloc, names, n, &cause),
+        ScriptRefusal::NoAction { n } => at_place(alloc, b"NoAction", n),
+        ScriptRefusal::Arity { n } => at_place(alloc, b"Arity", n),
+        ScriptRefusal::NoFinish { n } => at_place(alloc, b"NoFinish", n),
+        ScriptRefusal::Limit { n } => at_place(alloc, b"Limit", n),
     }
 }

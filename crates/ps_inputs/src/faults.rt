@@ -1,6 +1,6 @@
 //! What ends a call before its work.
 ghost use Rattle.std.specs.Prelude.{◌≡◌, IfOk};
-ghost use Rattle.ps_inputs.specs.Input.{cannot_read_line, domain_line, too_long_line};
+ghost use Rattle.ps_inputs.specs.Input.{cannot_read_line, domain_line, member_line, too_long_line, twice_line};
 ghost use Rattle.ps_inputs.specs.Faults.{fault_line, fault_status};
 
 use std::alloc::{AllocError, Global};
@@ -15,6 +15,15 @@ pub enum Fault {
     /// The domain's text is no domain, and these words say why.
     #[error("the text is no domain")]
     NoDomain(Vec<u8>),
+    /// The text of this file is no member, and these words say why.
+    #[error("a text is no member")]
+    NoMember(Vec<u8>, Vec<u8>),
+    /// There are more than 64 performers or 16 observers.
+    #[error("there are more than 64 performers or 16 observers")]
+    Crowd,
+    /// A member has this name, which an earlier one has.
+    #[error("two members have one name")]
+    Twice(Vec<u8>),
     /// A file is longer than 1,048,576 bytes.
     #[error("a file is longer than 1,048,576 bytes")]
     TooLong(Vec<u8>),
@@ -34,6 +43,9 @@ impl Fault {
         match self {
             Fault::Usage => 2,
             Fault::NoDomain(_) => 3,
+            Fault::NoMember(..) => 3,
+            Fault::Crowd => 3,
+            Fault::Twice(_) => 3,
             Fault::TooLong(_) => 3,
             Fault::Lines => 3,
             Fault::Unread(_) => 4,
@@ -52,6 +64,18 @@ pub fn fault_line(alloc: Global, fault: &Fault) -> Result<Vec<u8>, AllocError>
         }
         Fault::NoDomain(cause) => {
             let line = domain_line(alloc, cause.as_slice())?;
+            Ok(line)
+        }
+        Fault::NoMember(file, cause) => {
+            let line = member_line(alloc, file.as_slice(), cause.as_slice())?;
+            Ok(line)
+        }
+        Fault::Crowd => {
+            let line = Vec::from_slice(alloc, b"plansys: members: Limit\n")?;
+            Ok(line)
+        }
+        Fault::Twice(name) => {
+            let line = twice_line(alloc, name.as_slice())?;
             Ok(line)
         }
         Fault::TooLong(file) => {
@@ -74,6 +98,26 @@ fn domain_line(alloc: Global, cause: &[u8]) -> Result<Vec<u8>, AllocError>
 {
     let mut line = Vec::from_slice(alloc, b"plansys: domain: ")?;
     line.extend_from_slice(cause)?;
+    line.push(b'\n')?;
+    Ok(line)
+}
+
+fn member_line(alloc: Global, file: &[u8], cause: &[u8]) -> Result<Vec<u8>, AllocError>
+    ensures { IfOk result (λ line. line.items ≡ member_line file.now cause.now) }
+{
+    let mut line = Vec::from_slice(alloc, b"plansys: ")?;
+    line.extend_from_slice(file)?;
+    line.extend_from_slice(b": ")?;
+    line.extend_from_slice(cause)?;
+    line.push(b'\n')?;
+    Ok(line)
+}
+
+fn twice_line(alloc: Global, name: &[u8]) -> Result<Vec<u8>, AllocError>
+    ensures { IfOk result (λ line. line.items ≡ twice_line name.now) }
+{
+    let mut line = Vec::from_slice(alloc, b"plansys: members: Twice ")?;
+    line.extend_from_slice(name)?;
     line.push(b'\n')?;
     Ok(line)
 }

@@ -2,13 +2,15 @@
 #![tactic(auto)]
 
 mod causes;
+mod crowds;
 mod faults;
+mod judging;
 mod laws;
 mod loading;
 mod reading;
 mod works;
 
 pub use faults::{Fault, fault_line};
-pub use laws::scripts_are_read_as_one;
+pub use laws::{members_are_sound, scripts_are_read_as_one};
 pub use loading::load;
 pub use works::{Session, Validation, Work};

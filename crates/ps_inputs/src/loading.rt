@@ -6,40 +6,38 @@ ghost use Rattle.ps_inputs.specs.Faults.{Loads, word_texts};
 ghost use Rattle.ps_inputs.specs.Parts.{LoadsRequest};
 
 use crate::faults::Fault;
-use crate::reading::{Judged, Script, read_domain_file, read_script, read_text};
+use crate::judging::{Loaded, judge};
+use crate::reading::{Judged, read_domain_file, read_input, read_text};
 use crate::works::{Session, Validation, Work};
-use ps_machine::Input;
 use ps_text::Files;
 use ps_words::{Asked, Settings, read_words};
-use ps_world::{Failure, Seq};
+use ps_world::Failure;
 use std::alloc::Global;
 
-/// Reads the files of a session: the domain's, and the script's with the files that it names. A domain's text that is none is told after
-/// all files are read.
+/// Reads the files of a session: the domain's, the script's with the files that it names, and the members'. Texts that are at fault are
+/// told after all files are read.
 fn load_session<'a, F: Files>(
     alloc: Global,
-    settings: Settings<'a>,
+    settings: &Settings<'a>,
     files: &mut F,
 ) -> Result<Result<Work, Fault>, Failure<Fault>>
-    requires { 1 ≤ settings.budget }
-    ensures { LoadsRequest (a_session (settings_said settings.entry)) (F.shown files.old)
+    requires { 1 ≤ settings.now.budget }
+    ensures { LoadsRequest (a_session (settings_said settings.now)) (F.shown files.old)
         (F.shown files.new) result }
 {
-    let Judged { names, domain } = read_domain_file(alloc, settings.domain, files)?;
-    let Script { names, lines } = read_script(alloc, names, false, settings.script, files)?;
-    let budget = settings.budget;
-    match domain {
-        Ok(domain) => Ok(Ok(Work::Session(Session {
-            names,
-            input: Input {
-                domain,
-                members: Seq::new(alloc),
-                lines: Seq::of(lines),
-                budget,
-                replans: 0,
-            },
-        }))),
-        Err(fault) => Ok(Err(fault)),
+    let members = settings.members.as_slice();
+    let read = read_input(
+        alloc,
+        false,
+        settings.domain,
+        settings.script,
+        members,
+        files,
+    )?;
+    match judge(alloc, read, settings.budget) {
+        Ok(Loaded { names, input }) => Ok(Ok(Work::Session(Session { names, input }))),
+        Err(Failure::Refused(fault)) => Ok(Err(fault)),
+        Err(Failure::OutOfMemory) => Err(Failure::OutOfMemory),
     }
 }
 
@@ -70,22 +68,12 @@ fn load_validation<F: Files>(
     ensures { LoadsRequest (a_validation domain.now script.now plan.now) (F.shown files.old)
         (F.shown files.new) result }
 {
-    let Judged { names, domain } = read_domain_file(alloc, domain, files)?;
-    let Script { names, lines } = read_script(alloc, names, true, script, files)?;
+    let read = read_input(alloc, true, domain, script, &[], files)?;
     let plan = read_text(alloc, plan, files)?;
-    match domain {
-        Ok(domain) => Ok(Ok(Work::Validation(Validation {
-            names,
-            input: Input {
-                domain,
-                members: Seq::new(alloc),
-                lines: Seq::of(lines),
-                budget: 0,
-                replans: 0,
-            },
-            plan,
-        }))),
-        Err(fault) => Ok(Err(fault)),
+    match judge(alloc, read, 0) {
+        Ok(Loaded { names, input }) => Ok(Ok(Work::Validation(Validation { names, input, plan }))),
+        Err(Failure::Refused(fault)) => Ok(Err(fault)),
+        Err(Failure::OutOfMemory) => Err(Failure::OutOfMemory),
     }
 }
 
@@ -99,7 +87,7 @@ fn load_asked<'a, F: Files>(
     ensures { LoadsRequest (said asked.entry) (F.shown files.old) (F.shown files.new) result }
 {
     match asked {
-        Asked::Session(settings) => load_session(alloc, settings, files),
+        Asked::Session(settings) => load_session(alloc, &settings, files),
         Asked::Check { domain } => load_check(alloc, domain, files),
         Asked::Validate {
             domain,
@@ -112,7 +100,8 @@ fn load_asked<'a, F: Files>(
 /// Reads the words, all files that they name and all files that these name, and judges their texts.
 ///
 /// The first fault decides, in this order: `Usage`; then for each file as it is read, the domain's, the script's with the files that
-/// it names, the plan's, `Unread` or `TooLong`, and `Lines` at the line that is one too many; `NoDomain`.
+/// it names, the members' in the order of the words, the plan's, `Unread` or `TooLong`, and `Lines` at the line that is one too many;
+/// then `NoDomain`; `NoMember` of the first text that is none; `Crowd`; `Twice` of the first name that an earlier member has.
 pub fn load<F: Files>(
     alloc: Global,
     words: &[String],

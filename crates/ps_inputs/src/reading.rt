@@ -2,9 +2,11 @@
 mod domains;
 mod files;
 mod flatten;
+mod inputs;
+mod members;
 mod scripts;
 
 pub use domains::{Judged, read_domain_file};
 pub use files::read_text;
-pub use flatten::read_script;
-pub use scripts::Script;
+pub use inputs::{Unjudged, read_input};
+pub use members::MemberText;

@@ -1,0 +1,11 @@
+use Rattle.std.proofs.Common.{◌≡◌, Ok, List, map, subst}
+use Rattle.ps_inputs.specs.Parts.{Joins, named}
+use Rattle.ps_inputs.specs.declared.reading.members.MemberText.{MemberText}
+use Rattle.ps_inputs.proofs.Loaded.{judged_input}
+use Rattle.ps_inputs.proofs.judging.judge.Goals as goal
+
+pub returns-in-Ok : goal.returns-in-Ok
+returns-in-Ok c = λ told domain_file texts read.
+    let e : c.args.read.domain ≡ Ok c.in-Ok.domain = cc in
+    judged_input told domain_file texts c.args.read c.args.budget read c.in-Ok.domain e c.join.result
+    (subst (λ (ms : List MemberText). Joins c.args.read.names c.in-Ok.domain c.args.read.lines.items (map named ms) c.args.budget c.join.result) c.as_slice.ensures.value c.join.ensures)
