@@ -6,12 +6,12 @@ use Rattle.ps_validate.specs.declared.verdicts.Invalid.{Invalid}
 use Rattle.ps_words.specs.Words.{Request, SessionRequest, asked_of}
 use Rattle.ps_words.specs.Words.Request.{a_session, a_check, a_validation}
 use Rattle.ps_inputs.specs.Faults.{IsDue, IsLoaded, failed_after, fault_status}
-use Rattle.ps_inputs.specs.Input.{IsAsked, IsNoDomain, IsWork, Material, domain_text_of, is_quiet, reading_of}
+use Rattle.ps_inputs.specs.Input.{HasFault, IsAsked, IsWork, Material, is_quiet, reading_of, texts_of}
 use Rattle.ps_inputs.specs.Reading.{MayFail, MayGive, Reading}
 use Rattle.ps_inputs.specs.Reading.FileFault.{no_file, too_long, too_many}
 use Rattle.ps_inputs.specs.Reading.Reading.{gives, faulty, unknown}
 use Rattle.ps_inputs.specs.declared.faults.Fault.{Fault}
-use Rattle.ps_inputs.specs.declared.faults.Fault.TheVariants.{Usage, NoDomain, TooLong, Lines, Unread}
+use Rattle.ps_inputs.specs.declared.faults.Fault.TheVariants.{Usage, NoDomain, NoMember, Crowd, Twice, TooLong, Lines, Unread}
 use Rattle.ps_inputs.specs.declared.works.Work.{Work}
 use Rattle.ps_inputs.specs.declared.works.Work.TheVariants as work
 use Rattle.ps_calls.specs.Headline.{Reports, verdict_of}
@@ -28,6 +28,9 @@ use Rattle.ps_calls.proofs.Statuses.{no_fault-broken, no_work-broken, no_work-fa
 unread-changed : (f : Fault) (before now : ℕ) → now ≡ failed_after {B = Work} (Err (failure.Refused f)) before → now ≢ before → fault_status f ≡ 4
 unread-changed Usage before now e changed = absurd (changed e)
 unread-changed (NoDomain cause) before now e changed = absurd (changed e)
+unread-changed (NoMember file cause) before now e changed = absurd (changed e)
+unread-changed Crowd before now e changed = absurd (changed e)
+unread-changed (Twice name) before now e changed = absurd (changed e)
 unread-changed (TooLong file) before now e changed = absurd (changed e)
 unread-changed Lines before now e changed = absurd (changed e)
 unread-changed (Unread file) before now e changed = refl
@@ -94,6 +97,9 @@ faults_write_nothing c _ (starved_before l o s) h = absurd (no_fault-broken 6 h 
 unread-counted : (f : Fault) (before now : ℕ) → now ≡ failed_after {B = Work} (Err (failure.Refused f)) before → fault_status f ≡ 4 → now ≡ next before
 unread-counted Usage before now e h = absurd (omega arith)
 unread-counted (NoDomain cause) before now e h = absurd (omega arith)
+unread-counted (NoMember file cause) before now e h = absurd (omega arith)
+unread-counted Crowd before now e h = absurd (omega arith)
+unread-counted (Twice name) before now e h = absurd (omega arith)
 unread-counted (TooLong file) before now e h = absurd (omega arith)
 unread-counted Lines before now e h = absurd (omega arith)
 unread-counted (Unread file) before now e h = e
@@ -122,6 +128,9 @@ two-of_fault status h = (omega arith, omega arith)
 usage-unasked : (ws : List (List ℕ)) (old new : FilesView) (f : Fault) → IsDue ws old new f → fault_status f ≡ 2 → asked_of ws ≡ None
 usage-unasked ws old new Usage due h = due
 usage-unasked ws old new (NoDomain cause) due h = absurd (omega arith)
+usage-unasked ws old new (NoMember file cause) due h = absurd (omega arith)
+usage-unasked ws old new Crowd due h = absurd (omega arith)
+usage-unasked ws old new (Twice name) due h = absurd (omega arith)
 usage-unasked ws old new (TooLong file) due h = absurd (omega arith)
 usage-unasked ws old new Lines due h = absurd (omega arith)
 usage-unasked ws old new (Unread file) due h = absurd (omega arith)
@@ -133,6 +142,9 @@ asked-apart ws r none some = cc
 unasked-usage : (ws : List (List ℕ)) (old new : FilesView) (f : Fault) → IsDue ws old new f → asked_of ws ≡ None → fault_status f ≡ 2
 unasked-usage ws old new Usage due none = refl
 unasked-usage ws old new (NoDomain cause) due none = absurd (asked-apart ws due.0 none due.1)
+unasked-usage ws old new (NoMember file cause) due none = absurd (asked-apart ws due.0 none due.1)
+unasked-usage ws old new Crowd due none = absurd (asked-apart ws due.0 none due.1)
+unasked-usage ws old new (Twice name) due none = absurd (asked-apart ws due.0 none due.1)
 unasked-usage ws old new (TooLong file) due none = absurd (asked-apart ws due.0 none due.1)
 unasked-usage ws old new Lines due none = absurd (asked-apart ws due.0 none due.1)
 unasked-usage ws old new (Unread file) due none = absurd (asked-apart ws due.0 none due.1)
@@ -167,10 +179,10 @@ leads-work (gives files m) w status is h = inr (inl (w, is, h))
 leads-work (faulty files fault) w status is h = absurd is
 leads-work (unknown files) w status is h = tt
 
-leads-no_domain : (part : Reading Material) (cause : List ℕ) → MayGive part (λ m. IsNoDomain (domain_text_of m) cause) → LeadsTo part 3
-leads-no_domain (gives files m) cause is = inr (inr (cause, is, refl))
-leads-no_domain (faulty files fault) cause is = absurd is
-leads-no_domain (unknown files) cause is = tt
+leads-fault : (part : Reading Material) (fault : Fault) → MayGive part (λ m. HasFault (texts_of m) fault) → LeadsTo part 3
+leads-fault (gives files m) fault has = inr (inr (fault, has, refl))
+leads-fault (faulty files why) fault has = absurd has
+leads-fault (unknown files) fault has = tt
 
 leads-too_long : (part : Reading Material) (file : List ℕ) (n : ℕ) → MayFail part (too_long file n) → LeadsTo part 3
 leads-too_long (gives files m) file n is = absurd is
@@ -202,7 +214,10 @@ module _ (ws : List (List ℕ)) (old new : FilesView) (r : Request) (asked : ask
 
   leads-due : (f : Fault) → IsDue ws old new f → LeadsTo (reading_of old.told r) (fault_status f)
   leads-due Usage due = absurd (asked-apart ws r due asked)
-  leads-due (NoDomain cause) due = here due.0 due.1 (λ part. LeadsTo part 3) (leads-no_domain (reading_of old.told due.0) cause.items due.2.all)
+  leads-due (NoDomain cause) due = here due.0 due.1 (λ part. LeadsTo part 3) (leads-fault (reading_of old.told due.0) (NoDomain cause) due.2.all)
+  leads-due (NoMember file cause) due = here due.0 due.1 (λ part. LeadsTo part 3) (leads-fault (reading_of old.told due.0) (NoMember file cause) due.2)
+  leads-due Crowd due = here due.0 due.1 (λ part. LeadsTo part 3) (leads-fault (reading_of old.told due.0) Crowd due.2)
+  leads-due (Twice name) due = here due.0 due.1 (λ part. LeadsTo part 3) (leads-fault (reading_of old.told due.0) (Twice name) due.2)
   leads-due (TooLong file) due = here due.0 due.1 (λ part. LeadsTo part 3) (leads-too_long (reading_of old.told due.0) file.items due.2.length due.2.told)
   leads-due Lines due = here due.0 due.1 (λ part. LeadsTo part 3) (leads-too_many (reading_of old.told due.0) _ due.2)
   leads-due (Unread file) due = leads-unread (reading_of old.told r)

@@ -6,7 +6,7 @@ use Rattle.ps_text.specs.Outside.{SinkView}
 use Rattle.ps_validate.specs.declared.verdicts.Invalid.{Invalid}
 use Rattle.ps_inputs.specs.Faults.{fault_status}
 use Rattle.ps_inputs.specs.declared.faults.Fault.{Fault}
-use Rattle.ps_inputs.specs.declared.faults.Fault.TheVariants.{Usage, NoDomain, TooLong, Lines, Unread}
+use Rattle.ps_inputs.specs.declared.faults.Fault.TheVariants.{Usage, NoDomain, NoMember, Crowd, Twice, TooLong, Lines, Unread}
 use Rattle.ps_inputs.specs.declared.works.Work.{Work}
 use Rattle.ps_inputs.specs.declared.works.Work.TheVariants as work
 use Rattle.ps_calls.specs.Headline.{Performs, Reports, verdict_of}
@@ -43,6 +43,9 @@ status-reported f old new _ (wordless p) = inr (inr refl)
 pub status-of_fault : (f : Fault) → IsOfFault (fault_status f)
 status-of_fault Usage = (omega arith, omega arith)
 status-of_fault (NoDomain cause) = (omega arith, omega arith)
+status-of_fault (NoMember file cause) = (omega arith, omega arith)
+status-of_fault Crowd = (omega arith, omega arith)
+status-of_fault (Twice name) = (omega arith, omega arith)
 status-of_fault (TooLong file) = (omega arith, omega arith)
 status-of_fault Lines = (omega arith, omega arith)
 status-of_fault (Unread file) = (omega arith, omega arith)

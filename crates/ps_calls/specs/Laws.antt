@@ -6,7 +6,8 @@ use Rattle.ps_words.specs.Words.Request.{a_session, a_validation}
 use Rattle.ps_inputs.specs.Reading.{Reading}
 use Rattle.ps_inputs.specs.Reading.FileFault.{no_file, too_long, too_many}
 use Rattle.ps_inputs.specs.Reading.Reading.{gives, faulty, unknown}
-use Rattle.ps_inputs.specs.Input.{IsNoDomain, IsWork, Material, domain_text_of, is_quiet, reading_of}
+use Rattle.ps_inputs.specs.Input.{HasFault, IsWork, Material, is_quiet, reading_of, texts_of}
+use Rattle.ps_inputs.specs.declared.faults.Fault.{Fault}
 use Rattle.ps_inputs.specs.declared.works.Work.{Work}
 use Rattle.ps_inputs.specs.declared.works.Work.TheVariants as work
 use Rattle.ps_calls.specs.Headline.{Answers, Call, verdict_of}
@@ -72,11 +73,11 @@ IsStatusOf (work.Session s) status = status < 2
 IsStatusOf (work.Check names d) status = status ≡ 0
 IsStatusOf (work.Validation v) status = status ≡ verdict_status (verdict_of v).0
 
--- what texts come to: the status of the work that they are, or 3 where that of the domain is none
+-- what texts come to: the status of the work that they are, or 3 where they have a fault
 abbrev pub ComesTo : Material → ℕ → Type 0
 ComesTo m status =
     ((w : Work) × IsWork m w × IsStatusOf w status)
-    ⊎ ((cause : List ℕ) × IsNoDomain (domain_text_of m) cause × (status ≡ 3))
+    ⊎ ((fault : Fault) × HasFault (texts_of m) fault × (status ≡ 3))
 
 -- What reading the files comes to: what their texts come to, or 4 where a read fails; 4 where there is no such file; 3 where a file is
 -- too long or lines are too many, or 4 where a read before that fails.

@@ -50,7 +50,8 @@ pub enum Asked<'a> {
 
 /// The session of these members that is asked for, where each number has its form and its range.
 fn session_with<'a>(matches: &ArgMatches<'a>, members: Vec<&'a str>) -> Option<Asked<'a>>
-    requires { map (λ t. t.now) members.items ≡ words_in (codes "members") (rows_of (found_of matches.now)) }
+    requires { map (λ t. t.now) members.items
+        ≡ words_in (codes "members") (rows_of (found_of matches.now)) }
     ensures { option_map said result ≡ session_of (rows_of (found_of matches.now)) }
 {
     let workers = number_or(value_of(matches, "workers"), 2, 1, 16)?;
