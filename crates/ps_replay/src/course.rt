@@ -1,0 +1,197 @@
+//! The course of a journal: its entries, one after another.
+ghost use Rattle.std.specs.Prelude.{◌≡◌, ◌<◌, List, ◌++◌, [], ◌∷◌, ◌&&◌, ◌↔◌, ◌==◌, IfOk, IsTrue, length, slice_index_or};
+ghost use Rattle.ps_machine.specs.declared.inputs.Input.{Input as InputView};
+ghost use Rattle.ps_machine.specs.declared.journal.Entry.{Entry as EntryView};
+ghost use Rattle.ps_machine.specs.declared.journal.Event.TheVariants.{Cancel};
+ghost use Rattle.ps_rules.specs.History.{IsHistory, IsWhole};
+ghost use Rattle.ps_rules.specs.Legal.{has_hand, is_legal};
+ghost use Rattle.ps_rules.specs.Prefixes.{is_due, same_cancel, same_why};
+ghost use Rattle.ps_rules.specs.Sound.{IsSound};
+ghost use Rattle.ps_rows.specs.Present.{Says, Stands};
+ghost use Rattle.ps_replay.specs.Course.{cancelled_act, Comes, is_over, Reaches};
+
+use ps_machine::{CancelWhy, Entry, Event, Input};
+use ps_plan::Solver;
+use ps_rows::{Present, has_hand};
+use std::alloc::{AllocError, Global};
+
+/// What the entries so far have come to.
+#[derive(Drop)]
+pub struct Course {
+    pub present: Present,
+    /// The cancels that the last legal event forced.
+    pub forced: Vec<Entry>,
+    /// How many of them have come.
+    pub met: usize,
+}
+
+fn same_why(why: CancelWhy, other: CancelWhy) -> bool
+    ensures { result ≡ same_why why other }
+{
+    match (why, other) {
+        (CancelWhy::OverAll, CancelWhy::OverAll) => true,
+        (CancelWhy::Stop, CancelWhy::Stop) => true,
+        _ => false,
+    }
+}
+
+/// Whether an event is the cancel of this act for this reason.
+fn is_cancel_of(event: &Event, act: u32, why: CancelWhy) -> bool
+    ensures { result ≡ same_cancel (Cancel act why) event.now }
+{
+    match event {
+        Event::Cancel {
+            act: other,
+            why: reason,
+        } => {
+            let same = same_why(why, *reason);
+            act == *other && same
+        }
+        _ => false,
+    }
+}
+
+/// Whether an entry is this cancel.
+fn is_due(due: &Entry, entry: &Entry) -> bool
+    ensures { result ≡ is_due due.now entry.now }
+{
+    let same = match &due.what {
+        Event::Cancel { act, why } => is_cancel_of(&entry.what, *act, *why),
+        _ => false,
+    };
+    due.hand == entry.hand && same
+}
+
+/// The act that an event cancels; the first where it cancels none.
+fn cancelled_act(event: &Event) -> u32
+    ensures { result ≡ cancelled_act event.now }
+{
+    match event {
+        Event::Cancel { act, why: _ } => *act,
+        _ => 0,
+    }
+}
+
+/// Whether an entry may come next where no cancel is due. If so it is taken.
+fn judge<S: Solver>(
+    alloc: Global,
+    solver: &S,
+    input: &Input,
+    before: &[Entry],
+    entry: &Entry,
+    present: &mut Present,
+) -> Result<bool, AllocError>
+    requires sound { IsSound input.now }
+    requires few { length before.now < 18446744073709551615 }
+    requires history { IsHistory input.now before.now }
+    requires stands { Stands input.now before.now present.now }
+    ensures legal { IfOk result (λ b. b ≡ (is_legal input.now before.now entry.now.what
+        && has_hand entry.now.what entry.now.hand)) }
+    ensures stands { IfOk result (λ b. IsTrue b
+        → Stands input.now (before.now ++ entry.now ∷ []) present.new) }
+{
+    let fits = has_hand(&entry.what, entry.hand);
+    let legal = present.is_legal(alloc, solver, input, &entry.what)?;
+    if legal && fits {
+        present.make_room(&entry.what)?;
+        present.take(alloc, &entry.what)?;
+        Ok(true)
+    } else {
+        Ok(false)
+    }
+}
+
+/// The cancel that is due at this place.
+fn due_at(forced: &[Entry], met: usize) -> &Entry
+    requires { met < length forced.now }
+    ensures { result.now ≡ slice_index_or forced.now met result.now }
+{
+    &forced[met]
+}
+
+/// Whether every line that is due is answered, and no run is open.
+fn is_over(present: &Present) -> bool
+    ensures { Says present.now result is_over }
+{
+    let answered = present.ledger.lines.answered();
+    let running = present.ledger.run.is_running();
+    answered == present.due as u64 && !running
+}
+
+fn both(one: bool, other: bool) -> bool
+    ensures { result ≡ (one && other) }
+{
+    one && other
+}
+
+impl Course {
+    /// The course before the first entry.
+    pub fn new(alloc: Global, input: &Input) -> Result<Course, AllocError>
+        ensures { IfOk result (Reaches input.now []) }
+    {
+        Ok(Course {
+            present: Present::new(alloc, input)?,
+            forced: Vec::new(alloc),
+            met: 0,
+        })
+    }
+
+    /// Whether an entry is the cancel that is due. If so it is taken.
+    fn meet(&mut self, input: &Input, before: &[Entry], entry: &Entry) -> bool
+        requires due { self.now.met < length self.now.forced.items }
+        requires reaches { Reaches input.now before.now self.now }
+        ensures { Comes input.now before.now entry.now self.old result self.new }
+    {
+        let due = due_at(&self.forced, self.met);
+        if !is_due(due, entry) {
+            return false;
+        }
+        self.present.cancel(cancelled_act(&entry.what));
+        self.met += 1;
+        true
+    }
+
+    /// Whether an entry may come next. If so it is taken.
+    pub fn step<S: Solver>(
+        &mut self,
+        alloc: Global,
+        solver: &S,
+        input: &Input,
+        before: &[Entry],
+        entry: &Entry,
+    ) -> Result<bool, AllocError>
+        requires sound { IsSound input.now }
+        requires few { length before.now < 18446744073709551615 }
+        requires reaches { Reaches input.now before.now self.now }
+        ensures { IfOk result (λ b. Comes input.now before.now entry.now self.old b self.new) }
+    {
+        if self.met < self.forced.len() {
+            return Ok(self.meet(input, before, entry));
+        }
+        let legal = judge(alloc, solver, input, before, entry, &mut self.present)?;
+        if !legal {
+            return Ok(false);
+        }
+        let forced = self.present.forced(alloc, entry.hand, &entry.what)?;
+        self.forced = forced;
+        self.met = 0;
+        Ok(true)
+    }
+
+    /// Whether nothing is due.
+    fn is_met(&self) -> bool
+        ensures { result ≡ (self.now.met == length self.now.forced.items) }
+    {
+        self.met == self.forced.len()
+    }
+
+    /// Whether nothing is due, every line that is due is answered, and no run is open.
+    pub fn is_whole(&self) -> bool
+        ensures { (i : InputView) (es : List EntryView) → Reaches i es self.now
+            → IsTrue result ↔ IsHistory i es × IsWhole i es }
+    {
+        let met = self.is_met();
+        let over = is_over(&self.present);
+        both(met, over)
+    }
+}
