@@ -1,0 +1,34 @@
+-- What is printed of entries is read back.
+use Rattle.std.specs.Prelude.{ℕ, List, length, IsTrue}
+use Rattle.ps_world.specs.Names.{Table}
+use Rattle.ps_machine.specs.Texts.{entry_line}
+use Rattle.ps_machine.specs.declared.journal.Event.{Event}
+use Rattle.ps_machine.specs.declared.journal.Event.TheVariants as event
+use Rattle.ps_machine.specs.declared.journal.Entry.{Entry}
+use Rattle.ps_text.specs.Names.{AreNames, Keeps}
+use Rattle.ps_script_laws.specs.Sayable.{IsEditOf, IsQueryOf}
+use Rattle.ps_entries.specs.EntryLines.{IsEntryLine}
+use Rattle.ps_entries.specs.Forms.{is_entry}
+
+-- an edit or a query that stands in an event is one that a line of the terminal can say
+abbrev pub IsSayable : Table → Event → Type 0
+IsSayable names (event.Edit who change) = IsEditOf names change
+IsSayable names (event.Ask q) = IsQueryOf names q
+IsSayable names e = Unit {0}
+
+-- an entry in form, whose names stand in the table; what a line says in it a line can say
+pub record IsEntryOf (names : Table) (e : Entry) : Type 0 where
+  pub in_form : IsTrue (is_entry (length names) e)
+  pub sayable : IsSayable names e.what
+
+-- a line is this entry's, with a table before it, and the table after it keeps these names
+pub record IsReadAs (names table : Table) (line : List ℕ) (e : Entry) : Type 0 where
+  pub after : Table
+  pub read : IsEntryLine table line e after
+  pub are_names : AreNames after
+  pub keeps : Keeps names after
+
+-- What is printed of an entry is read as that entry's line, with a table that keeps the names it was printed with, and so does the table
+-- after it.
+abbrev pub PrintedEntriesAreRead : Type 0
+PrintedEntriesAreRead = (names table : Table) (e : Entry) → AreNames names → AreNames table → Keeps names table → IsEntryOf names e → IsReadAs names table (entry_line names e) e

@@ -1,0 +1,7 @@
+//! Laws of the definitions: each is the contract of a function that does nothing.
+ghost use Rattle.ps_entry_laws.specs.Laws.{PrintedEntriesAreRead};
+
+/// What is printed of an entry is read as that entry's line.
+pub fn printed_entries_are_read()
+    ensures { PrintedEntriesAreRead }
+{}

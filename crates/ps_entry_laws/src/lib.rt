@@ -1,0 +1,6 @@
+//! What the lines of a journal come to: laws that stand above the definitions of what an entry's line is and of how it is printed.
+#![tactic(auto)]
+
+mod laws;
+
+pub use laws::printed_entries_are_read;
