@@ -1,2 +1,3 @@
 pub mod KeptTexts
 pub mod ReadBack
+pub mod ReadJournals

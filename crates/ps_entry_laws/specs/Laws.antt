@@ -1,14 +1,19 @@
 -- What is printed of entries is read back.
-use Rattle.std.specs.Prelude.{ℕ, List, length, IsTrue}
+use Rattle.std.specs.Prelude.{◌≡◌, ℕ, List, length, map, IsTrue, All}
 use Rattle.ps_world.specs.Names.{Table}
 use Rattle.ps_machine.specs.Texts.{entry_line}
+use Rattle.ps_machine.specs.declared.inputs.Input.{Input}
 use Rattle.ps_machine.specs.declared.journal.Event.{Event}
 use Rattle.ps_machine.specs.declared.journal.Event.TheVariants as event
 use Rattle.ps_machine.specs.declared.journal.Entry.{Entry}
+use Rattle.ps_rules.specs.Journal.{journal_text}
+use Rattle.ps_rules.specs.Sound.{IsSound}
+use Rattle.ps_rules.specs.History.{IsHistory}
 use Rattle.ps_text.specs.Names.{AreNames, Keeps}
 use Rattle.ps_script_laws.specs.Sayable.{IsEditOf, IsQueryOf}
 use Rattle.ps_entries.specs.EntryLines.{IsEntryLine}
 use Rattle.ps_entries.specs.Forms.{is_entry}
+use Rattle.ps_entries.specs.Journals.{IsJournal}
 
 -- an edit or a query that stands in an event is one that a line of the terminal can say
 abbrev pub IsSayable : Table → Event → Type 0
@@ -32,3 +37,15 @@ pub record IsReadAs (names table : Table) (line : List ℕ) (e : Entry) : Type 0
 -- after it.
 abbrev pub PrintedEntriesAreRead : Type 0
 PrintedEntriesAreRead = (names table : Table) (e : Entry) → AreNames names → AreNames table → Keeps names table → IsEntryOf names e → IsReadAs names table (entry_line names e) e
+
+-- a text is a journal of these entries, each with its line, with a table before it
+pub record IsJournalOf (table : Table) (text : List ℕ) (es : List Entry) : Type 0 where
+  pub numbered : List (ℕ × Entry)
+  pub after : Table
+  pub read : IsJournal table text numbered after
+  pub same : map (λ x. x.1) numbered ≡ es
+
+-- The text of a history of a sound input is read as a journal of its entries, with a table that keeps the names it was printed with, where
+-- the entries are in form.
+abbrev pub PrintedJournalsAreRead : Type 0
+PrintedJournalsAreRead = (names table : Table) (i : Input) (es : List Entry) → AreNames names → AreNames table → Keeps names table → IsSound i → IsHistory i es → All (IsEntryOf names) es → IsJournalOf table (journal_text names i es) es

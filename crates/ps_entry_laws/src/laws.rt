@@ -1,7 +1,12 @@
 //! Laws of the definitions: each is the contract of a function that does nothing.
-ghost use Rattle.ps_entry_laws.specs.Laws.{PrintedEntriesAreRead};
+ghost use Rattle.ps_entry_laws.specs.Laws.{PrintedEntriesAreRead, PrintedJournalsAreRead};
 
 /// What is printed of an entry is read as that entry's line.
 pub fn printed_entries_are_read()
     ensures { PrintedEntriesAreRead }
+{}
+
+/// The text of a history is read as a journal of its entries.
+pub fn printed_journals_are_read()
+    ensures { PrintedJournalsAreRead }
 {}

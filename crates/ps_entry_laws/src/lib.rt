@@ -3,4 +3,4 @@
 
 mod laws;
 
-pub use laws::printed_entries_are_read;
+pub use laws::{printed_entries_are_read, printed_journals_are_read};
