@@ -1,3 +1,4 @@
 pub mod KeptTexts
+pub mod OneJournal
 pub mod ReadBack
 pub mod ReadJournals

@@ -1,5 +1,5 @@
 -- The texts of histories are read as journals.
-use Rattle.std.proofs.Common.{◌≡◌, ℕ, suc, Bool, true, false, not, nat_eq, List, [], ◌∷◌, map, filter, All, refl, sym, ap, ◌∙◌, subst, inl, inr}
+use Rattle.std.proofs.Common.{◌≡◌, ℕ, suc, true, false, not, nat_eq, List, [], ◌∷◌, map, filter, All, refl, sym, ap, subst, inl, inr}
 use Rattle.std.proofs.lemmas.Bool.{cases_Bool}
 use Rattle.std.proofs.lemmas.List.Elements.{All-head, All-tail}
 use Rattle.std.specs.List.{starts_with}
@@ -7,14 +7,14 @@ use Rattle.ps_world.specs.Lines.{lines_of}
 use Rattle.ps_world.specs.Names.{Table}
 use Rattle.ps_machine.specs.Texts.{entry_line}
 use Rattle.ps_machine.specs.declared.journal.Entry.{Entry}
-use Rattle.ps_rules.specs.Journal.{journal_text, reply_mark, text_after}
+use Rattle.ps_rules.specs.Journal.{reply_mark, text_after}
 use Rattle.ps_rules.proofs.Notes.{histories_are_read_back}
 use Rattle.ps_text.specs.Names.{AreNames, Keeps}
 use Rattle.ps_journal.proofs.NameLines.{AreLines-names}
 use Rattle.ps_entries.specs.EntryLines.{IsEntryLine}
 use Rattle.ps_entries.specs.Journals.{AreEntries, is_reply}
 use Rattle.ps_entries.specs.Journals.AreEntries.{none_left, reply, entry}
-use Rattle.ps_entry_laws.specs.Laws.{IsEntryOf, IsJournalOf, IsReadAs, PrintedJournalsAreRead}
+use Rattle.ps_entry_laws.specs.Laws.{IsEntryOf, PrintedJournalsAreRead}
 use Rattle.ps_entry_laws.proofs.ReadBack.{printed_entries_are_read}
 
 one_list : {A : Type 0} (x y : A) (xs ys : List A) → x ∷ xs ≡ y ∷ ys → (x ≡ y) × (xs ≡ ys)

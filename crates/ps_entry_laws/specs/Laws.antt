@@ -49,3 +49,11 @@ pub record IsJournalOf (table : Table) (text : List ℕ) (es : List Entry) : Typ
 -- the entries are in form.
 abbrev pub PrintedJournalsAreRead : Type 0
 PrintedJournalsAreRead = (names table : Table) (i : Input) (es : List Entry) → AreNames names → AreNames table → Keeps names table → IsSound i → IsHistory i es → All (IsEntryOf names) es → IsJournalOf table (journal_text names i es) es
+
+-- A text is a journal of one list of entries at most, each with its line, with one table after it.
+abbrev pub TextsAreOneJournal : Type 0
+TextsAreOneJournal = (table after other : Table) (text : List ℕ) (es fs : List (ℕ × Entry)) → AreNames table → IsJournal table text es after → IsJournal table text fs other → (es ≡ fs) × (after ≡ other)
+
+-- Two histories of sound inputs that are printed with the same text are the same, where their entries are in form.
+abbrev pub HistoriesArePrintedApart : Type 0
+HistoriesArePrintedApart = (names : Table) (i j : Input) (es fs : List Entry) → AreNames names → IsSound i → IsSound j → IsHistory i es → IsHistory j fs → All (IsEntryOf names) es → All (IsEntryOf names) fs → journal_text names i es ≡ journal_text names j fs → es ≡ fs

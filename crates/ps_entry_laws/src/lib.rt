@@ -3,4 +3,7 @@
 
 mod laws;
 
-pub use laws::{printed_entries_are_read, printed_journals_are_read};
+pub use laws::{
+    histories_are_printed_apart, printed_entries_are_read, printed_journals_are_read,
+    texts_are_one_journal,
+};

@@ -1,0 +1,64 @@
+-- A text is one journal at most.
+use Rattle.std.proofs.Common.{◌≡◌, ℕ, suc, true, false, List, ◌∷◌, map, refl, sym, ap, ◌∙◌, subst}
+use Rattle.ps_world.specs.Names.{Table}
+use Rattle.ps_world.specs.Texts.{edit_text}
+use Rattle.ps_machine.specs.Texts.{query_text}
+use Rattle.ps_machine.specs.declared.inputs.Command.TheVariants as command
+use Rattle.ps_machine.specs.declared.inputs.Line.TheVariants.{Good}
+use Rattle.ps_machine.specs.declared.journal.Event.{Event}
+use Rattle.ps_machine.specs.declared.journal.Event.TheVariants as event
+use Rattle.ps_machine.specs.declared.journal.Entry.{Entry}
+use Rattle.ps_rules.specs.Journal.{journal_text}
+use Rattle.ps_text.specs.Names.{AreNames}
+use Rattle.ps_text.specs.Words.{words}
+use Rattle.ps_script.specs.declared.reading.Read.TheVariants.{Line}
+use Rattle.ps_entries.specs.Words.{with_words}
+use Rattle.ps_entries.specs.EntryLines.{IsEntryLine, IsTold, head_text}
+use Rattle.ps_entries.specs.Journals.{AreEntries, IsJournal, is_reply, title}
+use Rattle.ps_entries.specs.Journals.AreEntries.{none_left, reply, entry}
+use Rattle.ps_entries.proofs.KnownNames.{names_words}
+use Rattle.ps_entries.proofs.OneEntry.{line-once}
+use Rattle.ps_entries.proofs.ReadTables.{Goes, goes_nowhere, goes_read}
+use Rattle.ps_entry_laws.specs.Laws.{HistoriesArePrintedApart, TextsAreOneJournal}
+use Rattle.ps_entry_laws.proofs.ReadJournals.{printed_journals_are_read}
+
+goes_told : (mid : Table) (e : Event) (after : Table) → IsTold mid e after → Goes mid after
+goes_told mid (event.Edit who change) after x = goes_read mid (edit_text after change) (Line (Good (command.Edit change))) after x
+goes_told mid (event.Ask q) after x = goes_read mid (query_text after q) (Line (Good (command.Ask q))) after x
+goes_told mid e after x = subst (Goes mid) (sym x) (goes_nowhere mid)
+
+-- the table after an entry's line is one of names
+names_line : (table : Table) (line : List ℕ) (e : Entry) (after : Table) → AreNames table → IsEntryLine table line e after → AreNames after
+names_line table line e after known x =
+    (goes_told (with_words table (words (head_text after e))) e.what after x.told).names (names_words table (words (head_text after e)) known)
+
+apart : (line : List ℕ) {A : Type 0} → is_reply line ≡ true → is_reply line ≡ false → A
+apart line r s = absurd (cc)
+
+entries_one : (n : ℕ) (table : Table) (lines : List (List ℕ)) (es fs : List (ℕ × Entry)) (after other : Table) → AreNames table → AreEntries n table lines es after → AreEntries n table lines fs other → (es ≡ fs) × (after ≡ other)
+entries_one _ _ _ _ _ _ _ known (none_left n table) (none_left _ _) = (refl, refl)
+entries_one _ _ _ _ _ _ _ known (reply n table after line lines es r x) (reply _ _ other _ _ fs s y) = entries_one (suc n) table lines es fs after other known x y
+entries_one _ _ _ _ _ _ _ known (reply n table after line lines es r x) (entry _ _ middle other _ _ f fs s z y) = apart line r s
+entries_one _ _ _ _ _ _ _ known (entry n table middle after line lines e es r z x) (reply _ _ other _ _ fs s y) = apart line s r
+entries_one _ _ _ _ _ _ _ known (entry n table middle after line lines e es r z x) (entry _ _ between other _ _ f fs s w y) =
+    let one = line-once table line known e f middle between z w in
+    let here : AreEntries (suc n) middle lines fs other = subst (λ (t : Table). AreEntries (suc n) t lines fs other) (sym one.1) y in
+    let rest = entries_one (suc n) middle lines es fs after other (names_line table line e middle known z) x here in
+    let first : (n, e) ∷ es ≡ (n, f) ∷ es = ap (λ (d : Entry). (n, d) ∷ es) one.0 in
+    (first ∙ ap (λ l. (n, f) ∷ l) rest.0, rest.1)
+
+same_rest : (xs ys : List (List ℕ)) → title ∷ xs ≡ title ∷ ys → xs ≡ ys
+same_rest xs ys e = cc
+
+pub texts_are_one_journal : TextsAreOneJournal
+texts_are_one_journal table after other text es fs known x y =
+    let lines : y.lines ≡ x.lines = same_rest y.lines x.lines (sym y.titled ∙ x.titled) in
+    entries_one 2 table x.lines es fs after other known x.entries (subst (λ (ls : List (List ℕ)). AreEntries 2 table ls fs other) lines y.entries)
+
+pub histories_are_printed_apart : HistoriesArePrintedApart
+histories_are_printed_apart names i j es fs named si sj hi hj ei ej same =
+    let x = printed_journals_are_read names names i es named named (λ n lt. refl) si hi ei in
+    let y = printed_journals_are_read names names j fs named named (λ n lt. refl) sj hj ej in
+    let read : IsJournal names (journal_text names i es) y.numbered y.after = subst (λ (text : List ℕ). IsJournal names text y.numbered y.after) (sym same) y.read in
+    let one = texts_are_one_journal names x.after y.after (journal_text names i es) x.numbered y.numbered named x.read read in
+    sym x.same ∙ ap (map (λ z. z.1)) one.0 ∙ y.same
