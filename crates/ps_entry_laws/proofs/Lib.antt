@@ -1,4 +1,5 @@
 pub mod KeptTexts
+pub mod OneFault
 pub mod OneJournal
 pub mod ReadBack
 pub mod ReadJournals

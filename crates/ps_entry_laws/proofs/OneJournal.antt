@@ -28,11 +28,11 @@ goes_told mid (event.Ask q) after x = goes_read mid (query_text after q) (Line (
 goes_told mid e after x = subst (Goes mid) (sym x) (goes_nowhere mid)
 
 -- the table after an entry's line is one of names
-names_line : (table : Table) (line : List ℕ) (e : Entry) (after : Table) → AreNames table → IsEntryLine table line e after → AreNames after
+pub names_line : (table : Table) (line : List ℕ) (e : Entry) (after : Table) → AreNames table → IsEntryLine table line e after → AreNames after
 names_line table line e after known x =
     (goes_told (with_words table (words (head_text after e))) e.what after x.told).names (names_words table (words (head_text after e)) known)
 
-apart : (line : List ℕ) {A : Type 0} → is_reply line ≡ true → is_reply line ≡ false → A
+pub apart : (line : List ℕ) {A : Type 0} → is_reply line ≡ true → is_reply line ≡ false → A
 apart line r s = absurd (cc)
 
 entries_one : (n : ℕ) (table : Table) (lines : List (List ℕ)) (es fs : List (ℕ × Entry)) (after other : Table) → AreNames table → AreEntries n table lines es after → AreEntries n table lines fs other → (es ≡ fs) × (after ≡ other)
@@ -47,7 +47,7 @@ entries_one _ _ _ _ _ _ _ known (entry n table middle after line lines e es r z 
     let first : (n, e) ∷ es ≡ (n, f) ∷ es = ap (λ (d : Entry). (n, d) ∷ es) one.0 in
     (first ∙ ap (λ l. (n, f) ∷ l) rest.0, rest.1)
 
-same_rest : (xs ys : List (List ℕ)) → title ∷ xs ≡ title ∷ ys → xs ≡ ys
+pub same_rest : (xs ys : List (List ℕ)) → title ∷ xs ≡ title ∷ ys → xs ≡ ys
 same_rest xs ys e = cc
 
 pub texts_are_one_journal : TextsAreOneJournal

@@ -13,7 +13,8 @@ use Rattle.ps_text.specs.Names.{AreNames, Keeps}
 use Rattle.ps_script_laws.specs.Sayable.{IsEditOf, IsQueryOf}
 use Rattle.ps_entries.specs.EntryLines.{IsEntryLine}
 use Rattle.ps_entries.specs.Forms.{is_entry}
-use Rattle.ps_entries.specs.Journals.{IsJournal}
+use Rattle.ps_entries.specs.Journals.{IsFault, IsJournal}
+use Rattle.ps_entries.specs.declared.journals.JournalRefusal.{JournalRefusal}
 
 -- an edit or a query that stands in an event is one that a line of the terminal can say
 abbrev pub IsSayable : Table → Event → Type 0
@@ -57,3 +58,11 @@ TextsAreOneJournal = (table after other : Table) (text : List ℕ) (es fs : List
 -- Two histories of sound inputs that are printed with the same text are the same, where their entries are in form.
 abbrev pub HistoriesArePrintedApart : Type 0
 HistoriesArePrintedApart = (names : Table) (i j : Input) (es fs : List Entry) → AreNames names → IsSound i → IsSound j → IsHistory i es → IsHistory j fs → All (IsEntryOf names) es → All (IsEntryOf names) fs → journal_text names i es ≡ journal_text names j fs → es ≡ fs
+
+-- A text that is a journal has no fault.
+abbrev pub JournalsHaveNoFault : Type 0
+JournalsHaveNoFault = (table after : Table) (text : List ℕ) (es : List (ℕ × Entry)) (r : JournalRefusal) → AreNames table → IsJournal table text es after → ¬ (IsFault table text r)
+
+-- A text has one fault at most.
+abbrev pub FaultsAreOne : Type 0
+FaultsAreOne = (table : Table) (text : List ℕ) (r s : JournalRefusal) → AreNames table → IsFault table text r → IsFault table text s → r ≡ s

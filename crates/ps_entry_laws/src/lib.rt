@@ -4,6 +4,6 @@
 mod laws;
 
 pub use laws::{
-    histories_are_printed_apart, printed_entries_are_read, printed_journals_are_read,
-    texts_are_one_journal,
+    faults_are_one, histories_are_printed_apart, journals_have_no_fault, printed_entries_are_read,
+    printed_journals_are_read, texts_are_one_journal,
 };
