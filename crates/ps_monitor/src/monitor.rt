@@ -79,7 +79,8 @@ impl Monitor {
     /// look only at those that read what changed. It takes no memory.
     pub fn broken(&self, problem: &Problem, expert: &Expert, changed: &[Touched]) -> Acts
         ensures list { (n : ℕ) → n ≤ 256 → marked result n ≡ broken expert.now problem.now self.now n }
-        ensures each { (act : ℕ) → act < 256 → slice_index_or result.marks act false ≡ is_false expert.now problem.now (watched self.now act) }
+        ensures each { (act : ℕ) → act < 256 → slice_index_or result.marks act false
+            ≡ is_false expert.now problem.now (watched self.now act) }
     {
         let mut all = Acts::none();
         for act in 0..256 {

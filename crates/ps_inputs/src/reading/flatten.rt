@@ -14,7 +14,7 @@ use std::alloc::Global;
 /// How many levels of files may be opened: the script's own, and four from there.
 const LEVELS: u8 = 5;
 
-/// ReadsFileLine the lines of a file, where as many levels of files may be opened; where none may, one line stands too deep. Answers whether the
+/// Reads the lines of a file, where as many levels of files may be opened; where none may, one line stands too deep. Answers whether the
 /// script ends with it.
 #[cycle(flatten)]
 fn open<F: Files>(
@@ -36,7 +36,7 @@ fn open<F: Files>(
     walk(alloc, files, plans, levels - 1, text.as_slice(), script)
 }
 
-/// ReadsFileLine one line of a file, with all lines of the file that it may name. Answers whether the script ends with it.
+/// Reads one line of a file, with all lines of the file that it may name. Answers whether the script ends with it.
 #[cycle(flatten)]
 fn take<F: Files>(
     alloc: Global,
@@ -59,7 +59,7 @@ fn take<F: Files>(
     }
 }
 
-/// ReadsFileLine the lines of a text, up to the one that ends the script. Answers whether one does.
+/// Reads the lines of a text, up to the one that ends the script. Answers whether one does.
 #[cycle(flatten)]
 fn walk<F: Files>(
     alloc: Global,
