@@ -8,6 +8,7 @@ use Rattle.ps_world.specs.Names.{Table, name_text}
 use Rattle.ps_world.specs.Texts.{edit_text}
 use Rattle.ps_world.specs.declared.names.Name.{Name}
 use Rattle.ps_world.specs.declared.edits.Edit.{Edit as Change}
+use Rattle.ps_machine.specs.Tables.{is_note}
 use Rattle.ps_machine.specs.Texts.{acts_text, by_text, entry_line, event_text, query_text}
 use Rattle.ps_machine.specs.declared.inputs.Command.TheVariants as command
 use Rattle.ps_machine.specs.declared.inputs.Line.TheVariants.{Good}
@@ -22,7 +23,7 @@ use Rattle.ps_text.proofs.Tables.{same_text-refl, same_text-same}
 use Rattle.ps_script.specs.Lines.{IsRead}
 use Rattle.ps_script.specs.declared.reading.Read.TheVariants as read
 use Rattle.ps_entries.specs.Words.{after_by, after_two, after_word, head_of, name_of, names_of, reads, tail_after, tail_of, up_to, whole_number, with_words}
-use Rattle.ps_entries.specs.Forms.{is_by, is_byte, is_entry, is_event, is_on_request, is_trimmed_note}
+use Rattle.ps_entries.specs.Forms.{is_by, is_byte, is_entry, is_event, is_on_request}
 use Rattle.ps_entries.specs.Events.{feedback_of}
 use Rattle.ps_entries.specs.Says.{FindsEntry, Says, SaysEntry}
 use Rattle.ps_entries.specs.Says.Says.{edit, ask, told, plain}
@@ -92,9 +93,9 @@ module _ (t : Table) (names : AreNames t) where
 
   tail-note : (r : ℕ) (p : Name) (percent : ℕ) (note : List ℕ) → is_event (length t) (event.Feedback r p percent note) ≡ true → tail_after (event_text t (event.Feedback r p percent note)) ≡ note
   tail-note r p percent note h =
-      let parts = and_parts (is_on_request (length t) r p) (nat_le percent 100 && is_trimmed_note note) h in
+      let parts = and_parts (is_on_request (length t) r p) (nat_le percent 100 && is_note note) h in
       let c = called t names [] r p parts.0 in
-      let small : percent < 2 ^ 64 = percent-small percent (and_parts (nat_le percent 100) (is_trimmed_note note) parts.1).0 in
+      let small : percent < 2 ^ 64 = percent-small percent (and_parts (nat_le percent 100) (is_note note) parts.1).0 in
       ap (λ x. after_two (after_word x)) (after_word-then (codes "feedback") ((decimal r ++ 32 ∷ name_text t p) ++ 32 ∷ (decimal percent ++ 32 ∷ note)) refl)
       ∙ ap (λ x. after_two (after_word x)) (append_assoc (decimal r) (32 ∷ name_text t p) (32 ∷ (decimal percent ++ 32 ∷ note)))
       ∙ ap after_two (after_word-then (decimal r) (name_text t p ++ 32 ∷ (decimal percent ++ 32 ∷ note)) c.run)
@@ -230,9 +231,9 @@ module _ (t : Table) (names : AreNames t) where
   says-note : (hand : List ℕ) (r : ℕ) (p : Name) (percent : ℕ) (note : List ℕ) → is_event (length t) (event.Feedback r p percent note) ≡ true
       → SaysAll t (ws hand (event_head t (event.Feedback r p percent note))) note (event.Feedback r p percent note)
   says-note hand r p percent note h =
-      let parts = and_parts (is_on_request (length t) r p) (nat_le percent 100 && is_trimmed_note note) h in
+      let parts = and_parts (is_on_request (length t) r p) (nat_le percent 100 && is_note note) h in
       let c = called t names hand r p parts.0 in
-      let few = (and_parts (nat_le percent 100) (is_trimmed_note note) parts.1).0 in
+      let few = (and_parts (nat_le percent 100) (is_note note) parts.1).0 in
       let small = percent-small percent few in
       let here : ws hand (event_head t (event.Feedback r p percent note)) ≡ hand ∷ codes "feedback" ∷ decimal r ∷ name_text t p ∷ decimal percent ∷ [] =
       ap (λ more. hand ∷ codes "feedback" ∷ more) (words-two (decimal r) (name_text t p) (decimal percent ++ 32 ∷ []) c.run c.inked ∙ ap (λ more. decimal r ∷ name_text t p ∷ more) (words-then (decimal percent) [] (is_run-decimal percent small))) in

@@ -1,6 +1,6 @@
 -- What stands in an entry that has a line: numbers that their types hold, names of a table with so many names, and texts in form.
-use Rattle.std.specs.Prelude.{ℕ, ◌^◌, Bool, true, false, not, ◌&&◌, nat_eq, nat_le, nat_lt, List, codes, length}
-use Rattle.std.specs.List.{ends_with, list_all, starts_with}
+use Rattle.std.specs.Prelude.{ℕ, ◌^◌, Bool, true, false, ◌&&◌, nat_le, nat_lt, List, length}
+use Rattle.std.specs.List.{list_all}
 use Rattle.ps_world.specs.declared.names.Name.{Name}
 use Rattle.ps_world.specs.declared.edits.EditRefusal.{EditRefusal}
 use Rattle.ps_world.specs.declared.edits.EditRefusal.TheVariants as edit
@@ -114,10 +114,6 @@ abbrev pub is_outcome : Outcome → Bool
 is_outcome (outcome.Spent depth) = is_short depth
 is_outcome how = true
 
--- a note of 1 to 64 printable bytes without blanks at its ends
-abbrev pub is_trimmed_note : List ℕ → Bool
-is_trimmed_note note = is_note note && (not (starts_with nat_eq note (codes " ")) && not (ends_with nat_eq note (codes " ")))
-
 -- a request and a performer
 abbrev pub is_on_request : ℕ → ℕ → Name → Bool
 is_on_request count r p = is_long r && is_known count p
@@ -137,7 +133,7 @@ is_event count (event.Confirm r p) = is_on_request count r p
 is_event count (event.Reject r p) = is_on_request count r p
 is_event count (event.Begin r p) = is_on_request count r p
 is_event count (event.UnitWork r p) = is_on_request count r p
-is_event count (event.Feedback r p percent text) = is_on_request count r p && (nat_le percent 100 && is_trimmed_note text)
+is_event count (event.Feedback r p percent text) = is_on_request count r p && (nat_le percent 100 && is_note text)
 is_event count (event.Finish r p ok) = is_on_request count r p
 is_event count (event.Unserved r) = is_long r
 is_event count (event.End act) = is_short act

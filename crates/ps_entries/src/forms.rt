@@ -2,7 +2,7 @@
 ghost use Rattle.std.specs.Prelude.{◌≡◌};
 ghost use Rattle.std.specs.List.{list_all};
 ghost use Rattle.ps_machine.specs.Tables.{is_note, is_printable};
-ghost use Rattle.ps_entries.specs.Forms.{is_act, is_by, is_byte, is_cause, is_edit_cause, is_effect_cause, is_entry, is_event, is_ground_cause, is_known, is_line_cause, is_long, is_no_action, is_on_request, is_outcome, is_plan_cause, is_short, is_text_cause, is_trimmed_note};
+ghost use Rattle.ps_entries.specs.Forms.{is_act, is_by, is_byte, is_cause, is_edit_cause, is_effect_cause, is_entry, is_event, is_ground_cause, is_known, is_line_cause, is_long, is_no_action, is_on_request, is_outcome, is_plan_cause, is_short, is_text_cause};
 
 use ps_action::{Act, EffectRefusal, GroundRefusal, PlanRefusal, PlanTextRefusal};
 use ps_machine::{By, Entry, Event, LineCause, Outcome, Refusal};
@@ -191,17 +191,15 @@ fn are_printable(text: &[u8]) -> bool
     text.iter().all(|b| is_printable(*b))
 }
 
+/// Whether a text is 1 to 64 printable bytes without blanks at its ends.
 fn is_note(text: &[u8]) -> bool
     ensures { result ≡ is_note text.now }
 {
-    !text.is_empty() && text.len() <= LONGEST_NOTE && are_printable(text)
-}
-
-/// Whether a text is 1 to 64 printable bytes without blanks at its ends.
-fn is_trimmed_note(text: &[u8]) -> bool
-    ensures { result ≡ is_trimmed_note text.now }
-{
-    is_note(text) && !text.starts_with(b" ") && !text.ends_with(b" ")
+    !text.is_empty()
+        && text.len() <= LONGEST_NOTE
+        && are_printable(text)
+        && !text.starts_with(b" ")
+        && !text.ends_with(b" ")
 }
 
 fn is_on_request(count: usize, r: u64, by: Name) -> bool
@@ -234,7 +232,7 @@ fn is_event(count: usize, event: &Event) -> bool
             percent,
             text,
         } => {
-            is_on_request(count, *r, *by) && (*percent <= 100 && is_trimmed_note(text.as_slice()))
+            is_on_request(count, *r, *by) && (*percent <= 100 && is_note(text.as_slice()))
         }
         Event::Finish { r, by, ok: _ } => is_on_request(count, *r, *by),
         Event::Unserved(r) => is_long(*r),

@@ -26,6 +26,7 @@ use Rattle.ps_action.specs.declared.refusals.GroundRefusal.{GroundRefusal}
 use Rattle.ps_action.specs.declared.refusals.GroundRefusal.TheVariants as ground
 use Rattle.ps_action.specs.declared.refusals.PlanRefusal.{PlanRefusal}
 use Rattle.ps_action.specs.declared.refusals.PlanRefusal.TheVariants as plan
+use Rattle.ps_machine.specs.Tables.{is_note}
 use Rattle.ps_machine.specs.Texts.{act_text, acts_text, by_text, entry_line, event_text, finish_text, ground_text, kind_text, on_request, pass_text, plan_cause_text, query_text, refusal_text}
 use Rattle.ps_machine.specs.declared.inputs.Query.{Query}
 use Rattle.ps_machine.specs.declared.inputs.Query.TheVariants as query
@@ -39,7 +40,7 @@ use Rattle.ps_machine.specs.declared.journal.Refusal.TheVariants as refusal
 use Rattle.ps_text.specs.Names.{Keeps}
 use Rattle.ps_print.specs.CanonicalWords.{AreCondsOf, IsCondOf, IsExprOf, IsLiftedOf, IsNameOf, IsTermOf}
 use Rattle.ps_script_laws.specs.Sayable.{IsEditOf, IsFactOf, IsQueryOf}
-use Rattle.ps_entries.specs.Forms.{is_act, is_by, is_byte, is_cause, is_edit_cause, is_entry, is_event, is_ground_cause, is_known, is_long, is_on_request, is_plan_cause, is_short, is_trimmed_note}
+use Rattle.ps_entries.specs.Forms.{is_act, is_by, is_byte, is_cause, is_edit_cause, is_entry, is_event, is_ground_cause, is_known, is_long, is_on_request, is_plan_cause, is_short}
 use Rattle.ps_entries.proofs.PrintedCauses.{known-of}
 use Rattle.ps_entry_laws.specs.Laws.{IsSayable}
 
@@ -260,7 +261,7 @@ module _ (t u : Table) (keeps : Keeps t u) where
   event-kept (event.Begin r p) h s = call-kept (codes "begin ") r p h
   event-kept (event.UnitWork r p) h s = call-kept (codes "unitwork ") r p h
   event-kept (event.Feedback r p percent note) h s =
-      ap (λ x. x ++ (codes " " ++ (decimal percent ++ (codes " " ++ note)))) (call-kept (codes "feedback ") r p (and_parts (is_on_request (length t) r p) (nat_le percent 100 && is_trimmed_note note) h).0)
+      ap (λ x. x ++ (codes " " ++ (decimal percent ++ (codes " " ++ note)))) (call-kept (codes "feedback ") r p (and_parts (is_on_request (length t) r p) (nat_le percent 100 && is_note note) h).0)
   event-kept (event.Finish r p ok) h s = ap (λ x. x ++ finish_text ok) (call-kept (codes "finish ") r p h)
   event-kept (event.Stopped r p) h s = call-kept (codes "stopped ") r p h
   event-kept (event.Replan acts) h s = ap (λ x. codes "replan" ++ x) (acts-kept acts h)
@@ -279,8 +280,8 @@ module _ (t u : Table) (keeps : Keeps t u) where
   event-in (event.Begin r p) h = call-in r p h
   event-in (event.UnitWork r p) h = call-in r p h
   event-in (event.Feedback r p percent note) h =
-      let parts = and_parts (is_on_request (length t) r p) (nat_le percent 100 && is_trimmed_note note) h in
-      and_from (is_on_request (length u) r p) (nat_le percent 100 && is_trimmed_note note) (call-in r p parts.0) parts.1
+      let parts = and_parts (is_on_request (length t) r p) (nat_le percent 100 && is_note note) h in
+      and_from (is_on_request (length u) r p) (nat_le percent 100 && is_note note) (call-in r p parts.0) parts.1
   event-in (event.Finish r p ok) h = call-in r p h
   event-in (event.Stopped r p) h = call-in r p h
   event-in (event.Replan acts) h = acts-in acts h

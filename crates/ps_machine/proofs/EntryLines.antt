@@ -1,7 +1,8 @@
 -- Each entry's text is one line, where the names are and where what performers tell is.
-use Rattle.std.proofs.Common.{◌≡◌, ℕ, ◌==◌, ◌&&◌, nat_le, not, Bool, true, false, IsTrue, List, [], ◌∷◌, ◌++◌, codes, refl, arith}
+use Rattle.std.proofs.Common.{◌≡◌, ℕ, ◌==◌, ◌&&◌, nat_eq, nat_le, not, Bool, true, false, IsTrue, List, [], ◌∷◌, ◌++◌, codes, length, refl, arith}
 use Rattle.std.specs.Fmt.{decimal}
-use Rattle.std.specs.List.{list_all, flat_map}
+use Rattle.std.specs.List.{ends_with, list_all, flat_map, starts_with}
+use Rattle.std.proofs.lemmas.Bool.{and_parts}
 use Rattle.std.proofs.lemmas.Bool.Decides.{nat_tests}
 use Rattle.ps_world.specs.Names.{Table, name_text}
 use Rattle.ps_world.specs.Lines.{AreLines, is_line}
@@ -174,7 +175,11 @@ is_line-printable [] h = refl
 is_line-printable (b ∷ bs) h = grind (arith, nat_tests, is_line-printable bs)
 
 is_line-note : (text : List ℕ) → IsTrue (is_note text) → is_line text ≡ true
-is_line-note text h = is_line-printable text (grind (arith, nat_tests))
+is_line-note text h =
+    let few = nat_le 1 (length text) && nat_le (length text) 64 in
+    let trimmed = not (starts_with nat_eq text (codes " ")) && not (ends_with nat_eq text (codes " ")) in
+    let printed = (and_parts (few && list_all is_printable text) trimmed h).0 in
+    is_line-printable text (and_parts few (list_all is_printable text) printed).1
 
 -- ---- events
 

@@ -1,6 +1,6 @@
 -- What can be printed with a table of so many names: all of whose names the table has.
-use Rattle.std.specs.Prelude.{◌≡◌, ℕ, ◌≤◌, Bool, ◌&&◌, not, nat_le, Ok, Err, Option, Some, None, IfSome, All, List, length, IsTrue}
-use Rattle.std.specs.List.{list_all}
+use Rattle.std.specs.Prelude.{◌≡◌, ℕ, ◌≤◌, Bool, ◌&&◌, not, nat_eq, nat_le, Ok, Err, Option, Some, None, IfSome, All, List, codes, length, IsTrue}
+use Rattle.std.specs.List.{ends_with, list_all, starts_with}
 use Rattle.ps_world.specs.CondViews.{cond_tree}
 use Rattle.ps_world.specs.Tables.{IsOf, IsGoalOf, IsEditOf, IsEditRefusalOf}
 use Rattle.ps_world.specs.declared.names.Name.{Name}
@@ -63,9 +63,11 @@ IsLineOf count (Bad cause) = Unit {0}
 abbrev pub is_printable : ℕ → Bool
 is_printable b = nat_le 32 b && nat_le b 126
 
--- whether a note is of the form that members may give: 1 to 64 printable bytes
+-- whether a note is of the form that members may give: 1 to 64 printable bytes without blanks at its ends
 abbrev pub is_note : List ℕ → Bool
-is_note text = (nat_le 1 (length text) && nat_le (length text) 64) && list_all is_printable text
+is_note text =
+    ((nat_le 1 (length text) && nat_le (length text) 64) && list_all is_printable text)
+    && (not (starts_with nat_eq text (codes " ")) && not (ends_with nat_eq text (codes " ")))
 
 -- a unit's names are, and what it tells is a percentage with a note
 abbrev pub IsUnitOf : ℕ → Task → Type 0

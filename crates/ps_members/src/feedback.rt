@@ -75,11 +75,15 @@ fn are_printable(text: &[u8]) -> bool
     text.iter().all(|b| is_printable(*b))
 }
 
-/// Whether a note has 1 to 64 printable bytes.
+/// Whether a note has 1 to 64 printable bytes, without blanks at its ends.
 fn is_note(text: &[u8]) -> bool
     ensures { result ≡ is_note text.now }
 {
-    text.len() >= 1 && text.len() <= LONGEST_NOTE && are_printable(text)
+    text.len() >= 1
+        && text.len() <= LONGEST_NOTE
+        && are_printable(text)
+        && !text.starts_with(b" ")
+        && !text.ends_with(b" ")
 }
 
 /// What a line of feedback says, or the place that doesn't fit: of its number, then of its text.
