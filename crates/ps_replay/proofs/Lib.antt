@@ -1,2 +1,2 @@
-mod Courses
-mod Leading
+pub mod Courses
+pub mod Leading

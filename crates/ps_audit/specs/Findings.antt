@@ -1,0 +1,86 @@
+-- What the text of a journal is found to be.
+use Rattle.std.specs.Prelude.{◌≡◌, ℕ, suc, ◌==◌, if◌then◌else◌, List, [], ◌++◌, codes, count_by, decimal, length, map, nat_eq, slice_get, take}
+use Rattle.std.specs.List.{common_prefix_len}
+use Rattle.std.specs.Option.{unwrap_or}
+use Rattle.ps_world.specs.Lines.{line_end, lines_of, same_text}
+use Rattle.ps_world.specs.Names.{Table}
+use Rattle.ps_machine.specs.declared.inputs.Input.{Input}
+use Rattle.ps_machine.specs.declared.journal.Entry.{Entry}
+use Rattle.ps_rules.specs.History.{IsHistory, IsWhole}
+use Rattle.ps_rules.specs.Journal.{journal_text}
+use Rattle.ps_rules.specs.Prefixes.{good_length}
+use Rattle.ps_entries.specs.Journals.{IsFault, IsJournal}
+use Rattle.ps_entries.specs.declared.journals.JournalRefusal.{JournalRefusal}
+use Rattle.ps_entries.specs.declared.journals.JournalRefusal.TheVariants as refusal
+use Rattle.ps_audit.specs.declared.findings.Finding.{Finding}
+use Rattle.ps_audit.specs.declared.findings.Finding.TheVariants.{Legal, Illegal}
+
+-- ---- lines
+
+-- the line of a text's first fault
+abbrev pub line_of_fault : JournalRefusal → ℕ
+line_of_fault refusal.Header = 1
+line_of_fault (refusal.Line n) = n
+
+-- how many lines of a text are ended
+abbrev pub line_ends : List ℕ → ℕ
+line_ends text = count_by (λ b. b == 10) text
+
+-- the first line at which two texts differ: the one after those that are ended in what both begin with
+abbrev pub line_of_difference : List ℕ → List ℕ → ℕ
+line_of_difference text due = suc (line_ends (take (common_prefix_len nat_eq text due) text))
+
+-- the entries of a journal, without their lines
+abbrev pub entries_of : List (ℕ × Entry) → List Entry
+entries_of es = map (λ e. e.1) es
+
+-- the lines of the entries
+abbrev pub lines_in : List (ℕ × Entry) → List ℕ
+lines_in es = map (λ e. e.0) es
+
+-- the line of the entry at this place, where these are the lines of a text's entries; the line after the last of the text where there
+-- is none
+abbrev pub line_of : List ℕ → List ℕ → ℕ → ℕ
+line_of text lines at = unwrap_or (slice_get lines at) (suc (length (lines_of text)))
+
+-- what the text of a whole history is found to be, which should be this one
+abbrev pub compared : List ℕ → List ℕ → Finding
+compared text due = if same_text text due then Legal else Illegal (line_of_difference text due)
+
+-- ---- what is found
+
+-- the entries are a whole history of an input
+abbrev pub IsLegal : Input → List (ℕ × Entry) → Type 0
+IsLegal i es = IsHistory i (entries_of es) × IsWhole i (entries_of es)
+
+-- how many of the first entries are a prefix of a history
+abbrev pub good_entries : Input → List (ℕ × Entry) → ℕ
+good_entries i es = good_length i [] [] (entries_of es)
+
+-- What the text of a journal is found to be, with a table of names before it: it has a line that is out of the grammar; or its entries
+-- are none of a whole history, and then the first one that may not stand there is told, or the line after the last; or they are, and
+-- then it is compared with their text.
+pub data Finds (i : Input) (names : Table) (text : List ℕ) : Finding → Type 0 where
+  unread : (why : JournalRefusal) → IsFault names text why → Finds i names text (Illegal (line_of_fault why))
+  broken : (es : List (ℕ × Entry)) (after : Table) → IsJournal names text es after → ¬ (IsLegal i es)
+      → Finds i names text (Illegal (line_of text (lines_in es) (good_entries i es)))
+  whole : (es : List (ℕ × Entry)) (after : Table) → IsJournal names text es after → IsLegal i es
+      → Finds i names text (compared text (journal_text after i (entries_of es)))
+
+-- a text with these entries, at these lines, is found to be this, where this is the table after it
+abbrev pub FindsOf : Input → Table → List ℕ → List ℕ → List Entry → Finding → Type 0
+FindsOf i after text lines es f =
+    (names : Table) (read : List (ℕ × Entry)) → lines_in read ≡ lines → entries_of read ≡ es → IsJournal names text read after
+    → Finds i names text f
+
+-- ---- what is said of it
+
+-- the line that says what was found
+abbrev pub finding_line : Finding → List ℕ
+finding_line Legal = codes "legal" ++ line_end
+finding_line (Illegal line) = codes "illegal line " ++ (decimal line ++ line_end)
+
+-- 0 where the journal is legal, else 7
+abbrev pub finding_status : Finding → ℕ
+finding_status Legal = 0
+finding_status (Illegal line) = 7

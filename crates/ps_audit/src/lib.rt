@@ -1,0 +1,12 @@
+//! What the text of a journal is worth: whether it is the text of a whole history of an input, and where it isn't.
+#![tactic(auto)]
+
+mod audits;
+mod differences;
+mod findings;
+mod replies;
+mod texts;
+mod trees;
+
+pub use audits::audit;
+pub use findings::{Finding, finding_line, finding_status};
