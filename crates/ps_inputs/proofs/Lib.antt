@@ -8,6 +8,7 @@ pub mod OneScript
 pub mod PlanNames
 pub mod ReadParts
 pub mod ScriptLines
+pub mod SoundInput
 pub mod Soundness
 pub mod TableNames
 pub mod Together

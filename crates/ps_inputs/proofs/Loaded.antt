@@ -14,15 +14,16 @@ use Rattle.ps_machine.specs.Tables.{IsLineOf}
 use Rattle.ps_machine.specs.declared.inputs.Input.{Input}
 use Rattle.ps_machine.specs.declared.inputs.Line.{Line}
 use Rattle.ps_print.specs.CanonicalWords.{IsParamOf}
-use Rattle.ps_words.specs.Words.{Request, SessionRequest}
-use Rattle.ps_words.specs.Words.Request.{a_session, a_check, a_validation}
+use Rattle.ps_words.specs.Words.{ReplayRequest, Request, SessionRequest}
+use Rattle.ps_words.specs.Words.Request.{a_session, a_check, a_validation, a_replay}
 use Rattle.ps_inputs.specs.Reading.{MayGive, Reading, Texts, and_then, read_file}
 use Rattle.ps_inputs.specs.Reading.Reading.{gives}
 use Rattle.ps_inputs.specs.Flats.{Flat, script_in}
 use Rattle.ps_inputs.specs.Scripts.{IsScript}
 use Rattle.ps_inputs.specs.Members.{AreAtFault, AreMembers, NamedText}
 use Rattle.ps_inputs.specs.Input.{HasBadMembers, InputTexts, IsBegun, IsDomain, IsInput, Material, domain_file_of, domain_text_of, first_names, named_texts, reading_of, texts_in, texts_of}
-use Rattle.ps_inputs.specs.Input.Material.{for_session, for_check, for_validation}
+use Rattle.ps_inputs.specs.Input.Material.{for_session, for_check, for_validation, for_replay}
+use Rattle.ps_inputs.specs.Faults.{ReadsPart}
 use Rattle.ps_inputs.specs.Parts.{Fits, IsAnswered, IsJudged, IsJudgedAs, IsJudgedInput, IsScriptFrom, IsUnjudged, Joins, Judges, LoadsRequest, ReadsDomainFile, ReadsInput, ReadsMembers, ReadsScript, ReadsText, named}
 use Rattle.ps_inputs.specs.declared.judging.Loaded.{Loaded}
 use Rattle.ps_inputs.specs.declared.reading.domains.Judged.{Judged}
@@ -31,6 +32,7 @@ use Rattle.ps_inputs.specs.declared.reading.members.MemberText.{MemberText}
 use Rattle.ps_inputs.specs.declared.reading.scripts.Script.{Script}
 use Rattle.ps_inputs.specs.declared.faults.Fault.{Fault}
 use Rattle.ps_inputs.specs.declared.faults.Fault.TheVariants.{Usage, NoDomain, NoMember, Crowd, Twice, TooLong, Lines, Unread}
+use Rattle.ps_inputs.specs.declared.works.Replay.{Replay}
 use Rattle.ps_inputs.specs.declared.works.Session.{Session}
 use Rattle.ps_inputs.specs.declared.works.Validation.{Validation}
 use Rattle.ps_inputs.specs.declared.works.Work.{Work}
@@ -136,7 +138,7 @@ kept_longer t u kept =
     let same : length (take (length t) u) ≡ length t = ap length (kept_front t u kept) in
     omega (arith, same, length-take (length t) u)
 
-module _ (told : Texts) (domain_file : List ℕ) (texts : InputTexts) (u : Unjudged) (budget : ℕ) (read : IsUnjudged told domain_file texts u) where
+module _ (told : Texts) (domain_file : List ℕ) (texts : InputTexts) (u : Unjudged) (budget replans : ℕ) (read : IsUnjudged told domain_file texts u) where
   module _ (d : Domain) (good : u.domain ≡ Ok d) where
     read_domain : IsDomain texts.domain d read.between
     read_domain = subst (IsJudgedAs texts.domain read.between) good read.judged
@@ -151,7 +153,7 @@ module _ (told : Texts) (domain_file : List ℕ) (texts : InputTexts) (u : Unjud
     bad_members : (fault : Fault) → AreAtFault d u.names (map named u.members.items) fault → HasBadMembers texts fault
     bad_members fault is = (d, u.names, begun, subst (λ (ts : List NamedText). AreAtFault d u.names ts fault) read.members is)
 
-    joined_input : (l : Loaded) → Joins u.names d u.lines.items (map named u.members.items) budget (Ok l) → IsInput budget texts l.input l.names
+    joined_input : (l : Loaded) → Joins u.names d u.lines.items (map named u.members.items) budget replans (Ok l) → IsInput budget replans texts l.input l.names
     joined_input l is = record {
       between = read.between;
       read = subst (λ (x : Domain). IsDomain texts.domain x read.between) (sym is.4) read_domain;
@@ -161,10 +163,10 @@ module _ (told : Texts) (domain_file : List ℕ) (texts : InputTexts) (u : Unjud
       few = is.1;
       apart = is.2;
       bounded = is.6;
-      once = is.7;
+      renewed = is.7;
     }
 
-    joined_fits : (l : Loaded) → Joins u.names d u.lines.items (map named u.members.items) budget (Ok l) → Fits l.input l.names
+    joined_fits : (l : Loaded) → Joins u.names d u.lines.items (map named u.members.items) budget replans (Ok l) → Fits l.input l.names
     joined_fits l is =
         let grows : length u.names ≤ length l.names = kept_longer u.names l.names is.3 in
         let within = domain_within first_names texts.domain d read.between AreNames-first read_domain in
@@ -177,7 +179,7 @@ module _ (told : Texts) (domain_file : List ℕ) (texts : InputTexts) (u : Unjud
           constants = subst (λ (x : Domain). All (IsParamOf (length l.names)) x.constants) (sym is.4) constants;
         }
 
-    pub judged_input : (r : Result Loaded (Failure Fault)) → Joins u.names d u.lines.items (map named u.members.items) budget r → IsJudgedInput told domain_file texts budget r
+    pub judged_input : (r : Result Loaded (Failure Fault)) → Joins u.names d u.lines.items (map named u.members.items) budget replans r → IsJudgedInput told domain_file texts budget replans r
     judged_input (Ok l) is = (joined_input l is, joined_fits l is)
     judged_input (Err (Refused Usage)) is = absurd is
     judged_input (Err (Refused (NoDomain cause))) is = absurd is
@@ -189,7 +191,7 @@ module _ (told : Texts) (domain_file : List ℕ) (texts : InputTexts) (u : Unjud
     judged_input (Err (Refused (Unread file))) is = absurd is
     judged_input (Err OutOfMemory) is = tt
 
-  no_domain : (fault : Fault) → IsJudgedAs texts.domain read.between (Err fault) → MayGive (read_file told domain_file) (λ text. IsJudgedAs text read.between (Err fault)) → IsJudgedInput told domain_file texts budget (Err (Refused fault))
+  no_domain : (fault : Fault) → IsJudgedAs texts.domain read.between (Err fault) → MayGive (read_file told domain_file) (λ text. IsJudgedAs text read.between (Err fault)) → IsJudgedInput told domain_file texts budget replans (Err (Refused fault))
   no_domain Usage is also = absurd is
   no_domain (NoDomain cause) is also = (is, also)
   no_domain (NoMember file cause) is also = absurd is
@@ -200,21 +202,21 @@ module _ (told : Texts) (domain_file : List ℕ) (texts : InputTexts) (u : Unjud
   no_domain (Unread file) is also = absurd is
 
   -- the domain's text is none
-  pub undomained : (fault : Fault) → u.domain ≡ Err fault → IsJudgedInput told domain_file texts budget (Err (Refused fault))
+  pub undomained : (fault : Fault) → u.domain ≡ Err fault → IsJudgedInput told domain_file texts budget replans (Err (Refused fault))
   undomained fault bad =
       no_domain fault (subst (IsJudgedAs texts.domain read.between) bad read.judged)
       (subst (λ (r : Result Domain Fault). MayGive (read_file told domain_file) (λ text. IsJudgedAs text read.between r)) bad read.told_judged)
 
 -- a fault of the texts is the answer
-answered_fault : (told : Texts) (request : Request) (m : Material) (budget : ℕ) (fault : Fault) → IsJudgedInput told (domain_file_of request) (texts_of m) budget (Err (Refused fault)) → IsAnswered told request m (Err fault)
-answered_fault told request m budget Usage is = is
-answered_fault told request m budget (NoDomain cause) is = is
-answered_fault told request m budget (NoMember file cause) is = is
-answered_fault told request m budget Crowd is = is
-answered_fault told request m budget (Twice name) is = is
-answered_fault told request m budget (TooLong file) is = is
-answered_fault told request m budget Lines is = is
-answered_fault told request m budget (Unread file) is = is
+answered_fault : (told : Texts) (request : Request) (m : Material) (budget replans : ℕ) (fault : Fault) → IsJudgedInput told (domain_file_of request) (texts_of m) budget replans (Err (Refused fault)) → IsAnswered told request m (Err fault)
+answered_fault told request m budget replans Usage is = is
+answered_fault told request m budget replans (NoDomain cause) is = is
+answered_fault told request m budget replans (NoMember file cause) is = is
+answered_fault told request m budget replans Crowd is = is
+answered_fault told request m budget replans (Twice name) is = is
+answered_fault told request m budget replans (TooLong file) is = is
+answered_fault told request m budget replans Lines is = is
+answered_fault told request m budget replans (Unread file) is = is
 
 -- ---- a session
 
@@ -234,18 +236,48 @@ module _ (s : SessionRequest) (old new : FilesView) where
         then_read (texts_in false old.told s.domain s.script s.members) (λ t input. session_of input) old new new u (Ok r) h
         (λ input is. read_nothing new (for_session s.budget input) r (f input is))
 
-    pub session_good : (l : Loaded) (w : Session) → w.names ≡ l.names → w.input ≡ l.input → Judges u s.budget (Ok l) → LoadsRequest (a_session s) old new (Ok (Ok (work.Session w)))
+    pub session_good : (l : Loaded) (w : Session) → w.names ≡ l.names → w.input ≡ l.input → Judges u s.budget 0 (Ok l) → LoadsRequest (a_session s) old new (Ok (Ok (work.Session w)))
     session_good l w names input judges =
         session_read (Ok (work.Session w))
-        (λ texts is. (tt, subst (λ (t : Table). IsInput s.budget texts w.input t) (sym names) (subst (λ (i : Input). IsInput s.budget texts i l.names) (sym input) (judges old.told s.domain texts is).0)))
+        (λ texts is. (tt, subst (λ (t : Table). IsInput s.budget 0 texts w.input t) (sym names) (subst (λ (i : Input). IsInput s.budget 0 texts i l.names) (sym input) (judges old.told s.domain texts is).0)))
 
-    pub session_bad : (fault : Fault) → Judges u s.budget (Err (Refused fault)) → LoadsRequest (a_session s) old new (Ok (Err fault))
+    pub session_bad : (fault : Fault) → Judges u s.budget 0 (Err (Refused fault)) → LoadsRequest (a_session s) old new (Ok (Err fault))
     session_bad fault judges =
-        session_read (Err fault) (λ texts is. answered_fault old.told (a_session s) (for_session s.budget texts) s.budget fault (judges old.told s.domain texts is))
+        session_read (Err fault) (λ texts is. answered_fault old.told (a_session s) (for_session s.budget texts) s.budget 0 fault (judges old.told s.domain texts is))
 
     -- memory runs out after all files are read
     pub session_starved : LoadsRequest (a_session s) old new (Err OutOfMemory)
     session_starved = out_of_memory (reading_of old.told (a_session s)) old new h.failed h.same
+
+-- ---- an input and one file more, that of a plan or a journal
+
+module _ (request : Request) (domain_file script_file last_file : List ℕ) (member_files : List (List ℕ)) (made : InputTexts → List ℕ → Material) (old : FilesView) where
+  -- what the last text gives
+  abbrev last_of : InputTexts → List ℕ → Reading Material
+  last_of input last = gives [] (made input last)
+
+  abbrev last_after : Texts → InputTexts → Reading Material
+  last_after t input = and_then (read_file t last_file) (last_of input)
+
+  -- what reading all of them comes to
+  abbrev LoadsAll : FilesView → Result (Result Work Fault) (Failure Fault) → Type 0
+  LoadsAll new r =
+      ReadsPart (and_then (texts_in true old.told domain_file script_file member_files) (last_after old.told)) old new (IsAnswered old.told request) r
+
+  input_unread : (new : FilesView) (why : Failure Fault) → ReadsInput true domain_file script_file member_files old new (Err why) → LoadsAll new (Err why)
+  input_unread new why h = then_ended (texts_in true old.told domain_file script_file member_files) (last_after old.told) old new why h
+
+  module _ (middle new : FilesView) (u : Unjudged) (first : ReadsInput true domain_file script_file member_files old middle (Ok u)) where
+    last_unread : (why : Failure Fault) → ReadsText last_file middle new (Err why) → LoadsAll new (Err why)
+    last_unread why h =
+        then_read (texts_in true old.told domain_file script_file member_files) last_after old middle new u (Err why) first
+        (λ input is. then_ended (read_file middle.told last_file) (last_of input) middle new why h)
+
+    last_read : (last : Vec ℕ) → ReadsText last_file middle new (Ok last) → (r : Result Work Fault) → ((input : InputTexts) → IsUnjudged old.told domain_file input u → IsAnswered old.told request (made input last.items) r) → LoadsAll new (Ok r)
+    last_read last h r f =
+        then_read (texts_in true old.told domain_file script_file member_files) last_after old middle new u (Ok r) first
+        (λ input is. then_read (read_file middle.told last_file) (λ t x. last_of input x) middle new new last (Ok r) h
+        (λ x e. read_nothing new (made input x) r (subst (λ (y : List ℕ). IsAnswered old.told request (made input y) r) e (f input is))))
 
 -- ---- a plan that is to be validated
 
@@ -253,47 +285,73 @@ module _ (domain_file script_file plan_file : List ℕ) (old : FilesView) where
   abbrev validation_request : Request
   validation_request = a_validation domain_file script_file plan_file
 
-  -- what the plan's text gives
-  abbrev validation_of : InputTexts → List ℕ → Reading Material
-  validation_of input plan = gives [] (for_validation input plan)
-
-  abbrev plan_after : Texts → InputTexts → Reading Material
-  plan_after t input = and_then (read_file t plan_file) (validation_of input)
-
   pub validation_unread : (new : FilesView) (why : Failure Fault) → ReadsInput true domain_file script_file [] old new (Err why) → LoadsRequest validation_request old new (Err why)
   unfolding reading_of
-  validation_unread new why h = then_ended (texts_in true old.told domain_file script_file []) (plan_after old.told) old new why h
+  validation_unread new why h = input_unread validation_request domain_file script_file plan_file [] for_validation old new why h
 
   module _ (middle new : FilesView) (u : Unjudged) (first : ReadsInput true domain_file script_file [] old middle (Ok u)) where
     pub validation_unplanned : (why : Failure Fault) → ReadsText plan_file middle new (Err why) → LoadsRequest validation_request old new (Err why)
     unfolding reading_of
-    validation_unplanned why h =
-        then_read (texts_in true old.told domain_file script_file []) plan_after old middle new u (Err why) first
-        (λ input is. then_ended (read_file middle.told plan_file) (validation_of input) middle new why h)
+    validation_unplanned why h = last_unread validation_request domain_file script_file plan_file [] for_validation old middle new u first why h
 
     module _ (plan : Vec ℕ) (h : ReadsText plan_file middle new (Ok plan)) where
       validation_read : (r : Result Work Fault) → ((input : InputTexts) → IsUnjudged old.told domain_file input u → IsAnswered old.told validation_request (for_validation input plan.items) r) → LoadsRequest validation_request old new (Ok r)
       unfolding reading_of
-      validation_read r f =
-          then_read (texts_in true old.told domain_file script_file []) plan_after old middle new u (Ok r) first
-          (λ input is. then_read (read_file middle.told plan_file) (λ t x. validation_of input x) middle new new plan (Ok r) h
-          (λ x e. read_nothing new (for_validation input x) r (subst (λ (y : List ℕ). IsAnswered old.told validation_request (for_validation input y) r) e (f input is))))
+      validation_read r f = last_read validation_request domain_file script_file plan_file [] for_validation old middle new u first plan h r f
 
-      pub validation_good : (l : Loaded) (w : Validation) → w.names ≡ l.names → w.input ≡ l.input → w.plan ≡ plan → Judges u 0 (Ok l) → LoadsRequest validation_request old new (Ok (Ok (work.Validation w)))
+      pub validation_good : (l : Loaded) (w : Validation) → w.names ≡ l.names → w.input ≡ l.input → w.plan ≡ plan → Judges u 0 0 (Ok l) → LoadsRequest validation_request old new (Ok (Ok (work.Validation w)))
       validation_good l w names input same judges =
           validation_read (Ok (work.Validation w))
           (λ texts is. (
             tt,
             (
-              subst (λ (t : Table). IsInput 0 texts w.input t) (sym names) (subst (λ (i : Input). IsInput 0 texts i l.names) (sym input) (judges old.told domain_file texts is).0),
+              subst (λ (t : Table). IsInput 0 0 texts w.input t) (sym names) (subst (λ (i : Input). IsInput 0 0 texts i l.names) (sym input) (judges old.told domain_file texts is).0),
               ap (λ (v : Vec ℕ). v.items) same,
             ),
           ))
 
-      pub validation_bad : (fault : Fault) → Judges u 0 (Err (Refused fault)) → LoadsRequest validation_request old new (Ok (Err fault))
+      pub validation_bad : (fault : Fault) → Judges u 0 0 (Err (Refused fault)) → LoadsRequest validation_request old new (Ok (Err fault))
       validation_bad fault judges =
-          validation_read (Err fault) (λ texts is. answered_fault old.told validation_request (for_validation texts plan.items) 0 fault (judges old.told domain_file texts is))
+          validation_read (Err fault) (λ texts is. answered_fault old.told validation_request (for_validation texts plan.items) 0 0 fault (judges old.told domain_file texts is))
 
       -- memory runs out after all files are read
       pub validation_starved : LoadsRequest validation_request old new (Err OutOfMemory)
       validation_starved = out_of_memory (reading_of old.told validation_request) old new (h.failed ∙ first.failed) (h.same ∙ first.same)
+
+-- ---- a replay
+
+module _ (s : ReplayRequest) (old : FilesView) where
+  pub replay_unread : (new : FilesView) (why : Failure Fault) → ReadsInput true s.domain s.script s.members old new (Err why) → LoadsRequest (a_replay s) old new (Err why)
+  unfolding reading_of
+  replay_unread new why h = input_unread (a_replay s) s.domain s.script s.journal s.members (for_replay s.budget s.replans) old new why h
+
+  module _ (middle new : FilesView) (u : Unjudged) (first : ReadsInput true s.domain s.script s.members old middle (Ok u)) where
+    pub replay_unrecorded : (why : Failure Fault) → ReadsText s.journal middle new (Err why) → LoadsRequest (a_replay s) old new (Err why)
+    unfolding reading_of
+    replay_unrecorded why h = last_unread (a_replay s) s.domain s.script s.journal s.members (for_replay s.budget s.replans) old middle new u first why h
+
+    module _ (journal : Vec ℕ) (h : ReadsText s.journal middle new (Ok journal)) where
+      replay_read : (r : Result Work Fault) → ((input : InputTexts) → IsUnjudged old.told s.domain input u → IsAnswered old.told (a_replay s) (for_replay s.budget s.replans input journal.items) r) → LoadsRequest (a_replay s) old new (Ok r)
+      unfolding reading_of
+      replay_read r f = last_read (a_replay s) s.domain s.script s.journal s.members (for_replay s.budget s.replans) old middle new u first journal h r f
+
+      pub replay_good : (l : Loaded) (w : Replay) → w.names ≡ l.names → w.input ≡ l.input → w.journal ≡ journal → Judges u s.budget s.replans (Ok l) → LoadsRequest (a_replay s) old new (Ok (Ok (work.Replay w)))
+      replay_good l w names input same judges =
+          replay_read (Ok (work.Replay w))
+          (λ texts is. (
+            tt,
+            (
+              subst (λ (t : Table). IsInput s.budget s.replans texts w.input t) (sym names)
+                  (subst (λ (i : Input). IsInput s.budget s.replans texts i l.names) (sym input) (judges old.told s.domain texts is).0),
+              ap (λ (v : Vec ℕ). v.items) same,
+            ),
+          ))
+
+      pub replay_bad : (fault : Fault) → Judges u s.budget s.replans (Err (Refused fault)) → LoadsRequest (a_replay s) old new (Ok (Err fault))
+      replay_bad fault judges =
+          replay_read (Err fault)
+          (λ texts is. answered_fault old.told (a_replay s) (for_replay s.budget s.replans texts journal.items) s.budget s.replans fault (judges old.told s.domain texts is))
+
+      -- memory runs out after all files are read
+      pub replay_starved : LoadsRequest (a_replay s) old new (Err OutOfMemory)
+      replay_starved = out_of_memory (reading_of old.told (a_replay s)) old new (h.failed ∙ first.failed) (h.same ∙ first.same)

@@ -7,7 +7,7 @@ use Rattle.ps_world.specs.declared.domains.Domain.{Domain}
 use Rattle.ps_machine.specs.declared.members.Member.{Member}
 use Rattle.ps_rules.specs.Members.{as_observer, as_performer}
 use Rattle.ps_members.specs.Laws.{IsWholeMember, MembersAreWhole}
-use Rattle.ps_inputs.specs.Members.{AreMembers, NamedText}
+use Rattle.ps_inputs.specs.Members.{AreMembers, NamedText, is_crowd}
 use Rattle.ps_inputs.specs.Members.AreMembers.{nobody, one_more}
 use Rattle.ps_inputs.specs.Laws.{MembersAreSound}
 use Rattle.ps_inputs.proofs.Together.{names_differ}
@@ -19,6 +19,12 @@ both_false false b h = (refl, h)
 at_most : (most n : ℕ) → nat_lt most n ≡ false → n ≤ most
 at_most most n h = grind (arith, nat_tests)
 
+-- members who aren't a crowd are few
+pub few_members : (ms : List Member) → is_crowd ms ≡ false → (length (filter_map as_performer ms) ≤ 64) × (length (filter_map as_observer ms) ≤ 16)
+few_members ms h =
+    let few = both_false (nat_lt 64 (length (filter_map as_performer ms))) (nat_lt 16 (length (filter_map as_observer ms))) h in
+    (at_most 64 (length (filter_map as_performer ms)) few.0, at_most 16 (length (filter_map as_observer ms)) few.1)
+
 each_whole : MembersAreWhole → (d : Domain) (first : Table) (texts : List NamedText) (ms : List Member) (after : Table) → AreMembers d first texts ms after → All IsWholeMember ms
 each_whole law d first _ _ _ nobody = All-nil IsWholeMember
 each_whole law d first _ _ after (one_more before members table one m _ are is) =
@@ -26,11 +32,11 @@ each_whole law d first _ _ after (one_more before members table one m _ are is) 
     (All-cons IsWholeMember m [] (law d table one.text m after is) (All-nil IsWholeMember))
 
 pub members_are_sound : MembersAreWhole → MembersAreSound
-members_are_sound law budget texts i names is =
-    let few = both_false (nat_lt 64 (length (filter_map as_performer i.members))) (nat_lt 16 (length (filter_map as_observer i.members))) is.few in
+members_are_sound law budget replans texts i names is =
+    let few = few_members i.members is.few in
     record {
-      few_performers = at_most 64 (length (filter_map as_performer i.members)) few.0;
-      few_observers = at_most 16 (length (filter_map as_observer i.members)) few.1;
+      few_performers = few.0;
+      few_observers = few.1;
       names_differ = names_differ i.members is.apart;
       whole = each_whole law i.domain is.named texts.members i.members names is.members;
     }

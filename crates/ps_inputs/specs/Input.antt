@@ -6,7 +6,7 @@ use Rattle.ps_world.specs.declared.domains.Domain.{Domain}
 use Rattle.ps_machine.specs.declared.inputs.Input.{Input}
 use Rattle.ps_machine.specs.declared.inputs.Line.{Line}
 use Rattle.ps_words.specs.Words.{Request}
-use Rattle.ps_words.specs.Words.Request.{a_session, a_check, a_validation}
+use Rattle.ps_words.specs.Words.Request.{a_session, a_check, a_validation, a_replay}
 use Rattle.ps_pddl.specs.Reading.{IsRead}
 use Rattle.ps_pddl.specs.declared.refusals.DomainRefusal.{DomainRefusal}
 use Rattle.ps_inputs.specs.DomainFaults.{cause_text}
@@ -18,7 +18,7 @@ use Rattle.ps_inputs.specs.Members.{AreAtFault, AreMembers, NamedText, first_rep
 use Rattle.ps_inputs.specs.declared.faults.Fault.{Fault}
 use Rattle.ps_inputs.specs.declared.faults.Fault.TheVariants.{NoDomain}
 use Rattle.ps_inputs.specs.declared.works.Work.{Work}
-use Rattle.ps_inputs.specs.declared.works.Work.TheVariants.{Session, Check, Validation}
+use Rattle.ps_inputs.specs.declared.works.Work.TheVariants.{Session, Check, Validation, Replay}
 
 -- ---- the texts
 
@@ -29,11 +29,13 @@ pub record InputTexts : Type 0 where
   pub members : List NamedText
 
 -- What the files of a request hold: for a session its budget and its input's texts; for a check the domain's text; for a plan to be
--- validated an input's texts and the text of the plan.
+-- validated an input's texts and the text of the plan; for a replay its budget and how often a plan may be made anew, an input's texts and
+-- the text of the journal.
 pub data Material : Type 0 where
   for_session : ℕ → InputTexts → Material
   for_check : List ℕ → Material
   for_validation : InputTexts → List ℕ → Material
+  for_replay : ℕ → ℕ → InputTexts → List ℕ → Material
 
 -- reading files, one after another
 abbrev pub named_texts : Texts → List (List ℕ) → Reading (List NamedText)
@@ -52,7 +54,8 @@ texts_in plans texts domain_file script_file member_files =
     and_then (named_texts texts member_files) (λ members.
     gives [] (record { domain = domain; script = script.lines; members = members }))))
 
--- Reading the files of a request: the input's, then the plan's. A session doesn't read the files of plans that its script names.
+-- Reading the files of a request: the input's, then the plan's or the journal's. A session doesn't read the files of plans that its script
+-- names.
 unfoldable pub reading_of : Texts → Request → Reading Material
 reading_of texts (a_session s) =
     and_then (texts_in false texts s.domain s.script s.members) (λ input.
@@ -64,18 +67,24 @@ reading_of texts (a_validation domain_file script_file plan_file) =
     and_then (texts_in true texts domain_file script_file []) (λ input.
     and_then (read_file texts plan_file) (λ plan.
     gives [] (for_validation input plan)))
+reading_of texts (a_replay r) =
+    and_then (texts_in true texts r.domain r.script r.members) (λ input.
+    and_then (read_file texts r.journal) (λ journal.
+    gives [] (for_replay r.budget r.replans input journal)))
 
 -- the file of the domain
 abbrev pub domain_file_of : Request → List ℕ
 domain_file_of (a_session s) = s.domain
 domain_file_of (a_check file) = file
 domain_file_of (a_validation domain script plan) = domain
+domain_file_of (a_replay r) = r.domain
 
 -- the texts of the input; a check has that of the domain alone
 abbrev pub texts_of : Material → InputTexts
 texts_of (for_session budget input) = input
 texts_of (for_check domain) = record { domain = domain; script = []; members = [] }
 texts_of (for_validation input plan) = input
+texts_of (for_replay budget replans input journal) = input
 
 -- the text of the domain
 abbrev pub domain_text_of : Material → List ℕ
@@ -93,8 +102,8 @@ IsDomain text d after = IsRead first_names text (Ok d) after
 
 -- Texts are read as this input, with this table after them. Names are numbered in the order in which the texts have them, the domain's
 -- first, then the script's and the members'. There are at most 64 performers and 16 observers, and no name stands twice. A solver may look
--- at as many states as the budget says, and nothing is planned anew.
-pub record IsInput (budget : ℕ) (texts : InputTexts) (i : Input) (names : Table) : Type 0 where
+-- at as many states as the budget says, and a run's plan may be made anew so many times.
+pub record IsInput (budget replans : ℕ) (texts : InputTexts) (i : Input) (names : Table) : Type 0 where
   pub between : Table
   pub read : IsDomain texts.domain i.domain between
   pub named : Table
@@ -103,13 +112,15 @@ pub record IsInput (budget : ℕ) (texts : InputTexts) (i : Input) (names : Tabl
   pub few : is_crowd i.members ≡ false
   pub apart : first_repeated i.members ≡ None
   pub bounded : i.budget ≡ budget
-  pub once : i.replans ≡ 0
+  pub renewed : i.replans ≡ replans
 
 -- the texts are read as this work
 abbrev pub IsWork : Material → Work → Type 0
-IsWork (for_session budget input) (Session s) = IsInput budget input s.input s.names
+IsWork (for_session budget input) (Session s) = IsInput budget 0 input s.input s.names
 IsWork (for_check domain) (Check names d) = IsDomain domain d names
-IsWork (for_validation input plan) (Validation v) = IsInput 0 input v.input v.names × (v.plan.items ≡ plan)
+IsWork (for_validation input plan) (Validation v) = IsInput 0 0 input v.input v.names × (v.plan.items ≡ plan)
+IsWork (for_replay budget replans input journal) (Replay r) =
+    IsInput budget replans input r.input r.names × (r.journal.items ≡ journal)
 IsWork m w = ⊥
 
 -- the work is of the kind that is asked for
@@ -117,6 +128,7 @@ abbrev pub IsAsked : Request → Work → Type 0
 IsAsked (a_session s) (Session t) = Unit {0}
 IsAsked (a_check file) (Check names d) = Unit {0}
 IsAsked (a_validation domain script plan) (Validation v) = Unit {0}
+IsAsked (a_replay r) (Replay w) = Unit {0}
 IsAsked r w = ⊥
 
 -- ---- the lines for what is at fault
@@ -194,4 +206,6 @@ argument ws i = slice_index_or ws i []
 
 -- whether the first word is that of a mode that always returns
 abbrev pub is_quiet : List (List ℕ) → Bool
-is_quiet ws = same_text (argument ws 0) (codes "check") || same_text (argument ws 0) (codes "validate")
+is_quiet ws =
+    same_text (argument ws 0) (codes "check")
+    || (same_text (argument ws 0) (codes "validate") || same_text (argument ws 0) (codes "replay"))

@@ -24,4 +24,4 @@ pub record AreSoundMembers (i : Input) : Type 0 where
 
 -- The members that texts are read as are sound.
 abbrev pub MembersAreSound : Type 0
-MembersAreSound = (budget : ℕ) (texts : InputTexts) (i : Input) (names : Table) → IsInput budget texts i names → AreSoundMembers i
+MembersAreSound = (budget replans : ℕ) (texts : InputTexts) (i : Input) (names : Table) → IsInput budget replans texts i names → AreSoundMembers i

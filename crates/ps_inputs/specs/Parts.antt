@@ -1,5 +1,5 @@
 -- What reading each part of the input comes to.
-use Rattle.std.specs.Prelude.{◌≡◌, ℕ, ◌≤◌, ◌<◌, ◌^◌, ◌⊎◌, Bool, true, false, Result, Ok, Err, None, Some, List, ◌++◌, All, length, map}
+use Rattle.std.specs.Prelude.{◌≡◌, ℕ, ◌≤◌, ◌<◌, ◌⊎◌, Bool, true, false, Result, Ok, Err, None, Some, List, ◌++◌, All, length, map}
 use Rattle.std.specs.Global.{Vec}
 use Rattle.ps_world.specs.Names.{Table, name_text}
 use Rattle.ps_world.specs.declared.failures.Failure.{Failure}
@@ -184,32 +184,32 @@ ReadsInput plans domain_file script_file member_files old new r =
 
 -- What an input's names are in: the table has all those of its lines, of which there are few, and of the domain's constants.
 pub record Fits (i : Input) (names : Table) : Type 0 where
-  pub few : length i.lines < 2 ^ 32
+  pub few : length i.lines ≤ most_lines
   pub named : All (IsLineOf (length names)) i.lines
   pub constants : All (IsParamOf (length names)) i.domain.constants
 
 -- judging members beside a domain and lines, with the table after these
-abbrev pub Joins : Table → Domain → List Line → List NamedText → ℕ → Result Loaded (Failure Fault) → Type 0
-Joins first d lines texts budget (Ok l) =
+abbrev pub Joins : Table → Domain → List Line → List NamedText → ℕ → ℕ → Result Loaded (Failure Fault) → Type 0
+Joins first d lines texts budget replans (Ok l) =
     AreMembers d first texts l.input.members l.names
     × (is_crowd l.input.members ≡ false) × (first_repeated l.input.members ≡ None) × Keeps first l.names
-    × (l.input.domain ≡ d) × (l.input.lines ≡ lines) × (l.input.budget ≡ budget) × (l.input.replans ≡ 0)
-Joins first d lines texts budget (Err (Refused fault)) = AreAtFault d first texts fault
-Joins first d lines texts budget (Err OutOfMemory) = Unit {0}
+    × (l.input.domain ≡ d) × (l.input.lines ≡ lines) × (l.input.budget ≡ budget) × (l.input.replans ≡ replans)
+Joins first d lines texts budget replans (Err (Refused fault)) = AreAtFault d first texts fault
+Joins first d lines texts budget replans (Err OutOfMemory) = Unit {0}
 
 -- texts are an input, or they have this fault; and where it is that of the domain, so has its file, where that is told
-abbrev pub IsJudgedInput : Texts → List ℕ → InputTexts → ℕ → Result Loaded (Failure Fault) → Type 0
-IsJudgedInput told domain_file texts budget (Ok l) = IsInput budget texts l.input l.names × Fits l.input l.names
-IsJudgedInput told domain_file texts budget (Err (Refused (NoDomain cause))) =
+abbrev pub IsJudgedInput : Texts → List ℕ → InputTexts → ℕ → ℕ → Result Loaded (Failure Fault) → Type 0
+IsJudgedInput told domain_file texts budget replans (Ok l) = IsInput budget replans texts l.input l.names × Fits l.input l.names
+IsJudgedInput told domain_file texts budget replans (Err (Refused (NoDomain cause))) =
     IsNoDomain texts.domain cause.items × MayGive (read_file told domain_file) (λ text. IsNoDomain text cause.items)
-IsJudgedInput told domain_file texts budget (Err (Refused fault)) = HasBadMembers texts fault
-IsJudgedInput told domain_file texts budget (Err OutOfMemory) = Unit {0}
+IsJudgedInput told domain_file texts budget replans (Err (Refused fault)) = HasBadMembers texts fault
+IsJudgedInput told domain_file texts budget replans (Err OutOfMemory) = Unit {0}
 
 -- judging what was read of any texts
-abbrev pub Judges : Unjudged → ℕ → Result Loaded (Failure Fault) → Type 0
-Judges u budget r =
+abbrev pub Judges : Unjudged → ℕ → ℕ → Result Loaded (Failure Fault) → Type 0
+Judges u budget replans r =
     (told : Texts) (domain_file : List ℕ) (texts : InputTexts) → IsUnjudged told domain_file texts u
-    → IsJudgedInput told domain_file texts budget r
+    → IsJudgedInput told domain_file texts budget replans r
 
 -- ---- the work
 

@@ -95,7 +95,8 @@ fn judge_members(
     Ok(members)
 }
 
-/// The input of a domain, these lines and the members that the texts are. The table has the names of the domain and of the lines.
+/// The input of a domain, these lines and the members that the texts are, with these limits. The table has the names of the domain and of
+/// the lines.
 fn join(
     alloc: Global,
     names: Names,
@@ -103,8 +104,9 @@ fn join(
     lines: Vec<Line>,
     texts: &[MemberText],
     budget: u32,
+    replans: u8,
 ) -> Result<Loaded, Failure<Fault>>
-    ensures { Joins names domain lines.items (map named texts.now) budget result }
+    ensures { Joins names domain lines.items (map named texts.now) budget replans result }
 {
     let mut names = names;
     let expert = Expert::new(alloc, domain.copy(alloc)?)?;
@@ -116,14 +118,19 @@ fn join(
             members: Seq::of(members),
             lines: Seq::of(lines),
             budget,
-            replans: 0,
+            replans,
         },
     })
 }
 
-/// The input that the texts are. The first fault decides: that of the domain; then that of the members. Nothing is planned anew.
-pub fn judge(alloc: Global, read: Unjudged, budget: u32) -> Result<Loaded, Failure<Fault>>
-    ensures { Judges read budget result }
+/// The input that the texts are, with these limits. The first fault decides: that of the domain; then that of the members.
+pub fn judge(
+    alloc: Global,
+    read: Unjudged,
+    budget: u32,
+    replans: u8,
+) -> Result<Loaded, Failure<Fault>>
+    ensures { Judges read budget replans result }
 {
     let Unjudged {
         names,
@@ -132,7 +139,15 @@ pub fn judge(alloc: Global, read: Unjudged, budget: u32) -> Result<Loaded, Failu
         members,
     } = read;
     match domain {
-        Ok(domain) => join(alloc, names, domain, lines, members.as_slice(), budget),
+        Ok(domain) => join(
+            alloc,
+            names,
+            domain,
+            lines,
+            members.as_slice(),
+            budget,
+            replans,
+        ),
         Err(fault) => Err(Failure::Refused(fault)),
     }
 }

@@ -1,16 +1,16 @@
 //! Loading: the work that words and files give.
 ghost use Rattle.std.specs.Prelude.{◌≤◌};
-ghost use Rattle.ps_words.specs.Words.{IsInRange, said, settings_said};
-ghost use Rattle.ps_words.specs.Words.Request.{a_check, a_session, a_validation};
+ghost use Rattle.ps_words.specs.Words.{IsInRange, replay_said, said, settings_said};
+ghost use Rattle.ps_words.specs.Words.Request.{a_check, a_replay, a_session, a_validation};
 ghost use Rattle.ps_inputs.specs.Faults.{Loads, word_texts};
 ghost use Rattle.ps_inputs.specs.Parts.{LoadsRequest};
 
 use crate::faults::Fault;
 use crate::judging::{Loaded, judge};
 use crate::reading::{Judged, read_domain_file, read_input, read_text};
-use crate::works::{Session, Validation, Work};
+use crate::works::{Replay, Session, Validation, Work};
 use ps_text::Files;
-use ps_words::{Asked, Settings, read_words};
+use ps_words::{Asked, ReplaySettings, Settings, read_words};
 use ps_world::Failure;
 use std::alloc::Global;
 
@@ -34,7 +34,7 @@ fn load_session<'a, F: Files>(
         members,
         files,
     )?;
-    match judge(alloc, read, settings.budget) {
+    match judge(alloc, read, settings.budget, 0) {
         Ok(Loaded { names, input }) => Ok(Ok(Work::Session(Session { names, input }))),
         Err(Failure::Refused(fault)) => Ok(Err(fault)),
         Err(Failure::OutOfMemory) => Err(Failure::OutOfMemory),
@@ -70,8 +70,40 @@ fn load_validation<F: Files>(
 {
     let read = read_input(alloc, true, domain, script, &[], files)?;
     let plan = read_text(alloc, plan, files)?;
-    match judge(alloc, read, 0) {
+    match judge(alloc, read, 0, 0) {
         Ok(Loaded { names, input }) => Ok(Ok(Work::Validation(Validation { names, input, plan }))),
+        Err(Failure::Refused(fault)) => Ok(Err(fault)),
+        Err(Failure::OutOfMemory) => Err(Failure::OutOfMemory),
+    }
+}
+
+/// Reads the files of a replay: the domain's, the script's with the files that it names, the members', and the journal's. Texts that are at
+/// fault are told after all files are read.
+fn load_replay<'a, F: Files>(
+    alloc: Global,
+    settings: &ReplaySettings<'a>,
+    files: &mut F,
+) -> Result<Result<Work, Fault>, Failure<Fault>>
+    requires { IsInRange (a_replay (replay_said settings.now)) }
+    ensures { LoadsRequest (a_replay (replay_said settings.now)) (F.shown files.old)
+        (F.shown files.new) result }
+{
+    let members = settings.members.as_slice();
+    let read = read_input(
+        alloc,
+        true,
+        settings.domain,
+        settings.script,
+        members,
+        files,
+    )?;
+    let journal = read_text(alloc, settings.journal, files)?;
+    match judge(alloc, read, settings.budget, settings.replans as u8) {
+        Ok(Loaded { names, input }) => Ok(Ok(Work::Replay(Replay {
+            names,
+            input,
+            journal,
+        }))),
         Err(Failure::Refused(fault)) => Ok(Err(fault)),
         Err(Failure::OutOfMemory) => Err(Failure::OutOfMemory),
     }
@@ -94,14 +126,15 @@ fn load_asked<'a, F: Files>(
             script,
             plan,
         } => load_validation(alloc, domain, script, plan, files),
+        Asked::Replay(settings) => load_replay(alloc, &settings, files),
     }
 }
 
 /// Reads the words, all files that they name and all files that these name, and judges their texts.
 ///
 /// The first fault decides, in this order: `Usage`; then for each file as it is read, the domain's, the script's with the files that
-/// it names, the members' in the order of the words, the plan's, `Unread` or `TooLong`, and `Lines` at the line that is one too many;
-/// then `NoDomain`; `NoMember` of the first text that is none; `Crowd`; `Twice` of the first name that an earlier member has.
+/// it names, the members' in the order of the words, the plan's or the journal's, `Unread` or `TooLong`, and `Lines` at the line that is
+/// one too many; then `NoDomain`; `NoMember` of the first text that is none; `Crowd`; `Twice` of the first name that an earlier member has.
 pub fn load<F: Files>(
     alloc: Global,
     words: &[String],

@@ -1,8 +1,9 @@
 //! The work that words and files give.
 ghost use Rattle.std.specs.Prelude.{◌<◌, ◌≤◌, ◌^◌, length, All};
 ghost use Rattle.ps_machine.specs.Tables.{IsLineOf};
+ghost use Rattle.ps_rules.specs.Sound.{IsSound};
 ghost use Rattle.ps_print.specs.CanonicalWords.{IsParamOf};
-ghost use Rattle.ps_inputs.specs.Propositions.{line_prop};
+ghost use Rattle.ps_inputs.specs.Propositions.{line_prop, sound_prop};
 
 use ps_machine::Input;
 use ps_text::Names;
@@ -29,6 +30,17 @@ pub struct Validation {
     pub plan: Vec<u8>,
 }
 
+/// A journal that is to be judged by an input that is within the limits, with the table of the input's names. It isn't read yet.
+#[derive(Drop)]
+pub struct Replay {
+    pub names: Names,
+    pub input: Input,
+    /// The text of the journal.
+    pub journal: Vec<u8>,
+    ghost sound: { IsSound input } by { Prim.hlevel sound_prop },
+    ghost short: { length journal.items < 2 ^ 32 },
+}
+
 /// What a call is to do, with all that it is done on.
 #[derive(Drop)]
 pub enum Work {
@@ -38,4 +50,6 @@ pub enum Work {
     Check { names: Names, domain: Domain },
     /// To judge a plan.
     Validation(Validation),
+    /// To judge a journal.
+    Replay(Replay),
 }

@@ -1,31 +1,31 @@
 -- Words that nested lists are written with, where a goal is wanted: no list in them is too deep, and a list stands wherever a condition
 -- is looked for.
-use Rattle.std.proofs.Common.{◌≡◌, ℕ, suc, ◌+◌, ◌<◌, ◌≤◌, true, if◌then◌else◌, List, [], ◌∷◌, ◌++◌, Some, refl, ◌∙◌, ap, subst, append_assoc, arith}
+use Rattle.std.proofs.Common.{◌≡◌, ℕ, suc, ◌+◌, ◌<◌, ◌≤◌, Bool, true, false, ◌&&◌, ◌||◌, is_some, if◌then◌else◌, List, [], ◌∷◌, ◌++◌, Some, refl, ◌∙◌, ap, subst, append_assoc, arith}
 use Rattle.std.proofs.lemmas.Bool.{and_parts}
 use Rattle.std.proofs.lemmas.List.{map-append}
-use Rattle.ps_shape.specs.Marks.{is}
-use Rattle.ps_shape.specs.Rules.{step}
+use Rattle.ps_shape.specs.Marks.{is, is_goal_name, is_name}
+use Rattle.ps_shape.specs.Rules.{most_names, step, where_it_is}
 use Rattle.ps_shape.specs.Shape.{deepest}
 use Rattle.ps_shape.specs.Symbols.{level}
 use Rattle.ps_shape.specs.declared.marks.Mark.{Mark}
-use Rattle.ps_shape.specs.declared.marks.Mark.TheVariants.{Open, Close, And, Not}
+use Rattle.ps_shape.specs.declared.marks.Mark.TheVariants.{Open, Close, And, Not, Number, Equal, Less, LessEqual, GreaterEqual, Greater}
 use Rattle.ps_shape.specs.declared.symbols.Symbol.{Symbol}
 use Rattle.ps_shape.specs.declared.symbols.Symbol.TheVariants.{The, AnyName, InGoal}
 use Rattle.ps_shape.specs.declared.symbols.GoalPart.TheVariants as goal
 use Rattle.ps_shape.proofs.Levels.{level_more}
 use Rattle.ps_forms.specs.Lexemes.{marks}
-use Rattle.ps_forms.specs.Nested.{Nested, Nesteds, rank, ranks}
+use Rattle.ps_forms.specs.Nested.{Nested, Nesteds, group, more, rank, ranks, word}
 use Rattle.ps_forms.specs.Places.{rest}
 use Rattle.ps_forms.specs.Spelling.{Spells, SpellAll}
 use Rattle.ps_forms.specs.Spelling.Spells.{plain, between}
 use Rattle.ps_forms.specs.Spelling.SpellAll.{nothing, one_more}
 use Rattle.ps_forms.specs.declared.lexemes.Lexeme.{Lexeme}
 use Rattle.ps_rules.specs.Sound.{IsScriptCond}
-use Rattle.ps_script.specs.Goals.{condition, first_condition}
+use Rattle.ps_script.specs.Goals.{condition, first_condition, rel_of}
 use Rattle.ps_sound.proofs.GoalMarks.{HasRoom, Runs}
 use Rattle.ps_sound.proofs.GoalMarks.Runs.{goes}
 use Rattle.ps_sound.proofs.GoalSymbols.{closes, closes_level, closes_twice, is_last, is_one, last_close, last_level, last_open, last_word, one_close, one_level, one_open, one_word}
-use Rattle.ps_sound.proofs.GoalTrees.{IsFine, are_formed, begins_formed, condition_fine, is_form, is_formed}
+use Rattle.ps_sound.proofs.GoalTrees.{IsFine, are_formed, begins_formed, condition_fine, has_two, is_form, is_formed, is_headed}
 
 -- ---- one mark
 
@@ -198,11 +198,101 @@ after_not st ms runs =
     let same : n.new ≡ condition_wanted ∷ The Close ∷ [] = let leads = n.leads in cc in
     subst (λ x. Runs (x ++ st) ms) same n.runs
 
+-- ---- heads
+
+-- what follows a word or list, where one is wanted
+past_one : (t : Nested) (ls : List Lexeme) → Spells t ls → (s : Symbol) (st : List Symbol) (ms : List Mark) → is_one s ≡ true → Runs (s ∷ st) (marks ls ++ ms) → Runs st ms
+past_one _ _ (plain l o c) s st ms e runs = after_word s st l.mark ms e o c runs
+past_one _ _ (between left right ts ls o c a) s st ms e runs =
+    let k = open_one s st (marks ls ++ Close ∷ ms) e (subst (Runs (s ∷ st)) (group_marks left right ls ms o c) runs) in
+    (pass_all ts ls a k.inside.new st ms k.inside.closing k.room k.inside.runs).1
+
+-- a word or list stands where one is wanted
+no_close : (s : Symbol) (st : List Symbol) (ms : List Mark) {A : Type 0} → is_one s ≡ true → Runs (s ∷ st) (Close ∷ ms) → A
+no_close s st ms e runs =
+    let n = next s st Close ms runs in
+    absurd (one_close s n.new n.leads e)
+
+-- and another one after it
+second_one : (t : Nested) (ts : Nesteds) (ls : List Lexeme) → SpellAll ts ls → (s : Symbol) (st : List Symbol) (ms : List Mark) → is_one s ≡ true → Runs (s ∷ st) (marks ls ++ Close ∷ ms) → has_two (more t ts) ≡ true
+second_one t _ _ nothing s st ms e runs = no_close s st ms e runs
+second_one t _ _ (one_more u us ls ks a b) s st ms e runs = refl
+
+two_ones : (ts : Nesteds) (ls : List Lexeme) → SpellAll ts ls → (s u : Symbol) (st : List Symbol) (ms : List Mark) → is_one s ≡ true → is_one u ≡ true → Runs (s ∷ u ∷ st) (marks ls ++ Close ∷ ms) → has_two ts ≡ true
+two_ones _ _ nothing s u st ms e f runs = no_close s (u ∷ st) ms e runs
+two_ones _ _ (one_more t ts ls ks a b) s u st ms e f runs =
+    second_one t ts ks b u st ms f (past_one t ls a s (u ∷ st) (marks ks ++ Close ∷ ms) e (subst (Runs (s ∷ u ∷ st)) (marks_more ls ks (Close ∷ ms)) runs))
+
+abbrev operand_wanted : Symbol
+operand_wanted = InGoal goal.FirstOperand
+
+abbrev value_wanted : Symbol
+value_wanted = InGoal goal.Value
+
+-- one more is wanted after the first operand, where that is a word
+pub record OneMore (new : List Symbol) : Type 0 where
+  pub wanted : Symbol
+  pub later : List Symbol
+  pub is_wanted : is_one wanted ≡ true
+  pub same : new ≡ wanted ∷ later
+
+operand_name : (b : Bool) (new : List Symbol) → where_it_is b (AnyName ∷ The Close ∷ []) ≡ Some new → OneMore new
+operand_name true new e = record { wanted = AnyName; later = The Close ∷ []; is_wanted = refl; same = cc }
+operand_name false new e = absurd (cc)
+
+operand_word : (m : Mark) (new : List Symbol) → (m ≡ Open → ⊥) → step operand_wanted m ≡ Some new → OneMore new
+operand_word Open new o e = absurd (o refl)
+operand_word Number new o e = record { wanted = value_wanted; later = The Close ∷ []; is_wanted = refl; same = cc }
+operand_word m new o e = operand_name (is_name m) new e
+
+two_operands : (ts : Nesteds) (ls : List Lexeme) → SpellAll ts ls → (st : List Symbol) (ms : List Mark) → Runs (operand_wanted ∷ st) (marks ls ++ Close ∷ ms) → has_two ts ≡ true
+two_operands _ _ nothing st ms runs =
+    let n = next operand_wanted st Close ms runs in
+    let leads = n.leads in absurd (cc)
+two_operands _ _ (one_more _ ts _ ks (plain l o c) b) st ms runs =
+    let n = next operand_wanted st l.mark (marks ks ++ Close ∷ ms) runs in
+    let one = operand_word l.mark n.new o n.leads in
+    second_one (word l) ts ks b one.wanted (one.later ++ st) ms one.is_wanted (subst (λ x. Runs (x ++ st) (marks ks ++ Close ∷ ms)) one.same n.runs)
+two_operands _ _ (one_more _ ts _ ks (between left right us js o c a) b) st ms runs =
+    let last = Close ∷ ms in
+    let all = subst (Runs (operand_wanted ∷ st)) (marks_more (left ∷ (js ++ right ∷ [])) ks last ∙ group_marks left right js (marks ks ++ last) o c) runs in
+    let n = next operand_wanted st Open (marks js ++ Close ∷ (marks ks ++ last)) all in
+    let same : n.new ≡ InGoal goal.ValueHead ∷ value_wanted ∷ The Close ∷ [] = let leads = n.leads in cc in
+    let room = n.room refl in
+    let now = subst (λ x. Runs (x ++ st) (marks js ++ Close ∷ (marks ks ++ last))) same n.runs in
+    let later = pass_all us js a (InGoal goal.ValueHead ∷ []) (value_wanted ∷ The Close ∷ st) (marks ks ++ last) refl (omega (arith, room)) now in
+    second_one (group us) ts ks b value_wanted (The Close ∷ st) ms refl later.1
+
+headed_name : (b : Bool) (names new : List Symbol) (related : Bool) → where_it_is b names ≡ Some new → (b || related) ≡ true
+headed_name true names new related e = refl
+headed_name false names new related e = absurd (cc)
+
+values_wanted : (st new : List Symbol) (ms : List Mark) → Some (value_wanted ∷ value_wanted ∷ The Close ∷ []) ≡ Some new → Runs (new ++ st) ms → Runs (value_wanted ∷ value_wanted ∷ The Close ∷ st) ms
+values_wanted st new ms e runs =
+    let same : new ≡ value_wanted ∷ value_wanted ∷ The Close ∷ [] = cc in
+    subst (λ x. Runs (x ++ st) ms) same runs
+
+operands_wanted : (st new : List Symbol) (ms : List Mark) → Some (operand_wanted ∷ []) ≡ Some new → Runs (new ++ st) ms → Runs (operand_wanted ∷ st) ms
+operands_wanted st new ms e runs =
+    let same : new ≡ operand_wanted ∷ [] = cc in
+    subst (λ x. Runs (x ++ st) ms) same runs
+
+-- what follows a head that is neither `and` nor `not`
+headed : (m : Mark) (ts : Nesteds) (ls : List Lexeme) → SpellAll ts ls → (st new : List Symbol) (ms : List Mark) → (m ≡ And → ⊥) → (m ≡ Not → ⊥) → step head_wanted m ≡ Some new → Runs (new ++ st) (marks ls ++ Close ∷ ms) → is_headed m ts ≡ true
+headed And ts ls a st new ms x y e runs = absurd (x refl)
+headed Not ts ls a st new ms x y e runs = absurd (y refl)
+headed Equal ts ls a st new ms x y e runs = two_operands ts ls a st ms (operands_wanted st new (marks ls ++ Close ∷ ms) e runs)
+headed Less ts ls a st new ms x y e runs = two_ones ts ls a value_wanted value_wanted (The Close ∷ st) ms refl refl (values_wanted st new (marks ls ++ Close ∷ ms) e runs)
+headed LessEqual ts ls a st new ms x y e runs = two_ones ts ls a value_wanted value_wanted (The Close ∷ st) ms refl refl (values_wanted st new (marks ls ++ Close ∷ ms) e runs)
+headed GreaterEqual ts ls a st new ms x y e runs = two_ones ts ls a value_wanted value_wanted (The Close ∷ st) ms refl refl (values_wanted st new (marks ls ++ Close ∷ ms) e runs)
+headed Greater ts ls a st new ms x y e runs = two_ones ts ls a value_wanted value_wanted (The Close ∷ st) ms refl refl (values_wanted st new (marks ls ++ Close ∷ ms) e runs)
+headed m ts ls a st new ms x y e runs = headed_name (is_goal_name m) (InGoal (goal.Names most_names) ∷ []) new (is_some (rel_of m) && has_two ts) e
+
 -- by the head
-form_by : (m : Mark) (ts : Nesteds) → (m ≡ And → are_formed ts ≡ true) → (m ≡ Not → begins_formed ts ≡ true) → (if is And m then are_formed ts else (if is Not m then begins_formed ts else true)) ≡ true
-form_by And ts f g = f refl
-form_by Not ts f g = g refl
-form_by _ ts f g = refl
+form_by : (m : Mark) (ts : Nesteds) → (m ≡ And → are_formed ts ≡ true) → (m ≡ Not → begins_formed ts ≡ true) → ((m ≡ And → ⊥) → (m ≡ Not → ⊥) → is_headed m ts ≡ true) → (if is And m then are_formed ts else (if is Not m then begins_formed ts else is_headed m ts)) ≡ true
+form_by And ts f g h = f refl
+form_by Not ts f g h = g refl
+form_by m ts f g h = h (λ e. cc) (λ e. cc)
 
 mutual
   pub formed_one : (t : Nested) (ls : List Lexeme) → Spells t ls → (st : List Symbol) (ms : List Mark) → Runs (condition_wanted ∷ st) (marks ls ++ ms) → is_formed t ≡ true
@@ -214,11 +304,15 @@ mutual
 
   formed_head : (ts : Nesteds) (ls : List Lexeme) → SpellAll ts ls → (st : List Symbol) (ms : List Mark) → Runs (head_wanted ∷ st) (marks ls ++ Close ∷ ms) → is_form ts ≡ true
   formed_head _ _ nothing st ms runs = refl
-  formed_head _ _ (one_more _ ts _ ks (between left right us js o c a) b) st ms runs = refl
+  formed_head _ _ (one_more _ ts _ ks (between left right us js o c a) b) st ms runs =
+      let last = Close ∷ ms in
+      let n = next head_wanted st Open (marks js ++ Close ∷ (marks ks ++ last)) (subst (Runs (head_wanted ∷ st)) (marks_more (left ∷ (js ++ right ∷ [])) ks last ∙ group_marks left right js (marks ks ++ last) o c) runs) in
+      let leads = n.leads in absurd (cc)
   formed_head _ _ (one_more _ ts _ ks (plain l o c) b) st ms runs =
       form_by l.mark ts
       (λ e. formed_all ts ks b st ms (after_and st (marks ks ++ Close ∷ ms) (subst (λ m. Runs (head_wanted ∷ st) (m ∷ (marks ks ++ Close ∷ ms))) e runs)))
       (λ e. formed_first ts ks b (The Close ∷ st) (Close ∷ ms) (after_not st (marks ks ++ Close ∷ ms) (subst (λ m. Runs (head_wanted ∷ st) (m ∷ (marks ks ++ Close ∷ ms))) e runs)))
+      (λ x y. let n = next head_wanted st l.mark (marks ks ++ Close ∷ ms) runs in headed l.mark ts ks b st n.new ms x y n.leads n.runs)
 
   formed_first : (ts : Nesteds) (ls : List Lexeme) → SpellAll ts ls → (st : List Symbol) (ms : List Mark) → Runs (condition_wanted ∷ st) (marks ls ++ ms) → begins_formed ts ≡ true
   formed_first _ _ nothing st ms runs = refl
@@ -263,6 +357,11 @@ after_name _ _ (one_more t ts ls ks a b) st few runs = record {
 
 script_cond : (n : ℕ) (t : Nested) → IsFine n (condition t) → n ≤ 64 → IsScriptCond (condition t)
 script_cond n t fine few = record { named = fine.0; shallow = omega (arith, few, fine.1) }
+
+-- the list that stands first is formed, if one does
+pub formed_goal : (ts : Nesteds) (ls : List Lexeme) → SpellAll ts ls → Runs (condition_wanted ∷ []) (marks ls) → begins_formed ts ≡ true
+formed_goal _ _ nothing runs = refl
+formed_goal _ _ (one_more t ts ls ks a b) runs = formed_one t ls a [] (marks ks) (begin ls ks (condition_wanted ∷ []) runs)
 
 -- the condition that stands first is one that a script may write
 pub script_goal : (ts : Nesteds) (ls : List Lexeme) → SpellAll ts ls → Runs (condition_wanted ∷ []) (marks ls) → IsScriptCond (first_condition ts)

@@ -1,5 +1,5 @@
 -- The condition that nested lists are: no variable stands in it, and it opens no more parentheses than they do.
-use Rattle.std.proofs.Common.{◌≡◌, ℕ, suc, ◌≤◌, Bool, true, false, ◌&&◌, if◌then◌else◌, Option, None, Some, List, [], ◌∷◌, map, refl, arith}
+use Rattle.std.proofs.Common.{◌≡◌, ℕ, suc, ◌≤◌, Bool, true, false, ◌&&◌, ◌||◌, if◌then◌else◌, is_some, Option, None, Some, List, [], ◌∷◌, map, refl, arith}
 use Rattle.std.specs.List.{list_all}
 use Rattle.std.proofs.lemmas.Bool.{and_parts}
 use Rattle.ps_world.specs.Trees.{cond_trees}
@@ -15,7 +15,8 @@ use Rattle.ps_world.specs.declared.conditions.Rel.TheVariants.{Eq}
 use Rattle.ps_world.specs.declared.conditions.Cond.{Cond}
 use Rattle.ps_world.specs.declared.conditions.Cond.TheVariants as cond
 use Rattle.ps_rules.specs.Sound.{are_ground_conds, are_named, cond_opens, conds_open, expr_opens, is_ground_cond, is_ground_expr, is_named}
-use Rattle.ps_shape.specs.Marks.{is}
+use Rattle.ps_shape.specs.Marks.{is, is_goal_name}
+use Rattle.ps_shape.specs.declared.marks.Mark.{Mark}
 use Rattle.ps_shape.specs.declared.marks.Mark.TheVariants.{Number, Minus, And, Not}
 use Rattle.ps_forms.specs.Nested.{Nested, Nesteds, word, group, none, more, rank, ranks}
 use Rattle.ps_forms.specs.Places.{rest, word_of}
@@ -104,8 +105,17 @@ plain_fine (more f (more a (more b ts))) =
     let n = ranks (more f (more a (more b ts))) in
     related_fine n (rel_of (word_of f).mark) a b _ (omega arith) (omega arith) (holds_fine n (more f (more a (more b ts))))
 
+-- two words or lists stand here at least
+abbrev pub has_two : Nesteds → Bool
+has_two (more a (more b ts)) = true
+has_two ts = false
+
+-- a fact has this head, which may stand there, or a comparison has this sign and two operands at least
+abbrev pub is_headed : Mark → Nesteds → Bool
+is_headed m ts = is_goal_name m || (is_some (rel_of m) && has_two ts)
+
 abbrev mutual
-  -- a list stands wherever a condition is looked for
+  -- a list stands wherever a condition is looked for, and each fact has a head that may stand there
   pub is_formed : Nested → Bool
   is_formed (word l) = false
   is_formed (group ts) = is_form ts
@@ -116,7 +126,7 @@ abbrev mutual
   is_form (more f ts) =
       if is And (word_of f).mark then are_formed ts
       else (if is Not (word_of f).mark then begins_formed ts
-      else true)
+      else is_headed (word_of f).mark ts)
 
   -- the same of the first of these
   pub begins_formed : Nesteds → Bool
@@ -129,10 +139,10 @@ abbrev mutual
   are_formed (more c cs) = is_formed c && are_formed cs
 
 -- where the head decides
-by_head : (n : ℕ) (a b p q : Bool) (x y z : Cond) → (p ≡ true → IsFine n x) → (q ≡ true → IsFine n y) → IsFine n z → (if a then p else (if b then q else true)) ≡ true → IsFine n (if a then x else (if b then y else z))
-by_head n true b p q x y z f g h e = f e
-by_head n false true p q x y z f g h e = g e
-by_head n false false p q x y z f g h e = h
+by_head : (n : ℕ) (a b p q r : Bool) (x y z : Cond) → (p ≡ true → IsFine n x) → (q ≡ true → IsFine n y) → IsFine n z → (if a then p else (if b then q else r)) ≡ true → IsFine n (if a then x else (if b then y else z))
+by_head n true b p q r x y z f g h e = f e
+by_head n false true p q r x y z f g h e = g e
+by_head n false false p q r x y z f g h e = h
 
 mutual
   pub condition_fine : (t : Nested) → is_formed t ≡ true → IsFine (rank t) (condition t)
@@ -142,7 +152,7 @@ mutual
   form_fine : (ts : Nesteds) → is_form ts ≡ true → IsFine (suc (ranks ts)) (form ts)
   form_fine none e = (refl, omega arith)
   form_fine (more f ts) e =
-      by_head (suc (ranks (more f ts))) (is And (word_of f).mark) (is Not (word_of f).mark) (are_formed ts) (begins_formed ts) _ _ _ (λ g. let fine = conditions_fine ts g in (fine.0, omega (arith, fine.1))) (λ g. let fine = negation_fine ts g in (fine.0, omega (arith, fine.1))) (plain_fine (more f ts)) e
+      by_head (suc (ranks (more f ts))) (is And (word_of f).mark) (is Not (word_of f).mark) (are_formed ts) (begins_formed ts) (is_headed (word_of f).mark ts) _ _ _ (λ g. let fine = conditions_fine ts g in (fine.0, omega (arith, fine.1))) (λ g. let fine = negation_fine ts g in (fine.0, omega (arith, fine.1))) (plain_fine (more f ts)) e
 
   negation_fine : (ts : Nesteds) → begins_formed ts ≡ true → IsFine (suc (ranks ts)) (negation ts)
   negation_fine none e = (refl, omega arith)

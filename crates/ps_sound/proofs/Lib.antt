@@ -1,7 +1,7 @@
 mod GoalMarks
 mod GoalSymbols
 mod GoalTexts
-mod GoalTrees
+pub mod GoalTrees
 pub mod ShortPlans
 pub mod SoundLines
 pub mod SoundMembers

@@ -1,5 +1,5 @@
 -- A line that is read is one that a script may have.
-use Rattle.std.proofs.Common.{◌≡◌, ℕ, List, [], ◌∷◌, sym, ◌∙◌, ap, subst, arith}
+use Rattle.std.proofs.Common.{◌≡◌, ℕ, true, List, [], ◌∷◌, sym, ◌∙◌, ap, subst, arith}
 use Rattle.ps_world.specs.Names.{Table}
 use Rattle.ps_machine.specs.declared.inputs.Command.{Command}
 use Rattle.ps_machine.specs.declared.inputs.Line.TheVariants.{Good}
@@ -26,7 +26,8 @@ use Rattle.ps_script.specs.declared.reading.Read.{Read}
 use Rattle.ps_script.specs.declared.reading.Read.TheVariants.{Line}
 use Rattle.ps_script.proofs.LineReads.{marks_same}
 use Rattle.ps_sound.proofs.GoalMarks.{Runs, runs_of}
-use Rattle.ps_sound.proofs.GoalTexts.{after_name, script_goal}
+use Rattle.ps_sound.proofs.GoalTexts.{after_name, formed_goal, script_goal}
+use Rattle.ps_sound.proofs.GoalTrees.{begins_formed}
 use Rattle.ps_sound.specs.Sound.{LinesAreSound}
 
 -- the marks of a line's words
@@ -43,12 +44,29 @@ goal_after_one ts ls ms spelt e derived flat =
     let now = after_name ts ls spelt goal_start (omega arith) (subst (λ x. Runs (AnyName ∷ goal_start) x) e runs) in
     script_goal (rest ts) now.words now.spelt now.runs
 
--- a goal after two words
-goal_after_two : (ts : Nesteds) (ls : List Lexeme) (ms : List Mark) → SpellAll ts ls → ms ≡ marks ls → Derives (start_of SetGoal) ms → IsShallowFrom (start_of SetGoal) ms → IsScriptCond (first_condition (rest (rest ts)))
-goal_after_two ts ls ms spelt e derived flat =
+-- what stands after two words where a goal is wanted
+pub record AfterTwo (ts : Nesteds) : Type 0 where
+  pub words : List Lexeme
+  pub spelt : SpellAll (rest (rest ts)) words
+  pub runs : Runs goal_start (marks words)
+
+after_two_words : (ts : Nesteds) (ls : List Lexeme) (ms : List Mark) → SpellAll ts ls → ms ≡ marks ls → Derives (start_of SetGoal) ms → IsShallowFrom (start_of SetGoal) ms → AfterTwo ts
+after_two_words ts ls ms spelt e derived flat =
     let runs = runs_of (start_of SetGoal) ms derived flat in
     let now = after_name ts ls spelt (AnyName ∷ goal_start) (omega arith) (subst (λ x. Runs (start_of SetGoal) x) e runs) in
     let next = after_name (rest ts) now.words now.spelt goal_start (omega arith) now.runs in
+    record { words = next.words; spelt = next.spelt; runs = next.runs }
+
+-- the list of a goal that is set is formed
+pub goal_formed : (ts : Nesteds) (ls : List Lexeme) (ms : List Mark) → SpellAll ts ls → ms ≡ marks ls → Derives (start_of SetGoal) ms → IsShallowFrom (start_of SetGoal) ms → begins_formed (rest (rest ts)) ≡ true
+goal_formed ts ls ms spelt e derived flat =
+    let next = after_two_words ts ls ms spelt e derived flat in
+    formed_goal (rest (rest ts)) next.words next.spelt next.runs
+
+-- a goal after two words
+goal_after_two : (ts : Nesteds) (ls : List Lexeme) (ms : List Mark) → SpellAll ts ls → ms ≡ marks ls → Derives (start_of SetGoal) ms → IsShallowFrom (start_of SetGoal) ms → IsScriptCond (first_condition (rest (rest ts)))
+goal_after_two ts ls ms spelt e derived flat =
+    let next = after_two_words ts ls ms spelt e derived flat in
     script_goal (rest (rest ts)) next.words next.spelt next.runs
 
 -- what a line that fits its form says is one that a script may have

@@ -5,7 +5,7 @@ use Rattle.clap.specs.Kinds.{IsAmong, Kinds}
 use Rattle.clap.specs.Walk.{Row}
 use Rattle.clap.specs.declared.error.kind.ErrorKind.{ErrorKind}
 use Rattle.clap.proofs.OnLiterals.{clap_on_literals}
-use Rattle.ps_words.specs.Words.{check_app, mode_app, session_app, unless_faulty, validate_app}
+use Rattle.ps_words.specs.Words.{check_app, mode_app, replay_app, session_app, unless_faulty, validate_app}
 use Rattle.ps_words.specs.declared.commands.Mode.{Mode}
 use Rattle.ps_words.specs.declared.commands.Mode.TheVariants as mode
 
@@ -36,7 +36,12 @@ pub validate_simple : is_simple_and_free validate_app ≡ true
 unfolding validate_app clap_on_literals
 validate_simple = refl
 
+pub replay_simple : is_simple_and_free replay_app ≡ true
+unfolding replay_app clap_on_literals
+replay_simple = refl
+
 pub mode_simple : (m : Mode) → is_simple_and_free (mode_app m) ≡ true
 mode_simple mode.Session = session_simple
 mode_simple mode.Check = check_simple
 mode_simple mode.Validate = validate_simple
+mode_simple mode.Replay = replay_simple

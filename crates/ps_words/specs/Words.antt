@@ -11,7 +11,8 @@ use Rattle.clap.specs.Walk.{Row, Rule, Text, all_of, first_of}
 use Rattle.clap.specs.declared.builder.action.ArgAction.TheVariants.{Append, Set, SetTrue}
 use Rattle.ps_world.specs.Lines.{same_text}
 use Rattle.ps_words.specs.declared.asked.Asked.{Asked}
-use Rattle.ps_words.specs.declared.asked.Asked.TheVariants.{Session, Check, Validate}
+use Rattle.ps_words.specs.declared.asked.Asked.TheVariants.{Session, Check, Validate, Replay}
+use Rattle.ps_words.specs.declared.asked.ReplaySettings.{ReplaySettings}
 use Rattle.ps_words.specs.declared.asked.Settings.{Settings}
 use Rattle.ps_words.specs.declared.commands.Mode.{Mode}
 use Rattle.ps_words.specs.declared.commands.Mode.TheVariants as mode
@@ -31,11 +32,22 @@ pub record SessionRequest : Type 0 where
   pub budget : ℕ
   pub ordered : Bool
 
+-- what a replay is to judge, and by what: its files, those of its members last, how many states a search may reach, and how often a run's
+-- plan may be made anew
+pub record ReplayRequest : Type 0 where
+  pub domain : Text
+  pub script : Text
+  pub journal : Text
+  pub members : List Text
+  pub budget : ℕ
+  pub replans : ℕ
+
 -- what the words ask for, with the names of files as they stand in the words
 pub data Request : Type 0 where
   a_session : SessionRequest → Request
   a_check : Text → Request
   a_validation : Text → Text → Text → Request
+  a_replay : ReplayRequest → Request
 
 -- the most workers
 abbrev pub most_workers : ℕ
@@ -45,11 +57,16 @@ most_workers = 16
 abbrev pub most_budget : ℕ
 most_budget = 200000
 
--- the numbers of a session are in their ranges
+-- how often a plan may be made anew in a run, at most
+abbrev pub most_replans : ℕ
+most_replans = 8
+
+-- the numbers of a session or a replay are in their ranges
 abbrev pub IsInRange : Request → Type 0
 IsInRange (a_session s) = (1 ≤ s.workers) × (s.workers ≤ most_workers) × (1 ≤ s.budget) × (s.budget ≤ most_budget)
 IsInRange (a_check domain) = Unit {0}
 IsInRange (a_validation domain script plan) = Unit {0}
+IsInRange (a_replay r) = (1 ≤ r.budget) × (r.budget ≤ most_budget) × (r.replans ≤ most_replans)
 
 -- what these settings of a session say
 abbrev pub settings_said : Settings → SessionRequest
@@ -62,11 +79,23 @@ settings_said s = record {
   ordered = s.ordered;
 }
 
+-- what these settings of a replay say
+abbrev pub replay_said : ReplaySettings → ReplayRequest
+replay_said s = record {
+  domain = s.domain.now;
+  script = s.script.now;
+  journal = s.journal.now;
+  members = map (λ t. t.now) s.members.items;
+  budget = s.budget;
+  replans = s.replans;
+}
+
 -- what a value of the program's type says
 abbrev pub said : Asked → Request
 said (Session settings) = a_session (settings_said settings)
 said (Check domain) = a_check domain.now
 said (Validate domain script plan) = a_validation domain.now script.now plan.now
+said (Replay settings) = a_replay (replay_said settings)
 
 -- ---- the form of the words after the mode
 
@@ -183,11 +212,18 @@ unfoldable pub validate_app : App
 validate_app = command_of (codes "validate") (
     option_rule (codes "domain") true ∷ option_rule (codes "script") true ∷ option_rule (codes "plan") true ∷ [])
 
+-- replay --domain F --script F --journal F, what may be set, and members
+unfoldable pub replay_app : App
+replay_app = command_of (codes "replay") (
+    option_rule (codes "domain") true ∷ option_rule (codes "script") true ∷ option_rule (codes "journal") true
+    ∷ option_rule (codes "budget") false ∷ option_rule (codes "replans") false ∷ words_rule (codes "members") ∷ [])
+
 -- the command of a mode
 abbrev pub mode_app : Mode → App
 mode_app mode.Session = session_app
 mode_app mode.Check = check_app
 mode_app mode.Validate = validate_app
+mode_app mode.Replay = replay_app
 
 -- what the words give for each option, where there is no fault in them
 abbrev pub unless_faulty : Kinds → List Row → Option (List Row)
@@ -249,9 +285,13 @@ workers_in rows = number_or 2 1 most_workers (first_of (codes "workers") rows)
 abbrev pub budget_in : List Row → Option ℕ
 budget_in rows = number_or 20000 1 most_budget (first_of (codes "budget") rows)
 
--- how often a plan may be made anew: there is no replanning yet, so the only number is 0
+-- how often a session may make a plan anew: there is no replanning yet, so the only number is 0
 abbrev pub replans_in : List Row → Option ℕ
 replans_in rows = number_or 0 0 0 (first_of (codes "replans") rows)
+
+-- how often a plan may be made anew in a run of a journal
+abbrev pub journal_replans_in : List Row → Option ℕ
+journal_replans_in rows = number_or 3 0 most_replans (first_of (codes "replans") rows)
 
 -- ---- what the words ask for
 
@@ -279,23 +319,42 @@ check_of rows = a_check (text_in (codes "domain") rows)
 abbrev pub validation_of : List Row → Request
 validation_of rows = a_validation (text_in (codes "domain") rows) (text_in (codes "script") rows) (text_in (codes "plan") rows)
 
+-- a replay with these numbers
+abbrev pub replay_with : List Row → ℕ → ℕ → Request
+replay_with rows budget replans = a_replay (record {
+  domain = text_in (codes "domain") rows;
+  script = text_in (codes "script") rows;
+  journal = text_in (codes "journal") rows;
+  members = words_in (codes "members") rows;
+  budget = budget;
+  replans = replans;
+})
+
+-- the replay that is asked for, where each number has its form and its range
+abbrev pub replay_of : List Row → Option Request
+replay_of rows = option_and_then (λ budget. option_map (λ replans. replay_with rows budget replans)
+    (journal_replans_in rows)) (budget_in rows)
+
 -- the mode of this name
 abbrev pub mode_of : Text → Option Mode
 mode_of word = if same_text word (codes "session") then Some mode.Session
     else (if same_text word (codes "check") then Some mode.Check
-    else (if same_text word (codes "validate") then Some mode.Validate else None))
+    else (if same_text word (codes "validate") then Some mode.Validate
+    else (if same_text word (codes "replay") then Some mode.Replay else None)))
 
 -- what the words ask for in a mode, by what they give for the options of its command
 abbrev pub asked_from : Mode → List Row → Option Request
 asked_from mode.Session rows = session_of rows
 asked_from mode.Check rows = Some (check_of rows)
 asked_from mode.Validate rows = Some (validation_of rows)
+asked_from mode.Replay rows = replay_of rows
 
 -- what the words ask for in a mode, where its command takes them
 abbrev pub asked_in : Mode → List Text → Option Request
 asked_in mode.Session words = option_and_then session_of (rows_read session_app words)
 asked_in mode.Check words = option_map check_of (rows_read check_app words)
 asked_in mode.Validate words = option_map validation_of (rows_read validate_app words)
+asked_in mode.Replay words = option_and_then replay_of (rows_read replay_app words)
 
 -- what the words ask for where their first is this mode, and these follow it
 abbrev pub asked_by : List Text → List Text → Option Mode → Option Request

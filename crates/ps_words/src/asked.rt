@@ -2,7 +2,7 @@
 ghost use Rattle.std.specs.Prelude.{◌≡◌, IfOk, IfSome, codes, map, option_map};
 ghost use Rattle.clap.specs.Matches.{found_of};
 ghost use Rattle.clap.specs.Walk.{rows_of};
-ghost use Rattle.ps_words.specs.Words.{word_texts, said, session_of, words_in, asked_from, asked_in, asked_of, IsInRange};
+ghost use Rattle.ps_words.specs.Words.{word_texts, said, session_of, replay_of, words_in, asked_from, asked_in, asked_of, IsInRange};
 
 use super::commands::{Mode, is_set, mode_command, mode_of, taken, text_of, value_of, words_of};
 use super::form::is_well_formed;
@@ -27,6 +27,23 @@ pub struct Settings<'a> {
     pub ordered: bool,
 }
 
+/// The settings of a replay.
+#[derive(Drop)]
+pub struct ReplaySettings<'a> {
+    /// The file of the domain.
+    pub domain: &'a str,
+    /// The file of the script.
+    pub script: &'a str,
+    /// The file of the journal.
+    pub journal: &'a str,
+    /// The files of the members.
+    pub members: Vec<&'a str>,
+    /// How many states a search for a plan may reach before it gives up: 1 to 200,000, usually 20,000.
+    pub budget: u32,
+    /// How often a plan may be made anew in a run: 0 to 8, usually 3.
+    pub replans: u32,
+}
+
 /// What the words ask for.
 #[derive(Drop)]
 pub enum Asked<'a> {
@@ -46,6 +63,8 @@ pub enum Asked<'a> {
         /// The file of the plan.
         plan: &'a str,
     },
+    /// To judge a journal.
+    Replay(ReplaySettings<'a>),
 }
 
 /// The session of these members that is asked for, where each number has its form and its range.
@@ -75,6 +94,32 @@ fn session_of<'a>(alloc: Global, matches: &ArgMatches<'a>) -> Result<Option<Aske
     Ok(session_with(matches, members))
 }
 
+/// The replay with these members that is asked for, where each number has its form and its range.
+fn replay_with<'a>(matches: &ArgMatches<'a>, members: Vec<&'a str>) -> Option<Asked<'a>>
+    requires { map (λ t. t.now) members.items
+        ≡ words_in (codes "members") (rows_of (found_of matches.now)) }
+    ensures { option_map said result ≡ replay_of (rows_of (found_of matches.now)) }
+{
+    let budget = number_or(value_of(matches, "budget"), 20_000, 1, 200_000)?;
+    let replans = number_or(value_of(matches, "replans"), 3, 0, 8)?;
+    Some(Asked::Replay(ReplaySettings {
+        domain: text_of(matches, "domain"),
+        script: text_of(matches, "script"),
+        journal: text_of(matches, "journal"),
+        members,
+        budget,
+        replans,
+    }))
+}
+
+/// The replay that is asked for, where each number has its form and its range.
+fn replay_of<'a>(alloc: Global, matches: &ArgMatches<'a>) -> Result<Option<Asked<'a>>, AllocError>
+    ensures { IfOk result (λ a. option_map said a ≡ replay_of (rows_of (found_of matches.now))) }
+{
+    let members = words_of(alloc, matches, "members")?;
+    Ok(replay_with(matches, members))
+}
+
 /// What the words ask for in a mode, by what they give for its command.
 fn asked_from<'a>(
     alloc: Global,
@@ -94,6 +139,7 @@ fn asked_from<'a>(
             script: text_of(matches, "script"),
             plan: text_of(matches, "plan"),
         })),
+        Mode::Replay => replay_of(alloc, matches),
     }
 }
 
@@ -116,8 +162,8 @@ fn asked_in<'a>(
 /// memory, which may come of words that aren't in the grammar, too.
 ///
 /// The first word is the mode, and options follow it, each at most once, as `--name value` or `--name=value`, or as `--ordered`
-/// alone. A value isn't empty and doesn't begin with `-`. A number has 1 to 9 decimal digits. Last come a session's members, each
-/// a file; after the first of them no option stands.
+/// alone. A value isn't empty and doesn't begin with `-`. A number has 1 to 9 decimal digits. Last come the members of a session or
+/// a replay, each a file; after the first of them no option stands.
 pub fn read_words<'a>(alloc: Global, words: &'a [String]) -> Result<Option<Asked<'a>>, AllocError>
     ensures asked { IfOk result (λ a. option_map said a ≡ asked_of (word_texts words.now)) }
     ensures ranges { IfOk result (λ a. IfSome (option_map said a) IsInRange) }

@@ -4,7 +4,7 @@ ghost use Rattle.clap.specs.Faults.{is_simple_and_free};
 ghost use Rattle.clap.specs.Matches.{found_of};
 ghost use Rattle.clap.specs.Simple.{App, app_of, with_rule};
 ghost use Rattle.clap.specs.Walk.{first_of, rows_of};
-ghost use Rattle.ps_words.specs.Words.{word_texts, command_of, option_rule, flag_rule, words_rule, session_app, check_app, validate_app, mode_app, rows_read, text_in, words_in, is_set_in, mode_of};
+ghost use Rattle.ps_words.specs.Words.{word_texts, command_of, option_rule, flag_rule, words_rule, session_app, check_app, validate_app, replay_app, mode_app, rows_read, text_in, words_in, is_set_in, mode_of};
 
 use clap::error::ErrorKind;
 use clap::{Arg, ArgAction, ArgMatches, Command};
@@ -19,6 +19,8 @@ pub enum Mode {
     Check,
     /// Judge a plan.
     Validate,
+    /// Judge a journal.
+    Replay,
 }
 
 /// The mode of this name.
@@ -29,6 +31,7 @@ pub fn mode_of(word: &str) -> Option<Mode>
         "session" => Some(Mode::Session),
         "check" => Some(Mode::Check),
         "validate" => Some(Mode::Validate),
+        "replay" => Some(Mode::Replay),
         _ => None,
     }
 }
@@ -120,6 +123,19 @@ fn validate_command<'a>(alloc: Global) -> Result<Command<'a>, AllocError>
     with_option(alloc, command, "plan", true)
 }
 
+/// The command of a replay.
+fn replay_command<'a>(alloc: Global) -> Result<Command<'a>, AllocError>
+    ensures { IfOk result (λ c. app_of c ≡ replay_app) }
+{
+    let command = Ok(bare_command(alloc, "replay"));
+    let command = with_option(alloc, command, "domain", true);
+    let command = with_option(alloc, command, "script", true);
+    let command = with_option(alloc, command, "journal", true);
+    let command = with_option(alloc, command, "budget", false);
+    let command = with_option(alloc, command, "replans", false);
+    with_words(alloc, command, "members")
+}
+
 /// The command of a mode.
 pub fn mode_command<'a>(alloc: Global, mode: Mode) -> Result<Command<'a>, AllocError>
     ensures { IfOk result (λ c. app_of c ≡ mode_app mode) }
@@ -128,6 +144,7 @@ pub fn mode_command<'a>(alloc: Global, mode: Mode) -> Result<Command<'a>, AllocE
         Mode::Session => session_command(alloc),
         Mode::Check => check_command(alloc),
         Mode::Validate => validate_command(alloc),
+        Mode::Replay => replay_command(alloc),
     }
 }
 

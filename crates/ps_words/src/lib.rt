@@ -7,5 +7,5 @@ mod form;
 mod numbers;
 mod usage;
 
-pub use asked::{Asked, Settings, read_words};
+pub use asked::{Asked, ReplaySettings, Settings, read_words};
 pub use usage::{USAGE, VERSION};

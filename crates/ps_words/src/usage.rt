@@ -18,6 +18,11 @@ plansys validate --domain FILE --script FILE --plan FILE
     Does the edits of a script over a domain, and says whether the plan reaches the goal that they set: `valid`, or what is
     wrong with it.
     plansys validate --domain samples/rooms/domain.pddl --script samples/rooms/goal --plan samples/rooms/plan
+plansys replay --domain FILE --script FILE --journal FILE [--budget N] [--replans N] [MEMBER ..]
+    Says whether a journal is one that a session of this domain, script and members may write: `legal`, or the line at which it isn't.
+    --budget N    how many states a search for a plan may reach before it gives up, from 1 to 200000; 20000 if it isn't given
+    --replans N   how often a run's plan may be made anew, from 0 to 8; 3 if it isn't given
+    plansys replay --domain samples/rooms/domain.pddl --script samples/rooms/run --journal samples/rooms/journal samples/rooms/asker samples/rooms/charger samples/rooms/mover
 plansys --help
 plansys --version
 An option stands once, as `--name value` or `--name=value`, after the mode and before the members. A value isn't empty and doesn't begin

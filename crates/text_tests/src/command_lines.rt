@@ -1,6 +1,6 @@
 //! Command lines, and what they ask for: the grammar of the words agrees with the one that `clap` parses.
 use super::tables::assert_told;
-use ps_words::{Asked, Settings, read_words};
+use ps_words::{Asked, ReplaySettings, Settings, read_words};
 use std::alloc::{AllocError, Global};
 use std::test::Fail;
 
@@ -108,6 +108,31 @@ checks --domain d -> none
 help -> none
  -> none";
 
+/// Command lines of replays, and the domain, the script, the journal, the budget, how often a run may be planned anew, and the members.
+const REPLAYS: &str = "\
+replay --domain d --script s --journal j -> replay d s j 20000 3
+replay --journal=j --script=s --domain=d -> replay d s j 20000 3
+replay --replans 0 --journal j --budget=7 --domain d --script s a b -> replay d s j 7 0 a b
+replay --domain d --script s --journal j --replans 8 -> replay d s j 20000 8
+replay --domain d --script s --journal j --replans 9 -> none
+replay --domain d --script s --journal j --replans -1 -> none
+replay --domain d --script s --journal j --budget 0 -> none
+replay --domain d --script s --journal j --budget 200000 -> replay d s j 200000 3
+replay --domain d --script s --journal j --budget 200001 -> none
+replay --domain d --script s -> none
+replay --domain d --journal j -> none
+replay --script s --journal j -> none
+replay --domain d --script s --plan p -> none
+replay --domain d --script s --journal j --plan p -> none
+replay --domain d --script s --journal j --journal k -> none
+replay --domain d --script s --journal j --workers 2 -> none
+replay --domain d --script s --journal j --ordered -> none
+replay --domain d --script s --journal j a --replans 0 -> none
+replay --domain d --script s --journal j -- a -> none
+replay j --domain d --script s -> none
+Replay --domain d --script s --journal j -> none
+session --domain d --script s --journal j -> none";
+
 /// The words of a line, which one space parts.
 fn words(alloc: Global, line: &str) -> Result<Vec<String>, AllocError> {
     let mut all = Vec::new(alloc);
@@ -128,6 +153,7 @@ fn told_of_asked(alloc: Global, asked: Option<Asked<'_>>) -> Result<String, Allo
                 plan,
             },
         ) => { format!(in alloc; "validate {domain} {script} {plan}") }
+        Some(Asked::Replay(settings)) => told_of_replay(alloc, settings),
         None => String::from_str(alloc, "none"),
     }
 }
@@ -148,6 +174,22 @@ fn told_of_session(alloc: Global, settings: Settings<'_>) -> Result<String, Allo
     Ok(told)
 }
 
+fn told_of_replay(alloc: Global, settings: ReplaySettings<'_>) -> Result<String, AllocError> {
+    let ReplaySettings {
+        domain,
+        script,
+        journal,
+        members,
+        budget,
+        replans,
+    } = settings;
+    let mut told = format!(in alloc; "replay {domain} {script} {journal} {budget} {replans}")?;
+    for member in &members {
+        write!(told, " {member}")?;
+    }
+    Ok(told)
+}
+
 fn told(alloc: Global, line: &str) -> Result<String, AllocError> {
     let words = words(alloc, line)?;
     told_of_asked(alloc, read_words(alloc, &words)?)
@@ -156,5 +198,6 @@ fn told(alloc: Global, line: &str) -> Result<String, AllocError> {
 #[test]
 fn command_lines_are_read(rt: HostRuntime) -> Result<(), Fail> {
     assert_told(&rt, rt.alloc(), SESSIONS, told)?;
+    assert_told(&rt, rt.alloc(), REPLAYS, told)?;
     assert_told(&rt, rt.alloc(), OTHERS, told)
 }

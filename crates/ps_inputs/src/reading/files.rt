@@ -1,5 +1,7 @@
 //! The texts of files.
+ghost use Rattle.std.specs.Prelude.{◌≤◌, length, IfOk};
 ghost use Rattle.ps_inputs.specs.Parts.{ReadsText};
+ghost use Rattle.ps_inputs.specs.Reading.{longest_file};
 
 use crate::faults::Fault;
 use ps_text::{FileRefusal, Files};
@@ -15,7 +17,8 @@ pub fn read_text<F: Files>(
     file: &str,
     files: &mut F,
 ) -> Result<Vec<u8>, Failure<Fault>>
-    ensures { ReadsText file.now (F.shown files.old) (F.shown files.new) result }
+    ensures reads { ReadsText file.now (F.shown files.old) (F.shown files.new) result }
+    ensures short { IfOk result (λ text. length text.items ≤ longest_file) }
 {
     let name = Vec::from_slice(alloc, file.as_bytes())?;
     match files.read(alloc, file) {

@@ -16,15 +16,15 @@ returns-in_err-plan g c =
     let p = err_from_is_err_and c.from_residual-in_err-plan.result c.from_residual-in_err-plan.ensures.1 in
     rw (p.1, p.2)
     (validation_unplanned c.args.domain.now c.args.script.now c.args.plan.now (g.F.Files.shown c.args.files.now) (g.F.Files.shown c.read_input.new.files) (g.F.Files.shown c.read_text.new.files) c.in_ok-read.read c.in_ok-read.ensures
-    c.in_err-plan.field-0.0 c.in_err-plan.ensures)
+    c.in_err-plan.field-0.0 c.in_err-plan.ensures.reads)
 
 pub returns-in-Ok : goal.returns-in-Ok
 returns-in-Ok g c =
     validation_good c.args.domain.now c.args.script.now c.args.plan.now (g.F.Files.shown c.args.files.now) (g.F.Files.shown c.read_input.new.files) (g.F.Files.shown c.read_text.new.files) c.in_ok-read.read c.in_ok-read.ensures
-    c.in_ok-plan.plan c.in_ok-plan.ensures c.in-Ok.field-0 _ refl refl refl (subst (Judges c.in_ok-read.read 0) c.in-Ok.is c.judge.ensures)
+    c.in_ok-plan.plan c.in_ok-plan.ensures.reads c.in-Ok.field-0 _ refl refl refl (subst (Judges c.in_ok-read.read 0 0) c.in-Ok.is c.judge.ensures)
 
 pub returns-in-Err-Refused : goal.returns-in-Err-Refused
 returns-in-Err-Refused g c =
     let l : c.judge.result ≡ Err (Refused c.in-Err-Refused.fault) = cc in
     validation_bad c.args.domain.now c.args.script.now c.args.plan.now (g.F.Files.shown c.args.files.now) (g.F.Files.shown c.read_input.new.files) (g.F.Files.shown c.read_text.new.files) c.in_ok-read.read c.in_ok-read.ensures
-    c.in_ok-plan.plan c.in_ok-plan.ensures c.in-Err-Refused.fault (subst (Judges c.in_ok-read.read 0) l c.judge.ensures)
+    c.in_ok-plan.plan c.in_ok-plan.ensures.reads c.in-Err-Refused.fault (subst (Judges c.in_ok-read.read 0 0) l c.judge.ensures)

@@ -1,4 +1,4 @@
-use Rattle.std.proofs.Common.{◌≡◌, ◌∙◌, List, Option, ℕ, [], ap, map, option_map, sym, unwrap_or}
+use Rattle.std.proofs.Common.{◌≡◌, ◌∙◌, List, Option, [], ap, map, option_map, sym, unwrap_or}
 use Rattle.std.proofs.lemmas.Result.{IfOk-weaker}
 use Rattle.std.specs.Borrow.{Bor}
 use Rattle.clap.specs.Matches.{found_of}

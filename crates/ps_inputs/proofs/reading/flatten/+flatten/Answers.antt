@@ -12,12 +12,12 @@ open-returns-then-levels-eq0 g t c =
 pub open-returns-in_err-text : goal.open-returns-in_err-text
 open-returns-in_err-text g t c =
     let p = err_from_is_err_and c.from_residual.result c.from_residual.ensures.1 in
-    rw (p.1, p.2) (opens_nothing c.args.plans c.args.levels c.args.file.now (g.F.Files.shown c.args.files.now) (g.F.Files.shown c.read_text.new.files) c.args.script.now c.args.script.now (c.args.levels - 1) c.in_err-text.field-0.0 (omega arith) c.in_err-text.ensures)
+    rw (p.1, p.2) (opens_nothing c.args.plans c.args.levels c.args.file.now (g.F.Files.shown c.args.files.now) (g.F.Files.shown c.read_text.new.files) c.args.script.now c.args.script.now (c.args.levels - 1) c.in_err-text.field-0.0 (omega arith) c.in_err-text.ensures.reads)
 
 pub open-returns : goal.open-returns
 open-returns g t c =
     opens_file c.args.plans c.args.levels c.args.file.now (g.F.Files.shown c.args.files.now) c.args.script.now c.walk.new.script c.walk.result (c.args.levels - 1) (g.F.Files.shown c.read_text.new.files) (g.F.Files.shown c.walk.new.files) c.in_ok-text.text c.as_slice.result.now
-    (omega arith) c.as_slice.ensures.value c.in_ok-text.ensures c.walk.ensures
+    (omega arith) c.as_slice.ensures.value c.in_ok-text.ensures.reads c.walk.ensures
 
 pub take-returns-in-Nothing : goal.take-returns-in-Nothing
 take-returns-in-Nothing g t c =
