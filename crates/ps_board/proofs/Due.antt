@@ -15,6 +15,8 @@ use Rattle.ps_ledger.specs.declared.ledger.Ledger.{Ledger}
 use Rattle.ps_ledger.specs.Ledger.{TellsAll}
 use Rattle.ps_ledger.specs.Legal.{HasMembersOf}
 use Rattle.ps_rules.specs.Sound.{IsSound}
+use Rattle.ps_action.specs.Arcs.{arcs_of}
+use Rattle.ps_rows.specs.Present as rows
 use Rattle.ps_monitor.specs.declared.acts.Acts.{Acts}
 use Rattle.ps_monitor.specs.Watched.{broken, is_false, marked, others, watched}
 use Rattle.ps_board.specs.declared.whole.Core.{Core}
@@ -25,7 +27,7 @@ use Rattle.ps_board.proofs.Forced.{block-told, broken-told, IsAt, others-told, W
 abbrev pub after : Core → ℕ → Event → List Entry
 after c hand e = c.entries.items ++ record { hand = hand; what = e } ∷ []
 
-plan-after : (c : Core) (hand : ℕ) (e : Event) → plan (after c hand e) ≡ unwrap_or (says_plan e) (plan c.entries.items)
+pub plan-after : (c : Core) (hand : ℕ) (e : Event) → plan (after c hand e) ≡ unwrap_or (says_plan e) (plan c.entries.items)
 plan-after c hand e = read-push (λ a f. unwrap_or (says_plan f) a) [] c.entries.items (record { hand = hand; what = e })
 
 state-after : (c : Core) (hand : ℕ) (e : Event) (act : ℕ) → state act (after c hand e) ≡ unwrap_or (says_state act e) (state act c.entries.items)
@@ -33,16 +35,16 @@ state-after c hand e act = read-push (λ a f. unwrap_or (says_state act f) a) Wa
 
 pub due-at : (c : Core) (hand : ℕ) (e : Event) → IsDue c hand e → IsAt c.input (after c hand e) c.present.expert c.present.problem c.present.grounds.items
 due-at c hand e d = record {
-  domain = d.domain;
-  known = d.known ∙ sym (know-push c.input c.entries.items (record { hand = hand; what = e }));
-  acts = d.acts ∙ ap (grounds c.input.domain) (sym (plan-after c hand e));
+  domain = d.kept.domain;
+  known = d.kept.known ∙ sym (know-push c.input c.entries.items (record { hand = hand; what = e }));
+  acts = d.kept.grounds ∙ ap (grounds c.input.domain) (sym (plan-after c hand e));
 }
 
 pub due-watches : (c : Core) (hand : ℕ) (e : Event) → IsDue c hand e → Watches c.monitor c.present.grounds.items (after c hand e)
 due-watches c hand e d = λ act. d.watching act ∙ ap (watch_for c.present.grounds.items act) (sym (state-after c hand e act))
 
 pub due-few : (c : Core) (hand : ℕ) (e : Event) → IsDue c hand e → length (plan (after c hand e)) ≤ 256
-due-few c hand e d = subst (λ acts. length acts ≤ 256) (sym (plan-after c hand e)) d.few
+due-few c hand e d = subst (λ acts. length acts ≤ 256) (sym (plan-after c hand e)) d.kept.few
 
 -- the broken acts that were found are those
 pub due-broken : (c : Core) (hand : ℕ) (e : Event) (b : Ledger) (brk : Acts) → IsDue c hand e → TellsAll (after c hand e) b
@@ -72,30 +74,37 @@ due-stopped c hand e b n brk oth stp fails any d t each rest stopped fail some s
 pub due-watching : (c : Core) (hand : ℕ) (e : Event) (b : Ledger) → IsDue c hand e → TellsAll (after c hand e) b → IsWatching c.monitor b c.present.grounds.items
 due-watching c hand e b d t = λ act. due-watches c hand e d act ∙ ap (watch_for c.present.grounds.items act) (t.acts.states act)
 
--- what stands after the block
+-- what stands after the block, where all but the entries, the ledger and the watches is as it was
 pub stands-after : (c new : Core) (hand : ℕ) (e : Event) → IsDue c hand e
-    → new.input ≡ c.input → new.present.expert ≡ c.present.expert → new.present.problem ≡ c.present.problem → new.present.grounds.items ≡ c.present.grounds.items
+    → new.input ≡ c.input → new.present ≡ record c.present { ledger = new.present.ledger }
     → new.entries.items ≡ with_block c.input hand c.entries.items e
     → TellsAll new.entries.items new.present.ledger
     → IsWatching new.monitor new.present.ledger c.present.grounds.items
     → HasMembersOf c.input new.present.ledger
     → Stands new
-stands-after c new hand e d input expert problem acts entries told watching members =
+stands-after c new hand e d input present entries told watching members =
     let x : Entry = record { hand = hand; what = e } in
     let planned : plan (with_block c.input hand c.entries.items e) ≡ unwrap_or (says_plan e) (plan c.entries.items) =
     read-block (λ a f. unwrap_or (says_plan f) a) [] c.input c.entries.items x (λ a act why. refl) in
     let plans : plan new.entries.items ≡ unwrap_or (says_plan e) (plan c.entries.items) = ap plan entries ∙ planned in
     let history : IsHistory c.input (with_block c.input hand c.entries.items e) = block c.entries.items x d.history d.legal d.by in
+    let acts : new.present.grounds.items ≡ c.present.grounds.items = ap (λ p. p.grounds.items) present in
+    let stood : rows.Stands c.input new.entries.items new.present = record {
+      domain = ap (λ p. p.expert) present ∙ d.kept.domain;
+      due = ap (λ p. p.due) present ∙ d.kept.due;
+      known = ap (λ p. p.problem) present ∙ d.kept.known ∙ sym (know-block c.input c.entries.items x) ∙ ap (know c.input) (sym entries);
+      members = members;
+      told = told;
+      few = subst (λ xs. length xs ≤ 256) (sym plans) d.kept.few;
+      grounds = acts ∙ d.kept.grounds ∙ ap (grounds c.input.domain) (sym plans);
+      arcs = ap (λ p. p.arcs.pairs) present ∙ d.kept.arcs ∙ ap arcs_of (sym acts);
+      acts = ap (λ p. p.arcs.acts) present ∙ d.kept.acts ∙ ap length (sym plans);
+    } in
     record {
       sound = subst IsSound (sym input) d.sound;
-      members = subst (λ i. HasMembersOf i new.present.ledger) (sym input) members;
-      domain = expert ∙ d.domain ∙ ap (λ i. i.domain) (sym input);
       history = subst (λ i. IsHistory i new.entries.items) (sym input) (subst (IsHistory c.input) (sym entries) history);
-      told = told;
-      known = problem ∙ d.known ∙ sym (know-block c.input c.entries.items x) ∙ ap (know c.input) (sym entries) ∙ ap (λ i. know i new.entries.items) (sym input);
-      acts = acts ∙ d.acts ∙ ap (grounds c.input.domain) (sym plans) ∙ ap (λ i. grounds i.domain (plan new.entries.items)) (sym input);
+      kept = subst (λ i. rows.Stands i new.entries.items new.present) (sym input) stood;
       watching = subst (IsWatching new.monitor new.present.ledger) (sym acts) watching;
-      few = subst (λ xs. length xs ≤ 256) (sym plans) d.few;
       all = ap length acts ∙ d.all ∙ ap length (sym plans);
     }
 

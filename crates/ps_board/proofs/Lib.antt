@@ -1,6 +1,9 @@
+pub mod Answering
 pub mod Due
 pub mod Forced
 pub mod Going
+pub mod Lengths
 pub mod Observing
 pub mod Quiet
-pub mod Starting
+pub mod Ready
+pub mod Watches

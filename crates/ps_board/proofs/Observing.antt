@@ -1,5 +1,5 @@
 -- What an observer does in its turn is legal.
-use Rattle.std.proofs.Common.{◌≡◌, ℕ, ◌&&◌, ◌==◌, nat_le, true, false, if◌then◌else◌, Option, Some, None, option_and_then, is_ok, Result, Ok, Err, IsTrue, List, slice_get, refl, ap, sym, ◌∙◌}
+use Rattle.std.proofs.Common.{◌≡◌, ℕ, ◌&&◌, ◌==◌, nat_le, true, false, if◌then◌else◌, Option, Some, None, option_and_then, is_ok, Result, Ok, Err, IsTrue, List, refl, ap, ◌∙◌}
 use Rattle.ps_world.specs.Knowledge.{edited}
 use Rattle.ps_world.specs.declared.names.Name.{Name}
 use Rattle.ps_world.specs.declared.known.Knowledge.{Knowledge}
@@ -13,16 +13,12 @@ use Rattle.ps_machine.specs.declared.journal.Entry.{Entry}
 use Rattle.ps_rules.specs.Runs.{is_running}
 use Rattle.ps_rules.specs.Known.{know}
 use Rattle.ps_rules.specs.Lines.{answers_line, edit_refusal}
-use Rattle.ps_world.specs.declared.conditions.Cond.{Cond}
-use Rattle.ps_machine.specs.declared.members.Observer.{Observer}
-use Rattle.ps_rules.specs.Members.{edit_where, next_seen, observed, seen_by}
+use Rattle.ps_rules.specs.Members.{next_seen}
 use Rattle.ps_rules.specs.Legal.{fits, has_hand, is_cause, is_edit, is_legal}
 use Rattle.ps_rules.specs.Choices.{edit_event, outcome_of}
 use Rattle.ps_rules.proofs.Choosing.{legal-live}
 use Rattle.ps_rules.proofs.SameThings.{same_cause-decides, same_edit-itself}
 use Rattle.ps_ledger.proofs.Speaking.{ands}
-use Rattle.ps_board.specs.declared.whole.Core.{Core}
-use Rattle.ps_board.specs.Core.{Stands}
 
 own-outcome : (o : Name) (edit : Edit) (why : Option Refusal) → answers_line (outcome_of (by.Observer o) edit why) ≡ false
 own-outcome o edit None = refl
@@ -49,20 +45,3 @@ pub observer-hand : (i : Input) (es : List Entry) (o : Name) (edit : Edit) (hand
     → IsTrue (has_hand (edit_event i es (by.Observer o) edit) hand)
 observer-hand i es o edit hand h =
     ap (λ b. if b then hand == 0 else (nat_le 1 hand && nat_le hand 16)) (own-outcome o edit (edit_refusal (edited i.domain (know i es) edit))) ∙ h
-
--- ---- the unit of an observer
-
-seen-at : (c : Core) (o : Observer) (units : List (Option Cond × Edit)) (n : ℕ) (item : Option (Option Cond × Edit)) → Stands c → units ≡ o.units
-    → n ≡ observed o.name c.entries.items → slice_get units n ≡ item → option_and_then (edit_where c.present.expert c.present.problem) item ≡ seen_by c.input o c.entries.items
-seen-at c o units n item s all count is =
-    ap (option_and_then (edit_where c.present.expert c.present.problem)) (sym is ∙ ap (λ us. slice_get us n) all ∙ ap (slice_get o.units) count)
-    ∙ ap (λ d. option_and_then (edit_where d c.present.problem) (slice_get o.units (observed o.name c.entries.items))) s.domain
-    ∙ ap (λ k. option_and_then (edit_where c.input.domain k) (slice_get o.units (observed o.name c.entries.items))) s.known
-
-pub seen-some : (c : Core) (o : Observer) (units : List (Option Cond × Edit)) (n : ℕ) (item : Option Cond × Edit) → Stands c → units ≡ o.units
-    → n ≡ observed o.name c.entries.items → slice_get units n ≡ Some item → edit_where c.present.expert c.present.problem item ≡ seen_by c.input o c.entries.items
-seen-some c o units n item s all count is = seen-at c o units n (Some item) s all count is
-
-pub seen-none : (c : Core) (o : Observer) (units : List (Option Cond × Edit)) (n : ℕ) → Stands c → units ≡ o.units
-    → n ≡ observed o.name c.entries.items → slice_get units n ≡ None → None ≡ seen_by c.input o c.entries.items
-seen-none c o units n s all count is = seen-at c o units n None s all count is

@@ -1,7 +1,6 @@
 -- Events that leave what is known, the plan and the states of its acts: their blocks have one entry.
-use Rattle.std.proofs.Common.{◌≡◌, ℕ, ◌+◌, ◌≤◌, ◌<◌, ◌||◌, ◌&&◌, not, Bool, true, false, None, IsTrue, if◌then◌else◌, List, [], ◌∷◌, ◌++◌, length, map, refl, ap, sym, subst, length-append, ◌∙◌}
+use Rattle.std.proofs.Common.{◌≡◌, ℕ, ◌||◌, ◌&&◌, not, Bool, true, false, None, if◌then◌else◌, List, [], ◌∷◌, ◌++◌, length, map, refl, ap, ◌∙◌}
 use Rattle.std.specs.Option.{unwrap_or}
-use Rattle.std.specs.Vec.{vec_capacity}
 use Rattle.ps_machine.specs.declared.inputs.Input.{Input}
 use Rattle.ps_machine.specs.declared.journal.Event.{Event}
 use Rattle.ps_machine.specs.declared.journal.Event.TheVariants as event
@@ -10,22 +9,18 @@ use Rattle.ps_machine.specs.declared.journal.CancelWhy.TheVariants as cancel
 use Rattle.ps_action.specs.declared.states.ActState.{ActState}
 use Rattle.ps_action.specs.declared.states.ActState.TheVariants.{Waiting, Active, Done, Failed, Cancelled}
 use Rattle.ps_rules.specs.Runs.{is_active, plan, says_plan, says_state, state}
-use Rattle.ps_rules.specs.Known.{grounds, know}
+use Rattle.ps_rules.specs.Known.{know}
 use Rattle.ps_rules.specs.Settled.{may_go_on}
 use Rattle.ps_rules.specs.Laws.{is_change}
-use Rattle.ps_rules.specs.Legal.{has_hand, is_legal}
 use Rattle.ps_rules.specs.History.{any_of, broken, cancels, IsHistory, is_fail, sound}
 use Rattle.ps_rules.specs.Choices.{with_block}
 use Rattle.ps_rules.proofs.Going.{active_acts_may_go_on}
 use Rattle.ps_rules.proofs.Pushed.{know-push, known_after-other, read-push}
-use Rattle.ps_ledger.specs.Ledger.{HasRoom, HasSameMembers, TellsAll}
+use Rattle.ps_ledger.specs.Ledger.{HasSameMembers}
 use Rattle.ps_ledger.specs.Legal.{HasMembersOf}
 use Rattle.ps_ledger.specs.declared.ledger.Ledger.{Ledger}
-use Rattle.ps_rules.specs.Sound.{IsSound}
-use Rattle.ps_monitor.specs.Watched.{watched}
 use Rattle.ps_monitor.proofs.Lists.{filter-none}
-use Rattle.ps_board.specs.declared.whole.Core.{Core}
-use Rattle.ps_board.specs.Core.{is_quiet, IsDue, Stands, state_in, watch_for}
+use Rattle.ps_board.specs.Core.{is_quiet}
 
 quiet-plan : (e : Event) → is_quiet e ≡ true → says_plan e ≡ None
 quiet-plan (event.Run for acts) h = absurd (cc)
@@ -74,45 +69,6 @@ quiet-block i es hand e h q =
     ap (λ xs. es ++ x ∷ (map (cancels hand cancel.OverAll) xs ++ (if is_fail e || any_of xs then map (cancels hand cancel.Stop) (sound i (es ++ x ∷ [])) else []))) (none-broken i es x h q)
     ∙ ap (λ b. es ++ x ∷ (if b || false then map (cancels hand cancel.Stop) (sound i (es ++ x ∷ [])) else [])) (quiet-fail e q)
 
--- so all that has to hold is as it was
-pub quiet-due : (c : Core) (hand : ℕ) (e : Event) → Stands c → is_quiet e ≡ true → IsTrue (is_legal c.input c.entries.items e) → IsTrue (has_hand e hand)
-    → HasRoom e c.present.ledger → length c.entries.items < 18446744073709551615 → length c.entries.items + 1 ≤ vec_capacity c.entries → IsDue c hand e
-quiet-due c hand e s q legal by room short space = record {
-  sound = s.sound;
-  members = s.members;
-  domain = s.domain;
-  history = s.history;
-  told = s.told;
-  known = s.known ∙ sym (known_after-other c.input.domain (plan c.entries.items) (know c.input c.entries.items) e (quiet-change e q));
-  acts = s.acts ∙ ap (λ o. grounds c.input.domain (unwrap_or o (plan c.entries.items))) (sym (quiet-plan e q));
-  watching = λ act. s.watching act ∙ ap (watch_for c.present.grounds.items act) (sym (s.told.acts.states act) ∙ ap (λ o. unwrap_or o (state act c.entries.items)) (sym (quiet-state act e q)));
-  few = subst (λ o. length (unwrap_or o (plan c.entries.items)) ≤ 256) (sym (quiet-plan e q)) s.few;
-  all = s.all ∙ ap (λ o. length (unwrap_or o (plan c.entries.items))) (sym (quiet-plan e q));
-  legal = legal;
-  by = by;
-  room = room;
-  short = short;
-  space = subst (λ n. n ≤ vec_capacity c.entries) (sym (ap length (quiet-block c.input c.entries.items hand e s.history q) ∙ length-append c.entries.items (record { hand = hand; what = e } ∷ []))) space;
-}
-
 -- members that are as they were are still those of the input
 pub members-kept : (i : Input) (old new : Ledger) → HasSameMembers old new → HasMembersOf i old → HasMembersOf i new
 members-kept i old new same h = record { performers = same.performers ∙ h.performers; observers = same.observers ∙ h.observers }
-
--- what stands doesn't rest on how much memory there is
-pub stands-grown : (c new : Core) → Stands c → new.input ≡ c.input → new.present.expert ≡ c.present.expert → new.present.problem ≡ c.present.problem → new.present.grounds.items ≡ c.present.grounds.items → new.monitor ≡ c.monitor → new.entries.items ≡ c.entries.items
-    → ((es : List Entry) → TellsAll es c.present.ledger → TellsAll es new.present.ledger) → HasSameMembers c.present.ledger new.present.ledger → Stands new
-stands-grown c new s input expert problem acts monitor entries told members =
-    let t = told c.entries.items s.told in
-    record {
-      sound = subst IsSound (sym input) s.sound;
-      members = subst (λ i. HasMembersOf i new.present.ledger) (sym input) (members-kept c.input c.present.ledger new.present.ledger members s.members);
-      domain = expert ∙ s.domain ∙ ap (λ i. i.domain) (sym input);
-      history = subst (λ i. IsHistory i new.entries.items) (sym input) (subst (IsHistory c.input) (sym entries) s.history);
-      told = subst (λ es. TellsAll es new.present.ledger) (sym entries) t;
-      known = problem ∙ s.known ∙ ap (know c.input) (sym entries) ∙ ap (λ i. know i new.entries.items) (sym input);
-      acts = acts ∙ s.acts ∙ ap (λ es. grounds c.input.domain (plan es)) (sym entries) ∙ ap (λ i. grounds i.domain (plan new.entries.items)) (sym input);
-      watching = λ act. ap (λ m. watched m act) monitor ∙ s.watching act ∙ ap (watch_for c.present.grounds.items act) (sym (s.told.acts.states act) ∙ t.acts.states act) ∙ ap (λ gs. watch_for gs act (state_in new.present.ledger act)) (sym acts);
-      few = subst (λ es. length (plan es) ≤ 256) (sym entries) s.few;
-      all = ap length acts ∙ s.all ∙ ap (λ es. length (plan es)) (sym entries);
-    }

@@ -1,5 +1,5 @@
 -- What a board keeps.
-use Rattle.std.specs.Prelude.{◌≡◌, ℕ, ◌≤◌, ◌<◌, IsTrue, Bool, true, false, Option, Some, None, if◌then◌else◌, List, [], length, slice_get, slice_index_or}
+use Rattle.std.specs.Prelude.{◌≡◌, ℕ, ◌≤◌, ◌<◌, IsTrue, Bool, true, false, Option, Some, None, option_and_then, if◌then◌else◌, List, [], length, slice_get, slice_index_or}
 use Rattle.std.specs.Option.{option_map_or, unwrap_or}
 use Rattle.std.specs.Vec.{vec_capacity}
 use Rattle.ps_world.specs.Trees.{CondTree}
@@ -9,18 +9,19 @@ use Rattle.ps_action.specs.declared.states.ActState.TheVariants.{Waiting}
 use Rattle.ps_machine.specs.declared.journal.Event.{Event}
 use Rattle.ps_machine.specs.declared.journal.Event.TheVariants as event
 use Rattle.ps_rules.specs.Runs.{is_active, plan, says_plan, says_state, state}
-use Rattle.ps_rules.specs.Known.{grounds, know, known_after}
 use Rattle.ps_rules.specs.Legal.{has_hand, is_legal}
 use Rattle.ps_rules.specs.History.{IsHistory}
 use Rattle.ps_rules.specs.Sound.{IsSound}
-use Rattle.ps_ledger.specs.Legal.{HasMembersOf}
+use Rattle.ps_rows.specs.Present as rows
+use Rattle.ps_rows.specs.Table.{IsAhead}
 use Rattle.ps_world.specs.declared.names.Name.{Name}
 use Rattle.ps_world.specs.declared.edits.Edit.{Edit}
 use Rattle.ps_machine.specs.declared.journal.By.{By}
 use Rattle.ps_machine.specs.declared.journal.Entry.{Entry}
-use Rattle.ps_rules.specs.Choices.{edit_event, observer_turn, with_block}
+use Rattle.ps_rules.specs.Choices.{edit_event, line_event, observer_turn, Says, with_block}
+use Rattle.ps_rules.specs.Lines.{next_line}
 use Rattle.ps_ledger.specs.declared.ledger.Ledger.{Ledger}
-use Rattle.ps_ledger.specs.Ledger.{HasRoom, TellsAll}
+use Rattle.ps_ledger.specs.Ledger.{HasRoom}
 use Rattle.ps_monitor.specs.declared.monitor.Monitor.{Monitor}
 use Rattle.ps_monitor.specs.Watched.{watched}
 use Rattle.ps_board.specs.declared.whole.Core.{Core}
@@ -41,31 +42,21 @@ state_in b act = slice_index_or b.acts.states.items act Waiting
 abbrev pub IsWatching : Monitor → Ledger → List GroundAction → Type 0
 IsWatching m b gs = (act : ℕ) → watched m act ≡ watch_for gs act (state_in b act)
 
--- What holds between calls.
+-- What holds between calls: the journal is a history, what is kept is what it tells, exactly the active acts are watched, and each act of
+-- the plan has its ground action.
 pub record Stands (c : Core) : Type 0 where
   pub sound : IsSound c.input
-  pub members : HasMembersOf c.input c.present.ledger
-  pub domain : c.present.expert ≡ c.input.domain
   pub history : IsHistory c.input c.entries.items
-  pub told : TellsAll c.entries.items c.present.ledger
-  pub known : c.present.problem ≡ know c.input c.entries.items
-  pub acts : c.present.grounds.items ≡ grounds c.input.domain (plan c.entries.items)
+  pub kept : rows.Stands c.input c.entries.items c.present
   pub watching : IsWatching c.monitor c.present.ledger c.present.grounds.items
-  pub few : length (plan c.entries.items) ≤ 256
   pub all : length c.present.grounds.items ≡ length (plan c.entries.items)
 
--- What holds where the block of an event is due: it is legal, there is memory for its block, and what is known, the plan's ground
--- actions and the watches are as they are after it.
+-- What holds where the block of an event is due: it is legal, there is memory for its block, and all but the ledger is as it is after it.
 pub record IsDue (c : Core) (hand : ℕ) (e : Event) : Type 0 where
   pub sound : IsSound c.input
-  pub members : HasMembersOf c.input c.present.ledger
-  pub domain : c.present.expert ≡ c.input.domain
   pub history : IsHistory c.input c.entries.items
-  pub told : TellsAll c.entries.items c.present.ledger
-  pub known : c.present.problem ≡ known_after c.input.domain (plan c.entries.items) (know c.input c.entries.items) e
-  pub acts : c.present.grounds.items ≡ grounds c.input.domain (unwrap_or (says_plan e) (plan c.entries.items))
+  pub kept : IsAhead c.input c.entries.items e c.present
   pub watching : (act : ℕ) → watched c.monitor act ≡ watch_for c.present.grounds.items act (unwrap_or (says_state act e) (state act c.entries.items))
-  pub few : length (unwrap_or (says_plan e) (plan c.entries.items)) ≤ 256
   pub all : length c.present.grounds.items ≡ length (unwrap_or (says_plan e) (plan c.entries.items))
   pub legal : IsTrue (is_legal c.input c.entries.items e)
   pub by : IsTrue (has_hand e hand)
@@ -83,6 +74,10 @@ is_quiet (event.End act) = false
 is_quiet (event.Fail act why) = false
 is_quiet (event.Cancel act why) = false
 is_quiet e = true
+
+-- how many entries the block of an event has at most
+abbrev pub most_entries : Event → ℕ
+most_entries e = if is_quiet e then 1 else 257
 
 -- this event may come next in the journal
 abbrev pub MayCome : Core → Event → Type 0
@@ -103,3 +98,7 @@ observed_by c name = observer_turn c.input name c.entries.items
 -- the entries with the block of what is done, if something is
 abbrev pub with_turn : Core → ℕ → Option Event → List Entry
 with_turn c hand done = option_map_or (with_block c.input hand c.entries.items) done c.entries.items
+
+-- what answers the next line, where one is left and the solver says this
+abbrev pub line_answer : Says → Core → Option Event
+line_answer says c = option_and_then (line_event says c.input c.entries.items) (next_line c.input c.entries.items)

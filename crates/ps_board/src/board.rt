@@ -1,21 +1,23 @@
 //! The board.
-ghost use Rattle.std.specs.Prelude.{◌≡◌, ◌<◌, ◌≤◌, ◌||◌, ◌&&◌, nat_le, if◌then◌else◌, IsTrue, IfOk, OnOk, OnErr, false, [], length};
+ghost use Rattle.std.specs.Prelude.{◌≡◌, ◌<◌, ◌≤◌, ◌||◌, ◌&&◌, nat_le, if◌then◌else◌, IsTrue, IfOk, OnOk, OnErr, is_none, false, [], length};
 ghost use Rattle.ps_board.specs.declared.board.Turn.TheVariants.{Did, Nothing};
-ghost use Rattle.ps_board.specs.Board.{answer_of, observing, with_done};
+ghost use Rattle.ps_board.specs.Board.{answer_of, commanded, is_end, observing, step_of, with_done};
 ghost use Rattle.ps_rules.specs.Members.{observers};
 ghost use Rattle.ps_rules.specs.History.{IsHistory};
 ghost use Rattle.ps_rules.specs.Known.{know};
+ghost use Rattle.ps_rules.specs.Lines.{next_line};
 ghost use Rattle.ps_rules.specs.Runs.{is_running};
 ghost use Rattle.ps_rules.specs.Sound.{IsSound};
 
-use super::names::{observer_names, performer_names};
-use super::whole::{Core, Present};
+use super::turns::Step;
+use super::whole::Core;
 use ps_domain::Expert;
-use ps_ledger::Ledger;
 use ps_machine::{Entry, Input};
 use ps_monitor::Monitor;
+use ps_plan::Solver;
 use ps_problem::Problem;
-use ps_world::{Duplicate, Seq};
+use ps_rows::Present;
+use ps_world::Seq;
 use std::alloc::{AllocError, Global};
 use std::marker::Model;
 
@@ -72,19 +74,7 @@ impl Board {
         requires { IsSound input }
         ensures { IfOk result (λ b. b ≡ record { input = input; entries = []; halted = false }) }
     {
-        let ledger = Ledger::new(
-            alloc,
-            performer_names(alloc, input.members.as_slice())?,
-            observer_names(alloc, input.members.as_slice())?,
-        )?;
-        let expert = Expert::new(alloc, input.domain.copy(alloc)?)?;
-        let problem = Problem::new(alloc, &expert)?;
-        let present = Present {
-            expert,
-            problem,
-            ledger,
-            grounds: Vec::new(alloc),
-        };
+        let present = Present::new(alloc, &input)?;
         Ok(Board {
             alloc,
             core: Core {
@@ -137,6 +127,23 @@ impl Board {
         if self.core.present.ledger.run.is_running() {
             self.halted = true;
         }
+    }
+
+    /// Does the next line of the terminal's script, where one is left and none before it was `quit`. A run for the goal has the plan
+    /// that the solver answers. The only error is that memory ran out, and then nothing changes.
+    pub fn command<S: Solver>(&mut self, solver: &S) -> Result<Step, AllocError>
+        requires closed { is_running self.now.entries ≡ false }
+        ensures answer { IfOk result
+            (λ s. s ≡ step_of (commanded (S.says solver.now) self.old)) }
+        ensures end { IfOk result
+            (λ s. is_end s ≡ is_none (next_line self.old.input self.old.entries)) }
+        ensures entries { OnOk result
+            (self.new.entries ≡ with_done self.old 0 (commanded (S.says solver.now) self.old)) }
+        ensures input { self.new.input ≡ self.old.input }
+        ensures halted { self.new.halted ≡ self.old.halted }
+        ensures err { OnErr result (self.new ≡ self.old) }
+    {
+        self.core.command(self.alloc, solver)
     }
 
     /// Does the turn of an observer, by its number in the order of the members: makes and records its next edit, where the edit's

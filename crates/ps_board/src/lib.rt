@@ -3,10 +3,12 @@
 
 mod blocks;
 mod board;
-mod names;
-mod rows;
+mod commands;
 mod turns;
+mod watching;
 mod whole;
 
 pub use board::{Board, Shown, Turn};
-pub use whole::{Core, Present};
+pub use commands::Next;
+pub use turns::Step;
+pub use whole::Core;

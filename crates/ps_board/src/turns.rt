@@ -1,14 +1,68 @@
-//! The turns of members.
-ghost use Rattle.std.specs.Prelude.{◌≡◌, ◌≤◌, ◌&&◌, nat_le, true, IsTrue, is_some, IfOk, OnOk, OnErr};
+//! The turns of the terminal and of members.
+ghost use Rattle.std.specs.Prelude.{◌≡◌, ◌≤◌, ◌&&◌, nat_le, true, false, IsTrue, is_none, is_some, IfOk, OnOk, OnErr, Some};
+ghost use Rattle.ps_rules.specs.Lines.{next_line};
 ghost use Rattle.ps_rules.specs.Runs.{is_running};
-ghost use Rattle.ps_board.specs.Core.{observed_by, Stands, with_turn};
+ghost use Rattle.ps_board.specs.Board.{is_end, step_of};
+ghost use Rattle.ps_board.specs.Core.{line_answer, observed_by, Stands, with_turn};
 
+use super::commands::Next;
 use super::whole::Core;
-use ps_machine::By;
+use ps_machine::{By, Event};
+use ps_plan::Solver;
 use ps_world::{Duplicate, Name};
 use std::alloc::{AllocError, Global};
 
+/// What came of a line of the terminal.
+#[derive(Clone, Copy)]
+pub enum Step {
+    /// The block of what answers it was appended, which opens no run.
+    Said,
+    /// A run was opened.
+    Opened,
+    /// No line was left, and nothing was appended.
+    End,
+}
+
+/// The answer to a line that this event answers.
+fn step_of(event: &Event) -> Step
+    ensures { result ≡ step_of (Some event.now) }
+{
+    match event {
+        Event::Run { kind: _, acts: _ } => Step::Opened,
+        _ => Step::Said,
+    }
+}
+
 impl Core {
+    /// Appends the block of what answers the next line, if one is left. The only error is that memory ran out, and then no entry is
+    /// appended.
+    pub fn command<S: Solver>(&mut self, alloc: Global, solver: &S) -> Result<Step, AllocError>
+        requires stands { Stands self.now }
+        requires closed { is_running self.now.entries.items ≡ false }
+        ensures stands { Stands self.new }
+        ensures answer { IfOk result
+            (λ s. s ≡ step_of (line_answer (S.says solver.now) self.old)) }
+        ensures end { IfOk result
+            (λ s. is_end s ≡ is_none (next_line self.old.input self.old.entries.items)) }
+        ensures ok { OnOk result (self.new.entries.items
+            ≡ with_turn self.old 0 (line_answer (S.says solver.now) self.old)) }
+        ensures err { OnErr result (self.new.entries.items ≡ self.old.entries.items) }
+        ensures input { self.new.input ≡ self.old.input }
+    {
+        match self.next(alloc, solver)? {
+            Next::End => Ok(Step::End),
+            Next::Edit(by, edit) => {
+                self.record(0, by, edit)?;
+                Ok(Step::Said)
+            }
+            Next::Event(event) => {
+                let step = step_of(&event);
+                self.put(alloc, 0, event)?;
+                Ok(step)
+            }
+        }
+    }
+
     /// Makes and records the next edit of the observer of this name, where it may be made now. Answers whether it did. The only
     /// error is that memory ran out, and then no entry is appended.
     pub fn observe(&mut self, alloc: Global, hand: u8, name: Name) -> Result<bool, AllocError>
@@ -22,7 +76,7 @@ impl Core {
         ensures err { OnErr result (self.new.entries.items ≡ self.old.entries.items) }
         ensures input { self.new.input ≡ self.old.input }
     {
-        let next = match self.next_seen(name) {
+        let next = match self.present.next_seen(&self.input, name) {
             Some(edit) => edit.copy(alloc)?,
             None => return Ok(false),
         };

@@ -1,32 +1,16 @@
 //! What a board is made of.
 ghost use Rattle.std.specs.Prelude.{◌≡◌, ◌≤◌, IsTrue, length, OnOk, OnErr};
-ghost use Rattle.ps_machine.specs.declared.journal.Event.TheVariants.{End, Fail, Start};
 ghost use Rattle.ps_rules.specs.Legal.{has_hand};
-ghost use Rattle.ps_board.specs.Core.{edit_of, HasBlock, is_quiet, IsDue, MayCome, Stands};
+ghost use Rattle.ps_rows.specs.Table.{MayBegin};
+ghost use Rattle.ps_board.specs.Core.{edit_of, HasBlock, is_quiet, IsDue, MayCome, most_entries, Stands};
 
 use super::blocks::{cancel_all, is_fail, only_if, push, reserve};
-use ps_action::GroundAction;
-use ps_domain::Expert;
-use ps_eval::apply;
-use ps_ledger::Ledger;
-use ps_machine::{By, CancelWhy, Entry, Event, FailWhy, Input, Refusal};
+use super::watching::{unwatch_ended, unwatch_started, watch_started};
+use ps_machine::{By, CancelWhy, Entry, Event, Input, Refusal};
 use ps_monitor::Monitor;
-use ps_problem::Problem;
+use ps_rows::Present;
 use ps_world::{Edit, Failure};
-use std::alloc::AllocError;
-
-/// All that is kept of a session beside its entries.
-#[derive(Drop)]
-pub struct Present {
-    /// The domain.
-    pub expert: Expert,
-    /// What is known.
-    pub problem: Problem,
-    /// What the entries tell but what is known.
-    pub ledger: Ledger,
-    /// The ground actions of the plan, in order.
-    pub grounds: Vec<GroundAction>,
-}
+use std::alloc::{AllocError, Global};
 
 /// The parts of a board.
 #[derive(Drop)]
@@ -35,6 +19,30 @@ pub struct Core {
     pub entries: Vec<Entry>,
     pub present: Present,
     pub monitor: Monitor,
+}
+
+/// Whether an event leaves what is known, the plan and the states of its acts.
+fn is_quiet(what: &Event) -> bool
+    ensures { result ≡ is_quiet what.now }
+{
+    match what {
+        Event::Edit { by: _, edit: _ } => false,
+        Event::Run { kind: _, acts: _ } => false,
+        Event::Replan(_) => false,
+        Event::Start(_) => false,
+        Event::End(_) => false,
+        Event::Fail { act: _, why: _ } => false,
+        Event::Cancel { act: _, why: _ } => false,
+        _ => true,
+    }
+}
+
+/// How many entries the block of an event has at most.
+fn most_entries(what: &Event) -> usize
+    ensures most { result ≡ most_entries what.now }
+    ensures some { 1 ≤ result }
+{
+    if is_quiet(what) { 1 } else { 257 }
 }
 
 impl Core {
@@ -71,97 +79,45 @@ impl Core {
         );
     }
 
-    /// Appends the block of a legal event that leaves what is known, the plan and the states of its acts. The only error is that
-    /// memory ran out, and then no entry is appended.
-    pub fn commit(&mut self, hand: u8, what: Event) -> Result<(), AllocError>
+    /// Makes all that is kept ready for the block of a legal event: memory, what is watched, what is known and the plan. The only
+    /// error is that memory ran out, and then what is kept still stands.
+    fn prepare(&mut self, alloc: Global, hand: u8, what: &Event) -> Result<(), AllocError>
         requires stands { Stands self.now }
-        requires quiet { IsTrue (is_quiet what) }
+        requires legal { MayCome self.now what.now }
+        requires plan { MayBegin what.now self.now.present }
+        requires by { IsTrue (has_hand what.now hand) }
+        ensures ok { OnOk result (IsDue self.new hand what.now) }
+        ensures err { OnErr result (Stands self.new) }
+        ensures entries { self.new.entries.items ≡ self.old.entries.items }
+        ensures input { self.new.input ≡ self.old.input }
+    {
+        self.present.make_room(what)?;
+        reserve(&mut self.entries, most_entries(what))?;
+        watch_started(&mut self.monitor, &self.present.grounds, what)?;
+        match self.present.advance(alloc, what) {
+            Ok(()) => {
+                unwatch_ended(&mut self.monitor, what);
+                Ok(())
+            }
+            Err(error) => {
+                unwatch_started(&mut self.monitor, what);
+                Err(error)
+            }
+        }
+    }
+
+    /// Appends the block of a legal event. The only error is that memory ran out, and then no entry is appended.
+    pub fn put(&mut self, alloc: Global, hand: u8, what: Event) -> Result<(), AllocError>
+        requires stands { Stands self.now }
         requires legal { MayCome self.now what }
+        requires plan { MayBegin what self.now.present }
         requires by { IsTrue (has_hand what hand) }
         ensures stands { Stands self.new }
         ensures ok { OnOk result (HasBlock self.old hand what self.new) }
         ensures err { OnErr result (self.new.entries.items ≡ self.old.entries.items) }
         ensures input { self.new.input ≡ self.old.input }
     {
-        self.present.ledger.make_room(&what)?;
-        reserve(&mut self.entries, 1)?;
-        self.append(hand, what);
-        Ok(())
-    }
-
-    /// Starts an act whose start is legal. The only error is that memory ran out, and then no entry is appended.
-    pub fn start(&mut self, hand: u8, act: u32) -> Result<(), AllocError>
-        requires stands { Stands self.now }
-        requires legal { MayCome self.now (Start act) }
-        requires by { IsTrue (has_hand (Start act) hand) }
-        ensures stands { Stands self.new }
-        ensures ok { OnOk result (HasBlock self.old hand (Start act) self.new) }
-        ensures err { OnErr result (self.new.entries.items ≡ self.old.entries.items) }
-        ensures input { self.new.input ≡ self.old.input }
-    {
-        let what = Event::Start(act);
-        self.present.ledger.make_room(&what)?;
-        reserve(&mut self.entries, 257)?;
-        let ground = &self.present.grounds[act as usize];
-        self.monitor.watch(act, &ground.conditions.over_all)?;
-        match apply(
-            &mut self.present.problem,
-            &self.present.expert,
-            ground.effects.at_start.as_slice(),
-        ) {
-            Ok(_) => {}
-            Err(Failure::OutOfMemory) => {
-                self.monitor.unwatch(act);
-                return Err(AllocError);
-            }
-            Err(Failure::Refused(_)) => unreachable!(),
-        }
-        self.append(hand, what);
-        Ok(())
-    }
-
-    /// Ends an act whose end is legal. The only error is that memory ran out, and then no entry is appended.
-    pub fn end(&mut self, hand: u8, act: u32) -> Result<(), AllocError>
-        requires stands { Stands self.now }
-        requires legal { MayCome self.now (End act) }
-        requires by { IsTrue (has_hand (End act) hand) }
-        ensures stands { Stands self.new }
-        ensures ok { OnOk result (HasBlock self.old hand (End act) self.new) }
-        ensures err { OnErr result (self.new.entries.items ≡ self.old.entries.items) }
-        ensures input { self.new.input ≡ self.old.input }
-    {
-        let what = Event::End(act);
-        self.present.ledger.make_room(&what)?;
-        reserve(&mut self.entries, 257)?;
-        let ground = &self.present.grounds[act as usize];
-        match apply(
-            &mut self.present.problem,
-            &self.present.expert,
-            ground.effects.at_end.as_slice(),
-        ) {
-            Ok(_) => {}
-            Err(Failure::OutOfMemory) => return Err(AllocError),
-            Err(Failure::Refused(_)) => unreachable!(),
-        }
-        self.monitor.unwatch(act);
-        self.append(hand, what);
-        Ok(())
-    }
-
-    /// Fails an act whose failure is legal. The only error is that memory ran out, and then no entry is appended.
-    pub fn fail(&mut self, hand: u8, act: u32, why: FailWhy) -> Result<(), AllocError>
-        requires stands { Stands self.now }
-        requires legal { MayCome self.now (Fail act why) }
-        requires by { IsTrue (has_hand (Fail act why) hand) }
-        ensures stands { Stands self.new }
-        ensures ok { OnOk result (HasBlock self.old hand (Fail act why) self.new) }
-        ensures err { OnErr result (self.new.entries.items ≡ self.old.entries.items) }
-        ensures input { self.new.input ≡ self.old.input }
-    {
-        let what = Event::Fail { act, why };
-        self.present.ledger.make_room(&what)?;
-        reserve(&mut self.entries, 257)?;
-        self.monitor.unwatch(act);
+        self.prepare(alloc, hand, &what)?;
         self.append(hand, what);
         Ok(())
     }
@@ -177,7 +133,7 @@ impl Core {
         ensures err { OnErr result (self.new.entries.items ≡ self.old.entries.items) }
         ensures input { self.new.input ≡ self.old.input }
     {
-        self.present.ledger.make_room(&Event::Quit)?;
+        self.present.make_room(&Event::Quit)?;
         reserve(&mut self.entries, 257)?;
         match self.present.problem.edit(&self.present.expert, &edit) {
             Ok(_) => {

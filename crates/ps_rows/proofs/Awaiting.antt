@@ -1,18 +1,20 @@
 -- What is kept, before an event is taken and after.
-use Rattle.std.proofs.Common.{◌≡◌, ℕ, ◌≤◌, Option, List, [], ◌∷◌, ◌++◌, length, refl, ap, sym, ◌∙◌, subst}
+use Rattle.std.proofs.Common.{◌≡◌, ℕ, ◌≤◌, List, [], ◌∷◌, ◌++◌, length, refl, ap, sym, ◌∙◌, subst}
 use Rattle.std.specs.Option.{unwrap_or}
+use Rattle.ps_world.specs.Knowledge.{edited}
 use Rattle.ps_world.specs.declared.domains.Domain.{Domain}
+use Rattle.ps_world.specs.declared.edits.Edit.{Edit}
 use Rattle.ps_world.specs.declared.known.Knowledge.{Knowledge}
 use Rattle.ps_action.specs.Arcs.{arcs_of}
 use Rattle.ps_action.specs.declared.acts.Act.{Act}
-use Rattle.ps_action.specs.declared.acts.GroundAction.{GroundAction}
 use Rattle.ps_machine.specs.declared.inputs.Input.{Input}
+use Rattle.ps_machine.specs.declared.journal.By.{By}
 use Rattle.ps_machine.specs.declared.journal.CancelWhy.{CancelWhy}
 use Rattle.ps_machine.specs.declared.journal.Entry.{Entry}
 use Rattle.ps_machine.specs.declared.journal.Event.{Event}
 use Rattle.ps_machine.specs.declared.journal.Event.TheVariants as event
 use Rattle.ps_rules.specs.History.{cancels}
-use Rattle.ps_rules.specs.Known.{grounds, know, known_after}
+use Rattle.ps_rules.specs.Known.{grounds, kept, know, known_after}
 use Rattle.ps_rules.specs.Runs.{plan, says_plan}
 use Rattle.ps_rules.proofs.Pushed.{know-push, read-push}
 use Rattle.ps_ledger.specs.Kept.{Takes, TakesCancel}
@@ -20,7 +22,7 @@ use Rattle.ps_ledger.specs.Ledger.{HasSameMembers, TellsAll}
 use Rattle.ps_ledger.specs.Legal.{HasMembersOf}
 use Rattle.ps_ledger.specs.declared.ledger.Ledger.{Ledger}
 use Rattle.ps_rows.specs.Present.{Stands}
-use Rattle.ps_rows.specs.Table.{after_edit, Awaits, HasSameRest, MayBegin}
+use Rattle.ps_rows.specs.Table.{after_edit, Awaits, HasSameRest, IsAhead, KeepsAwaiting, MayBegin}
 use Rattle.ps_rows.specs.Taking.{acts_next, GoesOn, grounds_next, known_next}
 use Rattle.ps_rows.specs.declared.present.Present.{Present}
 
@@ -63,30 +65,84 @@ few-then acts (event.Run for new) p may few = may.few
 few-then acts (event.Replan new) p may few = may.few
 few-then acts e p may few = few
 
--- what stands after an event that was awaited
-pub takes : (i : Input) (es : List Entry) (e : Entry) (what : Event) (old mid : Present) (l : Ledger) → e.what ≡ what → Awaits i es what old → MayBegin what old → GoesOn what old mid
-    → Takes TellsAll what mid.ledger l → HasSameMembers mid.ledger l → Stands i (es ++ e ∷ []) (record mid { ledger = l })
-takes i es e what old mid l is a may g t m =
+-- what awaited an event is ahead of the ledger where all else has gone on
+pub goes-ahead : (i : Input) (es : List Entry) (what : Event) (old mid : Present) → Awaits i es what old → MayBegin what old → GoesOn what old mid → IsAhead i es what mid
+goes-ahead i es what old mid a may g =
     let d : old.expert ≡ i.domain = a.domain in
-    let pushed : plan (es ++ e ∷ []) ≡ unwrap_or (says_plan what) (plan es) = plan-push es e ∙ ap (λ f. unwrap_or (says_plan f) (plan es)) is in
     record {
       domain = g.base.expert ∙ d;
       due = g.base.due ∙ a.due;
       known =
           g.known ∙ ap (λ x. known_next x old.grounds.items old.problem what) d ∙ ap (λ gs. known_next i.domain gs old.problem what) a.grounds
-          ∙ ap (λ k. known_next i.domain (grounds i.domain (plan es)) k what) a.known ∙ known-then i.domain (plan es) (know i es) what
-          ∙ ap (known_after i.domain (plan es) (know i es)) (sym is) ∙ sym (know-push i es e);
-      members = record {
-        performers = m.performers ∙ ap (λ x. x.performers.names.items) g.base.ledger ∙ a.members.performers;
-        observers = m.observers ∙ ap (λ x. x.observers.names.items) g.base.ledger ∙ a.members.observers;
-      };
-      told = t es e is (subst (TellsAll es) (sym g.base.ledger) a.told);
-      few = subst (λ acts. length acts ≤ 256) (sym pushed) (few-then (plan es) what old may a.few);
+          ∙ ap (λ k. known_next i.domain (grounds i.domain (plan es)) k what) a.known ∙ known-then i.domain (plan es) (know i es) what;
+      members = subst (HasMembersOf i) (sym g.base.ledger) a.members;
+      told = subst (TellsAll es) (sym g.base.ledger) a.told;
+      few = few-then (plan es) what old may a.few;
       grounds =
           g.grounds ∙ ap (λ x. grounds_next x old.grounds.items what) d ∙ ap (λ gs. grounds_next i.domain gs what) a.grounds
-          ∙ grounds-then i.domain (plan es) what ∙ ap (grounds i.domain) (sym pushed);
+          ∙ grounds-then i.domain (plan es) what;
       arcs = g.arcs a.arcs;
-      acts = g.acts ∙ ap (λ n. acts_next n what) a.acts ∙ acts-then (plan es) what ∙ ap length (sym pushed);
+      acts = g.acts ∙ ap (λ n. acts_next n what) a.acts ∙ acts-then (plan es) what;
+    }
+
+-- what is ahead of the ledger stands where the ledger has taken the event
+pub catches-up : (i : Input) (es : List Entry) (e : Entry) (what : Event) (mid : Present) (l : Ledger) → e.what ≡ what → IsAhead i es what mid
+    → Takes TellsAll what mid.ledger l → HasSameMembers mid.ledger l → Stands i (es ++ e ∷ []) (record mid { ledger = l })
+catches-up i es e what mid l is a t m =
+    let pushed : plan (es ++ e ∷ []) ≡ unwrap_or (says_plan what) (plan es) = plan-push es e ∙ ap (λ f. unwrap_or (says_plan f) (plan es)) is in
+    record {
+      domain = a.domain;
+      due = a.due;
+      known = a.known ∙ ap (known_after i.domain (plan es) (know i es)) (sym is) ∙ sym (know-push i es e);
+      members = record { performers = m.performers ∙ a.members.performers; observers = m.observers ∙ a.members.observers };
+      told = t es e is a.told;
+      few = subst (λ acts. length acts ≤ 256) (sym pushed) a.few;
+      grounds = a.grounds ∙ ap (grounds i.domain) (sym pushed);
+      arcs = a.arcs;
+      acts = a.acts ∙ ap length (sym pushed);
+    }
+
+-- what stands after an event that was awaited
+pub takes : (i : Input) (es : List Entry) (e : Entry) (what : Event) (old mid : Present) (l : Ledger) → e.what ≡ what → Awaits i es what old → MayBegin what old → GoesOn what old mid
+    → Takes TellsAll what mid.ledger l → HasSameMembers mid.ledger l → Stands i (es ++ e ∷ []) (record mid { ledger = l })
+takes i es e what old mid l is a may g t m = catches-up i es e what mid l is (goes-ahead i es what old mid a may g) t m
+
+-- nothing has gone on by an event that changes nothing but the ledger, or by an edit that has been made
+pub stays : (e : Event) (p : Present) → known_next p.expert p.grounds.items p.problem e ≡ p.problem → grounds_next p.expert p.grounds.items e ≡ p.grounds.items
+    → acts_next p.arcs.acts e ≡ p.arcs.acts → GoesOn e p p
+stays e p known gs acts = record { base = record { expert = refl; due = refl; ledger = refl }; known = sym known; grounds = sym gs; acts = sym acts; arcs = λ h. h }
+
+-- an edit that has been made is ahead
+pub edit-ahead : (i : Input) (es : List Entry) (by : By) (edit : Edit) (old new : Present) → Stands i es old → HasSameRest old new
+    → new.problem ≡ kept old.problem (edited old.expert old.problem edit) → IsAhead i es (event.Edit by edit) new
+edit-ahead i es by edit old new s r made =
+    goes-ahead i es (event.Edit by edit) new new (awaits i es (event.Edit by edit) old new s r made) tt (stays (event.Edit by edit) new refl refl refl)
+
+unedited : (d : Domain) (k : Knowledge) (e : Event) → ((by : By) (edit : Edit) → e ≡ event.Edit by edit → ⊥) → after_edit d k e ≡ k
+unedited d k (event.Edit by edit) h = absurd (h by edit refl)
+unedited d k e h = refl
+
+-- any other event goes on from what stands
+pub others-ahead : (i : Input) (es : List Entry) (e : Event) (old new : Present) → ((by : By) (edit : Edit) → e ≡ event.Edit by edit → ⊥) → Stands i es old → MayBegin e old → GoesOn e old new
+    → IsAhead i es e new
+others-ahead i es e old new other s may g =
+    goes-ahead i es e old new
+    (awaits i es e old old s (record { expert = refl; due = refl; ledger = refl; grounds = refl; arcs = refl }) (sym (unedited old.expert old.problem e other))) may g
+
+-- what keeps awaiting goes on standing
+pub keeps-standing : (i : Input) (es : List Entry) (old new : Present) → KeepsAwaiting old new → Stands i es old → Stands i es new
+keeps-standing i es old new keeps s =
+    let a = keeps i es event.Quit (awaits i es event.Quit old old s (record { expert = refl; due = refl; ledger = refl; grounds = refl; arcs = refl }) refl) in
+    record {
+      domain = a.domain;
+      due = a.due;
+      known = a.known;
+      members = a.members;
+      told = a.told;
+      few = a.few;
+      grounds = a.grounds;
+      arcs = a.arcs;
+      acts = a.acts;
     }
 
 -- what stands after the cancel of an act

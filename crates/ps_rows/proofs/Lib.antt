@@ -1,9 +1,9 @@
-mod Answered
+pub mod Answered
 pub mod Awaiting
 mod Due
-mod Editing
+pub mod Editing
 mod Gathered
-mod Grounded
+pub mod Grounded
 mod MemberNames
 mod Places
 mod Rest

@@ -1,4 +1,5 @@
 -- What the table of events asks of edits, and how an event that was judged leaves what is kept.
+use Rattle.std.specs.Option.{unwrap_or}
 use Rattle.std.specs.Prelude.{◌≡◌, ℕ, ◌≤◌, ◌+◌, ◌==◌, ◌&&◌, Bool, Option, is_ok, option_and_then, List, [], ◌∷◌, ◌++◌, All, IsOk, length}
 use Rattle.ps_world.specs.Knowledge.{edited}
 use Rattle.ps_world.specs.declared.domains.Domain.{Domain}
@@ -16,8 +17,8 @@ use Rattle.ps_machine.specs.declared.journal.Entry.{Entry}
 use Rattle.ps_machine.specs.declared.journal.Refusal.{Refusal}
 use Rattle.ps_machine.specs.declared.journal.Event.{Event}
 use Rattle.ps_machine.specs.declared.journal.Event.TheVariants as event
-use Rattle.ps_rules.specs.Runs.{plan}
-use Rattle.ps_rules.specs.Known.{grounds, kept, know}
+use Rattle.ps_rules.specs.Runs.{plan, says_plan}
+use Rattle.ps_rules.specs.Known.{grounds, kept, know, known_after}
 use Rattle.ps_rules.specs.Legal.{is_edit, line_edit}
 use Rattle.ps_rules.specs.Lines.{acts_of, answered, due_lines, edit_refusal, next_line}
 use Rattle.ps_rules.specs.Same.{same_acts}
@@ -64,6 +65,18 @@ pub record Awaits (i : Input) (es : List Entry) (e : Event) (p : Present) : Type
   pub arcs : p.arcs.pairs ≡ arcs_of p.grounds.items
   pub acts : p.arcs.acts ≡ length (plan es)
 
+-- What is kept is what these entries and this event after them tell, but for the ledger, which tells of these entries alone.
+pub record IsAhead (i : Input) (es : List Entry) (e : Event) (p : Present) : Type 0 where
+  pub domain : p.expert ≡ i.domain
+  pub due : p.due ≡ length (due_lines i.lines)
+  pub known : p.problem ≡ known_after i.domain (plan es) (know i es) e
+  pub members : HasMembersOf i p.ledger
+  pub told : TellsAll es p.ledger
+  pub few : length (unwrap_or (says_plan e) (plan es)) ≤ 256
+  pub grounds : p.grounds.items ≡ grounds i.domain (unwrap_or (says_plan e) (plan es))
+  pub arcs : p.arcs.pairs ≡ arcs_of p.grounds.items
+  pub acts : p.arcs.acts ≡ length (unwrap_or (says_plan e) (plan es))
+
 -- All is as it was, but for what is known.
 pub record HasSameRest (old new : Present) : Type 0 where
   pub expert : new.expert ≡ old.expert
@@ -86,6 +99,10 @@ MayBegin e p = Unit {0}
 -- what awaits an event still does
 abbrev pub KeepsAwaiting : Present → Present → Type 0
 KeepsAwaiting old new = (i : Input) (es : List Entry) (e : Event) → Awaits i es e old → Awaits i es e new
+
+-- what stood before an event is ahead of the ledger by that event
+abbrev pub Advances : Event → Present → Present → Type 0
+Advances event old new = (i : Input) (es : List Entry) → Stands i es old → IsAhead i es event new
 
 -- what awaited an event stands after it
 abbrev pub TakesEvent : Event → Present → Present → Type 0

@@ -15,7 +15,9 @@ mod table;
 mod taking;
 mod work;
 
-pub use lines::{accepts, count_due, line_refusal, make_edit, refusal_of_query};
+pub use lines::{
+    accepts, acts_of, count_due, line_refusal, make_edit, refusal_of_query, refusal_of_steps,
+};
 pub use members::{matches, performer_of};
 pub use plans::{
     can_ground, ending, ground_refusal, is_good, is_plan, lacks_goal, plan_refusal, refusal_of_goal,

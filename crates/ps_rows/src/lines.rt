@@ -82,7 +82,7 @@ pub fn accepts(expert: &Expert, problem: &mut Problem, edit: &Edit) -> Result<bo
 }
 
 /// The acts of a plan's steps.
-fn acts_of(alloc: Global, steps: &[PlanStep]) -> Result<Vec<Act>, AllocError>
+pub fn acts_of(alloc: Global, steps: &[PlanStep]) -> Result<Vec<Act>, AllocError>
     ensures { IfOk result (λ acts. acts.items ≡ acts_of steps.now) }
 {
     let mut acts = Vec::new(alloc);
@@ -93,7 +93,7 @@ fn acts_of(alloc: Global, steps: &[PlanStep]) -> Result<Vec<Act>, AllocError>
 }
 
 /// Why the plan of a file isn't run, if it isn't.
-fn refusal_of_steps(
+pub fn refusal_of_steps(
     alloc: Global,
     expert: &Expert,
     problem: &Problem,

@@ -1,5 +1,6 @@
 //! Taking events that may come next.
-ghost use Rattle.std.specs.Prelude.{◌≡◌, ◌<◌, [], ◌∷◌, ◌++◌, All, IfOk, IsOk, OnOk, filter_map, length, map};
+ghost use Rattle.std.specs.Prelude.{◌≡◌, ◌<◌, [], ◌∷◌, ◌++◌, All, IfOk, IsOk, OnErr, OnOk, filter_map, length, map};
+ghost use Rattle.ps_world.specs.Knowledge.{edited};
 ghost use Rattle.ps_action.specs.Arcs.{arcs_of};
 ghost use Rattle.ps_action.specs.Grounding.{ground_act};
 ghost use Rattle.ps_rules.specs.Known.{changed, grounds, kept};
@@ -7,7 +8,7 @@ ghost use Rattle.ps_rules.specs.Members.{as_observer, as_performer, observers, p
 ghost use Rattle.ps_ledger.specs.Acts.{IsCancelled};
 ghost use Rattle.ps_ledger.specs.Ledger.{HasRoom, Speaks};
 ghost use Rattle.ps_rows.specs.Present.{Stands};
-ghost use Rattle.ps_rows.specs.Table.{KeepsAwaiting, MayBegin, MayBePlan, TakesCancelOf, TakesEvent};
+ghost use Rattle.ps_rows.specs.Table.{Advances, KeepsAwaiting, MayBegin, MayBePlan, TakesCancelOf, TakesEvent};
 ghost use Rattle.ps_rows.specs.Taking.{GoesOn, HasSameBase, part_of};
 
 use super::lines::count_due;
@@ -19,7 +20,7 @@ use ps_eval::apply;
 use ps_ledger::Ledger;
 use ps_machine::{Event, Input, Member};
 use ps_problem::Problem;
-use ps_world::{Duplicate, Effect, Failure, Name};
+use ps_world::{Duplicate, Edit, Effect, Failure, Name};
 use std::alloc::{AllocError, Global};
 
 /// The start effects of the ground action at this place.
@@ -42,12 +43,26 @@ fn end_effects(grounds: &[GroundAction], act: u32) -> &[Effect]
     }
 }
 
-/// Makes effects, if they are defined.
+/// Makes effects, if they are defined. Where memory runs out nothing changes.
 fn change(expert: &Expert, problem: &mut Problem, effects: &[Effect]) -> Result<(), AllocError>
-    ensures { OnOk result
+    ensures ok { OnOk result
         (problem.new ≡ kept problem.old (changed expert.now problem.old effects.now)) }
+    ensures err { OnErr result (problem.new ≡ problem.old) }
 {
     match apply(problem, expert, effects) {
+        Ok(_) => Ok(()),
+        Err(Failure::Refused(_)) => Ok(()),
+        Err(Failure::OutOfMemory) => Err(AllocError),
+    }
+}
+
+/// Makes an edit, if it isn't refused. Where memory runs out nothing changes.
+fn make(expert: &Expert, problem: &mut Problem, edit: &Edit) -> Result<(), AllocError>
+    ensures ok { OnOk result
+        (problem.new ≡ kept problem.old (edited expert.now problem.old edit.now)) }
+    ensures err { OnErr result (problem.new ≡ problem.old) }
+{
+    match problem.edit(expert, edit) {
         Ok(_) => Ok(()),
         Err(Failure::Refused(_)) => Ok(()),
         Err(Failure::OutOfMemory) => Err(AllocError),
@@ -114,7 +129,7 @@ impl Present {
         self.ledger.make_room(event)
     }
 
-    /// Keeps the ground actions of a plan, and their arcs.
+    /// Keeps the ground actions of a plan, and their arcs. Where memory runs out nothing changes.
     fn begin(&mut self, alloc: Global, acts: &[Act]) -> Result<(), AllocError>
         requires { MayBePlan self.now.expert self.now.problem acts.now }
         ensures grounds { OnOk result (self.new.grounds.items ≡ grounds self.old.expert acts.now) }
@@ -122,6 +137,7 @@ impl Present {
         ensures acts { OnOk result (self.new.arcs.acts ≡ length acts.now) }
         ensures known { self.new.problem ≡ self.old.problem }
         ensures base { HasSameBase self.old self.new }
+        ensures err { OnErr result (self.new ≡ self.old) }
     {
         let grounds = grounds_of(alloc, &self.expert, &self.problem, acts)?;
         self.arcs = arcs_of(alloc, &grounds)?;
@@ -129,10 +145,12 @@ impl Present {
         Ok(())
     }
 
-    /// Changes what is known as a start or an end does, and keeps the ground actions of a new plan.
+    /// Changes what is known as a start or an end does, and keeps the ground actions of a new plan. Where memory runs out nothing
+    /// changes.
     fn go_on(&mut self, alloc: Global, event: &Event) -> Result<(), AllocError>
         requires { MayBegin event.now self.now }
-        ensures { OnOk result (GoesOn event.now self.old self.new) }
+        ensures ok { OnOk result (GoesOn event.now self.old self.new) }
+        ensures err { OnErr result (self.new ≡ self.old) }
     {
         match event {
             Event::Start(act) => {
@@ -146,6 +164,19 @@ impl Present {
             Event::Run { kind: _, acts } => self.begin(alloc, acts.as_slice()),
             Event::Replan(acts) => self.begin(alloc, acts.as_slice()),
             _ => Ok(()),
+        }
+    }
+
+    /// Changes all but the ledger as an event does that may come next. Where memory runs out nothing changes.
+    pub fn advance(&mut self, alloc: Global, event: &Event) -> Result<(), AllocError>
+        requires { MayBegin event.now self.now }
+        ensures ok { OnOk result (Advances event.now self.old self.new) }
+        ensures base { OnOk result (HasSameBase self.old self.new) }
+        ensures err { OnErr result (self.new ≡ self.old) }
+    {
+        match event {
+            Event::Edit { by: _, edit } => make(&self.expert, &mut self.problem, edit),
+            _ => self.go_on(alloc, event),
         }
     }
 

@@ -1,0 +1,261 @@
+-- What answers the lines of the terminal.
+use Rattle.std.proofs.Common.{◌≡◌, ◌==◌, ℕ, suc, ◌+◌, ◌≤◌, ◌<◌, ◌&&◌, Bool, true, false, if◌then◌else◌, Option, Some, None, is_none, is_ok, IsSome, Result, Ok, Err, List, [], ◌∷◌, option_and_then, length, slice_get, refl, ap, sym, subst, arith, ◌∙◌}
+use Rattle.std.specs.Cmp.{unsigned_Decides}
+use Rattle.std.proofs.lemmas.Option.{slice_get_within}
+use Rattle.ps_world.specs.Knowledge.{edited}
+use Rattle.ps_world.specs.declared.conditions.Cond.{Cond}
+use Rattle.ps_world.specs.declared.domains.Domain.{Domain}
+use Rattle.ps_world.specs.declared.edits.Edit.{Edit}
+use Rattle.ps_world.specs.declared.edits.EditRefusal.{EditRefusal}
+use Rattle.ps_world.specs.declared.known.Knowledge.{Knowledge}
+use Rattle.ps_action.specs.Grounding.{ground_act}
+use Rattle.ps_action.specs.Plans.{judged}
+use Rattle.ps_action.specs.Search.{Fits, answer as answered_by}
+use Rattle.ps_action.specs.declared.acts.Act.{Act}
+use Rattle.ps_action.specs.declared.acts.PlanStep.{PlanStep}
+use Rattle.ps_action.specs.declared.answers.Answer.{Answer}
+use Rattle.ps_action.specs.declared.answers.Answer.TheVariants as answer
+use Rattle.ps_action.specs.declared.acts.GroundAction.{GroundAction}
+use Rattle.ps_action.specs.declared.refusals.GroundRefusal.{GroundRefusal}
+use Rattle.ps_action.specs.declared.refusals.PlanRefusal.{PlanRefusal}
+use Rattle.ps_action.specs.declared.refusals.PlanTextRefusal.{PlanTextRefusal}
+use Rattle.ps_machine.specs.declared.inputs.Command.TheVariants as command
+use Rattle.ps_machine.specs.declared.inputs.Input.{Input}
+use Rattle.ps_machine.specs.declared.inputs.Line.{Line}
+use Rattle.ps_machine.specs.declared.inputs.Line.TheVariants.{Good, Bad}
+use Rattle.ps_machine.specs.declared.inputs.Query.{Query}
+use Rattle.ps_machine.specs.declared.journal.By.TheVariants.{Terminal}
+use Rattle.ps_machine.specs.declared.journal.Refusal.{Refusal}
+use Rattle.ps_machine.specs.declared.journal.Refusal.TheVariants as refusal
+use Rattle.ps_machine.specs.declared.journal.RunKind.TheVariants as run
+use Rattle.ps_machine.specs.declared.journal.Event.{Event}
+use Rattle.ps_machine.specs.declared.journal.Event.TheVariants as event
+use Rattle.ps_machine.specs.declared.journal.Entry.{Entry}
+use Rattle.ps_rules.specs.Runs.{has_run}
+use Rattle.ps_rules.specs.Known.{know}
+use Rattle.ps_rules.specs.Lines.{acts_of, answered, answers_line, due_lines, edit_refusal, ground_refusal, next_line, plan_refusal, refusal_of, refusal_of_goal, refusal_of_query, refusal_of_steps, unplanned, with_goal}
+use Rattle.ps_rules.specs.Same.{same_acts}
+use Rattle.ps_rules.specs.Legal.{fits, is_accepted, is_cause, is_edit, is_query, is_quit, line_edit, opens_with}
+use Rattle.ps_rules.specs.Choices.{answer_event, edit_event, line_event, outcome_of, run_by, Says}
+use Rattle.ps_rules.proofs.Choosing.{plan-so}
+use Rattle.ps_rules.proofs.SameThings.{same_acts-decides, same_cause-decides, same_edit-itself, same_query-decides}
+use Rattle.ps_rows.specs.Table.{MayBegin}
+use Rattle.ps_rows.proofs.Answered.{fits-unplanned, with-some-goal}
+use Rattle.ps_rows.proofs.Grounded.{good-each, one-each}
+use Rattle.ps_board.specs.declared.whole.Core.{Core}
+use Rattle.ps_board.specs.Core.{Stands}
+use Rattle.ps_board.specs.Commands.{AnswersBy, AnswersNext, line_of, MayAnswer}
+
+both-so : (x y : Bool) → x ≡ true → y ≡ true → (x && y) ≡ true
+both-so x y e f = rw (e, f) refl
+
+number-itself : (n : ℕ) → (n == n) ≡ true
+number-itself n = (unsigned_Decides n n).1 refl
+
+some-none : {A : Type 0} (x : A) → Some x ≡ None → ⊥
+some-none x e = cc
+
+-- what is known in the domain is what the entries say
+pub told-now : {A : Type 0} (f : Domain → Knowledge → A) (c : Core) → Stands c → f c.present.expert c.present.problem ≡ f c.input.domain (know c.input c.entries.items)
+told-now f c s = ap (λ d. f d c.present.problem) s.kept.domain ∙ ap (f c.input.domain) s.kept.known
+
+-- ---- the number of a line
+
+due-short : (lines : List Line) → length (due_lines lines) ≤ length lines
+due-short [] = omega arith
+due-short (Good (command.Edit edit) ∷ lines) = omega (arith, due-short lines)
+due-short (Good (command.Ask query) ∷ lines) = omega (arith, due-short lines)
+due-short (Good command.Run ∷ lines) = omega (arith, due-short lines)
+due-short (Good (command.RunAction act) ∷ lines) = omega (arith, due-short lines)
+due-short (Good (command.RunPlan plan) ∷ lines) = omega (arith, due-short lines)
+due-short (Good command.Quit ∷ lines) = omega arith
+due-short (Bad cause ∷ lines) = omega (arith, due-short lines)
+
+some-within : (lines : List Line) (n : ℕ) (o : Option Line) → slice_get lines n ≡ o → IsSome o → n < length lines
+some-within lines n None is h = absurd (cc)
+some-within lines n (Some line) is h = slice_get_within lines n line is
+
+-- where a line is left, few are answered
+pub few-answered : (c : Core) → Stands c → IsSome (line_of c) → answered c.entries.items < 10000
+few-answered c s left =
+    let within = some-within (due_lines c.input.lines) (answered c.entries.items) (line_of c) refl left in
+    let short = due-short c.input.lines in
+    let few = s.sound.few_lines in
+    omega (arith, within, short, few)
+
+-- ---- refusals
+
+pub refused : (says : Says) (c : Core) (line : Line) (why : Refusal) → line_of c ≡ Some line → refusal_of c.input c.entries.items line ≡ Some why
+    → MayAnswer says c (event.Refused (Terminal (answered c.entries.items + 1)) why)
+refused says c line why next given =
+    let i : Input = c.input in
+    let es : List Entry = c.entries.items in
+    let cause : is_cause why (option_and_then (refusal_of i es) (next_line i es)) ≡ true =
+    ap (λ l. is_cause why (option_and_then (refusal_of i es) l)) next ∙ ap (is_cause why) given ∙ (same_cause-decides why why).1 refl in
+    record {
+      answers = record {
+        event = ap (option_and_then (line_event says i es)) next ∙ ap (answer_event says i es line) given;
+        own = refl;
+        fit = both-so (answered es + 1 == answered es + 1) (is_cause why (option_and_then (refusal_of i es) (next_line i es))) (number-itself (answered es + 1)) cause;
+      };
+      plan = tt;
+    }
+
+-- ---- events that aren't refused
+
+-- an event that answers a line that isn't refused
+pub accepted : (says : Says) (c : Core) (line : Line) (e : Event) → line_of c ≡ Some line → refusal_of c.input c.entries.items line ≡ None
+    → answer_event says c.input c.entries.items line None ≡ Some e → answers_line e ≡ true → fits c.input c.entries.items e ≡ true → MayBegin e c.present
+    → MayAnswer says c e
+accepted says c line e next given made own fit may = record {
+  answers = record {
+    event = ap (option_and_then (line_event says c.input c.entries.items)) next ∙ ap (answer_event says c.input c.entries.items line) given ∙ made;
+    own = own;
+    fit = fit;
+  };
+  plan = may;
+}
+
+pub quits : (says : Says) (c : Core) → line_of c ≡ Some (Good command.Quit) → MayAnswer says c event.Quit
+quits says c next = accepted says c (Good command.Quit) event.Quit next refl refl refl (ap is_quit next) tt
+
+pub asks : (says : Says) (c : Core) (q : Query) → line_of c ≡ Some (Good (command.Ask q)) → refusal_of c.input c.entries.items (Good (command.Ask q)) ≡ None
+    → MayAnswer says c (event.Ask q)
+asks says c q next given =
+    let said : is_query q (line_of c) ≡ true = ap (is_query q) next ∙ (same_query-decides q q).1 refl in
+    let fine : is_accepted c.input c.entries.items (line_of c) ≡ true = ap (is_accepted c.input c.entries.items) next ∙ ap is_none given in
+    accepted says c (Good (command.Ask q)) (event.Ask q) next given refl refl (both-so (is_query q (line_of c)) (is_accepted c.input c.entries.items (line_of c)) said fine) tt
+
+-- why a query is refused
+pub query-cause : (c : Core) (b : Bool) (q : Query) → Stands c → b ≡ has_run c.entries.items
+    → refusal_of c.input c.entries.items (Good (command.Ask q)) ≡ refusal_of_query c.present.expert c.input.budget c.present.problem b q
+query-cause c b q s run =
+    sym (told-now (λ d k. refusal_of_query d c.input.budget k (has_run c.entries.items) q) c s)
+    ∙ ap (λ x. refusal_of_query c.present.expert c.input.budget c.present.problem x q) (sym run)
+
+-- ---- edits
+
+edit-outcome : (says : Says) (c : Core) (edit : Edit) → line_of c ≡ Some (Good (command.Edit edit)) → (r : Result Knowledge EditRefusal)
+    → edited c.input.domain (know c.input c.entries.items) edit ≡ r
+    → AnswersNext says c (outcome_of (Terminal (answered c.entries.items + 1)) edit (edit_refusal r))
+edit-outcome says c edit next (Err why) given = (refused says c (Good (command.Edit edit)) (refusal.Edit why) next (ap edit_refusal given)).answers
+edit-outcome says c edit next (Ok k) given =
+    let es : List Entry = c.entries.items in
+    let o : Result Knowledge EditRefusal = edited c.input.domain (know c.input es) edit in
+    let said : is_edit edit (line_edit (line_of c)) ≡ true = ap (λ l. is_edit edit (line_edit l)) next ∙ same_edit-itself edit in
+    (accepted says c (Good (command.Edit edit)) (event.Edit (Terminal (answered es + 1)) edit) next (ap edit_refusal given) refl refl
+    (both-so (answered es + 1 == answered es + 1) (is_edit edit (line_edit (line_of c)) && is_ok o) (number-itself (answered es + 1))
+    (both-so (is_edit edit (line_edit (line_of c))) (is_ok o) said (ap is_ok given))) tt).answers
+
+pub edits : (says : Says) (c : Core) (edit : Edit) → line_of c ≡ Some (Good (command.Edit edit))
+    → AnswersNext says c (edit_event c.input c.entries.items (Terminal (answered c.entries.items + 1)) edit)
+edits says c edit next = edit-outcome says c edit next (edited c.input.domain (know c.input c.entries.items) edit) refl
+
+-- ---- runs of one act
+
+act-fine : (o : Result GroundAction GroundRefusal) → ground_refusal o ≡ None → is_ok o ≡ true
+act-fine (Ok g) h = refl
+act-fine (Err r) h = absurd (cc)
+
+pub runs-act : (says : Says) (c : Core) (act : Act) (acts : List Act) → Stands c → acts ≡ act ∷ [] → line_of c ≡ Some (Good (command.RunAction act))
+    → ground_refusal (ground_act c.present.expert c.present.problem.instances act) ≡ None → MayAnswer says c (event.Run run.Action acts)
+runs-act says c act acts s one next given =
+    let i : Input = c.input in
+    let es : List Entry = c.entries.items in
+    let fine : is_ok (ground_act c.present.expert c.present.problem.instances act) ≡ true = act-fine (ground_act c.present.expert c.present.problem.instances act) given in
+    let now = told-now (λ d k. ground_act d k.instances act) c s in
+    let fit : fits i es (event.Run run.Action (act ∷ [])) ≡ true =
+    ap (opens_with i es run.Action (act ∷ [])) next
+    ∙ both-so (same_acts (act ∷ []) (act ∷ [])) (is_ok (ground_act i.domain (know i es).instances act)) ((same_acts-decides (act ∷ []) (act ∷ [])).1 refl) (ap is_ok (sym now) ∙ fine) in
+    subst (λ xs. MayAnswer says c (event.Run run.Action xs)) (sym one)
+    (accepted says c (Good (command.RunAction act)) (event.Run run.Action (act ∷ [])) next (ap ground_refusal (sym now) ∙ given) refl refl fit
+    (record { few = omega arith; grounded = one-each c.present.expert c.present.problem act fine }))
+
+-- why the command to run an act is refused
+pub act-cause : (c : Core) (act : Act) → Stands c
+    → refusal_of c.input c.entries.items (Good (command.RunAction act)) ≡ ground_refusal (ground_act c.present.expert c.present.problem.instances act)
+act-cause c act s = sym (told-now (λ d k. ground_refusal (ground_act d k.instances act)) c s)
+
+-- ---- runs of the plan of a file
+
+-- why the command to run a plan is refused
+pub plan-cause : (c : Core) (steps : Result (List PlanStep) PlanTextRefusal) → Stands c
+    → refusal_of c.input c.entries.items (Good (command.RunPlan steps)) ≡ refusal_of_steps c.present.expert c.present.problem steps
+plan-cause c steps s = sym (told-now (λ d k. refusal_of_steps d k steps) c s)
+
+plan-fine : (o : Result Knowledge PlanRefusal) → plan_refusal o ≡ None → is_ok o ≡ true
+plan-fine (Ok g) h = refl
+plan-fine (Err r) h = absurd (cc)
+
+-- where nothing refuses, no other cause is given than that there is no goal
+goal-so : (k : Knowledge) (why : Option Refusal) → with_goal k why ≡ None → why ≡ None
+goal-so k why h =
+    let cases : (b : Bool) → (if b then Some refusal.NoGoal else why) ≡ None → why ≡ None =
+    λ b. elim b as (λ b. (if b then Some refusal.NoGoal else why) ≡ None → why ≡ None) [
+      | true ↦ λ e. absurd (cc)
+      | false ↦ λ e. e
+    ] in
+    cases (is_none k.goal) h
+
+length-acts : (steps : List PlanStep) → length (acts_of steps) ≡ length steps
+length-acts [] = refl
+length-acts (step ∷ steps) = ap (λ (n : ℕ). suc n) (length-acts steps)
+
+pub runs-plan : (says : Says) (c : Core) (steps : List PlanStep) (acts : List Act) → Stands c → acts ≡ acts_of steps → line_of c ≡ Some (Good (command.RunPlan (Ok steps)))
+    → length steps ≤ 256 → refusal_of_steps c.present.expert c.present.problem (Ok steps) ≡ None → MayAnswer says c (event.Run run.Plan acts)
+runs-plan says c steps acts s all next few given =
+    let i : Input = c.input in
+    let es : List Entry = c.entries.items in
+    let these : List Act = acts_of steps in
+    let fine : is_ok (judged c.present.expert c.present.problem these) ≡ true =
+    plan-fine (judged c.present.expert c.present.problem these) (goal-so c.present.problem (plan_refusal (judged c.present.expert c.present.problem these)) given) in
+    let now = told-now (λ d k. judged d k these) c s in
+    let fit : fits i es (event.Run run.Plan these) ≡ true =
+    ap (opens_with i es run.Plan these) next
+    ∙ both-so (same_acts these these) (is_ok (judged i.domain (know i es) these)) ((same_acts-decides these these).1 refl) (ap is_ok (sym now) ∙ fine) in
+    let many = length-acts steps in
+    subst (λ xs. MayAnswer says c (event.Run run.Plan xs)) (sym all)
+    (accepted says c (Good (command.RunPlan (Ok steps))) (event.Run run.Plan these) next (sym (told-now (λ d k. refusal_of_steps d k (Ok steps)) c s) ∙ given) refl refl fit
+    (record { few = omega (arith, few, many); grounded = good-each c.present.expert c.present.problem these fine }))
+
+pub no-steps : (d : Domain) (k : Knowledge) (why : PlanTextRefusal) → refusal_of_steps d k (Err why) ≡ None → ⊥
+no-steps d k why given = some-none (refusal.PlanText why) (goal-so k (Some (refusal.PlanText why)) given)
+
+-- ---- runs for the goal
+
+none-so : (goal : Option Cond) → IsSome goal → is_none goal ≡ false
+none-so None h = absurd (cc)
+none-so (Some goal) h = refl
+
+-- why no plan is made is why the answer is none
+goal-cause : (c : Core) (a : Answer) → Stands c → IsSome c.present.problem.goal → Fits c.present.expert c.present.problem c.input.budget a
+    → refusal_of c.input c.entries.items (Good command.Run) ≡ unplanned a
+goal-cause c a s goal fit =
+    sym (told-now (λ d k. refusal_of_goal d c.input.budget k) c s)
+    ∙ sym (with-some-goal c.present.problem (unplanned (answered_by c.present.expert c.present.problem c.input.budget)) (none-so c.present.problem.goal goal))
+    ∙ sym (fits-unplanned c.present.expert c.present.problem c.input.budget a fit)
+
+pub runs-goal : (c : Core) (acts : List Act) → Stands c → line_of c ≡ Some (Good command.Run) → IsSome c.present.problem.goal
+    → Fits c.present.expert c.present.problem c.input.budget (answer.Plan acts) → AnswersBy c (answer.Plan acts) (event.Run run.Goal acts)
+runs-goal c acts s next goal fit = λ says said.
+    let i : Input = c.input in
+    let es : List Entry = c.entries.items in
+    let now : Fits i.domain (know i es) i.budget (answer.Plan acts) =
+    subst (λ d. Fits d (know i es) i.budget (answer.Plan acts)) s.kept.domain (subst (λ k. Fits c.present.expert k i.budget (answer.Plan acts)) s.kept.known fit) in
+    let good : fits i es (event.Run run.Goal acts) ≡ true =
+    ap (opens_with i es run.Goal acts) next ∙ plan-so i.domain (know i es) i.budget acts now in
+    accepted says c (Good command.Run) (event.Run run.Goal acts) next (goal-cause c (answer.Plan acts) s goal fit)
+    (ap run_by (sym (said ∙ told-now (λ d k. says d k i.budget) c s))) refl good
+    (record { few = fit.0.few; grounded = good-each c.present.expert c.present.problem acts fit.0.goes_well })
+
+pub refuses-goal : (c : Core) (a : Answer) (why : Refusal) → Stands c → line_of c ≡ Some (Good command.Run) → IsSome c.present.problem.goal
+    → Fits c.present.expert c.present.problem c.input.budget a → unplanned a ≡ Some why
+    → AnswersBy c a (event.Refused (Terminal (answered c.entries.items + 1)) why)
+refuses-goal c a why s next goal fit none = λ says said. refused says c (Good command.Run) why next (goal-cause c a s goal fit ∙ none)
+
+pub goal-less : (says : Says) (c : Core) → Stands c → line_of c ≡ Some (Good command.Run) → is_none c.present.problem.goal ≡ true
+    → MayAnswer says c (event.Refused (Terminal (answered c.entries.items + 1)) refusal.NoGoal)
+goal-less says c s next less =
+    refused says c (Good command.Run) refusal.NoGoal next
+    (sym (told-now (λ d k. refusal_of_goal d c.input.budget k) c s)
+    ∙ ap (λ b. if b then Some refusal.NoGoal else unplanned (answered_by c.present.expert c.present.problem c.input.budget)) less)

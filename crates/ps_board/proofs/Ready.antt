@@ -1,0 +1,144 @@
+-- What holds where the block of an event is due.
+use Rattle.std.proofs.Common.{◌≡◌, ℕ, ◌+◌, ◌<◌, ◌≤◌, None, Result, Ok, Err, OnErr, IsTrue, List, [], length, ap, sym, subst, arith, ◌∙◌}
+use Rattle.std.specs.Option.{unwrap_or}
+use Rattle.std.specs.Vec.{vec_capacity}
+use Rattle.ps_world.specs.declared.domains.Domain.{Domain}
+use Rattle.ps_world.specs.declared.known.Knowledge.{Knowledge}
+use Rattle.ps_world.specs.declared.edits.Edit.{Edit}
+use Rattle.ps_world.specs.declared.edits.EditRefusal.{EditRefusal}
+use Rattle.ps_world.specs.Knowledge.{edited}
+use Rattle.ps_action.specs.declared.acts.Act.{Act}
+use Rattle.ps_machine.specs.declared.journal.By.{By}
+use Rattle.ps_machine.specs.declared.journal.Event.{Event}
+use Rattle.ps_machine.specs.declared.journal.Event.TheVariants as event
+use Rattle.ps_machine.specs.declared.journal.Entry.{Entry}
+use Rattle.ps_machine.specs.declared.journal.Refusal.TheVariants as refusal
+use Rattle.ps_rules.specs.Runs.{plan, says_plan, says_state, state}
+use Rattle.ps_rules.specs.Known.{grounds, know}
+use Rattle.ps_rules.specs.Legal.{has_hand, is_legal}
+use Rattle.ps_rules.specs.Lines.{edit_refusal}
+use Rattle.ps_rules.specs.History.{IsHistory}
+use Rattle.ps_rules.specs.History.IsHistory.{nothing}
+use Rattle.ps_rules.specs.Sound.{IsSound}
+use Rattle.ps_rules.specs.Choices.{edit_event, outcome_of, with_block}
+use Rattle.ps_ledger.specs.Ledger.{HasRoom}
+use Rattle.ps_monitor.specs.Watched.{watched}
+use Rattle.ps_rows.specs.Present as rows
+use Rattle.ps_rows.specs.Table.{IsAhead, KeepsAwaiting, MayBegin}
+use Rattle.ps_rows.specs.declared.present.Present.{Present}
+use Rattle.ps_rows.proofs.Awaiting.{keeps-standing}
+use Rattle.ps_rows.proofs.Grounded.{as-many}
+use Rattle.ps_board.specs.declared.whole.Core.{Core}
+use Rattle.ps_board.specs.Core.{IsDue, most_entries, Stands, state_in, watch_for}
+use Rattle.ps_board.specs.Watching.{IsWatchedAs}
+use Rattle.ps_board.proofs.Lengths.{block-space}
+
+-- ---- what stands doesn't rest on how much memory there is
+
+-- the watches by the states that the entries tell
+pub watching-told : (c : Core) → Stands c → (act : ℕ) → watched c.monitor act ≡ watch_for c.present.grounds.items act (state act c.entries.items)
+watching-told c s act = s.watching act ∙ ap (watch_for c.present.grounds.items act) (sym (s.kept.told.acts.states act))
+
+pub stands-again : (c new : Core) → Stands c → new.input ≡ c.input → new.entries.items ≡ c.entries.items → rows.Stands c.input c.entries.items new.present
+    → IsWatchedAs new.monitor (watched c.monitor) → Stands new
+stands-again c new s input entries stood watching =
+    let same : new.present.grounds.items ≡ c.present.grounds.items = stood.grounds ∙ sym s.kept.grounds in
+    record {
+      sound = subst IsSound (sym input) s.sound;
+      history = subst (λ i. IsHistory i new.entries.items) (sym input) (subst (IsHistory c.input) (sym entries) s.history);
+      kept = subst (λ i. rows.Stands i new.entries.items new.present) (sym input) (subst (λ es. rows.Stands c.input es new.present) (sym entries) stood);
+      watching = λ act.
+          watching act ∙ watching-told c s act ∙ ap (watch_for c.present.grounds.items act) (stood.told.acts.states act)
+          ∙ ap (λ gs. watch_for gs act (state_in new.present.ledger act)) (sym same);
+      all = ap length same ∙ s.all ∙ ap (λ es. length (plan es)) (sym entries);
+    }
+
+-- where there is more memory for what is kept and for entries
+pub stands-grown : (c new : Core) → Stands c → new.input ≡ c.input → new.entries.items ≡ c.entries.items → KeepsAwaiting c.present new.present
+    → IsWatchedAs new.monitor (watched c.monitor) → Stands new
+stands-grown c new s input entries keeps watching =
+    stands-again c new s input entries (keeps-standing c.input c.entries.items c.present new.present keeps s.kept) watching
+
+-- on an error this holds
+pub on-err : {A E P : Type 0} (r : Result A E) → P → OnErr r P
+on-err (Ok a) h = tt
+on-err (Err e) h = h
+
+-- ---- how many ground actions there are
+
+all-for : (d : Domain) (k : Knowledge) (acts : List Act) (e : Event) (p : Present) → p.expert ≡ d → MayBegin e p → length (grounds d acts) ≡ length acts
+    → length (grounds d (unwrap_or (says_plan e) acts)) ≡ length (unwrap_or (says_plan e) acts)
+all-for d k acts (event.Run for new) p same may all =
+    ap (λ x. length (grounds x new)) (sym same) ∙ as-many p.expert p.problem.instances new may.grounded
+all-for d k acts (event.Replan new) p same may all =
+    ap (λ x. length (grounds x new)) (sym same) ∙ as-many p.expert p.problem.instances new may.grounded
+all-for d k acts e p same may all = all
+
+-- ---- a block is due
+
+-- where all but the ledger has gone on
+pub due : (c new : Core) (hand : ℕ) (e : Event) → Stands c → new.input ≡ c.input → new.entries.items ≡ c.entries.items
+    → IsTrue (is_legal c.input c.entries.items e) → IsTrue (has_hand e hand) → MayBegin e c.present → IsAhead c.input c.entries.items e new.present
+    → ((act : ℕ) → watched new.monitor act ≡ watch_for new.present.grounds.items act (unwrap_or (says_state act e) (state act c.entries.items)))
+    → HasRoom e new.present.ledger → length new.entries.items < 18446744073709551615 → length new.entries.items + most_entries e ≤ vec_capacity new.entries
+    → IsDue new hand e
+due c new hand e s input entries legal by may ahead watching room short space =
+    let es : List Entry = c.entries.items in
+    let many : length c.present.grounds.items ≡ length (grounds c.input.domain (plan es)) = ap length s.kept.grounds in
+    let long = block-space c.input es hand e s.history ahead.few in
+    let longer = ap length entries in
+    let fits_in : length (with_block c.input hand es e) ≤ vec_capacity new.entries = omega (arith, long, longer, space) in
+    record {
+      sound = subst IsSound (sym input) s.sound;
+      history = subst (λ i. IsHistory i new.entries.items) (sym input) (subst (IsHistory c.input) (sym entries) s.history);
+      kept = subst (λ i. IsAhead i new.entries.items e new.present) (sym input) (subst (λ xs. IsAhead c.input xs e new.present) (sym entries) ahead);
+      watching = λ act. watching act ∙ ap (λ xs. watch_for new.present.grounds.items act (unwrap_or (says_state act e) (state act xs))) (sym entries);
+      all = ap length ahead.grounds ∙ all-for c.input.domain (know c.input es) (plan es) e c.present s.kept.domain may (sym many ∙ s.all)
+          ∙ ap (λ xs. length (unwrap_or (says_plan e) (plan xs))) (sym entries);
+      legal = subst (λ i. IsTrue (is_legal i new.entries.items e)) (sym input) (subst (λ xs. IsTrue (is_legal c.input xs e)) (sym entries) legal);
+      by = by;
+      room = room;
+      short = short;
+      space = subst (λ i. length (with_block i hand new.entries.items e) ≤ vec_capacity new.entries) (sym input)
+          (subst (λ xs. length (with_block c.input hand xs e) ≤ vec_capacity new.entries) (sym entries) fits_in);
+    }
+
+-- where an event changes neither the plan nor a state of its acts, and so no watch
+pub due-still : (c new : Core) (hand : ℕ) (e : Event) → Stands c → new.input ≡ c.input → new.entries.items ≡ c.entries.items
+    → IsTrue (is_legal c.input c.entries.items e) → IsTrue (has_hand e hand) → MayBegin e c.present → IsAhead c.input c.entries.items e new.present
+    → says_plan e ≡ None → ((act : ℕ) → says_state act e ≡ None) → new.monitor ≡ c.monitor
+    → HasRoom e new.present.ledger → length new.entries.items < 18446744073709551615 → length new.entries.items + most_entries e ≤ vec_capacity new.entries
+    → IsDue new hand e
+due-still c new hand e s input entries legal by may ahead plans states monitor room short space =
+    let es : List Entry = c.entries.items in
+    let same : c.present.grounds.items ≡ new.present.grounds.items =
+    s.kept.grounds ∙ ap (λ o. grounds c.input.domain (unwrap_or o (plan es))) (sym plans) ∙ sym ahead.grounds in
+    due c new hand e s input entries legal by may ahead
+    (λ act. ap (λ m. watched m act) monitor ∙ watching-told c s act ∙ ap (λ gs. watch_for gs act (state act es)) same
+    ∙ ap (λ o. watch_for new.present.grounds.items act (unwrap_or o (state act es))) (sym (states act)))
+    room short space
+
+-- ---- edits
+
+edited-is : (c : Core) (edit : Edit) → Stands c → edited c.input.domain (know c.input c.entries.items) edit ≡ edited c.present.expert c.present.problem edit
+edited-is c edit s = ap (λ d. edited d (know c.input c.entries.items) edit) (sym s.kept.domain) ∙ ap (λ k. edited c.present.expert k edit) (sym s.kept.known)
+
+-- what records an edit that is accepted, and one that is refused
+pub event-accepted : (c : Core) (k : Knowledge) (whose : By) (edit : Edit) → Stands c → edited c.present.expert c.present.problem edit ≡ Ok k
+    → edit_event c.input c.entries.items whose edit ≡ event.Edit whose edit
+event-accepted c k whose edit s made = ap (λ r. outcome_of whose edit (edit_refusal r)) (edited-is c edit s ∙ made)
+
+pub event-refused : (c : Core) (why : EditRefusal) (whose : By) (edit : Edit) → Stands c → edited c.present.expert c.present.problem edit ≡ Err why
+    → edit_event c.input c.entries.items whose edit ≡ event.Refused whose (refusal.Edit why)
+event-refused c why whose edit s made = ap (λ r. outcome_of whose edit (edit_refusal r)) (edited-is c edit s ∙ made)
+
+-- ---- nothing yet
+
+pub stands-open : (c : Core) → IsSound c.input → c.entries.items ≡ [] → rows.Stands c.input [] c.present → ((act : ℕ) → watched c.monitor act ≡ None) → Stands c
+stands-open c sound entries stood off = record {
+  sound = sound;
+  history = subst (IsHistory c.input) (sym entries) nothing;
+  kept = subst (λ es. rows.Stands c.input es c.present) (sym entries) stood;
+  watching = λ act. off act ∙ ap (watch_for c.present.grounds.items act) (stood.told.acts.states act);
+  all = ap length stood.grounds ∙ ap (λ es. length (plan es)) (sym entries);
+}

@@ -1,0 +1,45 @@
+-- What answers the lines of the terminal.
+use Rattle.std.specs.Prelude.{◌≡◌, true, Option, Some, None, option_and_then}
+use Rattle.ps_action.specs.declared.answers.Answer.{Answer}
+use Rattle.ps_machine.specs.declared.inputs.Line.{Line}
+use Rattle.ps_machine.specs.declared.journal.Event.{Event}
+use Rattle.ps_rules.specs.Choices.{edit_event, line_event, Says}
+use Rattle.ps_rules.specs.Legal.{fits}
+use Rattle.ps_rules.specs.Lines.{answers_line, next_line}
+use Rattle.ps_rows.specs.Table.{MayBegin}
+use Rattle.ps_board.specs.declared.commands.Next.{Next}
+use Rattle.ps_board.specs.declared.commands.Next.TheVariants as next
+use Rattle.ps_board.specs.declared.whole.Core.{Core}
+
+-- the line that is answered next, if one is left
+abbrev pub line_of : Core → Option Line
+line_of c = next_line c.input c.entries.items
+
+-- This event answers the next line, where the solver says this, and may come next where no run is open.
+pub record AnswersNext (says : Says) (c : Core) (e : Event) : Type 0 where
+  pub event : option_and_then (line_event says c.input c.entries.items) (line_of c) ≡ Some e
+  pub own : answers_line e ≡ true
+  pub fit : fits c.input c.entries.items e ≡ true
+
+-- So does this one, and the acts of the run that it opens, if it opens one, can be grounded.
+pub record MayAnswer (says : Says) (c : Core) (e : Event) : Type 0 where
+  pub answers : AnswersNext says c e
+  pub plan : MayBegin e c.present
+
+-- so does this one, whatever the solver says
+abbrev pub AnswersAnyway : Core → Event → Type 0
+AnswersAnyway c e = (says : Says) → MayAnswer says c e
+
+-- so does this one, if the solver answers this of what is known now
+abbrev pub AnswersBy : Core → Answer → Event → Type 0
+AnswersBy c a e = (says : Says) → a ≡ says c.present.expert c.present.problem c.input.budget → MayAnswer says c e
+
+-- no line is left, or this edit is what the next line says, or this event answers it
+abbrev pub IsNext : Says → Core → Next → Type 0
+IsNext says c next.End = line_of c ≡ None
+IsNext says c (next.Edit by edit) = AnswersNext says c (edit_event c.input c.entries.items by edit)
+IsNext says c (next.Event e) = MayAnswer says c e
+
+-- the same, whatever the solver says
+abbrev pub IsNextAnyway : Core → Next → Type 0
+IsNextAnyway c n = (says : Says) → IsNext says c n

@@ -1,0 +1,54 @@
+//! How an event changes what is watched.
+ghost use Rattle.std.specs.Prelude.{◌≡◌, ◌≤◌, length, OnOk, OnErr};
+ghost use Rattle.ps_monitor.specs.Watched.{watched};
+ghost use Rattle.ps_board.specs.Watching.{IsWatchedAs, StartsWithin, watched_after, watched_from, watched_without};
+
+use ps_action::GroundAction;
+use ps_machine::Event;
+use ps_monitor::Monitor;
+use std::alloc::AllocError;
+
+/// Watches the act that an event starts, if it starts one. The only error is that memory ran out, and then nothing changes.
+pub fn watch_started(
+    monitor: &mut Monitor,
+    grounds: &[GroundAction],
+    what: &Event,
+) -> Result<(), AllocError>
+    requires few { length grounds.now ≤ 256 }
+    requires there { StartsWithin (length grounds.now) what.now }
+    ensures ok { OnOk result
+        (IsWatchedAs monitor.new (watched_from what.now grounds.now monitor.old)) }
+    ensures err { OnErr result (IsWatchedAs monitor.new (watched monitor.old)) }
+{
+    match what {
+        Event::Start(act) => {
+            let ground = &grounds[*act as usize];
+            monitor.watch(*act, &ground.conditions.over_all)
+        }
+        _ => Ok(()),
+    }
+}
+
+/// Watches the act that an event starts no longer, if it starts one.
+pub fn unwatch_started(monitor: &mut Monitor, what: &Event)
+    ensures { IsWatchedAs monitor.new (watched_without what.now monitor.old) }
+{
+    match what {
+        Event::Start(act) => monitor.unwatch(*act),
+        _ => {}
+    }
+}
+
+/// Watches the act that an event ends no longer, if it ends one, and none where it makes a new plan.
+pub fn unwatch_ended(monitor: &mut Monitor, what: &Event)
+    ensures { IsWatchedAs monitor.new (watched_after what.now monitor.old) }
+{
+    match what {
+        Event::Run { kind: _, acts: _ } => monitor.clear(),
+        Event::Replan(_) => monitor.clear(),
+        Event::End(act) => monitor.unwatch(*act),
+        Event::Fail { act, why: _ } => monitor.unwatch(*act),
+        Event::Cancel { act, why: _ } => monitor.unwatch(*act),
+        _ => {}
+    }
+}
