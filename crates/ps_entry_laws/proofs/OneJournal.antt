@@ -14,12 +14,12 @@ use Rattle.ps_text.specs.Words.{words}
 use Rattle.ps_script.specs.declared.reading.Read.TheVariants.{Line}
 use Rattle.ps_entries.specs.Words.{with_words}
 use Rattle.ps_entries.specs.EntryLines.{IsEntryLine, IsTold, head_text}
-use Rattle.ps_entries.specs.Journals.{AreEntries, IsJournal, is_reply, title}
+use Rattle.ps_entries.specs.Journals.{AreEntries, is_reply, title}
 use Rattle.ps_entries.specs.Journals.AreEntries.{none_left, reply, entry}
 use Rattle.ps_entries.proofs.KnownNames.{names_words}
 use Rattle.ps_entries.proofs.OneEntry.{line-once}
 use Rattle.ps_entries.proofs.ReadTables.{Goes, goes_nowhere, goes_read}
-use Rattle.ps_entry_laws.specs.Laws.{HistoriesArePrintedApart, TextsAreOneJournal}
+use Rattle.ps_entry_laws.specs.Laws.{HistoriesArePrintedApart, IsJournalOf, TextsAreOneJournal}
 use Rattle.ps_entry_laws.proofs.ReadJournals.{printed_journals_are_read}
 
 goes_told : (mid : Table) (e : Event) (after : Table) → IsTold mid e after → Goes mid after
@@ -55,10 +55,14 @@ texts_are_one_journal table after other text es fs known x y =
     let lines : y.lines ≡ x.lines = same_rest y.lines x.lines (sym y.titled ∙ x.titled) in
     entries_one 2 table x.lines es fs after other known x.entries (subst (λ (ls : List (List ℕ)). AreEntries 2 table ls fs other) lines y.entries)
 
+-- a text is a journal of one list of entries
+pub entries_are_one : (table : Table) (text : List ℕ) (es fs : List Entry) → AreNames table → IsJournalOf table text es → IsJournalOf table text fs → es ≡ fs
+entries_are_one table text es fs known x y =
+    let one = texts_are_one_journal table x.after y.after text x.numbered y.numbered known x.read y.read in
+    sym x.same ∙ ap (map (λ z. z.1)) one.0 ∙ y.same
+
 pub histories_are_printed_apart : HistoriesArePrintedApart
 histories_are_printed_apart names i j es fs named si sj hi hj ei ej same =
     let x = printed_journals_are_read names names i es named named (λ n lt. refl) si hi ei in
     let y = printed_journals_are_read names names j fs named named (λ n lt. refl) sj hj ej in
-    let read : IsJournal names (journal_text names i es) y.numbered y.after = subst (λ (text : List ℕ). IsJournal names text y.numbered y.after) (sym same) y.read in
-    let one = texts_are_one_journal names x.after y.after (journal_text names i es) x.numbered y.numbered named x.read read in
-    sym x.same ∙ ap (map (λ z. z.1)) one.0 ∙ y.same
+    entries_are_one names (journal_text names i es) es fs named x (subst (λ (text : List ℕ). IsJournalOf names text fs) (sym same) y)

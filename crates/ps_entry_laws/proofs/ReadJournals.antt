@@ -6,15 +6,16 @@ use Rattle.std.specs.List.{starts_with}
 use Rattle.ps_world.specs.Lines.{lines_of}
 use Rattle.ps_world.specs.Names.{Table}
 use Rattle.ps_machine.specs.Texts.{entry_line}
+use Rattle.ps_machine.specs.declared.inputs.Input.{Input}
 use Rattle.ps_machine.specs.declared.journal.Entry.{Entry}
-use Rattle.ps_rules.specs.Journal.{reply_mark, text_after}
+use Rattle.ps_rules.specs.Journal.{AreEntriesIn, journal_text, reply_mark, text_after}
 use Rattle.ps_rules.proofs.Notes.{histories_are_read_back}
 use Rattle.ps_text.specs.Names.{AreNames, Keeps}
 use Rattle.ps_journal.proofs.NameLines.{AreLines-names}
 use Rattle.ps_entries.specs.EntryLines.{IsEntryLine}
 use Rattle.ps_entries.specs.Journals.{AreEntries, is_reply}
 use Rattle.ps_entries.specs.Journals.AreEntries.{none_left, reply, entry}
-use Rattle.ps_entry_laws.specs.Laws.{IsEntryOf, PrintedJournalsAreRead}
+use Rattle.ps_entry_laws.specs.Laws.{IsEntryOf, IsJournalOf, PrintedJournalsAreRead}
 use Rattle.ps_entry_laws.proofs.ReadBack.{printed_entries_are_read}
 
 one_list : {A : Type 0} (x y : A) (xs ys : List A) → x ∷ xs ≡ y ∷ ys → (x ≡ y) × (xs ≡ ys)
@@ -70,14 +71,18 @@ module _ (names : Table) (named : AreNames names) where
         | inr r ↦ after_entry line lines es n table r (all_read lines) known keeps all (rw r at h)
       ]
 
-pub printed_journals_are_read : PrintedJournalsAreRead
-printed_journals_are_read names table i es named known keeps sound history all =
+-- a journal's text whose entry lines are those of entries in form is read as a journal of these
+pub entries_are_read : (names table : Table) (i : Input) (es fs : List Entry) → AreNames names → AreNames table → Keeps names table → AreEntriesIn names (journal_text names i es) fs → All (IsEntryOf names) fs → IsJournalOf table (journal_text names i es) fs
+entries_are_read names table i es fs named known keeps are all =
     let lines = lines_of (text_after names i [] es) in
-    let are = histories_are_read_back names i es (AreLines-names names named) sound history in
-    let x = all_read names named lines es 2 table known keeps all are in
+    let x = all_read names named lines fs 2 table known keeps all are in
     record {
       numbered = x.numbered;
       after = x.after;
       read = record { lines = lines; titled = refl; entries = x.read };
       same = x.same;
     }
+
+pub printed_journals_are_read : PrintedJournalsAreRead
+printed_journals_are_read names table i es named known keeps sound history all =
+    entries_are_read names table i es es named known keeps (histories_are_read_back names i es (AreLines-names names named) sound history) all

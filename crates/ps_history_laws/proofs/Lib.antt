@@ -1,0 +1,17 @@
+pub mod Found
+pub mod Faults
+pub mod Instances
+pub mod Acts
+pub mod Members
+pub mod Lines
+pub mod Said
+pub mod Legal
+pub mod Held
+pub mod Histories
+pub mod Printed
+pub mod ReadGoals
+pub mod ReadLines
+pub mod Kept
+pub mod ReadUnits
+pub mod ReadMembers
+pub mod ReadDomains

@@ -1,0 +1,5 @@
+pub mod TablesFollow
+pub mod SayableLines
+pub mod SayableInputs
+pub mod ReadHistories
+mod OneFinding
