@@ -4,7 +4,7 @@ use Rattle.ps_world.specs.declared.failures.Failure.TheVariants as failure
 use Rattle.ps_text.specs.Outside.{FilesView, SinkView, next}
 use Rattle.ps_validate.specs.declared.verdicts.Invalid.{Invalid}
 use Rattle.ps_words.specs.Words.{Request, SessionRequest, asked_of}
-use Rattle.ps_words.specs.Words.Request.{a_session, a_check, a_validation}
+use Rattle.ps_words.specs.Words.Request.{a_session, a_check, a_validation, a_replay}
 use Rattle.ps_inputs.specs.Faults.{IsDue, IsLoaded, failed_after, fault_status}
 use Rattle.ps_inputs.specs.Input.{HasFault, IsAsked, IsWork, Material, is_quiet, reading_of, texts_of}
 use Rattle.ps_inputs.specs.Reading.{MayFail, MayGive, Reading}
@@ -14,12 +14,15 @@ use Rattle.ps_inputs.specs.declared.faults.Fault.{Fault}
 use Rattle.ps_inputs.specs.declared.faults.Fault.TheVariants.{Usage, NoDomain, NoMember, Crowd, Twice, TooLong, Lines, Unread}
 use Rattle.ps_inputs.specs.declared.works.Work.{Work}
 use Rattle.ps_inputs.specs.declared.works.Work.TheVariants as work
+use Rattle.ps_audit.specs.Findings.{finding_status}
+use Rattle.ps_audit.specs.declared.findings.Finding.{Finding}
+use Rattle.ps_audit.specs.declared.findings.Finding.TheVariants.{Legal, Illegal}
 use Rattle.ps_calls.specs.Headline.{Reports, verdict_of}
 use Rattle.ps_calls.specs.Headline.Answers.{done, at_fault, cannot_write, starved_at_work, starved_before}
 use Rattle.ps_calls.specs.Headline.Reports.{told, unwritten, starved, wordless}
-use Rattle.ps_calls.specs.Laws.{FailedReadsAreTold, FailedWritesAreTold, FaultsWriteNothing, FirstWordsDecide, IsBroken, IsOfFault, IsOfWork, IsStatusOf, LeadsTo, ModesDecide, RefusedWritesAreTold, StatusesAreFew, TextsDecide, UnreadIsCounted, WordsDecide, WorkIsDoneInSilence}
+use Rattle.ps_calls.specs.Laws.{FailedReadsAreTold, FailedWritesAreTold, FaultsWriteNothing, FirstWordsDecide, IsBroken, IsOfFault, IsOfWork, IsStatusOf, IsToJudge, LeadsTo, ModesDecide, RefusedWritesAreTold, StatusesAreFew, TextsDecide, UnreadIsCounted, WordsDecide, WorkIsDoneInSilence}
 use Rattle.ps_calls.specs.Verdicts.{verdict_status}
-use Rattle.ps_calls.proofs.Modes.{session-loud, validation-quiet}
+use Rattle.ps_calls.proofs.Modes.{judging-quiet, session-loud}
 use Rattle.ps_calls.proofs.Statuses.{no_fault-broken, no_work-broken, no_work-fault, status-of_fault, status-of_work, status-performed, status-reported}
 
 -- ---- failures
@@ -239,30 +242,47 @@ no_one : (wrong : Option Invalid) → verdict_status wrong ≡ 1 → ⊥
 no_one None h = omega arith
 no_one (Some fault) h = omega arith
 
+not_one : (f : Finding) → finding_status f ≡ 1 → ⊥
+not_one Legal h = omega arith
+not_one (Illegal line) h = omega arith
+
 -- work with the status 1 is a session
 one-session : (o : Request) (w : Work) (status : ℕ) → IsAsked o w → IsStatusOf w status → status ≡ 1 → (s : SessionRequest) × (o ≡ a_session s)
 one-session (a_session s) (work.Session t) status kind h one = (s, refl)
 one-session (a_session s) (work.Check names d) status kind h one = absurd kind
 one-session (a_session s) (work.Validation v) status kind h one = absurd kind
+one-session (a_session s) (work.Replay r) status kind h one = absurd kind
 one-session (a_check file) (work.Session t) status kind h one = absurd kind
 one-session (a_check file) (work.Check names d) status kind h one = absurd (omega arith)
 one-session (a_check file) (work.Validation v) status kind h one = absurd kind
+one-session (a_check file) (work.Replay r) status kind h one = absurd kind
 one-session (a_validation domain script plan) (work.Session t) status kind h one = absurd kind
 one-session (a_validation domain script plan) (work.Check names d) status kind h one = absurd kind
 one-session (a_validation domain script plan) (work.Validation v) status kind h one = absurd (no_one (verdict_of v).0 (sym h ∙ one))
+one-session (a_validation domain script plan) (work.Replay r) status kind h one = absurd kind
+one-session (a_replay q) (work.Session t) status kind h one = absurd kind
+one-session (a_replay q) (work.Check names d) status kind h one = absurd kind
+one-session (a_replay q) (work.Validation v) status kind h one = absurd kind
+one-session (a_replay q) (work.Replay r) status kind h one = absurd (not_one h.0 (sym h.2 ∙ one))
 
--- work with the status 7 is a validation
-seven-validation : (o : Request) (w : Work) (status : ℕ) → IsAsked o w → IsStatusOf w status → status ≡ 7
-    → (domain script plan : List ℕ) × (o ≡ a_validation domain script plan)
-seven-validation (a_session s) (work.Session t) status kind h seven = absurd (omega arith)
-seven-validation (a_session s) (work.Check names d) status kind h seven = absurd kind
-seven-validation (a_session s) (work.Validation v) status kind h seven = absurd kind
-seven-validation (a_check file) (work.Session t) status kind h seven = absurd kind
-seven-validation (a_check file) (work.Check names d) status kind h seven = absurd (omega arith)
-seven-validation (a_check file) (work.Validation v) status kind h seven = absurd kind
-seven-validation (a_validation domain script plan) (work.Session t) status kind h seven = absurd kind
-seven-validation (a_validation domain script plan) (work.Check names d) status kind h seven = absurd kind
-seven-validation (a_validation domain script plan) (work.Validation v) status kind h seven = (domain, script, plan, refl)
+-- work with the status 7 is a validation or a replay
+seven-judged : (o : Request) (w : Work) (status : ℕ) → IsAsked o w → IsStatusOf w status → status ≡ 7 → IsToJudge o
+seven-judged (a_session s) (work.Session t) status kind h seven = absurd (omega arith)
+seven-judged (a_session s) (work.Check names d) status kind h seven = absurd kind
+seven-judged (a_session s) (work.Validation v) status kind h seven = absurd kind
+seven-judged (a_session s) (work.Replay r) status kind h seven = absurd kind
+seven-judged (a_check file) (work.Session t) status kind h seven = absurd kind
+seven-judged (a_check file) (work.Check names d) status kind h seven = absurd (omega arith)
+seven-judged (a_check file) (work.Validation v) status kind h seven = absurd kind
+seven-judged (a_check file) (work.Replay r) status kind h seven = absurd kind
+seven-judged (a_validation domain script plan) (work.Session t) status kind h seven = absurd kind
+seven-judged (a_validation domain script plan) (work.Check names d) status kind h seven = absurd kind
+seven-judged (a_validation domain script plan) (work.Validation v) status kind h seven = inl (domain, script, plan, refl)
+seven-judged (a_validation domain script plan) (work.Replay r) status kind h seven = absurd kind
+seven-judged (a_replay q) (work.Session t) status kind h seven = absurd kind
+seven-judged (a_replay q) (work.Check names d) status kind h seven = absurd kind
+seven-judged (a_replay q) (work.Validation v) status kind h seven = absurd kind
+seven-judged (a_replay q) (work.Replay r) status kind h seven = inr (q, refl)
 
 one-of_work : (status : ℕ) → status ≡ 1 → IsOfWork status
 one-of_work status h = inl (omega arith)
@@ -276,7 +296,7 @@ modes_decide c _ (done w status l p s) =
     let asked = l.loaded.asked in
     let kind = status-performed w _ _ status p in (
       (λ h. let is = one-session r w status l.loaded.kind kind h in (is.0, asked ∙ ap Some is.1)),
-      (λ h. let is = seven-validation r w status l.loaded.kind kind h in (is.0, is.1, is.2, asked ∙ ap Some is.3)),
+      (λ h. (r, asked, seven-judged r w status l.loaded.kind kind h)),
     )
 modes_decide c _ (at_fault f status l o r) = (
   (λ h. absurd (reported-no_work f _ _ status r (one-of_work status h))),
@@ -293,7 +313,7 @@ pub first_words_decide : FirstWordsDecide
 first_words_decide c status h =
     let modes = modes_decide c status h in (
       (λ quiet one. let is = modes.0 one in flags-apart (is_quiet c.words) quiet (session-loud c.words is.0 is.1)),
-      (λ loud seven. let is = modes.1 seven in flags-apart (is_quiet c.words) (validation-quiet c.words is.0 is.1 is.2 is.3) loud),
+      (λ loud seven. let is = modes.1 seven in flags-apart (is_quiet c.words) (judging-quiet c.words is.0 is.1 is.2) loud),
     )
 
 -- ---- the greatest status

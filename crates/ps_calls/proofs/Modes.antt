@@ -1,12 +1,13 @@
 -- The mode of what words ask for is their first.
-use Rattle.std.proofs.Common.{◌≡◌, ℕ, Bool, true, false, ◌||◌, Option, Some, None, IfSome, option_map, option_and_then, List, [], ◌∷◌, codes, if◌then◌else◌, refl, sym, subst}
+use Rattle.std.proofs.Common.{◌≡◌, ℕ, Bool, true, false, ◌||◌, Option, Some, None, IfSome, inl, inr, ap, ◌∙◌, option_map, option_and_then, List, [], ◌∷◌, codes, if◌then◌else◌, refl, sym, subst}
 use Rattle.ps_world.specs.Lines.{same_text}
 use Rattle.ps_text.proofs.Tables.{same_text-same}
-use Rattle.ps_words.specs.Words.{Request, SessionRequest, asked_by, asked_in, asked_of, budget_in, check_app, check_of, is_well_formed, mode_of, replans_in, rows_read, session_app, session_of, session_with, validate_app, validation_of, workers_in}
-use Rattle.ps_words.specs.Words.Request.{a_session, a_check, a_validation}
+use Rattle.ps_words.specs.Words.{Request, SessionRequest, asked_by, asked_in, asked_of, budget_in, check_app, check_of, is_well_formed, journal_replans_in, mode_of, replans_in, replay_app, replay_of, replay_with, rows_read, session_app, session_of, session_with, validate_app, validation_of, workers_in}
+use Rattle.ps_words.specs.Words.Request.{a_session, a_check, a_validation, a_replay}
 use Rattle.ps_words.specs.declared.commands.Mode.{Mode}
 use Rattle.ps_words.specs.declared.commands.Mode.TheVariants as mode
 use Rattle.ps_inputs.specs.Input.{argument, is_quiet}
+use Rattle.ps_calls.specs.Laws.{IsToJudge}
 
 -- the first word is this one
 abbrev begins : List (List ℕ) → List ℕ → Type 0
@@ -17,12 +18,14 @@ abbrev mode_in : Request → Mode
 mode_in (a_session s) = mode.Session
 mode_in (a_check domain) = mode.Check
 mode_in (a_validation domain script plan) = mode.Validate
+mode_in (a_replay q) = mode.Replay
 
 -- the word of a mode
 abbrev word_of : Mode → List ℕ
 word_of mode.Session = codes "session"
 word_of mode.Check = codes "check"
 word_of mode.Validate = codes "validate"
+word_of mode.Replay = codes "replay"
 
 -- what is made of something in a mode is of that mode
 made-mode : {A : Type 0} (f : A → Request) (m : Mode) → ((a : A) → mode_in (f a) ≡ m) → (o : Option A) → IfSome (option_map f o) (λ asked. mode_in asked ≡ m)
@@ -42,18 +45,44 @@ in-mode mode.Session words =
     (λ b. made-mode (λ r. session_with rows w b) mode.Session (λ r. refl) (replans_in rows)) (budget_in rows)) (workers_in rows)) (rows_read session_app words)
 in-mode mode.Check words = made-mode check_of mode.Check (λ rows. refl) (rows_read check_app words)
 in-mode mode.Validate words = made-mode validation_of mode.Validate (λ rows. refl) (rows_read validate_app words)
+in-mode mode.Replay words =
+    next-mode replay_of mode.Replay
+    (λ rows. next-mode (λ b. option_map (λ r. replay_with rows b r) (journal_replans_in rows)) mode.Replay
+    (λ b. made-mode (λ r. replay_with rows b r) mode.Replay (λ r. refl) (journal_replans_in rows)) (budget_in rows)) (rows_read replay_app words)
+
+-- the mode is one that this word names
+abbrev IsNamed : List ℕ → Option Mode → Type 0
+IsNamed word o = IfSome o (λ m. same_text word (word_of m) ≡ true)
+
+-- the modes that are tried, from the last to the first
+abbrev replay_if : Bool → Option Mode
+replay_if b = if b then Some mode.Replay else None
+
+abbrev validate_if : List ℕ → Bool → Option Mode
+validate_if word b = if b then Some mode.Validate else replay_if (same_text word (codes "replay"))
+
+abbrev check_if : List ℕ → Bool → Option Mode
+check_if word b = if b then Some mode.Check else validate_if word (same_text word (codes "validate"))
+
+by-replay : (word : List ℕ) (b : Bool) → same_text word (codes "replay") ≡ b → IsNamed word (replay_if b)
+by-replay word true is = is
+by-replay word false is = tt
+
+by-validate : (word : List ℕ) (b : Bool) → same_text word (codes "validate") ≡ b → IsNamed word (validate_if word b)
+by-validate word true is = is
+by-validate word false is = by-replay word (same_text word (codes "replay")) refl
+
+by-check : (word : List ℕ) (b : Bool) → same_text word (codes "check") ≡ b → IsNamed word (check_if word b)
+by-check word true is = is
+by-check word false is = by-validate word (same_text word (codes "validate")) refl
+
+by-session : (word : List ℕ) (b : Bool) → same_text word (codes "session") ≡ b → IsNamed word (if b then Some mode.Session else check_if word (same_text word (codes "check")))
+by-session word true is = is
+by-session word false is = by-check word (same_text word (codes "check")) refl
 
 -- a mode's word is the one that names it
-named-mode : (word : List ℕ) → IfSome (mode_of word) (λ m. same_text word (word_of m) ≡ true)
-named-mode word = by_session (same_text word (codes "session")) refl where
-  by_check : (b c : Bool) → same_text word (codes "check") ≡ b → same_text word (codes "validate") ≡ c → IfSome (if b then Some mode.Check else (if c then Some mode.Validate else None)) (λ m. same_text word (word_of m) ≡ true)
-  by_check true c check validate = check
-  by_check false true check validate = validate
-  by_check false false check validate = tt
-
-  by_session : (b : Bool) → same_text word (codes "session") ≡ b → IfSome (if b then Some mode.Session else (if same_text word (codes "check") then Some mode.Check else (if same_text word (codes "validate") then Some mode.Validate else None))) (λ m. same_text word (word_of m) ≡ true)
-  by_session true session = session
-  by_session false session = by_check (same_text word (codes "check")) (same_text word (codes "validate")) refl refl
+named-mode : (word : List ℕ) → IsNamed word (mode_of word)
+named-mode word = by-session word (same_text word (codes "session")) refl
 
 by-form : (first : List ℕ) (words : List (List ℕ)) (m : Mode) → same_text first (word_of m) ≡ true → (formed : Bool) → IfSome (if formed then asked_in m words else None) (λ asked. same_text first (word_of (mode_in asked)) ≡ true)
 by-form first words m named false = tt
@@ -75,17 +104,28 @@ first-word (first ∷ rest) = by-mode first (first ∷ rest) rest (mode_of first
 begins-asked : (ws : List (List ℕ)) (r : Request) → asked_of ws ≡ Some r → begins ws (word_of (mode_in r))
 begins-asked ws r e = subst (λ (o : Option Request). IfSome o (λ asked. begins ws (word_of (mode_in asked)))) e (first-word ws)
 
-loud-word : (word : List ℕ) → word ≡ codes "session" → (same_text word (codes "check") || same_text word (codes "validate")) ≡ false
-loud-word word e = subst (λ (w : List ℕ). (same_text w (codes "check") || same_text w (codes "validate")) ≡ false) (sym e) refl
+-- whether a word is that of a mode that always returns
+abbrev quiet : List ℕ → Bool
+quiet word = same_text word (codes "check") || (same_text word (codes "validate") || same_text word (codes "replay"))
 
-quiet-word : (word : List ℕ) → word ≡ codes "validate" → (same_text word (codes "check") || same_text word (codes "validate")) ≡ true
-quiet-word word e = subst (λ (w : List ℕ). (same_text w (codes "check") || same_text w (codes "validate")) ≡ true) (sym e) refl
+loud-word : (word : List ℕ) → word ≡ codes "session" → quiet word ≡ false
+loud-word word e = subst (λ (w : List ℕ). quiet w ≡ false) (sym e) refl
+
+quiet-validate : (word : List ℕ) → word ≡ codes "validate" → quiet word ≡ true
+quiet-validate word e = subst (λ (w : List ℕ). quiet w ≡ true) (sym e) refl
+
+quiet-replay : (word : List ℕ) → word ≡ codes "replay" → quiet word ≡ true
+quiet-replay word e = subst (λ (w : List ℕ). quiet w ≡ true) (sym e) refl
 
 -- a session isn't asked for by the words of a mode that always returns
 pub session-loud : (ws : List (List ℕ)) (s : SessionRequest) → asked_of ws ≡ Some (a_session s) → is_quiet ws ≡ false
 session-loud ws s e = loud-word (argument ws 0) (same_text-same (argument ws 0) (codes "session") (begins-asked ws (a_session s) e))
 
--- the validation of a plan is
-pub validation-quiet : (ws : List (List ℕ)) (domain script plan : List ℕ) → asked_of ws ≡ Some (a_validation domain script plan) → is_quiet ws ≡ true
-validation-quiet ws domain script plan e =
-    quiet-word (argument ws 0) (same_text-same (argument ws 0) (codes "validate") (begins-asked ws (a_validation domain script plan) e))
+-- judging a plan or a journal is
+pub judging-quiet : (ws : List (List ℕ)) (r : Request) → asked_of ws ≡ Some r → IsToJudge r → is_quiet ws ≡ true
+judging-quiet ws r e (inl h) =
+    let asked : asked_of ws ≡ Some (a_validation h.0 h.1 h.2) = e ∙ ap Some h.3 in
+    quiet-validate (argument ws 0) (same_text-same (argument ws 0) (codes "validate") (begins-asked ws (a_validation h.0 h.1 h.2) asked))
+judging-quiet ws r e (inr h) =
+    let asked : asked_of ws ≡ Some (a_replay h.0) = e ∙ ap Some h.1 in
+    quiet-replay (argument ws 0) (same_text-same (argument ws 0) (codes "replay") (begins-asked ws (a_replay h.0) asked))

@@ -1,5 +1,5 @@
 -- Work that was done or broken off.
-use Rattle.std.proofs.Common.{◌≡◌, ℕ, Option, Result, Ok, Err, List, refl, subst}
+use Rattle.std.proofs.Common.{◌≡◌, ℕ, Option, Result, Ok, Err, List, inl, inr, refl, subst}
 use Rattle.std.proofs.KnownBytes.{Appends-nil}
 use Rattle.ps_world.specs.Names.{Table}
 use Rattle.ps_world.specs.DomainTexts.{domain_text}
@@ -10,12 +10,15 @@ use Rattle.ps_text.specs.Outside.{Counts, CountsWork, Puts, SinkView}
 use Rattle.ps_text.specs.declared.sinks.SinkRefusal.{SinkRefusal}
 use Rattle.ps_text.specs.declared.sinks.SinkRefusal.TheVariants.{Failed, OutOfMemory}
 use Rattle.ps_validate.specs.declared.verdicts.Invalid.{Invalid}
+use Rattle.ps_inputs.specs.declared.works.Replay.{Replay}
 use Rattle.ps_inputs.specs.declared.works.Session.{Session}
 use Rattle.ps_inputs.specs.declared.works.Validation.{Validation}
 use Rattle.ps_inputs.specs.declared.works.Work.TheVariants as work
 use Rattle.ps_session.specs.Session.{Runs, RunsAll, built, input_with}
 use Rattle.ps_session.proofs.Sessions.{nothing_written}
-use Rattle.ps_calls.specs.Headline.{Performs, WritesWithStatus, answer_line, verdict_of}
+use Rattle.ps_audit.specs.Findings.{finding_line, finding_status}
+use Rattle.ps_audit.specs.declared.findings.Finding.{Finding}
+use Rattle.ps_calls.specs.Headline.{IsFound, Performs, WritesWithStatus, answer_line, verdict_of}
 use Rattle.ps_calls.specs.Verdicts.{verdict_line, verdict_status}
 
 -- ---- one text
@@ -53,6 +56,15 @@ judged v wrong after old new r same w = of_line r (subst (λ p. WritesWithStatus
 -- memory ran out before the plan was judged
 pub unjudged : (v : Validation) (start : SinkView) → Performs (work.Validation v) start start (Err OutOfMemory)
 unjudged v start = record { done = tt; cut = (0, Appends-nil start.bytes); counted = refl }
+
+-- the line of a journal
+pub found : (r : Replay) (f : Finding) (old new : SinkView) (res : Result ℕ SinkRefusal) → IsFound r f → WritesWithStatus (finding_line f) (finding_status f) old new res → Performs (work.Replay r) old new res
+found r f old new (Ok status) is w = record { done = (f, is, w.done.0, w.done.1); cut = tt; counted = w.counted }
+found r f old new (Err e) is w = record { done = tt; cut = inr (f, is, w.cut); counted = w.counted }
+
+-- memory ran out before the journal was judged
+pub unfound : (r : Replay) (start : SinkView) → Performs (work.Replay r) start start (Err OutOfMemory)
+unfound r start = record { done = tt; cut = inl (0, Appends-nil start.bytes); counted = refl }
 
 -- an input of these parts
 same_input : (i : Input) (d : Domain) (lines : List Line) → d ≡ i.domain → lines ≡ i.lines → input_with d i.members lines i.budget i.replans ≡ built i

@@ -9,6 +9,9 @@ use Rattle.ps_inputs.specs.declared.faults.Fault.{Fault}
 use Rattle.ps_inputs.specs.declared.faults.Fault.TheVariants.{Usage, NoDomain, NoMember, Crowd, Twice, TooLong, Lines, Unread}
 use Rattle.ps_inputs.specs.declared.works.Work.{Work}
 use Rattle.ps_inputs.specs.declared.works.Work.TheVariants as work
+use Rattle.ps_audit.specs.Findings.{finding_status}
+use Rattle.ps_audit.specs.declared.findings.Finding.{Finding}
+use Rattle.ps_audit.specs.declared.findings.Finding.TheVariants.{Legal, Illegal}
 use Rattle.ps_calls.specs.Headline.{Performs, Reports, verdict_of}
 use Rattle.ps_calls.specs.Headline.Reports.{told, unwritten, starved, wordless}
 use Rattle.ps_calls.specs.Laws.{IsBroken, IsOfFault, IsOfWork, IsStatusOf}
@@ -23,15 +26,21 @@ pub status-performed : (w : Work) (old new : SinkView) (status : ℕ) → Perfor
 status-performed (work.Session s) old new status p = subst (λ n. n < 2) (sym p.done.2.answer) (flag_below (list_any (λ e. is_mishap e.what) p.done.2.journal))
 status-performed (work.Check names d) old new status p = p.done.0
 status-performed (work.Validation v) old new status p = p.done.0
+status-performed (work.Replay r) old new status p = (p.done.0, p.done.1, p.done.2)
 
 verdict_of_work : (wrong : Option Invalid) → IsOfWork (verdict_status wrong)
 verdict_of_work None = inl (omega arith)
 verdict_of_work (Some fault) = inr refl
 
+finding_of_work : (f : Finding) → IsOfWork (finding_status f)
+finding_of_work Legal = inl (omega arith)
+finding_of_work (Illegal line) = inr refl
+
 pub status-of_work : (w : Work) (status : ℕ) → IsStatusOf w status → IsOfWork status
 status-of_work (work.Session s) status h = inl h
 status-of_work (work.Check names d) status h = inl (omega arith)
 status-of_work (work.Validation v) status h = subst IsOfWork (sym h) (verdict_of_work (verdict_of v).0)
+status-of_work (work.Replay r) status h = subst IsOfWork (sym h.2) (finding_of_work h.0)
 
 -- a fault is answered with its own status, or telling it failed
 pub status-reported : (f : Fault) (old new : SinkView) (status : ℕ) → Reports f old new status → (status ≡ fault_status f) ⊎ IsBroken status

@@ -1,5 +1,5 @@
 -- What a call of the program claims.
-use Rattle.std.specs.Prelude.{◌≡◌, ℕ, Option, List, Result, Ok, Err, IfOk, OnErr}
+use Rattle.std.specs.Prelude.{◌≡◌, ℕ, ◌⊎◌, Option, List, [], Result, Ok, Err, IfOk, OnErr}
 use Rattle.std.specs.Io.KnownBytes.{Appends}
 use Rattle.ps_world.specs.Names.{Table}
 use Rattle.ps_world.specs.declared.domains.Domain.{Domain}
@@ -15,10 +15,13 @@ use Rattle.ps_validate.specs.declared.verdicts.Invalid.{Invalid}
 use Rattle.ps_inputs.specs.Faults.{Loads, fault_line, fault_status}
 use Rattle.ps_inputs.specs.Input.{cannot_write_line, out_of_memory_line}
 use Rattle.ps_inputs.specs.declared.faults.Fault.{Fault}
+use Rattle.ps_inputs.specs.declared.works.Replay.{Replay}
 use Rattle.ps_inputs.specs.declared.works.Validation.{Validation}
 use Rattle.ps_inputs.specs.declared.works.Work.{Work}
 use Rattle.ps_inputs.specs.declared.works.Work.TheVariants as work
 use Rattle.ps_session.specs.Session.{IsCut, IsDone, built}
+use Rattle.ps_audit.specs.Findings.{Finds as FindsJournal, finding_line, finding_status}
+use Rattle.ps_audit.specs.declared.findings.Finding.{Finding}
 use Rattle.ps_calls.specs.Verdicts.{verdict_line, verdict_status}
 
 -- ---- doing the work
@@ -39,19 +42,28 @@ verdict_of v = verdict_after v.input.domain v.input.lines v.names v.plan.items
 abbrev pub answer_line : Option Invalid × Table → List ℕ
 answer_line v = verdict_line v.1 v.0
 
+-- this is what a journal that is to be judged is found to be
+abbrev pub IsFound : Replay → Finding → Type 0
+IsFound r f = FindsJournal r.input r.names r.journal.items f
+
 -- The work is done, with this status: a session writes the text of a whole history, whose status it is, a check the domain's
--- canonical text, a validation the line that says what the plan is worth.
+-- canonical text, a validation the line that says what the plan is worth, a replay the line that says what the journal is found to be.
 abbrev pub IsWorkDone : Work → Option (List ℕ) → Option (List ℕ) → ℕ → Type 0
 IsWorkDone (work.Session s) old new status = IsDone (built s.input) s.names old new status
 IsWorkDone (work.Check names d) old new status = (status ≡ 0) × Appends old new (domain_text names d)
 IsWorkDone (work.Validation v) old new status =
     (status ≡ verdict_status (verdict_of v).0) × Appends old new (answer_line (verdict_of v))
+IsWorkDone (work.Replay r) old new status =
+    (f : Finding) × IsFound r f × (status ≡ finding_status f) × Appends old new (finding_line f)
 
--- The work is broken off: what it wrote is a prefix of the text of a history, of the domain's text, or of that line.
+-- The work is broken off: what it wrote is a prefix of the text of a history, of the domain's text, or of the line of a plan or of a
+-- journal; before it is found what a journal is, nothing is written.
 abbrev pub IsWorkCut : Work → Option (List ℕ) → Option (List ℕ) → Type 0
 IsWorkCut (work.Session s) old new = IsCut (built s.input) s.names old new
 IsWorkCut (work.Check names d) old new = AppendsPrefix old new (domain_text names d)
 IsWorkCut (work.Validation v) old new = AppendsPrefix old new (answer_line (verdict_of v))
+IsWorkCut (work.Replay r) old new =
+    AppendsPrefix old new [] ⊎ ((f : Finding) × IsFound r f × AppendsPrefix old new (finding_line f))
 
 -- Doing the work: it is done, with the status that is answered, or broken off, where a write was refused or memory ran out.
 pub record Performs (w : Work) (old new : SinkView) (r : Result ℕ SinkRefusal) : Type 0 where

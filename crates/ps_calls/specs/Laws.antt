@@ -1,8 +1,8 @@
 -- What follows for the status of a call.
 use Rattle.std.specs.Prelude.{◌≡◌, ◌≢◌, ℕ, ◌<◌, ◌≤◌, ◌⊎◌, true, false, None, Some, List}
 use Rattle.ps_text.specs.Outside.{next}
-use Rattle.ps_words.specs.Words.{Request, SessionRequest, asked_of}
-use Rattle.ps_words.specs.Words.Request.{a_session, a_validation}
+use Rattle.ps_words.specs.Words.{ReplayRequest, Request, SessionRequest, asked_of}
+use Rattle.ps_words.specs.Words.Request.{a_session, a_validation, a_replay}
 use Rattle.ps_inputs.specs.Reading.{Reading}
 use Rattle.ps_inputs.specs.Reading.FileFault.{no_file, too_long, too_many}
 use Rattle.ps_inputs.specs.Reading.Reading.{gives, faulty, unknown}
@@ -10,7 +10,9 @@ use Rattle.ps_inputs.specs.Input.{HasFault, IsWork, Material, is_quiet, reading_
 use Rattle.ps_inputs.specs.declared.faults.Fault.{Fault}
 use Rattle.ps_inputs.specs.declared.works.Work.{Work}
 use Rattle.ps_inputs.specs.declared.works.Work.TheVariants as work
-use Rattle.ps_calls.specs.Headline.{Answers, Call, verdict_of}
+use Rattle.ps_audit.specs.Findings.{finding_status}
+use Rattle.ps_audit.specs.declared.findings.Finding.{Finding}
+use Rattle.ps_calls.specs.Headline.{Answers, Call, IsFound, verdict_of}
 use Rattle.ps_calls.specs.Verdicts.{verdict_status}
 
 -- this is so of each call with each status that it answers
@@ -67,11 +69,12 @@ abbrev pub WordsDecide : Type 0
 WordsDecide = OfEachCall (λ c status.
     (status ≡ 2 → asked_of c.words ≡ None) × (asked_of c.words ≡ None → (status ≡ 2) ⊎ IsBroken status))
 
--- a status with which this work can end: 0 or 1 for a session, 0 for a check, 0 or 7 for a plan, by what it is worth
+-- a status with which this work can end: 0 or 1 for a session, 0 for a check, 0 or 7 for a plan and for a journal, by what they are worth
 abbrev pub IsStatusOf : Work → ℕ → Type 0
 IsStatusOf (work.Session s) status = status < 2
 IsStatusOf (work.Check names d) status = status ≡ 0
 IsStatusOf (work.Validation v) status = status ≡ verdict_status (verdict_of v).0
+IsStatusOf (work.Replay r) status = (f : Finding) × IsFound r f × (status ≡ finding_status f)
 
 -- what texts come to: the status of the work that they are, or 3 where they have a fault
 abbrev pub ComesTo : Material → ℕ → Type 0
@@ -93,11 +96,15 @@ abbrev pub TextsDecide : Type 0
 TextsDecide = OfEachCall (λ c status. (r : Request) → asked_of c.words ≡ Some r
     → IsBroken status ⊎ LeadsTo (reading_of c.before.files.told r) status)
 
--- the answer 1 comes only to a session, and 7 only to a plan that is validated
+-- this request is to judge a plan or a journal
+abbrev pub IsToJudge : Request → Type 0
+IsToJudge r = ((domain script plan : List ℕ) × (r ≡ a_validation domain script plan)) ⊎ ((q : ReplayRequest) × (r ≡ a_replay q))
+
+-- the answer 1 comes only to a session, and 7 only to a plan or a journal that is judged
 abbrev pub ModesDecide : Type 0
 ModesDecide = OfEachCall (λ c status.
     (status ≡ 1 → (s : SessionRequest) × (asked_of c.words ≡ Some (a_session s)))
-    × (status ≡ 7 → (domain script plan : List ℕ) × (asked_of c.words ≡ Some (a_validation domain script plan))))
+    × (status ≡ 7 → (r : Request) × (asked_of c.words ≡ Some r) × IsToJudge r))
 
 -- 1 doesn't come where the first word is that of a mode that always returns, and 7 nowhere else
 abbrev pub FirstWordsDecide : Type 0

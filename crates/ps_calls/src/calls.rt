@@ -15,17 +15,17 @@ use std::alloc::Global;
 ///
 /// | Status | Where |
 /// |---|---|
-/// | 0 | the session was done, and no line was refused; the domain was written in its canonical text; the plan is valid |
+/// | 0 | the session was done, and no line was refused; the domain was written in its canonical text; the plan is valid; the journal is legal |
 /// | 1 | the session was done, and a line was refused |
 /// | 2 | the words aren't in the grammar: a mode and its options, as `ps_words` reads them |
 /// | 3 | a file is too long, a script has too many lines, the domain's text is no domain, or the members are at fault |
 /// | 4 | a file can't be read |
 /// | 5 | a write to `out` failed, or one to `err` of the line of status 2, 3 or 4 |
 /// | 6 | out of memory |
-/// | 7 | the plan isn't valid |
+/// | 7 | the plan isn't valid; the journal isn't legal |
 ///
 /// The first fault decides, in the order of the work: the words, the domain's file, the script's file and the files that it
-/// names, the members' files, the plan's file, the domain's text, the members' texts, their count, their names.
+/// names, the members' files, the plan's or the journal's file, the domain's text, the members' texts, their count, their names.
 pub fn plansys<F: Files, O: Sink, E: Sink>(
     alloc: Global,
     words: &[String],
@@ -40,7 +40,7 @@ pub fn plansys<F: Files, O: Sink, E: Sink>(
     call(alloc, words, files, out, err)
 }
 
-/// Does the modes that always return, `check` and `validate`, and gives the exit status, which is never 1.
+/// Does the modes that always return, `check`, `validate` and `replay`, and gives the exit status, which is never 1.
 pub fn plansys_quiet<F: Files, O: Sink, E: Sink>(
     alloc: Global,
     words: &[String],

@@ -41,12 +41,12 @@ pub fn texts_decide()
     ensures { TextsDecide }
 {}
 
-/// The answer 1 comes only to a session, and 7 only to a plan that is validated.
+/// The answer 1 comes only to a session, and 7 only to a plan or a journal that is judged.
 pub fn modes_decide()
     ensures { ModesDecide }
 {}
 
-/// The answer 1 doesn't come where the first word is `check` or `validate`, and 7 nowhere else.
+/// The answer 1 doesn't come where the first word is `check`, `validate` or `replay`, and 7 nowhere else.
 pub fn first_words_decide()
     ensures { FirstWordsDecide }
 {}

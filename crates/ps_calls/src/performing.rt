@@ -1,13 +1,15 @@
 //! Doing the work of a call.
 ghost use Rattle.ps_world.specs.DomainTexts.{domain_text};
 ghost use Rattle.ps_text.specs.Names.{AreNames};
-ghost use Rattle.ps_inputs.specs.declared.works.Work.TheVariants.{Session as ASession, Validation as AValidation};
+ghost use Rattle.ps_audit.specs.Findings.{finding_line, finding_status};
+ghost use Rattle.ps_inputs.specs.declared.works.Work.TheVariants.{Session as ASession, Validation as AValidation, Replay as AReplay};
 ghost use Rattle.ps_calls.specs.Headline.{Finds, Performs, WritesWithStatus, verdict_after};
 ghost use Rattle.ps_calls.specs.Verdicts.{verdict_line, verdict_status};
 
 use super::verdicts::{verdict_line, verdict_status};
+use ps_audit::{Finding, audit, finding_line, finding_status};
 use ps_domain::Expert;
-use ps_inputs::{Session, Validation, Work};
+use ps_inputs::{Replay, Session, Validation, Work};
 use ps_machine::{Input, Line};
 use ps_pddl::print_domain;
 use ps_session::run;
@@ -17,7 +19,7 @@ use ps_validate::{Invalid, known_after, verdict};
 use ps_world::Domain;
 use std::alloc::{AllocError, Global};
 
-/// Does the work, and gives its status: 0 or 1 for a session, 0 for a check, 0 or 7 for a plan.
+/// Does the work, and gives its status: 0 or 1 for a session, 0 for a check, 0 or 7 for a plan and for a journal.
 pub fn perform<O: Sink>(alloc: Global, work: Work, out: &mut O) -> Result<u8, SinkRefusal>
     ensures { Performs work (O.shown out.old) (O.shown out.new) result }
 {
@@ -25,6 +27,7 @@ pub fn perform<O: Sink>(alloc: Global, work: Work, out: &mut O) -> Result<u8, Si
         Work::Session(session) => do_session(alloc, session, out),
         Work::Check { names, domain } => check(alloc, &names, &domain, out),
         Work::Validation(validation) => validate(alloc, validation, out),
+        Work::Replay(replay) => do_replay(alloc, replay, out),
     }
 }
 
@@ -123,4 +126,29 @@ fn write_verdict<O: Sink>(
     let line = verdict_line(alloc, names, wrong)?;
     put(out, line.as_slice())?;
     Ok(verdict_status(wrong))
+}
+
+/// Judges the text of a journal, and writes what it is found to be. The status is 0 where it is legal, else 7.
+fn do_replay<O: Sink>(alloc: Global, replay: Replay, out: &mut O) -> Result<u8, SinkRefusal>
+    ensures { Performs (AReplay replay) (O.shown out.old) (O.shown out.new) result }
+{
+    let Replay {
+        mut names,
+        input,
+        journal,
+        ..
+    } = replay;
+    let solver = Forward::new();
+    let finding = audit(alloc, &mut names, &input, journal.as_slice(), &solver)?;
+    write_finding(alloc, finding, out)
+}
+
+/// Writes the line that says what a journal is found to be. The status is 0 where it is legal, else 7.
+fn write_finding<O: Sink>(alloc: Global, finding: Finding, out: &mut O) -> Result<u8, SinkRefusal>
+    ensures { WritesWithStatus (finding_line finding) (finding_status finding) (O.shown out.old)
+        (O.shown out.new) result }
+{
+    let line = finding_line(alloc, finding)?;
+    put(out, line.as_slice())?;
+    Ok(finding_status(finding))
 }

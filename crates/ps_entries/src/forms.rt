@@ -231,9 +231,7 @@ fn is_event(count: usize, event: &Event) -> bool
             by,
             percent,
             text,
-        } => {
-            is_on_request(count, *r, *by) && (*percent <= 100 && is_note(text.as_slice()))
-        }
+        } => { is_on_request(count, *r, *by) && (*percent <= 100 && is_note(text.as_slice())) }
         Event::Finish { r, by, ok: _ } => is_on_request(count, *r, *by),
         Event::Unserved(r) => is_long(*r),
         Event::End(act) => is_short(*act),
