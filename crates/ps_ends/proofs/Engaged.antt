@@ -69,7 +69,7 @@ runs i es e l a = open_of (answers_line e) (is_running es) a (both (same_flag (a
     open_of false false o f = absurd (cc)
 
 -- where no run is open nobody is engaged
-idle_free : (i : Input) (es : List Entry) → IsHistory i es → is_running es ≡ false → (p : Name) → is_engaged p es ≡ true → ⊥
+pub idle_free : (i : Input) (es : List Entry) → IsHistory i es → is_running es ≡ false → (p : Name) → is_engaged p es ≡ true → ⊥
 idle_free i _ nothing n p o = absurd (cc)
 idle_free i _ (block es e h legal own) n p o =
     step e.what legal (idle_free i es h) (sym (running-block i es e) ∙ n) (sym (engaged-block i es e p) ∙ o)

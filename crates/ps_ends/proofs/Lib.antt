@@ -2,12 +2,15 @@ pub mod Acting
 pub mod Blocks
 pub mod DeadEnd
 pub mod Engaged
+pub mod GoingOn
 pub mod Held
 pub mod Lists
 pub mod Offers
+pub mod OneWork
 pub mod Passes
 pub mod Picking
 pub mod Quiet
+pub mod Recording
 pub mod Requests
 pub mod SoundMembers
 pub mod Units

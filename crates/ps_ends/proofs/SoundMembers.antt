@@ -17,7 +17,7 @@ use Rattle.ps_ends.proofs.Lists.{In}
 use Rattle.ps_ends.proofs.Picking.{clash, name_itself}
 
 -- what holds of all holds of one
-all-one : {A : Type 0} (P : A → Type 0) (xs : List A) → All P xs → (x : A) → In x xs → P x
+pub all-one : {A : Type 0} (P : A → Type 0) (xs : List A) → All P xs → (x : A) → In x xs → P x
 all-one P [] h x m = absurd m
 all-one P (y ∷ ys) h x (inl e) = subst P (sym e) (All-head P y ys h)
 all-one P (y ∷ ys) h x (inr m) = all-one P ys (All-tail P y ys h) x m
@@ -39,10 +39,10 @@ job_ends i sound p m n =
 
 -- ---- observers
 
-differ-head : (m : Member) (ms : List Member) → AllPairs (λ a b. same_name (member_name a) (member_name b) ≡ false) (m ∷ ms) → All (λ b. same_name (member_name m) (member_name b) ≡ false) ms
+pub differ-head : (m : Member) (ms : List Member) → AllPairs (λ a b. same_name (member_name a) (member_name b) ≡ false) (m ∷ ms) → All (λ b. same_name (member_name m) (member_name b) ≡ false) ms
 differ-head m ms h k d below = h 0 (suc k) d (omega arith) (omega (arith, below))
 
-differ-tail : (m : Member) (ms : List Member) → AllPairs (λ a b. same_name (member_name a) (member_name b) ≡ false) (m ∷ ms) → AllPairs (λ a b. same_name (member_name a) (member_name b) ≡ false) ms
+pub differ-tail : (m : Member) (ms : List Member) → AllPairs (λ a b. same_name (member_name a) (member_name b) ≡ false) (m ∷ ms) → AllPairs (λ a b. same_name (member_name a) (member_name b) ≡ false) ms
 differ-tail m ms h j k d less below = h (suc j) (suc k) d (omega (arith, less)) (omega (arith, below))
 
 is-member : (ms : List Member) (o : Observer) → In o (filter_map as_observer ms) → In (member.Observer o) ms

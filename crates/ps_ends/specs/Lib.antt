@@ -1,2 +1,3 @@
 pub mod DeadEnd
 pub mod Engaged
+pub mod Working
