@@ -1,18 +1,13 @@
 -- The tree of the plan, by what is kept.
-use Rattle.std.proofs.Common.{◌≡◌, ℕ, List, filter, length, map, ap, sym, ◌∙◌}
-use Rattle.std.specs.List.{range_with_len}
-use Rattle.std.proofs.lemmas.List.FromFn.{fill_by_all, length-map-range_with_len}
+use Rattle.std.proofs.Common.{◌≡◌, ℕ, List, length, ap, sym, ◌∙◌}
+use Rattle.std.proofs.lemmas.List.FromFn.{length-map-range_with_len}
 use Rattle.ps_machine.specs.declared.inputs.Input.{Input}
 use Rattle.ps_machine.specs.declared.journal.Entry.{Entry}
-use Rattle.ps_action.specs.Arcs.{arcs_of}
 use Rattle.ps_action.specs.Trees.{TreeView, tree_text, waits_for, waits_of}
-use Rattle.ps_action.specs.declared.states.ActState.TheVariants.{Waiting}
-use Rattle.ps_arcs.proofs.Listed.{arcs_are_listed}
 use Rattle.ps_rules.specs.Journal.{tree_of}
-use Rattle.ps_rules.specs.Known.{grounds}
-use Rattle.ps_rules.specs.Runs.{plan, state}
 use Rattle.ps_rows.specs.Present.{Stands}
 use Rattle.ps_rows.specs.declared.present.Present.{Present}
+use Rattle.ps_rows.proofs.PlanTrees.{many-states, tree-is}
 use Rattle.ps_audit.specs.Told.{HasStates}
 
 -- there are as many states as acts that wait for others
@@ -20,24 +15,9 @@ pub as-many : (p : Present) (waits : List (List ℕ)) → waits ≡ waits_of p.a
 as-many p waits e h = h ∙ sym (ap length e ∙ length-map-range_with_len (waits_for p.arcs.pairs) 0 p.arcs.acts)
 
 module _ (i : Input) (es : List Entry) (p : Present) (s : Stands i es p) where
-  -- what each act waits for
-  waits-are : waits_of p.arcs ≡ (tree_of i es).waits
-  waits-are =
-      ap waits_of (λ t. record { acts = s.acts t; pairs = (s.arcs ∙ ap arcs_of s.grounds) t })
-      ∙ (λ t. map (λ j. filter (λ k. arcs_are_listed (grounds i.domain (plan es)) k j t) (range_with_len 0 j)) (range_with_len 0 (length (plan es))))
-
-  -- as many states as acts
-  many-states : length p.ledger.acts.states.items ≡ length (plan es)
-  many-states = s.told.acts.many ∙ sym (ap length s.told.acts.acts)
-
-  -- the states of the acts
-  states-are : p.ledger.acts.states.items ≡ (tree_of i es).states
-  states-are =
-      fill_by_all (λ j. state j es) p.ledger.acts.states.items (length (plan es)) Waiting many-states (λ j h. sym (s.told.acts.states j))
-
-  -- a tree of these waits and states has the text of the tree of the plan
+  -- a tree of the plan's waits and states has the text of the tree of the plan
   pub text-is : (tree : TreeView) → tree.waits ≡ waits_of p.arcs → tree.states ≡ p.ledger.acts.states.items → tree_text tree ≡ tree_text (tree_of i es)
-  text-is tree waits states = ap tree_text (λ t. record { waits = (waits ∙ waits-are) t; states = (states ∙ states-are) t })
+  text-is tree waits states = ap tree_text (tree-is i es p s tree waits states)
 
   pub has-states : HasStates p
-  has-states = many-states ∙ sym s.acts
+  has-states = many-states i es p s ∙ sym s.acts

@@ -16,6 +16,7 @@ use Rattle.ps_ledger.specs.Ledger.{TellsAll}
 use Rattle.ps_ledger.specs.Legal.{HasMembersOf}
 use Rattle.ps_rules.specs.Sound.{IsSound}
 use Rattle.ps_action.specs.Arcs.{arcs_of}
+use Rattle.ps_action.specs.Trees.{waits_of}
 use Rattle.ps_rows.specs.Present as rows
 use Rattle.ps_monitor.specs.declared.acts.Acts.{Acts}
 use Rattle.ps_monitor.specs.Watched.{broken, is_false, marked, others, watched}
@@ -99,6 +100,7 @@ stands-after c new hand e d input present entries told watching members =
       grounds = acts ∙ d.kept.grounds ∙ ap (grounds c.input.domain) (sym plans);
       arcs = ap (λ p. p.arcs.pairs) present ∙ d.kept.arcs ∙ ap arcs_of (sym acts);
       acts = ap (λ p. p.arcs.acts) present ∙ d.kept.acts ∙ ap length (sym plans);
+      tree = ap (λ p. p.tree.waits) present ∙ d.kept.tree ∙ ap (λ p. waits_of p.arcs) (sym present);
     } in
     record {
       sound = subst IsSound (sym input) d.sound;

@@ -2,8 +2,14 @@ pub mod Answering
 pub mod Due
 pub mod Forced
 pub mod Going
+pub mod Granting
+pub mod Handing
+pub mod Keeping
 pub mod Lengths
 pub mod Observing
 pub mod Quiet
 pub mod Ready
+pub mod Rejecting
+pub mod Stuck
+pub mod Ticking
 pub mod Watches

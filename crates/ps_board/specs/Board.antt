@@ -1,17 +1,27 @@
 -- What the calls of a board do and answer.
-use Rattle.std.specs.Prelude.{ℕ, Bool, true, false, ◌&&◌, not, if◌then◌else◌, Option, Some, None, option_and_then, List, map, slice_get}
+use Rattle.std.specs.Prelude.{◌≡◌, ℕ, Bool, true, false, ◌&&◌, not, if◌then◌else◌, Option, Some, None, is_none, option_and_then, List, map, slice_get, slice_set}
 use Rattle.std.specs.Option.{option_map_or}
 use Rattle.ps_machine.specs.declared.journal.Event.{Event}
 use Rattle.ps_machine.specs.declared.journal.Entry.{Entry}
-use Rattle.ps_rules.specs.Runs.{is_running, opens}
+use Rattle.ps_rules.specs.Journal.{tree_of}
+use Rattle.ps_rules.specs.Runs.{has_run, is_running, opens}
 use Rattle.ps_rules.specs.Members.{observers}
-use Rattle.ps_rules.specs.Choices.{line_event, observer_turn, Says, with_block}
+use Rattle.ps_rules.specs.Choices.{line_event, observer_turn, performed, Says, ticked, wants_plan, with_block}
 use Rattle.ps_rules.specs.Lines.{next_line}
+use Rattle.ps_action.specs.Trees.{TreeView}
+use Rattle.ps_ends.specs.Working.{recorded, unit_due}
+use Rattle.ps_ledger.specs.Members.{place_in}
+use Rattle.ps_ledger.specs.Ends.{last_outcome}
+use Rattle.ps_board.specs.Grants.{grant_for, granted, granted_after, performer_names, turn_of}
+use Rattle.ps_board.specs.Ticks.{closed_answer, ticked_answer}
+use Rattle.ps_board.specs.declared.ticks.Ticked.{Ticked}
+use Rattle.ps_board.specs.declared.ticks.Ticked.TheVariants.{Halted}
 use Rattle.ps_board.specs.declared.board.Shown.{Shown}
 use Rattle.ps_board.specs.declared.turns.Step.{Step}
 use Rattle.ps_board.specs.declared.turns.Step.TheVariants.{Said, Opened, End}
-use Rattle.ps_board.specs.declared.board.Turn.{Turn}
-use Rattle.ps_board.specs.declared.board.Turn.TheVariants.{Did, Nothing}
+use Rattle.ps_board.specs.declared.works.Grant.{Grant}
+use Rattle.ps_board.specs.declared.works.Turn.{Turn}
+use Rattle.ps_board.specs.declared.works.Turn.TheVariants.{Did, Nothing}
 
 -- what the observer with this number does in its turn, in the order of the members: nothing where no run is open or the board is halted
 abbrev pub observing : Shown → ℕ → Option Event
@@ -42,3 +52,63 @@ step_of (Some e) = if opens e then Opened else Said
 abbrev pub is_end : Step → Bool
 is_end End = true
 is_end s = false
+
+-- what a tick does: nothing where no run is open or the board is halted
+abbrev pub ticking : Shown → Option Event
+ticking b = if is_running b.entries && not b.halted then ticked b.input b.entries else None
+
+-- what it answers: how the last run ended, where none is open; that the open one was halted; or what was done
+abbrev pub tick_answer : Shown → Ticked
+tick_answer b =
+    if not (is_running b.entries) then closed_answer (last_outcome b.entries)
+    else (if b.halted then Halted else ticked_answer (wants_plan b.input b.entries) (ticked b.input b.entries))
+
+-- whether the performer with this number, in the order of the members, may do something: a run is open, it wasn't halted, and no grant of
+-- this performer is out
+abbrev pub is_free : Shown → ℕ → Bool
+is_free b p = is_running b.entries && (not b.halted && is_none (granted b.grants p))
+
+-- what this performer does before any work in its turn
+abbrev pub performing : Shown → ℕ → Option Event
+performing b p =
+    if is_free b p then option_and_then (λ name. performed b.input name b.entries) (slice_get (performer_names b.input) p) else None
+
+-- the grant that it would be handed in its turn, where it does nothing before
+abbrev pub handing : Shown → ℕ → Option Grant
+handing b p = if is_free b p then option_and_then (grant_for b.input b.entries) (slice_get (performer_names b.input) p) else None
+
+-- the answer of its turn: something was done, else a grant is handed out, else nothing is to be done
+abbrev pub performing_answer : Shown → ℕ → Turn
+performing_answer b p = turn_of (performing b p) (handing b p)
+
+-- the grants that are out after its turn
+abbrev pub grants_after : Shown → ℕ → List (Option ℕ)
+grants_after b p = granted_after b.grants p (performing_answer b p)
+
+-- the number of the performer of this name
+abbrev pub number_of : Shown → Grant → ℕ
+number_of b g = place_in (performer_names b.input) g.by
+
+-- this grant is out: its performer has one out on its request, and its unit is the one that stands next in the performer's job
+pub record IsOut (b : Shown) (g : Grant) : Type 0 where
+  pub request : granted b.grants (number_of b g) ≡ Some g.r
+  pub unit : unit_due b.input g.r g.by b.entries ≡ Some g.unit
+
+-- the grants that are out once this one was handed in
+abbrev pub grants_without : Shown → Grant → List (Option ℕ)
+grants_without b g = slice_set b.grants (number_of b g) None
+
+-- what is recorded where a grant that is out is handed in: its unit, or, where the act was cancelled meanwhile, that the performer stopped
+abbrev pub recording : Shown → Grant → Option Event
+recording b g = recorded b.input b.entries g.r g.by
+
+-- the tree of the plan with the states of its acts, where a run was opened
+abbrev pub shown_tree : Shown → Option TreeView
+shown_tree b = if has_run b.entries then Some (tree_of b.input b.entries) else None
+
+-- somebody can go on: a grant is out, or some performer or some observer does something in its turn
+pub data GoesOn (b : Shown) : Type 0 where
+  granted_out : (p r : ℕ) → granted b.grants p ≡ Some r → GoesOn b
+  performs_next : (p : ℕ) (e : Event) → performing b p ≡ Some e → GoesOn b
+  works_next : (p : ℕ) (g : Grant) → handing b p ≡ Some g → GoesOn b
+  observes_next : (o : ℕ) (e : Event) → observing b o ≡ Some e → GoesOn b

@@ -1,23 +1,37 @@
 //! The board.
-ghost use Rattle.std.specs.Prelude.{◌≡◌, ◌<◌, ◌≤◌, ◌||◌, ◌&&◌, nat_le, if◌then◌else◌, IsTrue, IfOk, OnOk, OnErr, is_none, false, [], length};
-ghost use Rattle.ps_board.specs.declared.board.Turn.TheVariants.{Did, Nothing};
-ghost use Rattle.ps_board.specs.Board.{answer_of, commanded, is_end, observing, step_of, with_done};
-ghost use Rattle.ps_rules.specs.Members.{observers};
+ghost use Rattle.std.specs.Prelude.{◌≡◌, ◌<◌, ◌≤◌, ◌||◌, ◌&&◌, nat_le, if◌then◌else◌, IsTrue, IfErr, IfOk, OnOk, OnErr, None, Some, is_none, is_some, true, false, [], length, map, slice_get, slice_index_or, slice_set};
+ghost use Rattle.std.specs.Bool.{Decides};
+ghost use Rattle.std.specs.Option.{option_copied};
+ghost use Rattle.ps_board.specs.declared.ticks.Ticked.TheVariants.{Nothing as Idle};
+ghost use Rattle.ps_board.specs.declared.works.Grant.{Grant as GrantView};
+ghost use Rattle.ps_board.specs.declared.works.Turn.TheVariants.{Did, Nothing, Work as Handed};
+ghost use Rattle.ps_board.specs.Board.{answer_of, commanded, GoesOn, grants_after, grants_without, is_end, is_free, IsOut, observing, performing, performing_answer, recording, shown_tree, step_of, tick_answer, ticking, with_done};
+ghost use Rattle.ps_board.specs.Grants.{AreOut, granted, granted_after, performer_names};
+ghost use Rattle.ps_board.specs.Kept.{all_in};
+ghost use Rattle.ps_ends.specs.Working.{recorded};
+ghost use Rattle.ps_rules.specs.Members.{observers, performers};
 ghost use Rattle.ps_rules.specs.History.{IsHistory};
 ghost use Rattle.ps_rules.specs.Known.{know};
 ghost use Rattle.ps_rules.specs.Lines.{next_line};
-ghost use Rattle.ps_rules.specs.Runs.{is_running};
+ghost use Rattle.ps_rules.specs.Runs.{has_run, is_running};
+ghost use Rattle.ps_ledger.specs.Ends.{last_outcome};
+ghost use Rattle.ps_ledger.specs.Members.{place_in};
 ghost use Rattle.ps_rules.specs.Sound.{IsSound};
 
+use super::ticks::{Ticked, closed_answer};
 use super::turns::Step;
 use super::whole::Core;
+use super::works::{Grant, Turn};
+use ps_choices::heard_upto;
 use ps_domain::Expert;
-use ps_machine::{Entry, Input};
+use ps_ledger::place_in;
+use ps_machine::{Entry, Input, Unit};
 use ps_monitor::Monitor;
 use ps_plan::Solver;
 use ps_problem::Problem;
-use ps_rows::Present;
-use ps_world::Seq;
+use ps_rows::{Present, same_unit};
+use ps_tree::Tree;
+use ps_world::{Name, Seq};
 use std::alloc::{AllocError, Global};
 use std::marker::Model;
 
@@ -27,17 +41,10 @@ pub struct Shown {
     pub input: Input,
     /// The journal.
     pub entries: Seq<Entry>,
+    /// For each performer, in the order of the members, the request of its grant that is out, if one is.
+    pub grants: Seq<Option<u64>>,
     /// Whether the open run was halted.
     pub halted: bool,
-}
-
-/// What came of a member's turn.
-#[derive(Clone, Copy)]
-pub enum Turn {
-    /// The block of one event was appended.
-    Did,
-    /// Nothing was to be done, and nothing was appended.
-    Nothing,
 }
 
 fn told(did: bool) -> Turn
@@ -46,43 +53,101 @@ fn told(did: bool) -> Turn
     if did { Turn::Did } else { Turn::Nothing }
 }
 
+/// The number at a place, or 0 where there is none.
+fn number_at(numbers: &[u64], place: usize) -> u64
+    ensures { result ≡ slice_index_or numbers.now place 0 }
+{
+    match numbers.get(place) {
+        Some(number) => *number,
+        None => 0,
+    }
+}
+
+/// Notes the grant that a turn of the performer with this number hands out, if it hands one out.
+fn note_grant(grants: &mut Vec<Option<u64>>, p: usize, turn: &Turn)
+    requires { p < length grants.old.items }
+    ensures { grants.new.items ≡ granted_after grants.old.items p turn.now }
+{
+    match turn {
+        Turn::Work(grant) => grants[p] = Some(grant.r),
+        Turn::Did | Turn::Nothing => {}
+    }
+}
+
+/// Whether this is the request that is given, if one is.
+fn is_request(given: Option<u64>, r: u64) -> bool
+    ensures { Decides result (given ≡ Some r) }
+{
+    match given {
+        Some(request) => request == r,
+        None => false,
+    }
+}
+
+/// Whether this is the unit that is given, if one is.
+fn is_unit(given: Option<&Unit>, unit: &Unit) -> bool
+    ensures { Decides result (option_copied given.entry ≡ Some unit.now) }
+{
+    match given {
+        Some(other) => same_unit(other, unit),
+        None => false,
+    }
+}
+
+/// A grant that couldn't be handed in: memory ran out. Its performer still has it.
+#[derive(Drop)]
+pub struct GrantBack {
+    pub grant: Grant,
+}
+
 /// The planning machine of one thread.
 #[derive(Drop)]
 pub struct Board {
     alloc: Global,
     core: Core,
+    /// For each performer the request of its grant that is out.
+    grants: Vec<Option<u64>>,
+    /// For each performer a number below which it has answered all requests of the last run.
+    heard: Vec<u64>,
     halted: bool,
 }
 
 impl Model for Board {
     ghost use Rattle.ps_board.specs.declared.board.Shown.{Shown};
     ghost use Rattle.ps_board.specs.contracts.board.Shown.{the_row};
-    ghost use Rattle.ps_board.specs.Core.{Stands};
+    ghost use Rattle.ps_board.specs.Kept.{IsKept};
 
     ghost Value = { Shown };
 
     ghost coded = { the_row.coded };
 
-    ghost view = { λ b. record { input = b.core.input; entries = b.core.entries.items; halted = b.halted } };
+    ghost view = { λ b. record { input = b.core.input; entries = b.core.entries.items; grants = b.grants.items; halted = b.halted } };
 
-    ghost invariant = { λ b. Stands b.core };
+    ghost invariant = { λ b. IsKept b.core b.grants.items b.heard.items };
 }
 
 impl Board {
     /// The board of this input, whose journal is empty. The only error is that memory ran out.
     pub fn open(alloc: Global, input: Input) -> Result<Board, AllocError>
         requires { IsSound input }
-        ensures { IfOk result (λ b. b ≡ record { input = input; entries = []; halted = false }) }
+        ensures { IfOk result (λ b. b ≡ record { input = input; entries = []; grants = all_in input; halted = false }) }
     {
         let present = Present::new(alloc, &input)?;
+        let performers = present.ledger.performers.names.len();
+        let grants = vec![in alloc; None; performers]?;
+        let heard = vec![in alloc; 0; performers]?;
+        let mut core = Core {
+            input,
+            entries: Vec::new(alloc),
+            present,
+            monitor: Monitor::new(alloc),
+        };
+        core.show();
         Ok(Board {
             alloc,
-            core: Core {
-                input,
-                entries: Vec::new(alloc),
-                present,
-                monitor: Monitor::new(alloc),
-            },
+            core,
+            grants,
+            heard,
             halted: false,
         })
     }
@@ -117,11 +182,12 @@ impl Board {
         &self.core.input
     }
 
-    /// Marks the open run as halted: from then on the ticker and the members append nothing until the run has ended. Changes
-    /// nothing where no run is open.
+    /// Marks the open run as halted: from then on neither the ticker nor a member's turn does anything until the run has ended; a unit
+    /// of work that is out may still be handed in. Changes nothing where no run is open.
     pub fn halt(&mut self)
         ensures halted { self.new.halted ≡ (is_running self.old.entries || self.old.halted) }
         ensures entries { self.new.entries ≡ self.old.entries }
+        ensures grants { self.new.grants ≡ self.old.grants }
         ensures input { self.new.input ≡ self.old.input }
     {
         if self.core.present.ledger.run.is_running() {
@@ -140,10 +206,40 @@ impl Board {
         ensures entries { OnOk result
             (self.new.entries ≡ with_done self.old 0 (commanded (S.says solver.now) self.old)) }
         ensures input { self.new.input ≡ self.old.input }
+        ensures grants { self.new.grants ≡ self.old.grants }
         ensures halted { self.new.halted ≡ self.old.halted }
         ensures err { OnErr result (self.new ≡ self.old) }
     {
-        self.core.command(self.alloc, solver)
+        let result = self.core.command(self.alloc, solver);
+        self.core.show();
+        result
+    }
+
+    /// Does the turn of the ticker in the open run: appends the block of the first legal one of the events that it chooses among. The
+    /// only error is that memory ran out, and then nothing changes.
+    pub fn tick(&mut self, hand: u8) -> Result<Ticked, AllocError>
+        requires hand { IsTrue (nat_le 1 hand && nat_le hand 16) }
+        requires opened { has_run self.now.entries ≡ true }
+        ensures answer { IfOk result (λ t. t ≡ tick_answer self.old) }
+        ensures ended { is_running self.old.entries ≡ false
+            → is_some (last_outcome self.old.entries) ≡ true }
+        ensures nobody_stuck { IfOk result (λ t. t ≡ Idle → GoesOn self.old) }
+        ensures entries { OnOk result
+            (self.new.entries ≡ with_done self.old hand (ticking self.old)) }
+        ensures input { self.new.input ≡ self.old.input }
+        ensures grants { self.new.grants ≡ self.old.grants }
+        ensures halted { self.new.halted ≡ self.old.halted }
+        ensures err { OnErr result (self.new ≡ self.old) }
+    {
+        if !self.core.present.ledger.run.is_running() {
+            Ok(closed_answer(self.core.present.ledger.ends.last()))
+        } else if self.halted {
+            Ok(Ticked::Halted)
+        } else {
+            let result = self.core.tick(self.alloc, hand);
+            self.core.show();
+            result
+        }
     }
 
     /// Does the turn of an observer, by its number in the order of the members: makes and records its next edit, where the edit's
@@ -156,16 +252,178 @@ impl Board {
         ensures entries { OnOk result
             (self.new.entries ≡ with_done self.old hand (observing self.old o)) }
         ensures input { self.new.input ≡ self.old.input }
+        ensures grants { self.new.grants ≡ self.old.grants }
         ensures halted { self.new.halted ≡ self.old.halted }
         ensures err { OnErr result (self.new ≡ self.old) }
     {
         let running = self.core.present.ledger.run.is_running();
         if running && !self.halted {
-            let name = self.core.present.ledger.observers.names[o as usize];
-            let did = self.core.observe(self.alloc, hand, name)?;
-            Ok(told(did))
+            let name = self.observer_name(o as usize);
+            let result = self.core.observe(self.alloc, hand, name);
+            self.core.show();
+            Ok(told(result?))
         } else {
             Ok(Turn::Nothing)
         }
+    }
+
+    /// The tree of the plan with the states of its acts, if a run was opened.
+    pub fn tree(&self) -> Option<&Tree>
+        ensures { option_copied result ≡ shown_tree self.now }
+    {
+        if self.core.present.ledger.run.has_run() {
+            Some(&self.core.present.tree)
+        } else {
+            None
+        }
+    }
+
+    /// For each performer, in the order of the members, the request of its grant that is out, if one is. Each works on that request.
+    pub fn grants(&self) -> &[Option<u64>]
+        ensures grants { result.now ≡ self.now.grants }
+        ensures out { AreOut self.now.input self.now.entries self.now.grants }
+    {
+        &self.grants
+    }
+
+    /// Does the turn of a performer, by its number in the order of the members: the first of these that applies. It answers the first
+    /// request of the run that it hasn't answered, it stops the work on a cancelled act, it begins, or it is handed its next unit of
+    /// work. It does nothing where no run is open, the board is halted or its grant is out. The only error is that memory ran out, and
+    /// then nothing changes.
+    pub fn performer_turn(&mut self, hand: u8, p: u32) -> Result<Turn, AllocError>
+        requires hand { IsTrue (nat_le 1 hand && nat_le hand 16) }
+        requires there { p < length (performers self.now.input) }
+        ensures answer { IfOk result (λ t. t ≡ performing_answer self.old p) }
+        ensures entries { OnOk result
+            (self.new.entries ≡ with_done self.old hand (performing self.old p)) }
+        ensures grants { OnOk result (self.new.grants ≡ grants_after self.old p) }
+        ensures out { IfOk result (λ t. (g : GrantView) → t ≡ Handed g → IsOut self.new g) }
+        ensures input { self.new.input ≡ self.old.input }
+        ensures halted { self.new.halted ≡ self.old.halted }
+        ensures err { OnErr result (self.new ≡ self.old) }
+    {
+        if self.is_free(p as usize) {
+            self.perform(hand, p as usize)
+        } else {
+            Ok(Turn::Nothing)
+        }
+    }
+
+    /// Takes in a grant and records its unit, or, where the act was cancelled meanwhile, that its performer stopped. A grant that isn't
+    /// out is dropped. The only error is that memory ran out: it hands the grant back, and nothing changes.
+    pub fn after_unit(&mut self, hand: u8, grant: Grant) -> Result<(), GrantBack>
+        requires hand { IsTrue (nat_le 1 hand && nat_le hand 16) }
+        ensures entries { OnOk result (IsOut self.old grant
+            → self.new.entries ≡ with_done self.old hand (recording self.old grant)) }
+        ensures grants { OnOk result (IsOut self.old grant
+            → self.new.grants ≡ grants_without self.old grant) }
+        ensures dropped { (IsOut self.old grant → ⊥) → OnOk result (self.new ≡ self.old) }
+        ensures input { self.new.input ≡ self.old.input }
+        ensures halted { self.new.halted ≡ self.old.halted }
+        ensures err { OnErr result (self.new ≡ self.old) }
+        ensures back { IfErr result (λ b. b.grant ≡ grant) }
+    {
+        if !self.is_out(&grant) {
+            return Ok(());
+        }
+        match self.take_in(hand, grant.r, grant.by) {
+            Ok(()) => Ok(()),
+            Err(AllocError) => Err(GrantBack { grant }),
+        }
+    }
+
+    /// Whether a performer may do something.
+    fn is_free(&self, p: usize) -> bool
+        ensures { result ≡ is_free self.now p }
+    {
+        let running = self.core.present.ledger.run.is_running();
+        let out = self.grant_of(p).is_some();
+        running && (!self.halted && !out)
+    }
+
+    /// The request of the grant of a performer that is out, if one is.
+    fn grant_of(&self, p: usize) -> Option<u64>
+        ensures { result ≡ granted self.now.grants p }
+    {
+        match self.grants.get(p) {
+            Some(grant) => *grant,
+            None => None,
+        }
+    }
+
+    /// The number of the performer of this name.
+    fn number_of(&self, name: Name) -> usize
+        ensures { result ≡ place_in (performer_names self.now.input) name }
+    {
+        place_in(&self.core.present.ledger.performers.names, name)
+    }
+
+    /// The name of the performer with this number.
+    fn performer_name(&self, p: usize) -> Name
+        requires { p < length (performers self.now.input) }
+        ensures { slice_get (performer_names self.now.input) p ≡ Some result }
+    {
+        self.core.present.ledger.performers.names[p]
+    }
+
+    /// The name of the observer with this number.
+    fn observer_name(&self, o: usize) -> Name
+        requires { o < length (observers self.now.input) }
+        ensures { slice_get (map (λ w. w.name) (observers self.now.input)) o ≡ Some result }
+    {
+        self.core.present.ledger.observers.names[o]
+    }
+
+    /// Does the turn of a performer that may do something.
+    fn perform(&mut self, hand: u8, p: usize) -> Result<Turn, AllocError>
+        requires hand { IsTrue (nat_le 1 hand && nat_le hand 16) }
+        requires there { p < length (performers self.now.input) }
+        requires free { is_free self.now p ≡ true }
+        ensures answer { IfOk result (λ t. t ≡ performing_answer self.old p) }
+        ensures entries { OnOk result
+            (self.new.entries ≡ with_done self.old hand (performing self.old p)) }
+        ensures grants { OnOk result (self.new.grants ≡ grants_after self.old p) }
+        ensures out { IfOk result (λ t. (g : GrantView) → t ≡ Handed g → IsOut self.new g) }
+        ensures input { self.new.input ≡ self.old.input }
+        ensures halted { self.new.halted ≡ self.old.halted }
+        ensures err { OnErr result (self.new ≡ self.old) }
+    {
+        let name = self.performer_name(p);
+        let upto = heard_upto(&self.core.present, name, number_at(&self.heard, p));
+        self.heard[p] = upto;
+        let result = self.core.perform(self.alloc, hand, name, upto);
+        self.core.show();
+        let turn = result?;
+        note_grant(&mut self.grants, p, &turn);
+        Ok(turn)
+    }
+
+    /// Whether this grant is out.
+    fn is_out(&self, grant: &Grant) -> bool
+        ensures { Decides result (IsOut self.now grant.now) }
+    {
+        let request = self.grant_of(self.number_of(grant.by));
+        let unit = self.core.unit_due(grant.r, grant.by);
+        is_request(request, grant.r) && is_unit(unit, &grant.unit)
+    }
+
+    /// Records what the performer of a grant that is out does, and takes the grant in.
+    fn take_in(&mut self, hand: u8, r: u64, by: Name) -> Result<(), AllocError>
+        requires hand { IsTrue (nat_le 1 hand && nat_le hand 16) }
+        requires out { granted self.now.grants (place_in (performer_names self.now.input) by) ≡ Some r }
+        ensures entries { OnOk result (self.new.entries ≡ with_done self.old hand
+            (recorded self.old.input self.old.entries r by)) }
+        ensures grants { OnOk result (self.new.grants ≡ slice_set self.old.grants
+            (place_in (performer_names self.old.input) by) None) }
+        ensures input { self.new.input ≡ self.old.input }
+        ensures halted { self.new.halted ≡ self.old.halted }
+        ensures err { OnErr result (self.new ≡ self.old) }
+    {
+        let place = self.number_of(by);
+        let result = self.core.record_work(self.alloc, hand, r, by);
+        self.core.show();
+        result?;
+        self.grants[place] = None;
+        Ok(())
     }
 }

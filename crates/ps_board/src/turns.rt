@@ -1,9 +1,9 @@
 //! The turns of the terminal and of members.
-ghost use Rattle.std.specs.Prelude.{◌≡◌, ◌≤◌, ◌&&◌, nat_le, true, false, IsTrue, is_none, is_some, IfOk, OnOk, OnErr, Some};
+ghost use Rattle.std.specs.Prelude.{◌≡◌, ◌≤◌, ◌&&◌, nat_le, true, false, IsTrue, is_none, is_some, IfOk, IfSome, OnOk, OnErr, Some};
 ghost use Rattle.ps_rules.specs.Lines.{next_line};
 ghost use Rattle.ps_rules.specs.Runs.{is_running};
 ghost use Rattle.ps_board.specs.Board.{is_end, step_of};
-ghost use Rattle.ps_board.specs.Core.{line_answer, observed_by, Stands, with_turn};
+ghost use Rattle.ps_board.specs.Core.{line_answer, MayCome, observed_by, Stands, with_turn};
 
 use super::commands::Next;
 use super::whole::Core;
@@ -46,6 +46,8 @@ impl Core {
             (λ s. is_end s ≡ is_none (next_line self.old.input self.old.entries.items)) }
         ensures ok { OnOk result (self.new.entries.items
             ≡ with_turn self.old 0 (line_answer (S.says solver.now) self.old)) }
+        ensures legal { OnOk result
+            (IfSome (line_answer (S.says solver.now) self.old) (MayCome self.old)) }
         ensures err { OnErr result (self.new.entries.items ≡ self.old.entries.items) }
         ensures input { self.new.input ≡ self.old.input }
     {

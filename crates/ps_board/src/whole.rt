@@ -2,6 +2,7 @@
 ghost use Rattle.std.specs.Prelude.{◌≡◌, ◌≤◌, IsTrue, length, OnOk, OnErr};
 ghost use Rattle.ps_rules.specs.Legal.{has_hand};
 ghost use Rattle.ps_rows.specs.Table.{MayBegin};
+ghost use Rattle.ps_board.specs.Kept.{IsShown};
 ghost use Rattle.ps_board.specs.Core.{edit_of, HasBlock, is_quiet, IsDue, MayCome, most_entries, Stands};
 
 use super::blocks::{cancel_all, is_fail, only_if, push, reserve};
@@ -147,5 +148,16 @@ impl Core {
             }
             Err(Failure::OutOfMemory) => Err(AllocError),
         }
+    }
+
+    /// Lets the tree show the states of the acts. It takes no memory.
+    pub fn show(&mut self)
+        requires { Stands self.now }
+        ensures stands { Stands self.new }
+        ensures shown { IsShown self.new }
+        ensures entries { self.new.entries.items ≡ self.old.entries.items }
+        ensures input { self.new.input ≡ self.old.input }
+    {
+        self.present.tick_tree();
     }
 }

@@ -6,3 +6,4 @@ pub mod NewAnswers
 pub mod NewRequests
 pub mod Passes
 pub mod Speaking
+pub mod Standing

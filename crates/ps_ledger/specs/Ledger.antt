@@ -11,6 +11,8 @@ use Rattle.ps_rules.specs.Legal.{pass_reason}
 use Rattle.ps_rules.specs.Members.{matches_request}
 use Rattle.ps_ledger.specs.Acts.{HasActs, new_acts, speaks_of_acts, TellsActs}
 use Rattle.ps_ledger.specs.Answers.{HasRow, speaks_of_answers, TellsAnswers, TellsRows}
+use Rattle.ps_ledger.specs.Ends.{TellsEnds}
+use Rattle.ps_ledger.specs.Offers.{HasOffer, TellsOffers}
 use Rattle.ps_ledger.specs.Lines.{speaks_of_lines, TellsLines}
 use Rattle.ps_ledger.specs.Members.{speaks_of_observers, speaks_of_performers, TellsObservers, TellsPerformers}
 use Rattle.ps_ledger.specs.Requests.{HasRequest, TellsRequests}
@@ -31,6 +33,8 @@ pub record TellsAll (es : List Entry) (l : Ledger) : Type 0 where
   pub rows : TellsRows es l.answers
   pub answers : TellsAnswers l.performers.names.items es l.answers
   pub lines : TellsLines es l.lines
+  pub offers : TellsOffers es l.offers
+  pub ends : TellsEnds es l.ends
 
 -- There is memory to take an event.
 pub record HasRoom (e : Event) (l : Ledger) : Type 0 where
@@ -38,6 +42,7 @@ pub record HasRoom (e : Event) (l : Ledger) : Type 0 where
   pub requests : HasRequest l.requests
   pub work : HasJob l.work
   pub answers : HasRow l.answers
+  pub offers : HasOffer l.offers
 
 -- An event speaks of acts, requests and members that are there, and of work by those who were confirmed.
 pub record Speaks (e : Event) (l : Ledger) : Type 0 where

@@ -1,10 +1,12 @@
 pub mod Acts
 pub mod Answers
+pub mod Ends
 pub mod Kept
 pub mod Ledger
 pub mod Legal
 pub mod Lines
 pub mod Members
+pub mod Offers
 pub mod Requests
 pub mod Runs
 pub mod Work

@@ -9,8 +9,10 @@ ghost use Rattle.ps_ledger.specs.Ledger.{HasRoom, HasSameMembers, pass_where, Pa
 
 use super::acts::Acts;
 use super::answers::Answers;
+use super::ends::Ends;
 use super::lines::Lines;
 use super::members::{Observers, Performers};
+use super::offers::Offers;
 use super::requests::Requests;
 use super::runs::Run;
 use super::work::Work;
@@ -30,6 +32,8 @@ pub struct Ledger {
     pub observers: Observers,
     pub answers: Answers,
     pub lines: Lines,
+    pub offers: Offers,
+    pub ends: Ends,
 }
 
 fn is_active(state: ActState) -> bool
@@ -85,6 +89,8 @@ impl Ledger {
             observers: Observers::new(alloc, observers)?,
             answers: Answers::new(alloc),
             lines: Lines::new(),
+            offers: Offers::new(alloc),
+            ends: Ends::new(),
         })
     }
 
@@ -170,7 +176,8 @@ impl Ledger {
         self.acts.make_room(acts)?;
         self.requests.make_room()?;
         self.work.make_room()?;
-        self.answers.make_room()
+        self.answers.make_room()?;
+        self.offers.make_room()
     }
 
     /// Takes one more event, which speaks of what is there.
@@ -188,6 +195,8 @@ impl Ledger {
         self.performers.take(event);
         self.observers.take(event);
         self.lines.take(event);
+        self.offers.take(event);
+        self.ends.take(event);
     }
 
     /// Takes the cancel of an act.

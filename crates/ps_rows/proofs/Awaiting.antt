@@ -1,11 +1,13 @@
 -- What is kept, before an event is taken and after.
 use Rattle.std.proofs.Common.{◌≡◌, ℕ, ◌≤◌, List, [], ◌∷◌, ◌++◌, length, refl, ap, sym, ◌∙◌, subst}
 use Rattle.std.specs.Option.{unwrap_or}
+use Rattle.std.proofs.lemmas.List.FromFn.{length-map-range_with_len}
 use Rattle.ps_world.specs.Knowledge.{edited}
 use Rattle.ps_world.specs.declared.domains.Domain.{Domain}
 use Rattle.ps_world.specs.declared.edits.Edit.{Edit}
 use Rattle.ps_world.specs.declared.known.Knowledge.{Knowledge}
 use Rattle.ps_action.specs.Arcs.{arcs_of}
+use Rattle.ps_action.specs.Trees.{waits_for, waits_of}
 use Rattle.ps_action.specs.declared.acts.Act.{Act}
 use Rattle.ps_machine.specs.declared.inputs.Input.{Input}
 use Rattle.ps_machine.specs.declared.journal.By.{By}
@@ -26,6 +28,11 @@ use Rattle.ps_rows.specs.Table.{after_edit, Awaits, HasSameRest, IsAhead, KeepsA
 use Rattle.ps_rows.specs.Taking.{acts_next, GoesOn, grounds_next, known_next}
 use Rattle.ps_rows.specs.declared.present.Present.{Present}
 
+-- as many states of acts are kept as the tree has acts that wait for others
+pub states-as-waits : (i : Input) (es : List Entry) (p : Present) → Stands i es p → length p.ledger.acts.states.items ≡ length p.tree.waits
+states-as-waits i es p s =
+    s.told.acts.many ∙ sym (ap length s.told.acts.acts) ∙ sym s.acts ∙ sym (ap length s.tree ∙ length-map-range_with_len (waits_for p.arcs.pairs) 0 p.arcs.acts)
+
 -- an event that was judged is awaited
 pub awaits : (i : Input) (es : List Entry) (e : Event) (old new : Present) → Stands i es old → HasSameRest old new → new.problem ≡ after_edit old.expert old.problem e → Awaits i es e new
 awaits i es e old new s r m = record {
@@ -38,6 +45,7 @@ awaits i es e old new s r m = record {
   grounds = ap (λ v. v.items) r.grounds ∙ s.grounds;
   arcs = ap (λ a. a.pairs) r.arcs ∙ s.arcs ∙ ap (λ v. arcs_of v.items) (sym r.grounds);
   acts = ap (λ a. a.acts) r.arcs ∙ s.acts;
+  tree = ap (λ t. t.waits) r.tree ∙ s.tree ∙ ap waits_of (sym r.arcs);
 }
 
 -- the plan after one more entry
@@ -83,6 +91,7 @@ goes-ahead i es what old mid a may g =
           ∙ grounds-then i.domain (plan es) what;
       arcs = g.arcs a.arcs;
       acts = g.acts ∙ ap (λ n. acts_next n what) a.acts ∙ acts-then (plan es) what;
+      tree = g.tree a.tree;
     }
 
 -- what is ahead of the ledger stands where the ledger has taken the event
@@ -100,6 +109,7 @@ catches-up i es e what mid l is a t m =
       grounds = a.grounds ∙ ap (grounds i.domain) (sym pushed);
       arcs = a.arcs;
       acts = a.acts ∙ ap length (sym pushed);
+      tree = a.tree;
     }
 
 -- what stands after an event that was awaited
@@ -110,7 +120,7 @@ takes i es e what old mid l is a may g t m = catches-up i es e what mid l is (go
 -- nothing has gone on by an event that changes nothing but the ledger, or by an edit that has been made
 pub stays : (e : Event) (p : Present) → known_next p.expert p.grounds.items p.problem e ≡ p.problem → grounds_next p.expert p.grounds.items e ≡ p.grounds.items
     → acts_next p.arcs.acts e ≡ p.arcs.acts → GoesOn e p p
-stays e p known gs acts = record { base = record { expert = refl; due = refl; ledger = refl }; known = sym known; grounds = sym gs; acts = sym acts; arcs = λ h. h }
+stays e p known gs acts = record { base = record { expert = refl; due = refl; ledger = refl }; known = sym known; grounds = sym gs; acts = sym acts; arcs = λ h. h; tree = λ h. h }
 
 -- an edit that has been made is ahead
 pub edit-ahead : (i : Input) (es : List Entry) (by : By) (edit : Edit) (old new : Present) → Stands i es old → HasSameRest old new
@@ -127,12 +137,12 @@ pub others-ahead : (i : Input) (es : List Entry) (e : Event) (old new : Present)
     → IsAhead i es e new
 others-ahead i es e old new other s may g =
     goes-ahead i es e old new
-    (awaits i es e old old s (record { expert = refl; due = refl; ledger = refl; grounds = refl; arcs = refl }) (sym (unedited old.expert old.problem e other))) may g
+    (awaits i es e old old s (record { expert = refl; due = refl; ledger = refl; grounds = refl; arcs = refl; tree = refl }) (sym (unedited old.expert old.problem e other))) may g
 
 -- what keeps awaiting goes on standing
 pub keeps-standing : (i : Input) (es : List Entry) (old new : Present) → KeepsAwaiting old new → Stands i es old → Stands i es new
 keeps-standing i es old new keeps s =
-    let a = keeps i es event.Quit (awaits i es event.Quit old old s (record { expert = refl; due = refl; ledger = refl; grounds = refl; arcs = refl }) refl) in
+    let a = keeps i es event.Quit (awaits i es event.Quit old old s (record { expert = refl; due = refl; ledger = refl; grounds = refl; arcs = refl; tree = refl }) refl) in
     record {
       domain = a.domain;
       due = a.due;
@@ -143,6 +153,7 @@ keeps-standing i es old new keeps s =
       grounds = a.grounds;
       arcs = a.arcs;
       acts = a.acts;
+      tree = a.tree;
     }
 
 -- what stands after the cancel of an act
@@ -161,4 +172,5 @@ takes-cancel i es hand act why old l s t m =
       grounds = s.grounds ∙ ap (grounds i.domain) (sym pushed);
       arcs = s.arcs;
       acts = s.acts ∙ ap length (sym pushed);
+      tree = s.tree;
     }

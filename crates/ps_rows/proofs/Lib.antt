@@ -6,4 +6,6 @@ mod Gathered
 pub mod Grounded
 mod MemberNames
 mod Places
+pub mod PlanTrees
 mod Rest
+pub mod Units

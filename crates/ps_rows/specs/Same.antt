@@ -1,6 +1,7 @@
 -- Equality of what has a code.
-use Rattle.std.specs.Prelude.{Bool}
+use Rattle.std.specs.Prelude.{Bool, true, false, ◌&&◌, ◌==◌}
 use Rattle.ps_world.specs.CondViews.{cond_tree}
+use Rattle.ps_world.specs.Lines.{same_text}
 use Rattle.ps_world.specs.Same.{is_same}
 use Rattle.ps_world.specs.Trees.{cond_tree_code}
 use Rattle.ps_world.specs.declared.conditions.Cond.{Cond}
@@ -17,6 +18,10 @@ use Rattle.ps_action.specs.declared.refusals.PlanTextRefusal.{PlanTextRefusal}
 use Rattle.ps_machine.specs.contracts.inputs.LineCause as a_line_cause
 use Rattle.ps_machine.specs.contracts.journal.Refusal as a_refusal
 use Rattle.ps_machine.specs.declared.inputs.LineCause.{LineCause}
+use Rattle.ps_machine.specs.declared.members.Unit.{Unit as Task}
+use Rattle.ps_machine.specs.declared.members.Unit.TheVariants as unit
+use Rattle.ps_rules.specs.Legal.{same_flag}
+use Rattle.ps_rules.specs.Same.{same_edit}
 use Rattle.ps_machine.specs.declared.journal.Refusal.{Refusal}
 
 -- whether two conditions are the same
@@ -50,3 +55,11 @@ equal_text_refusals = is_same a_text_refusal.the_row.coded
 -- whether two causes are equal
 abbrev pub equal_causes : Refusal → Refusal → Bool
 equal_causes = is_same a_refusal.the_row.coded
+
+-- whether two units are the same
+abbrev pub same_unit : Task → Task → Bool
+same_unit unit.Work unit.Work = true
+same_unit (unit.Feedback percent text) (unit.Feedback p t) = (percent == p) && same_text text t
+same_unit (unit.Edit edit) (unit.Edit e) = same_edit edit e
+same_unit (unit.Finish ok) (unit.Finish b) = same_flag ok b
+same_unit u v = false

@@ -8,6 +8,7 @@ use Rattle.ps_world.specs.declared.known.Knowledge.{Knowledge}
 use Rattle.ps_action.specs.Arcs.{arcs_of}
 use Rattle.ps_action.specs.Grounding.{ground_act}
 use Rattle.ps_action.specs.Plans.{judged}
+use Rattle.ps_action.specs.Trees.{waits_of}
 use Rattle.ps_action.specs.declared.acts.Act.{Act}
 use Rattle.ps_action.specs.declared.acts.PlanStep.{PlanStep}
 use Rattle.ps_machine.specs.declared.inputs.Input.{Input}
@@ -64,6 +65,7 @@ pub record Awaits (i : Input) (es : List Entry) (e : Event) (p : Present) : Type
   pub grounds : p.grounds.items ≡ grounds i.domain (plan es)
   pub arcs : p.arcs.pairs ≡ arcs_of p.grounds.items
   pub acts : p.arcs.acts ≡ length (plan es)
+  pub tree : p.tree.waits ≡ waits_of p.arcs
 
 -- What is kept is what these entries and this event after them tell, but for the ledger, which tells of these entries alone.
 pub record IsAhead (i : Input) (es : List Entry) (e : Event) (p : Present) : Type 0 where
@@ -76,11 +78,22 @@ pub record IsAhead (i : Input) (es : List Entry) (e : Event) (p : Present) : Typ
   pub grounds : p.grounds.items ≡ grounds i.domain (unwrap_or (says_plan e) (plan es))
   pub arcs : p.arcs.pairs ≡ arcs_of p.grounds.items
   pub acts : p.arcs.acts ≡ length (unwrap_or (says_plan e) (plan es))
+  pub tree : p.tree.waits ≡ waits_of p.arcs
 
 -- All is as it was, but for what is known.
 pub record HasSameRest (old new : Present) : Type 0 where
   pub expert : new.expert ≡ old.expert
   pub due : new.due ≡ old.due
+  pub ledger : new.ledger ≡ old.ledger
+  pub grounds : new.grounds ≡ old.grounds
+  pub arcs : new.arcs ≡ old.arcs
+  pub tree : new.tree ≡ old.tree
+
+-- All is as it was, but for the tree of the plan.
+pub record HasSameButTree (old new : Present) : Type 0 where
+  pub expert : new.expert ≡ old.expert
+  pub due : new.due ≡ old.due
+  pub known : new.problem ≡ old.problem
   pub ledger : new.ledger ≡ old.ledger
   pub grounds : new.grounds ≡ old.grounds
   pub arcs : new.arcs ≡ old.arcs
@@ -99,6 +112,10 @@ MayBegin e p = Unit {0}
 -- what awaits an event still does
 abbrev pub KeepsAwaiting : Present → Present → Type 0
 KeepsAwaiting old new = (i : Input) (es : List Entry) (e : Event) → Awaits i es e old → Awaits i es e new
+
+-- what stands still does
+abbrev pub KeepsStanding : Present → Present → Type 0
+KeepsStanding old new = (i : Input) (es : List Entry) → Stands i es old → Stands i es new
 
 -- what stood before an event is ahead of the ledger by that event
 abbrev pub Advances : Event → Present → Present → Type 0

@@ -2,6 +2,7 @@
 use Rattle.std.specs.Prelude.{◌≡◌, ℕ, List, [], length, slice_get}
 use Rattle.std.specs.Option.{option_map_or}
 use Rattle.ps_action.specs.Arcs.{arcs_of}
+use Rattle.ps_action.specs.Trees.{waits_of}
 use Rattle.ps_action.specs.declared.acts.Act.{Act}
 use Rattle.ps_action.specs.declared.acts.GroundAction.{GroundAction}
 use Rattle.ps_machine.specs.declared.journal.Event.{Event}
@@ -33,16 +34,17 @@ acts_next n (event.Run for acts) = length acts
 acts_next n (event.Replan acts) = length acts
 acts_next n e = n
 
--- All is as it was, but for what is known and the ground actions with their arcs.
+-- All is as it was, but for what is known and the ground actions with their arcs and the tree over them.
 pub record HasSameBase (old new : Present) : Type 0 where
   pub expert : new.expert ≡ old.expert
   pub due : new.due ≡ old.due
   pub ledger : new.ledger ≡ old.ledger
 
--- What is known, and the ground actions with their arcs, are those after an event.
+-- What is known, and the ground actions with their arcs and the tree over them, are those after an event.
 pub record GoesOn (e : Event) (old new : Present) : Type 0 where
   pub base : HasSameBase old new
   pub known : new.problem ≡ known_next old.expert old.grounds.items old.problem e
   pub grounds : new.grounds.items ≡ grounds_next old.expert old.grounds.items e
   pub acts : new.arcs.acts ≡ acts_next old.arcs.acts e
   pub arcs : old.arcs.pairs ≡ arcs_of old.grounds.items → new.arcs.pairs ≡ arcs_of new.grounds.items
+  pub tree : old.tree.waits ≡ waits_of old.arcs → new.tree.waits ≡ waits_of new.arcs

@@ -13,6 +13,7 @@ mod same;
 mod settled;
 mod table;
 mod taking;
+mod trees;
 mod work;
 
 pub use lines::{
@@ -23,4 +24,5 @@ pub use plans::{
     can_ground, ending, ground_refusal, is_good, is_plan, lacks_goal, plan_refusal, refusal_of_goal,
 };
 pub use present::Present;
+pub use same::same_unit;
 pub use table::{answers_line, has_hand};

@@ -117,7 +117,7 @@ impl Present {
     }
 
     /// The unit that stands next in the job of a performer's last beginning.
-    fn unit_of<'a>(&self, performer: &'a Performer, r: u64, by: Name) -> Option<&'a Unit>
+    pub fn unit_of<'a>(&self, performer: &'a Performer, r: u64, by: Name) -> Option<&'a Unit>
         ensures { Says self.now (option_copied result) (λ i es. unit_of performer.now r by es) }
     {
         let begins = self.ledger.performers.begins(by);

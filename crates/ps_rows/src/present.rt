@@ -3,6 +3,7 @@ use ps_action::{Arcs, GroundAction};
 use ps_domain::Expert;
 use ps_ledger::Ledger;
 use ps_problem::Problem;
+use ps_tree::Tree;
 
 /// All that is kept of a session beside its entries.
 #[derive(Drop)]
@@ -19,4 +20,6 @@ pub struct Present {
     pub grounds: Vec<GroundAction>,
     /// Their arcs.
     pub arcs: Arcs,
+    /// The tree of the plan, over those arcs.
+    pub tree: Tree,
 }

@@ -5,11 +5,12 @@ ghost use Rattle.ps_rules.specs.Legal.{is_cause, is_edit, is_outcome};
 ghost use Rattle.ps_rules.specs.Lines.{acts_of};
 ghost use Rattle.ps_rules.specs.Same.{first_alike, same_acts, same_cause, same_edit, same_outcome, same_query};
 ghost use Rattle.ps_world.specs.Knowledge.{same_fact};
-ghost use Rattle.ps_rows.specs.Same.{same_cond};
+ghost use Rattle.ps_rows.specs.Same.{same_cond, same_unit};
 
 use super::causes::equal_causes;
+use super::work::same_flag;
 use ps_action::{Act, GroundRefusal, PlanStep};
-use ps_machine::{Outcome, Query, Refusal};
+use ps_machine::{Outcome, Query, Refusal, Unit};
 use ps_world::{Cond, Edit, EditRefusal, Fact};
 
 /// Whether two facts are the same.
@@ -76,6 +77,30 @@ pub fn is_edit(edit: &Edit, said: Option<&Edit>) -> bool
     match said {
         Some(other) => same_edit(edit, other),
         None => false,
+    }
+}
+
+/// Whether two units are the same.
+pub fn same_unit(unit: &Unit, other: &Unit) -> bool
+    ensures { result ≡ same_unit unit.now other.now }
+{
+    match unit {
+        Unit::Work => match other {
+            Unit::Work => true,
+            _ => false,
+        },
+        Unit::Feedback(percent, text) => match other {
+            Unit::Feedback(p, t) => *percent == *p && text == t,
+            _ => false,
+        },
+        Unit::Edit(edit) => match other {
+            Unit::Edit(e) => same_edit(edit, e),
+            _ => false,
+        },
+        Unit::Finish(ok) => match other {
+            Unit::Finish(b) => same_flag(*ok, *b),
+            _ => false,
+        },
     }
 }
 

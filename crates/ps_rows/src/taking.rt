@@ -3,6 +3,7 @@ ghost use Rattle.std.specs.Prelude.{◌≡◌, ◌<◌, [], ◌∷◌, ◌++◌,
 ghost use Rattle.ps_world.specs.Knowledge.{edited};
 ghost use Rattle.ps_action.specs.Arcs.{arcs_of};
 ghost use Rattle.ps_action.specs.Grounding.{ground_act};
+ghost use Rattle.ps_action.specs.Trees.{waits_of};
 ghost use Rattle.ps_rules.specs.Known.{changed, grounds, kept};
 ghost use Rattle.ps_rules.specs.Members.{as_observer, as_performer, observers, performers};
 ghost use Rattle.ps_ledger.specs.Acts.{IsCancelled};
@@ -20,6 +21,7 @@ use ps_eval::apply;
 use ps_ledger::Ledger;
 use ps_machine::{Event, Input, Member};
 use ps_problem::Problem;
+use ps_tree::Tree;
 use ps_world::{Duplicate, Edit, Effect, Failure, Name};
 use std::alloc::{AllocError, Global};
 
@@ -129,19 +131,23 @@ impl Present {
         self.ledger.make_room(event)
     }
 
-    /// Keeps the ground actions of a plan, and their arcs. Where memory runs out nothing changes.
+    /// Keeps the ground actions of a plan, with their arcs and the tree over them. Where memory runs out nothing changes.
     fn begin(&mut self, alloc: Global, acts: &[Act]) -> Result<(), AllocError>
         requires { MayBePlan self.now.expert self.now.problem acts.now }
         ensures grounds { OnOk result (self.new.grounds.items ≡ grounds self.old.expert acts.now) }
         ensures arcs { OnOk result (self.new.arcs.pairs ≡ arcs_of self.new.grounds.items) }
         ensures acts { OnOk result (self.new.arcs.acts ≡ length acts.now) }
+        ensures tree { OnOk result (self.new.tree.waits ≡ waits_of self.new.arcs) }
         ensures known { self.new.problem ≡ self.old.problem }
         ensures base { HasSameBase self.old self.new }
         ensures err { OnErr result (self.new ≡ self.old) }
     {
         let grounds = grounds_of(alloc, &self.expert, &self.problem, acts)?;
-        self.arcs = arcs_of(alloc, &grounds)?;
+        let arcs = arcs_of(alloc, &grounds)?;
+        let tree = Tree::build(alloc, &arcs)?;
         self.grounds = grounds;
+        self.arcs = arcs;
+        self.tree = tree;
         Ok(())
     }
 
@@ -263,6 +269,7 @@ impl Present {
         let observers = observer_names(alloc, input)?;
         let ledger = Ledger::new(alloc, performers, observers)?;
         let arcs = Arcs::new(alloc, 0)?;
+        let tree = Tree::build(alloc, &arcs)?;
         Ok(Present {
             expert,
             due: count_due(input.lines.as_slice()),
@@ -270,6 +277,7 @@ impl Present {
             ledger,
             grounds: Vec::new(alloc),
             arcs,
+            tree,
         })
     }
 }

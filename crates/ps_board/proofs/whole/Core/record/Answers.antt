@@ -26,8 +26,8 @@ append-requires c =
     let room = c.in_ok-make_room.ensures.ok in
     due-still mid new c.args.hand (event.Edit c.args.by c.args.edit) stands refl refl legal hand tt
     (edit-ahead old.input c.reserve.new.entries.items c.args.by c.args.edit mid.present new.present stands.kept
-    (record { expert = refl; due = refl; ledger = refl; grounds = refl; arcs = refl }) (sym (ap (kept mid.present.problem) c.in-Ok.ensures.0)))
-    refl (λ act. refl) refl (record { acts = room.acts; requests = room.requests; work = room.work; answers = room.answers })
+    (record { expert = refl; due = refl; ledger = refl; grounds = refl; arcs = refl; tree = refl }) (sym (ap (kept mid.present.problem) c.in-Ok.ensures.0)))
+    refl (λ act. refl) refl (record { acts = room.acts; requests = room.requests; work = room.work; answers = room.answers; offers = room.offers })
     c.in_ok-reserve.ensures.short c.in_ok-reserve.ensures.room
 
 pub append-requires-in-Err-Refused : goal.append-requires-in-Err-Refused
@@ -47,8 +47,8 @@ append-requires-in-Err-Refused c =
     let space : length c.reserve.new.entries.items + 1 ≤ vec_capacity c.reserve.new.entries = omega (arith, places) in
     due-still mid new c.args.hand e stands refl refl legal hand tt
     (others-ahead old.input c.reserve.new.entries.items e mid.present new.present (λ by edit h. absurd (cc)) stands.kept tt
-    (record { base = record { expert = refl; due = refl; ledger = refl }; known = refused.1; grounds = refl; acts = refl; arcs = λ h. h }))
-    refl (λ act. refl) refl (record { acts = room.acts; requests = room.requests; work = room.work; answers = room.answers })
+    (record { base = record { expert = refl; due = refl; ledger = refl }; known = refused.1; grounds = refl; acts = refl; arcs = λ h. h; tree = λ h. h }))
+    refl (λ act. refl) refl (record { acts = room.acts; requests = room.requests; work = room.work; answers = room.answers; offers = room.offers })
     c.in_ok-reserve.ensures.short space
 
 pub returns-in_err-make_room-clause-stands : goal.returns-in_err-make_room-clause-stands

@@ -9,5 +9,5 @@ arcs_of-requires c =
 
 pub returns-clause-acts : goal.returns-clause-acts
 returns-clause-acts c =
-    c.in_ok-self.ensures.acts ∙ ap length c.deref.ensures.value ∙ ap length c.in_ok-grounds.ensures
+    c.in_ok-arcs.ensures.acts ∙ ap length c.deref.ensures.value ∙ ap length c.in_ok-grounds.ensures
     ∙ as-many c.args.self.now.expert c.args.self.now.problem.instances c.args.acts.now c.requires.grounded

@@ -1,0 +1,48 @@
+use Rattle.std.proofs.Common.{◌≡◌, true, Option, Some, None, is_some, if◌then◌else◌, refl, ap, sym, ◌∙◌}
+use Rattle.ps_machine.specs.declared.journal.Event.{Event}
+use Rattle.ps_rules.specs.Choices.{observer_turn}
+use Rattle.ps_rules.specs.Runs.{is_running}
+use Rattle.ps_board.specs.declared.board.Shown.{Shown}
+use Rattle.ps_board.specs.declared.whole.Core.{Core}
+use Rattle.ps_board.specs.declared.works.Turn.TheVariants.{Did, Nothing}
+use Rattle.ps_board.specs.Board.{answer_of, observing, with_done}
+use Rattle.ps_board.specs.Core.{observed_by}
+use Rattle.ps_board.proofs.Keeping.{kept-result, observers-legal, observers-spare, on-ok}
+use Rattle.ps_board.proofs.Stuck.{observes}
+use Rattle.ps_board.proofs.board.Board.observer_turn.Goals as goal
+
+pub invariant_of-self-then-not-self : goal.invariant_of-self-then-not-self
+invariant_of-self-then-not-self c =
+    let core : Core = c.self.inside.core in
+    let grants = c.self.inside.grants.items in
+    let name = c.observer_name-name.result in
+    let live : is_running core.entries.items ≡ true = sym (c.is_running-running.ensures core.entries.items c.self.invariant.core.kept.told.run) ∙ c.if-running.true in
+    kept-result core c.observe-result.new.self c.show.new.self c.args.hand grants c.self.inside.heard.items (observed_by core name) c.observe-result.result c.self.invariant
+    c.show.ensures.stands c.show.ensures.shown c.show.ensures.input c.show.ensures.entries c.observe-result.ensures.input c.observe-result.ensures.ok c.observe-result.ensures.err
+    (on-ok c.observe-result.result (observers-legal core.input name core.entries.items live)) (observers-spare core.input grants name core.entries.items)
+
+told-is : (o : Option Event) → (if is_some o then Did else Nothing) ≡ answer_of o
+told-is None = refl
+told-is (Some e) = refl
+
+pub returns-in_ok-result-clause-answer : goal.returns-in_ok-result-clause-answer
+returns-in_ok-result-clause-answer c =
+    let core : Core = c.self.inside.core in
+    let b : Shown = c.args.self.now in
+    let name = c.observer_name-name.result in
+    let live : is_running core.entries.items ≡ true = sym (c.is_running-running.ensures core.entries.items c.self.invariant.core.kept.told.run) ∙ c.if-running.true in
+    let does : observing b c.args.o ≡ observed_by core name =
+    observes b (sym (ap (λ v. is_running v.entries) c.self.view_is) ∙ live) (sym (ap (λ v. v.halted) c.self.view_is) ∙ c.if-not-self.true) c.args.o name c.observer_name-name.ensures
+    ∙ sym (ap (λ v. observer_turn v.input name v.entries) c.self.view_is) in
+    c.told.ensures ∙ ap (λ t. if t then Did else Nothing) c.in_ok-result.ensures.answer ∙ told-is (observed_by core name) ∙ ap answer_of (sym does)
+
+pub returns-in_ok-result-clause-entries : goal.returns-in_ok-result-clause-entries
+returns-in_ok-result-clause-entries c =
+    let core : Core = c.self.inside.core in
+    let b : Shown = c.args.self.now in
+    let name = c.observer_name-name.result in
+    let live : is_running core.entries.items ≡ true = sym (c.is_running-running.ensures core.entries.items c.self.invariant.core.kept.told.run) ∙ c.if-running.true in
+    let does : observing b c.args.o ≡ observed_by core name =
+    observes b (sym (ap (λ v. is_running v.entries) c.self.view_is) ∙ live) (sym (ap (λ v. v.halted) c.self.view_is) ∙ c.if-not-self.true) c.args.o name c.observer_name-name.ensures
+    ∙ sym (ap (λ v. observer_turn v.input name v.entries) c.self.view_is) in
+    c.show.ensures.entries ∙ c.in_ok-result.ensures.ok ∙ ap (λ v. with_done v c.args.hand (observed_by core name)) c.self.view_is ∙ ap (with_done b c.args.hand) (sym does)

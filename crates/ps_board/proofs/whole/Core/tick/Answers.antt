@@ -1,0 +1,28 @@
+use Rattle.std.proofs.Common.{Bool, ap, sym, ◌∙◌}
+use Rattle.ps_rules.specs.Choices.{wants_plan}
+use Rattle.ps_rules.specs.Legal.{is_legal}
+use Rattle.ps_board.specs.Ticks.{ticked_answer}
+use Rattle.ps_board.specs.declared.whole.Core.{Core}
+use Rattle.ps_choices.proofs.First.{passes}
+use Rattle.ps_board.proofs.Ticking.{plan-less, tick-hand}
+use Rattle.ps_board.proofs.whole.Core.tick.Goals as goal
+
+pub put-requires-clause-legal : goal.put-requires-clause-legal
+put-requires-clause-legal c =
+    let core : Core = c.args.self.now in
+    passes (is_legal core.input core.entries.items) _ c.in-Some.event (sym c.in-Some.is ∙ c.next_tick.ensures.first)
+
+pub put-requires-clause-plan : goal.put-requires-clause-plan
+put-requires-clause-plan c = plan-less c.in-Some.event c.args.self.now.present c.in-Some.ensures.plan.0
+
+pub put-requires-clause-by : goal.put-requires-clause-by
+put-requires-clause-by c =
+    let core : Core = c.args.self.now in
+    tick-hand core.input core.entries.items c.in-Some.event c.args.hand c.requires.live
+    (passes (is_legal core.input core.entries.items) _ c.in-Some.event (sym c.in-Some.is ∙ c.next_tick.ensures.first)) c.requires.hand
+
+pub returns-in_ok-put-in-Some-clause-answer : goal.returns-in_ok-put-in-Some-clause-answer
+returns-in_ok-put-in-Some-clause-answer c =
+    let core : Core = c.args.self.now in
+    let wants : Bool = wants_plan core.input core.entries.items in
+    c.answer_to-answer.ensures wants ∙ ap (ticked_answer wants) (sym c.in-Some.is ∙ c.next_tick.ensures.first)

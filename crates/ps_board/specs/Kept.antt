@@ -1,0 +1,30 @@
+-- What a board keeps between calls.
+use Rattle.std.specs.Prelude.{◌≡◌, ℕ, Option, Some, None, List, length, replicate, slice_get, slice_index_or}
+use Rattle.ps_world.specs.declared.names.Name.{Name}
+use Rattle.ps_machine.specs.declared.inputs.Input.{Input}
+use Rattle.ps_machine.specs.declared.journal.Entry.{Entry}
+use Rattle.ps_rules.specs.Members.{performers}
+use Rattle.ps_choices.specs.Heard.{HasHeard}
+use Rattle.ps_board.specs.Core.{Stands}
+use Rattle.ps_board.specs.Grants.{AreOut, performer_names}
+use Rattle.ps_board.specs.declared.whole.Core.{Core}
+
+-- no grant is out
+abbrev pub all_in : Input → List (Option ℕ)
+all_in i = replicate (length (performers i)) None
+
+-- each performer has answered all requests of the last run below its number here
+pub record HaveHeard (i : Input) (es : List Entry) (upto : List ℕ) : Type 0 where
+  pub all : length upto ≡ length (performers i)
+  pub each : (p : ℕ) (name : Name) → slice_get (performer_names i) p ≡ Some name → HasHeard name (slice_index_or upto p 0) es
+
+-- the tree shows the states of the acts
+abbrev pub IsShown : Core → Type 0
+IsShown c = c.present.tree.states ≡ c.present.ledger.acts.states.items
+
+-- What is kept stands, the tree shows it, whose grant is out works, and what is noted of answers is so.
+pub record IsKept (c : Core) (grants : List (Option ℕ)) (upto : List ℕ) : Type 0 where
+  pub core : Stands c
+  pub shown : IsShown c
+  pub out : AreOut c.input c.entries.items grants
+  pub heard : HaveHeard c.input c.entries.items upto

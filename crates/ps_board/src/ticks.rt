@@ -1,0 +1,457 @@
+//! What the ticker does.
+ghost use Rattle.std.specs.Prelude.{◌≡◌, ◌&&◌, [], ◌∷◌, nat_le, true, Bool, if◌then◌else◌, None, Some, flat_map, IfOk, IfSome, IsTrue, OnErr, OnOk};
+ghost use Rattle.ps_machine.specs.declared.journal.Event.TheVariants.{Fail, Unserved};
+ghost use Rattle.ps_machine.specs.declared.journal.FailWhy.TheVariants.{AtEnd, Effect as ByEffect};
+ghost use Rattle.ps_rules.specs.Choices.{all_requests, overs, rejects, wants_plan};
+ghost use Rattle.ps_rules.specs.Runs.{is_running};
+ghost use Rattle.ps_rules.specs.Settled.{places};
+ghost use Rattle.ps_board.specs.Core.{Stands, with_turn};
+ghost use Rattle.ps_board.specs.Ticks.{answer_of, asks_on, better, closed_answer, confirms_on, ends_on, fails_of, fails_on, first_legal, first_of, IsEarliest, leaves_on, IsTickers, on_act, on_request, starts_on, tick_of, ticked_answer};
+ghost use Rattle.ps_board.specs.declared.ticks.AboutAct.TheVariants.{Ask as ToAsk, Begin as ToBegin, Finish as ToFinish};
+ghost use Rattle.ps_board.specs.declared.ticks.AboutRequest.TheVariants.{Confirm as ToConfirm, Leave as ToLeave};
+
+use super::whole::Core;
+use ps_ledger::Offer;
+use ps_machine::{Event, FailWhy, Outcome};
+use std::alloc::{AllocError, Global};
+
+/// What the ticker may do about a request.
+#[derive(Clone, Copy)]
+pub enum AboutRequest {
+    /// Confirm its first offer.
+    Confirm,
+    /// Leave it, where every performer passed it.
+    Leave,
+}
+
+/// What the ticker may do about an act.
+#[derive(Clone, Copy)]
+pub enum AboutAct {
+    /// End it, or fail it.
+    Finish,
+    /// Ask for a performer.
+    Ask,
+    /// Start it.
+    Begin,
+}
+
+/// What came of a tick.
+#[derive(Clone, Copy)]
+pub enum Ticked {
+    /// The block of one event was appended.
+    Did,
+    /// Nothing was to be done, and nothing was appended.
+    Nothing,
+    /// The solver is asked for a plan, and nothing was appended.
+    WantsPlan,
+    /// The run has ended so, now or before.
+    Over(Outcome),
+    /// The open run was halted, and nothing was appended.
+    Halted,
+}
+
+/// An event, if it may come.
+fn event_if(may: bool, event: Event) -> Option<Event>
+    ensures event { result ≡ (if may then Some event else None) }
+    ensures plan { IsTickers event → IfSome result IsTickers }
+{
+    if may { Some(event) } else { None }
+}
+
+/// The answer of a tick that does this.
+fn answer_to(event: &Event) -> Ticked
+    ensures { (wants : Bool) → result ≡ ticked_answer wants (Some event.now) }
+{
+    match event {
+        Event::Over(how) => Ticked::Over(*how),
+        _ => Ticked::Did,
+    }
+}
+
+/// The answer of a tick where no run is open and the last one ended so.
+pub fn closed_answer(last: Option<Outcome>) -> Ticked
+    ensures { result ≡ closed_answer last }
+{
+    match last {
+        Some(how) => Ticked::Over(how),
+        None => Ticked::Nothing,
+    }
+}
+
+/// Of an offer that may be rejected or not, and the best one before it, the one on the earlier request.
+fn better(may: bool, best: Option<Offer>, offer: Offer) -> Option<Offer>
+    ensures { result ≡ better may best offer }
+{
+    if !may {
+        return best;
+    }
+    match best {
+        Some(known) => {
+            if offer.r < known.r {
+                Some(offer)
+            } else {
+                Some(known)
+            }
+        }
+        None => Some(offer),
+    }
+}
+
+impl Core {
+    /// The confirmation of the first offer on a request, if it may come.
+    fn confirm_on(&self, r: u64) -> Option<Event>
+        requires stands { Stands self.now }
+        requires live { is_running self.now.entries.items ≡ true }
+        ensures first { result ≡ first_legal self.now
+            (on_request ToConfirm self.now.entries.items r) }
+        ensures plan { IfSome result IsTickers }
+    {
+        match self.present.ledger.requests.first_offer(r) {
+            Some(by) => event_if(self.present.may_confirm(r, by), Event::Confirm { r, by }),
+            None => None,
+        }
+    }
+
+    /// The failure of the act of a request that every performer passed, if it may come.
+    fn fail_on(&self, r: u64) -> Option<Event>
+        requires stands { Stands self.now }
+        requires live { is_running self.now.entries.items ≡ true }
+        ensures first { result ≡ first_legal self.now (fails_on self.now.entries.items r) }
+        ensures plan { IfSome result IsTickers }
+    {
+        match self.present.ledger.requests.act_of(r) {
+            Some(act) => {
+                let why = FailWhy::NoPerformer;
+                event_if(self.present.may_fail(act, why), Event::Fail { act, why })
+            }
+            None => None,
+        }
+    }
+
+    /// How an open request is given up, if it may be.
+    fn leave_open(&self, r: u64) -> Option<Event>
+        requires stands { Stands self.now }
+        requires live { is_running self.now.entries.items ≡ true }
+        ensures first { result ≡ first_legal self.now
+            (Unserved r ∷ fails_on self.now.entries.items r) }
+        ensures plan { IfSome result IsTickers }
+    {
+        match event_if(self.present.may_leave(r), Event::Unserved(r)) {
+            Some(event) => Some(event),
+            None => self.fail_on(r),
+        }
+    }
+
+    /// How a request is given up, if it is open and may be.
+    fn leave_on(&self, r: u64) -> Option<Event>
+        requires stands { Stands self.now }
+        requires live { is_running self.now.entries.items ≡ true }
+        ensures first { result ≡ first_legal self.now
+            (on_request ToLeave self.now.entries.items r) }
+        ensures plan { IfSome result IsTickers }
+    {
+        if self.present.ledger.is_open(r) {
+            self.leave_open(r)
+        } else {
+            None
+        }
+    }
+
+    /// What may be done about a request, if something may.
+    fn on_request(&self, about: AboutRequest, r: u64) -> Option<Event>
+        requires stands { Stands self.now }
+        requires live { is_running self.now.entries.items ≡ true }
+        ensures first { result ≡ first_legal self.now
+            (on_request about self.now.entries.items r) }
+        ensures plan { IfSome result IsTickers }
+    {
+        match about {
+            AboutRequest::Confirm => self.confirm_on(r),
+            AboutRequest::Leave => self.leave_on(r),
+        }
+    }
+
+    /// The first thing that may be done about requests. Only those of the present plan are looked at: nothing may be about others.
+    fn first_on_requests(&self, about: AboutRequest) -> Option<Event>
+        requires stands { Stands self.now }
+        requires live { is_running self.now.entries.items ≡ true }
+        ensures first { result ≡ first_legal self.now (flat_map
+            (on_request about self.now.entries.items) (all_requests self.now.entries.items)) }
+        ensures plan { IfSome result IsTickers }
+    {
+        let count = self.present.ledger.requests.count();
+        for r in self.present.ledger.requests.of_plan as u64..count {
+            match self.on_request(about, r) {
+                Some(event) => return Some(event),
+                None => {}
+            }
+        }
+        None
+    }
+
+    /// The failure of an act for this reason, if it may come.
+    fn fail_for(&self, act: u32, why: FailWhy) -> Option<Event>
+        requires stands { Stands self.now }
+        requires live { is_running self.now.entries.items ≡ true }
+        ensures first { result ≡ first_legal self.now (Fail act why ∷ []) }
+        ensures plan { IfSome result IsTickers }
+    {
+        event_if(self.present.may_fail(act, why), Event::Fail { act, why })
+    }
+
+    /// The failure of an act at its end, if it may come.
+    fn fail_late(&self, act: u32) -> Option<Event>
+        requires stands { Stands self.now }
+        requires live { is_running self.now.entries.items ≡ true }
+        ensures first { result ≡ first_legal self.now (Fail act AtEnd ∷ Fail act ByEffect ∷ []) }
+        ensures plan { IfSome result IsTickers }
+    {
+        match self.fail_for(act, FailWhy::AtEnd) {
+            Some(event) => Some(event),
+            None => self.fail_for(act, FailWhy::Effect),
+        }
+    }
+
+    /// The failure of an act whose work was finished, if it may come.
+    fn fail_of(&self, act: u32) -> Option<Event>
+        requires stands { Stands self.now }
+        requires live { is_running self.now.entries.items ≡ true }
+        ensures first { result ≡ first_legal self.now (fails_of act) }
+        ensures plan { IfSome result IsTickers }
+    {
+        match self.fail_for(act, FailWhy::Script) {
+            Some(event) => Some(event),
+            None => self.fail_late(act),
+        }
+    }
+
+    /// How an act ends or fails, if it may.
+    fn finish_of(&self, act: u32) -> Option<Event>
+        requires stands { Stands self.now }
+        requires live { is_running self.now.entries.items ≡ true }
+        ensures first { result ≡ first_legal self.now (on_act ToFinish self.now.entries.items act) }
+        ensures plan { IfSome result IsTickers }
+    {
+        match event_if(self.present.may_end_act(act), Event::End(act)) {
+            Some(event) => Some(event),
+            None => self.fail_of(act),
+        }
+    }
+
+    /// The request for a performer of an act, if it may come.
+    fn request_of(&self, act: u32) -> Option<Event>
+        requires stands { Stands self.now }
+        requires live { is_running self.now.entries.items ≡ true }
+        ensures first { result ≡ first_legal self.now (on_act ToAsk self.now.entries.items act) }
+        ensures plan { IfSome result IsTickers }
+    {
+        let r = self.present.ledger.requests.count();
+        let may = self.present.may_request(&self.input, r, act);
+        event_if(may, Event::Request { r, act })
+    }
+
+    /// The start of an act, if it may come.
+    fn start_of(&self, act: u32) -> Option<Event>
+        requires stands { Stands self.now }
+        requires live { is_running self.now.entries.items ≡ true }
+        ensures first { result ≡ first_legal self.now (on_act ToBegin self.now.entries.items act) }
+        ensures plan { IfSome result IsTickers }
+    {
+        event_if(self.present.may_begin_act(act), Event::Start(act))
+    }
+
+    /// What may be done about an act, if something may.
+    fn on_act(&self, about: AboutAct, act: u32) -> Option<Event>
+        requires stands { Stands self.now }
+        requires live { is_running self.now.entries.items ≡ true }
+        ensures first { result ≡ first_legal self.now (on_act about self.now.entries.items act) }
+        ensures plan { IfSome result IsTickers }
+    {
+        match about {
+            AboutAct::Finish => self.finish_of(act),
+            AboutAct::Ask => self.request_of(act),
+            AboutAct::Begin => self.start_of(act),
+        }
+    }
+
+    /// The first thing that may be done about acts.
+    fn first_on_acts(&self, about: AboutAct) -> Option<Event>
+        requires stands { Stands self.now }
+        requires live { is_running self.now.entries.items ≡ true }
+        ensures first { result ≡ first_legal self.now (flat_map
+            (on_act about self.now.entries.items) (places self.now.entries.items)) }
+        ensures plan { IfSome result IsTickers }
+    {
+        for act in 0..self.present.count() {
+            match self.on_act(about, act) {
+                Some(event) => return Some(event),
+                None => {}
+            }
+        }
+        None
+    }
+
+    /// The end of the run, where it is settled and that needs no solver.
+    fn first_over(&self) -> Option<Event>
+        requires stands { Stands self.now }
+        requires live { is_running self.now.entries.items ≡ true }
+        ensures first { result ≡ first_legal self.now
+            (overs self.now.input self.now.entries.items) }
+        ensures plan { IfSome result IsTickers }
+    {
+        match self.present.verdict(&self.input) {
+            Some(how) => event_if(self.present.is_settled(&self.input), Event::Over(how)),
+            None => None,
+        }
+    }
+
+    /// Of the offers that may be rejected the first on the earliest request.
+    fn first_rejected(&self) -> Option<Offer>
+        requires stands { Stands self.now }
+        requires live { is_running self.now.entries.items ≡ true }
+        ensures { IsEarliest (first_of self.now self.now.present.ledger.offers.all.items) result }
+    {
+        let mut best = None;
+        for at in 0..self.present.ledger.offers.all.len() {
+            let offer = &self.present.ledger.offers.all[at];
+            let may = self.present.may_reject(offer.r, offer.by);
+            best = better(may, best, *offer);
+        }
+        best
+    }
+
+    /// The first rejection, if one may come.
+    fn first_reject(&self) -> Option<Event>
+        requires stands { Stands self.now }
+        requires live { is_running self.now.entries.items ≡ true }
+        ensures first { result ≡ first_legal self.now (rejects self.now.entries.items) }
+        ensures plan { IfSome result IsTickers }
+    {
+        match self.first_rejected() {
+            Some(offer) => {
+                let r = offer.r;
+                let by = offer.by;
+                Some(Event::Reject { r, by })
+            }
+            None => None,
+        }
+    }
+
+    /// What the ticker does from the starts on, if it does something.
+    fn from_starts(&self) -> Option<Event>
+        requires stands { Stands self.now }
+        requires live { is_running self.now.entries.items ≡ true }
+        ensures first { result ≡ first_legal self.now (starts_on self.now) }
+        ensures plan { IfSome result IsTickers }
+    {
+        match self.first_on_acts(AboutAct::Begin) {
+            Some(event) => Some(event),
+            None => self.first_over(),
+        }
+    }
+
+    /// What it does from the requests for performers on.
+    fn from_asks(&self) -> Option<Event>
+        requires stands { Stands self.now }
+        requires live { is_running self.now.entries.items ≡ true }
+        ensures first { result ≡ first_legal self.now (asks_on self.now) }
+        ensures plan { IfSome result IsTickers }
+    {
+        match self.first_on_acts(AboutAct::Ask) {
+            Some(event) => Some(event),
+            None => self.from_starts(),
+        }
+    }
+
+    /// What it does from the ends of acts on.
+    fn from_ends(&self) -> Option<Event>
+        requires stands { Stands self.now }
+        requires live { is_running self.now.entries.items ≡ true }
+        ensures first { result ≡ first_legal self.now (ends_on self.now) }
+        ensures plan { IfSome result IsTickers }
+    {
+        match self.first_on_acts(AboutAct::Finish) {
+            Some(event) => Some(event),
+            None => self.from_asks(),
+        }
+    }
+
+    /// What it does from the requests that are given up on.
+    fn from_leaves(&self) -> Option<Event>
+        requires stands { Stands self.now }
+        requires live { is_running self.now.entries.items ≡ true }
+        ensures first { result ≡ first_legal self.now (leaves_on self.now) }
+        ensures plan { IfSome result IsTickers }
+    {
+        match self.first_on_requests(AboutRequest::Leave) {
+            Some(event) => Some(event),
+            None => self.from_ends(),
+        }
+    }
+
+    /// What it does from the confirmations on.
+    fn from_confirms(&self) -> Option<Event>
+        requires stands { Stands self.now }
+        requires live { is_running self.now.entries.items ≡ true }
+        ensures first { result ≡ first_legal self.now (confirms_on self.now) }
+        ensures plan { IfSome result IsTickers }
+    {
+        match self.first_on_requests(AboutRequest::Confirm) {
+            Some(event) => Some(event),
+            None => self.from_leaves(),
+        }
+    }
+
+    /// What the ticker does, if it does something.
+    fn next_tick(&self) -> Option<Event>
+        requires stands { Stands self.now }
+        requires live { is_running self.now.entries.items ≡ true }
+        ensures first { result ≡ tick_of self.now }
+        ensures plan { IfSome result IsTickers }
+    {
+        match self.first_reject() {
+            Some(event) => Some(event),
+            None => self.from_confirms(),
+        }
+    }
+
+    /// The answer of a tick that does nothing.
+    fn idle(&self) -> Ticked
+        requires stands { Stands self.now }
+        requires live { is_running self.now.entries.items ≡ true }
+        ensures { result ≡ ticked_answer
+            (wants_plan self.now.input self.now.entries.items) None }
+    {
+        let settled = self.present.is_settled(&self.input);
+        let verdict = self.present.verdict(&self.input);
+        if settled && verdict.is_none() {
+            Ticked::WantsPlan
+        } else {
+            Ticked::Nothing
+        }
+    }
+
+    /// Appends the block of what the ticker does in an open run, if it does something. The only error is that memory ran out, and
+    /// then no entry is appended.
+    pub fn tick(&mut self, alloc: Global, hand: u8) -> Result<Ticked, AllocError>
+        requires stands { Stands self.now }
+        requires live { is_running self.now.entries.items ≡ true }
+        requires hand { IsTrue (nat_le 1 hand && nat_le hand 16) }
+        ensures stands { Stands self.new }
+        ensures answer { IfOk result (λ t. t ≡ answer_of self.old) }
+        ensures ok { OnOk result (self.new.entries.items
+            ≡ with_turn self.old hand (tick_of self.old)) }
+        ensures its { IfSome (tick_of self.old) IsTickers }
+        ensures err { OnErr result (self.new.entries.items ≡ self.old.entries.items) }
+        ensures input { self.new.input ≡ self.old.input }
+    {
+        match self.next_tick() {
+            Some(event) => {
+                let answer = answer_to(&event);
+                self.put(alloc, hand, event)?;
+                Ok(answer)
+            }
+            None => Ok(self.idle()),
+        }
+    }
+}

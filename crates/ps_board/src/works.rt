@@ -1,0 +1,181 @@
+//! The turns of performers, and their work.
+ghost use Rattle.std.specs.Prelude.{◌≡◌, ◌≤◌, ◌&&◌, nat_le, true, IsTrue, IfOk, IfSome, OnOk, OnErr, Some};
+ghost use Rattle.std.specs.Option.{option_copied};
+ghost use Rattle.ps_machine.specs.declared.members.Unit.TheVariants.{Finish, Work};
+ghost use Rattle.ps_rules.specs.Auctions.{is_for_active, is_working};
+ghost use Rattle.ps_rules.specs.Choices.{performed, unit_event};
+ghost use Rattle.ps_rules.specs.Legal.{is_legal};
+ghost use Rattle.ps_rules.specs.Runs.{is_running};
+ghost use Rattle.ps_ends.specs.Working.{recorded, unit_due};
+ghost use Rattle.ps_choices.specs.Heard.{HasHeard};
+ghost use Rattle.ps_choices.specs.Turns.{is_choice_of};
+ghost use Rattle.ps_board.specs.Core.{Stands, with_turn};
+ghost use Rattle.ps_board.specs.Grants.{grant_for, performed_answer};
+
+use super::whole::Core;
+use ps_choices::{performed, work_of};
+use ps_machine::{By, Event, Unit};
+use ps_rows::performer_of;
+use ps_world::{Duplicate, Name};
+use std::alloc::{AllocError, Global};
+
+/// A unit of work that a performer does outside of the board. It is handed in once it is done.
+#[derive(Drop)]
+pub struct Grant {
+    /// The request that the performer works on.
+    pub r: u64,
+    pub by: Name,
+    pub unit: Unit,
+}
+
+/// What came of a member's turn.
+#[derive(Drop)]
+pub enum Turn {
+    /// The block of one event was appended.
+    Did,
+    /// Nothing was to be done, and nothing was appended.
+    Nothing,
+    /// This unit is to be done, and nothing was appended. An observer's turn never answers so.
+    Work(Grant),
+}
+
+impl Core {
+    /// The unit that stands next in the job of a performer, if it works on this request.
+    pub fn unit_due(&self, r: u64, by: Name) -> Option<&Unit>
+        requires { Stands self.now }
+        ensures { option_copied result ≡ unit_due self.now.input r by self.now.entries.items }
+    {
+        match performer_of(&self.input, by) {
+            Some(performer) => self.present.unit_of(performer, r, by),
+            None => None,
+        }
+    }
+
+    /// A copy of the next unit of one who works on a request.
+    fn copy_due(&self, alloc: Global, r: u64, by: Name) -> Result<Unit, AllocError>
+        requires stands { Stands self.now }
+        requires works { is_working r by self.now.entries.items ≡ true }
+        ensures { IfOk result
+            (λ u. unit_due self.now.input r by self.now.entries.items ≡ Some u) }
+    {
+        match self.unit_due(r, by) {
+            Some(unit) => unit.copy(alloc),
+            None => unreachable!(),
+        }
+    }
+
+    /// Appends the block of what records this unit, the next one of a performer on a request for an active act. The only error is
+    /// that memory ran out, and then no entry is appended.
+    fn record_unit(
+        &mut self,
+        alloc: Global,
+        hand: u8,
+        r: u64,
+        by: Name,
+        unit: Unit,
+    ) -> Result<(), AllocError>
+        requires stands { Stands self.now }
+        requires works { is_working r by self.now.entries.items ≡ true }
+        requires active { is_for_active r self.now.entries.items ≡ true }
+        requires next { unit_due self.now.input r by self.now.entries.items ≡ Some unit }
+        requires hand { IsTrue (nat_le 1 hand && nat_le hand 16) }
+        ensures stands { Stands self.new }
+        ensures ok { OnOk result (self.new.entries.items ≡ with_turn self.old hand
+            (Some (unit_event self.old.input self.old.entries.items r by unit))) }
+        ensures err { OnErr result (self.new.entries.items ≡ self.old.entries.items) }
+        ensures input { self.new.input ≡ self.old.input }
+    {
+        match unit {
+            Unit::Work => self.put(alloc, hand, Event::UnitWork { r, by }),
+            Unit::Feedback(percent, text) => self.put(
+                alloc,
+                hand,
+                Event::Feedback {
+                    r,
+                    by,
+                    percent,
+                    text,
+                },
+            ),
+            Unit::Edit(edit) => self.record(hand, By::Performer(r, by), edit),
+            Unit::Finish(ok) => self.put(alloc, hand, Event::Finish { r, by, ok }),
+        }
+    }
+
+    /// Appends the block of what one who works on a request records next: its unit, or, where the act was cancelled, that it
+    /// stopped. The only error is that memory ran out, and then no entry is appended.
+    pub fn record_work(
+        &mut self,
+        alloc: Global,
+        hand: u8,
+        r: u64,
+        by: Name,
+    ) -> Result<(), AllocError>
+        requires stands { Stands self.now }
+        requires works { is_working r by self.now.entries.items ≡ true }
+        requires hand { IsTrue (nat_le 1 hand && nat_le hand 16) }
+        ensures stands { Stands self.new }
+        ensures ok { OnOk result (self.new.entries.items ≡ with_turn self.old hand
+            (recorded self.old.input self.old.entries.items r by)) }
+        ensures err { OnErr result (self.new.entries.items ≡ self.old.entries.items) }
+        ensures input { self.new.input ≡ self.old.input }
+    {
+        if self.present.ledger.is_for_active(r) {
+            let unit = self.copy_due(alloc, r, by)?;
+            self.record_unit(alloc, hand, r, by, unit)
+        } else {
+            self.put(alloc, hand, Event::Stopped { r, by })
+        }
+    }
+
+    /// The grant of the work that a performer has to do now, if it has some.
+    fn grant_for(&self, alloc: Global, name: Name) -> Result<Option<Grant>, AllocError>
+        requires stands { Stands self.now }
+        requires live { is_running self.now.entries.items ≡ true }
+        ensures { IfOk result
+            (λ g. g ≡ grant_for self.now.input self.now.entries.items name) }
+    {
+        match work_of(&self.present, &self.input, name) {
+            Some((r, unit)) => {
+                let unit = unit.copy(alloc)?;
+                Ok(Some(Grant { r, by: name, unit }))
+            }
+            None => Ok(None),
+        }
+    }
+
+    /// Does the turn of a performer of which no grant is out, and which has answered all requests of the run below this number. The
+    /// only error is that memory ran out, and then no entry is appended.
+    pub fn perform(
+        &mut self,
+        alloc: Global,
+        hand: u8,
+        name: Name,
+        upto: u64,
+    ) -> Result<Turn, AllocError>
+        requires stands { Stands self.now }
+        requires live { is_running self.now.entries.items ≡ true }
+        requires heard { HasHeard name upto self.now.entries.items }
+        requires hand { IsTrue (nat_le 1 hand && nat_le hand 16) }
+        ensures stands { Stands self.new }
+        ensures answer { IfOk result
+            (λ t. t ≡ performed_answer self.old.input self.old.entries.items name) }
+        ensures ok { OnOk result (self.new.entries.items ≡ with_turn self.old hand
+            (performed self.old.input name self.old.entries.items)) }
+        ensures err { OnErr result (self.new.entries.items ≡ self.old.entries.items) }
+        ensures input { self.new.input ≡ self.old.input }
+        ensures its { IfSome (performed self.old.input name self.old.entries.items)
+            (λ e. is_choice_of name e ≡ true) }
+    {
+        match performed(&self.present, &self.input, name, upto) {
+            Some(event) => {
+                self.put(alloc, hand, event)?;
+                Ok(Turn::Did)
+            }
+            None => match self.grant_for(alloc, name)? {
+                Some(grant) => Ok(Turn::Work(grant)),
+                None => Ok(Turn::Nothing),
+            },
+        }
+    }
+}

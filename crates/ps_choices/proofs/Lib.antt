@@ -1,0 +1,5 @@
+pub mod First
+pub mod Fitting
+pub mod Hearing
+pub mod Heads
+pub mod Older

@@ -1,0 +1,13 @@
+//! What a performer does in its turn.
+#![tactic(auto)]
+
+mod answers;
+mod heard;
+mod laws;
+mod turns;
+mod work;
+
+pub use heard::heard_upto;
+pub use laws::hearing_stays;
+pub use turns::performed;
+pub use work::work_of;

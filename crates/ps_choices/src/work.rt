@@ -1,0 +1,107 @@
+//! The work of a performer on requests.
+ghost use Rattle.std.specs.Prelude.{◌≡◌, ◌++◌, IfSome, IsTrue, map, option_map};
+ghost use Rattle.ps_rules.specs.Choices.{all_requests, beginnings, stops, work_of};
+ghost use Rattle.ps_rules.specs.Legal.{fits};
+ghost use Rattle.ps_rows.specs.Present.{Says};
+ghost use Rattle.ps_choices.specs.Turns.{Chooses, ChoosesFor, first_legal, is_choice_of, work_event};
+
+use ps_machine::{Event, Input, Unit};
+use ps_rows::Present;
+use ps_world::Name;
+
+/// What a performer may do about the work on a request.
+#[derive(Clone, Copy)]
+pub enum AboutWork {
+    /// Stop it.
+    Stop,
+    /// Begin it.
+    Begin,
+}
+
+/// Whether this may be done about the work on a request.
+fn may_do(present: &Present, about: AboutWork, name: Name, r: u64) -> bool
+    ensures { Says present.now result (λ i es. fits i es (work_event about name r)) }
+{
+    match about {
+        AboutWork::Stop => present.may_stop(r, name),
+        AboutWork::Begin => present.may_begin(r, name),
+    }
+}
+
+/// The event by which it is done.
+fn work_event(about: AboutWork, name: Name, r: u64) -> Event
+    ensures event { result ≡ work_event about name r }
+    ensures its { IsTrue (is_choice_of name result) }
+{
+    match about {
+        AboutWork::Stop => Event::Stopped { r, by: name },
+        AboutWork::Begin => Event::Begin { r, by: name },
+    }
+}
+
+/// The first stop, or the first beginning, that may come. Only requests of the present plan are looked at: there is no work on others.
+fn first_on_requests(present: &Present, about: AboutWork, name: Name) -> Option<Event>
+    ensures first { Chooses present.now result
+        (λ i es. first_legal i es (map (work_event about name) (all_requests es))) }
+    ensures its { IfSome result (λ e. IsTrue (is_choice_of name e)) }
+{
+    let count = present.ledger.requests.count();
+    for r in present.ledger.requests.of_plan as u64..count {
+        if may_do(present, about, name, r) {
+            return Some(work_event(about, name, r));
+        }
+    }
+    None
+}
+
+/// What an engaged performer stops or begins, if it may.
+fn stop_or_begin_engaged(present: &Present, name: Name) -> Option<Event>
+    ensures first { Chooses present.now result
+        (λ i es. first_legal i es (stops name es ++ beginnings name es)) }
+    ensures its { IfSome result (λ e. IsTrue (is_choice_of name e)) }
+{
+    match first_on_requests(present, AboutWork::Stop, name) {
+        Some(event) => Some(event),
+        None => first_on_requests(present, AboutWork::Begin, name),
+    }
+}
+
+/// What a performer stops or begins, if it may. One that is not engaged has no work to stop or begin.
+pub fn stop_or_begin(present: &Present, name: Name) -> Option<Event>
+    ensures first { Chooses present.now result
+        (λ i es. first_legal i es (stops name es ++ beginnings name es)) }
+    ensures its { IfSome result (λ e. IsTrue (is_choice_of name e)) }
+{
+    if present.ledger.performers.is_engaged(name) {
+        stop_or_begin_engaged(present, name)
+    } else {
+        None
+    }
+}
+
+/// The request that an engaged performer works on, and its next unit there. Only requests of the present plan are looked at.
+fn work_engaged<'a>(present: &Present, input: &'a Input, name: Name) -> Option<(u64, &'a Unit)>
+    ensures { ChoosesFor input.now present.now (option_map (λ w. (w.0, w.1.now)) result)
+        (λ es. work_of input.now name es) }
+{
+    let count = present.ledger.requests.count();
+    for r in present.ledger.requests.of_plan as u64..count {
+        match present.next_unit(input, r, name) {
+            Some(unit) => return Some((r, unit)),
+            None => {}
+        }
+    }
+    None
+}
+
+/// The request that a performer works on, and its next unit there. One that is not engaged works on none.
+pub fn work_of<'a>(present: &Present, input: &'a Input, name: Name) -> Option<(u64, &'a Unit)>
+    ensures { ChoosesFor input.now present.now (option_map (λ w. (w.0, w.1.now)) result)
+        (λ es. work_of input.now name es) }
+{
+    if present.ledger.performers.is_engaged(name) {
+        work_engaged(present, input, name)
+    } else {
+        None
+    }
+}
