@@ -182,6 +182,13 @@ impl Board {
         &self.core.input
     }
 
+    /// Whether a run is open.
+    pub fn is_running(&self) -> bool
+        ensures { result ≡ is_running self.now.entries }
+    {
+        self.core.present.ledger.run.is_running()
+    }
+
     /// Marks the open run as halted: from then on neither the ticker nor a member's turn does anything until the run has ended; a unit
     /// of work that is out may still be handed in. Changes nothing where no run is open.
     pub fn halt(&mut self)

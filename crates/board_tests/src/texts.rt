@@ -1,0 +1,110 @@
+//! The texts of inputs: robots that move through rooms.
+
+/// The words that name what an input is read from, its script, and its members by their names. Its domain is `ROOMS`.
+#[derive(Clone, Copy)]
+pub struct Texts {
+    pub words: &'static str,
+    pub script: &'static str,
+    pub members: &'static [(&'static str, &'static str)],
+}
+
+pub const ROOMS: &str = "(define (domain rooms) (:types robot room)
+(:predicates (robot_at ?r - robot ?ro - room) (connected ?a ?b - room) (battery_full ?r - robot))
+(:durative-action move :parameters (?r - robot ?a ?b - room) :duration (= ?duration 5)
+ :condition (and (at start (and (connected ?a ?b) (robot_at ?r ?a))) (over all (battery_full ?r)))
+ :effect (and (at start (not (robot_at ?r ?a))) (at end (robot_at ?r ?b)))))";
+
+const BOTH: &str = "set instance leia robot
+set instance r2 robot
+set instance entrance room
+set instance kitchen room
+set predicate (connected entrance kitchen)
+set predicate (robot_at leia entrance)
+set predicate (robot_at r2 entrance)
+set predicate (battery_full leia)
+set predicate (battery_full r2)
+set goal (and (robot_at leia kitchen) (robot_at r2 kitchen))
+run
+quit
+get plan";
+
+const WORKER: (&str, &str) = (
+    "worker",
+    "performer worker\naction move\nargs _ _ _\njob\nwork\nwork\nfinish ok\nend",
+);
+
+/// Two robots and one mover.
+pub const KITCHEN: Texts = Texts {
+    words: "replay --domain d --script s --journal j worker",
+    script: BOTH,
+    members: &[WORKER],
+};
+
+const HELPER: &str = "performer helper\naction move\nargs _ _ kitchen\njob
+feedback 50 halfway\nset predicate (connected kitchen entrance)\nfinish ok\nend";
+
+const DRAIN: &str = "observer drain\nset predicate (battery_full r3)
+when (not (robot_at r2 entrance))\nset predicate (battery_full r2)\nremove predicate (battery_full leia)\nend";
+
+/// Two robots, two movers, and an observer that empties a battery on the way.
+pub const DRAINED: Texts = Texts {
+    words: "replay --domain d --script s --journal j --replans 0 drain helper worker",
+    script: BOTH,
+    members: &[("drain", DRAIN), ("helper", HELPER), WORKER],
+};
+
+const THRICE: &str = "set instance leia robot
+set instance entrance room
+set instance kitchen room
+set predicate (connected entrance kitchen)
+set predicate (connected kitchen entrance)
+set predicate (robot_at leia entrance)
+set predicate (battery_full leia)
+run action (move leia entrance kitchen)
+set predicate (robot_at leia entrance)
+run action (move leia entrance kitchen)
+set goal (and (robot_at leia entrance))
+run
+get tree";
+
+const CLUMSY: &str =
+    "performer clumsy\naction move\nargs _ _ _\njob\nwork\nfinish fail\njob\nfinish ok\nend";
+
+/// Three runs of a mover whose first job fails.
+pub const FAILING: Texts = Texts {
+    words: "replay --domain d --script s --journal j clumsy",
+    script: THRICE,
+    members: &[("clumsy", CLUMSY)],
+};
+
+const CARTS: &str = "set instance c1 robot
+set instance c2 robot
+set instance c3 robot
+set instance store room
+set instance aisle room
+set instance dock room
+set predicate (connected store aisle)
+set predicate (connected aisle dock)
+set predicate (robot_at c1 store)
+set predicate (robot_at c2 store)
+set predicate (robot_at c3 aisle)
+set predicate (battery_full c1)
+set predicate (battery_full c2)
+set predicate (battery_full c3)
+set goal (and (robot_at c1 dock) (robot_at c2 dock) (robot_at c3 dock))
+run
+remove predicate (robot_at c1 store)";
+
+const CARRIER: &str = "performer carrier\naction move\nargs _ _ _\njob\nwork\nfinish ok\nend";
+
+const KEEPER: &str = "performer keeper\naction move\nargs _ store _\njob\nwork\nfinish ok\nend";
+
+const PORTER: &str =
+    "observer porter\nwhen (robot_at c1 dock)\nremove predicate (battery_full c2)\nend";
+
+/// Three carts, two that move them, and an observer that may stop the last of them.
+pub const WAREHOUSE: Texts = Texts {
+    words: "replay --domain d --script s --journal j porter carrier keeper",
+    script: CARTS,
+    members: &[("porter", PORTER), ("carrier", CARRIER), ("keeper", KEEPER)],
+};
