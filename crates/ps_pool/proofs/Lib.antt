@@ -1,0 +1,12 @@
+pub mod Ending
+pub mod Forcing
+pub mod GoingWell
+pub mod OwnTurns
+pub mod Ran
+pub mod Recorded
+pub mod Rounds
+pub mod Taking
+pub mod TickerTurns
+pub mod Turns
+pub mod Verdicts
+pub mod Ways

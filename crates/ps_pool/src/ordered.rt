@@ -1,0 +1,221 @@
+//! Runs whose members take turns in order.
+ghost use Rattle.std.specs.Prelude.{◌≡◌, ◌+◌, ◌<◌, true, false, length, slice_get, Some, IfErr, IfOk, OnErr, OnOk};
+ghost use Rattle.ps_rules.specs.Members.{observers, performers};
+ghost use Rattle.ps_rules.specs.Runs.{has_run, is_running};
+ghost use Rattle.ps_rules.specs.Sound.{IsSound};
+ghost use Rattle.ps_board.specs.Board.{grants_without, IsOut, recording, with_done};
+ghost use Rattle.ps_pool.specs.Courses.{GrowsInRun};
+ghost use Rattle.ps_pool.specs.Ordered.{EndsAs, IsAtRest, ReachesBy};
+ghost use Rattle.ps_pool.specs.Rounds.{after_observer, after_performer, after_ticker, LeadsTo, passed_before, StopsFrom};
+
+use crate::gate::Gate;
+use ps_board::{Board, Grant, Ticked, Turn};
+use ps_machine::Member;
+use ps_plan::Solver;
+use std::alloc::AllocError;
+use std::sync::Wait;
+
+/// A run that stopped since memory ran out. The entries of its board go on from those handed in.
+#[derive(Drop)]
+pub struct RunStop {
+    pub board: Board,
+}
+
+/// Hands in a grant that is out, once its unit is done. On an error nothing changes, and the grant is still out.
+fn hand_in(board: &mut Board, grant: Grant) -> Result<(), AllocError>
+    requires out { IsOut board.old grant }
+    ensures entries { OnOk result
+        (board.new.entries ≡ with_done board.old 1 (recording board.old grant)) }
+    ensures grants { OnOk result (board.new.grants ≡ grants_without board.old grant) }
+    ensures input { board.new.input ≡ board.old.input }
+    ensures halted { board.new.halted ≡ board.old.halted }
+    ensures err { OnErr result (board.new ≡ board.old) }
+{
+    match board.after_unit(1, grant) {
+        Ok(()) => Ok(()),
+        Err(_) => Err(AllocError),
+    }
+}
+
+/// Does the turn of a performer, by its number in the order of the members, and its unit of work with it. On an error no entry is
+/// appended, and a grant may be out.
+fn take_performer<R: Wait, G: Gate>(
+    rt: &R,
+    board: &mut Board,
+    gate: &G,
+    p: u32,
+) -> Result<(), AllocError>
+    requires rest { IsAtRest board.old }
+    requires there { p < length (performers board.old.input) }
+    ensures rest { OnOk result (IsAtRest board.new) }
+    ensures ok { OnOk result
+        (board.new.entries ≡ after_performer board.old.input p board.old.entries) }
+    ensures err { OnErr result (board.new.entries ≡ board.old.entries) }
+    ensures input { board.new.input ≡ board.old.input }
+{
+    match board.performer_turn(1, p)? {
+        Turn::Work(grant) => {
+            gate.unit(rt, &grant);
+            hand_in(board, grant)
+        }
+        Turn::Did | Turn::Nothing => Ok(()),
+    }
+}
+
+/// Does the turn of an observer, by its number in the order of the members. On an error nothing changes.
+fn take_observer(board: &mut Board, o: u32) -> Result<(), AllocError>
+    requires rest { IsAtRest board.old }
+    requires there { o < length (observers board.old.input) }
+    ensures rest { IsAtRest board.new }
+    ensures ok { OnOk result
+        (board.new.entries ≡ after_observer board.old.input o board.old.entries) }
+    ensures err { OnErr result (board.new.entries ≡ board.old.entries) }
+    ensures input { board.new.input ≡ board.old.input }
+{
+    board.observer_turn(1, o)?;
+    Ok(())
+}
+
+/// The member at this place.
+fn member_at(board: &Board, k: usize) -> &Member
+    requires { k < length board.now.input.members }
+    ensures member { slice_get board.now.input.members k ≡ Some result.now }
+    ensures sound { IsSound board.now.input }
+{
+    &board.input().members.as_slice()[k]
+}
+
+/// How many performers and observers have had their turn.
+#[derive(Clone, Copy)]
+struct Passed {
+    performers: u32,
+    observers: u32,
+}
+
+/// Does the turn of the member at this place, before which so many have had theirs, and answers how many have then. On an error no
+/// entry is appended.
+fn take_member<R: Wait, G: Gate>(
+    rt: &R,
+    board: &mut Board,
+    gate: &G,
+    k: usize,
+    passed: Passed,
+) -> Result<Passed, AllocError>
+    requires rest { IsAtRest board.old }
+    requires there { k < length board.old.input.members }
+    requires passed { passed ≡ passed_before board.old.input k }
+    ensures rest { OnOk result (IsAtRest board.new) }
+    ensures passed { IfOk result (λ now. now ≡ passed_before board.old.input (k + 1)) }
+    ensures ok { OnOk result
+        (LeadsTo board.old.input k board.old.entries (k + 1) board.new.entries) }
+    ensures err { OnErr result (board.new.entries ≡ board.old.entries) }
+    ensures ran { has_run board.old.entries ≡ true → has_run board.new.entries ≡ true }
+    ensures input { board.new.input ≡ board.old.input }
+{
+    match member_at(board, k) {
+        Member::Performer(_) => {
+            take_performer(rt, board, gate, passed.performers)?;
+            Ok(Passed {
+                performers: passed.performers + 1,
+                observers: passed.observers,
+            })
+        }
+        Member::Observer(_) => {
+            take_observer(board, passed.observers)?;
+            Ok(Passed {
+                performers: passed.performers,
+                observers: passed.observers + 1,
+            })
+        }
+    }
+}
+
+/// Does the turn of each member, in their order.
+fn take_members<R: Wait, G: Gate>(rt: &R, board: &mut Board, gate: &G) -> Result<(), AllocError>
+    requires rest { IsAtRest board.old }
+    ensures rest { OnOk result (IsAtRest board.new) }
+    ensures ok { OnOk result (LeadsTo board.old.input 0 board.old.entries
+        (length board.old.input.members) board.new.entries) }
+    ensures err { OnErr result
+        (StopsFrom board.old.input 0 board.old.entries board.new.entries) }
+    ensures ran { has_run board.old.entries ≡ true → has_run board.new.entries ≡ true }
+    ensures input { board.new.input ≡ board.old.input }
+{
+    let mut passed = Passed {
+        performers: 0,
+        observers: 0,
+    };
+    for k in 0..board.input().members.len() {
+        passed = take_member(rt, board, gate, k, passed)?;
+    }
+    Ok(())
+}
+
+/// Does the turn of the ticker. Answers whether the run is over. On an error nothing changes.
+fn take_tick(board: &mut Board) -> Result<bool, AllocError>
+    requires rest { IsAtRest board.old }
+    requires ran { has_run board.old.entries ≡ true }
+    requires replans { board.old.input.replans ≡ 0 }
+    ensures rest { IsAtRest board.new }
+    ensures over { IfOk result (λ over. over ≡ true → is_running board.new.entries ≡ false) }
+    ensures ok { OnOk result
+        (board.new.entries ≡ after_ticker board.old.input board.old.entries) }
+    ensures err { OnErr result (board.new.entries ≡ board.old.entries) }
+    ensures input { board.new.input ≡ board.old.input }
+{
+    match board.tick(1)? {
+        Ticked::Over(_) => Ok(true),
+        Ticked::Did | Ticked::Nothing => Ok(false),
+        Ticked::Halted | Ticked::WantsPlan => unreachable!(),
+    }
+}
+
+/// Does the turn of each member and then that of the ticker. Answers whether the run is over.
+fn take_round<R: Wait, G: Gate>(rt: &R, board: &mut Board, gate: &G) -> Result<bool, AllocError>
+    requires rest { IsAtRest board.old }
+    requires ran { has_run board.old.entries ≡ true }
+    requires replans { board.old.input.replans ≡ 0 }
+    ensures rest { OnOk result (IsAtRest board.new) }
+    ensures over { IfOk result (λ over. over ≡ true → is_running board.new.entries ≡ false) }
+    ensures ok { OnOk result
+        (LeadsTo board.old.input 0 board.old.entries 0 board.new.entries) }
+    ensures err { OnErr result
+        (StopsFrom board.old.input 0 board.old.entries board.new.entries) }
+    ensures ran { OnOk result (has_run board.new.entries ≡ true) }
+    ensures input { board.new.input ≡ board.old.input }
+{
+    take_members(rt, board, gate)?;
+    take_tick(board)
+}
+
+/// Goes on with the open run until it is over: each member takes its turn, in their order, and then the ticker, again and again, all
+/// with hand 1. A unit of work is done in its performer's turn, and the gate is called once for it. It promises no return. On an error
+/// the run is as far as it came, and the grant of a unit that couldn't be handed in may be out.
+pub fn run_ordered<R: Wait, S: Solver, G: Gate>(
+    rt: &R,
+    mut board: Board,
+    solver: &S,
+    gate: &G,
+) -> Result<Board, RunStop>
+    requires opened { is_running board.entries ≡ true }
+    requires rest { IsAtRest board }
+    requires replans { board.input.replans ≡ 0 }
+    ensures ends { IfOk result
+        (λ b. EndsAs (S.says solver.now) board.input board.entries b.entries) }
+    ensures in_run { IfOk result (λ b. GrowsInRun board.entries b.entries) }
+    ensures rest { IfOk result IsAtRest }
+    ensures input { IfOk result (λ b. b.input ≡ board.input) }
+    ensures stops { IfErr result (λ stop. ReachesBy (S.says solver.now) board.input
+        board.entries stop.board.entries) }
+    ensures stops_in_run { IfErr result (λ stop. GrowsInRun board.entries stop.board.entries) }
+    ensures stops_input { IfErr result (λ stop. stop.board.input ≡ board.input) }
+{
+    for _ in rt.forever() {
+        match take_round(rt, &mut board, gate) {
+            Ok(true) => return Ok(board),
+            Ok(false) => {}
+            Err(AllocError) => return Err(RunStop { board }),
+        }
+    }
+    unreachable!()
+}
