@@ -5,8 +5,10 @@ use super::case::Case;
 use super::lines::Stream;
 use super::starving::Starving;
 use ps_calls::plansys;
+use ps_pool::NoGate;
 use ps_text::{MemFiles, MemSink};
 use std::alloc::{AllocError, Global};
+use std::sync::Wait;
 use std::{fmt, str};
 
 /// What differs first.
@@ -141,7 +143,8 @@ fn judge(
 }
 
 /// Makes the call of a case over files and sinks of which no call is chosen to fail yet.
-fn call(
+fn call<R: Wait>(
+    rt: &R,
     alloc: Global,
     case: &Case,
     files: &mut Starving<MemFiles>,
@@ -149,14 +152,18 @@ fn call(
     err: &mut MemSink,
 ) -> Result<Option<Difference>, AllocError> {
     choose(case, files, out, err)?;
-    let status = plansys(alloc, case.words.as_slice(), files, out, err);
+    let status = plansys(rt, alloc, case.words.as_slice(), files, out, err, &NoGate);
     judge(alloc, case, status, out.bytes(), err.bytes())
 }
 
 /// Makes the call of a case, and answers what differs first from what it expects.
-pub fn first_difference(alloc: Global, case: &Case) -> Result<Option<Difference>, AllocError> {
+pub fn first_difference<R: Wait>(
+    rt: &R,
+    alloc: Global,
+    case: &Case,
+) -> Result<Option<Difference>, AllocError> {
     let mut files = Starving::new(alloc, files_of(alloc, case)?);
     let mut out = MemSink::new(alloc, most_of(case));
     let mut err = MemSink::new(alloc, most_of(case));
-    call(alloc, case, &mut files, &mut out, &mut err)
+    call(rt, alloc, case, &mut files, &mut out, &mut err)
 }

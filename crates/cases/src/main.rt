@@ -43,6 +43,7 @@ mod starving;
 use case::{Bad, read_case, says_nothing};
 use judge::{Difference, first_difference};
 use std::alloc::Global;
+use std::sync::Wait;
 use std::{fs, io};
 
 /// The names of the case files in the current folder, in rising order.
@@ -59,9 +60,9 @@ fn case_files(rt: &HostRuntime) -> io::Result<Vec<String>> {
 }
 
 /// What differs from what a case expects, if something does.
-fn try_case(alloc: Global, block: &str) -> Result<Option<Difference>, Bad> {
+fn try_case<W: Wait>(wait: &W, alloc: Global, block: &str) -> Result<Option<Difference>, Bad> {
     let case = read_case(alloc, block)?;
-    Ok(first_difference(alloc, &case)?)
+    Ok(first_difference(wait, alloc, &case)?)
 }
 
 /// The name of the case that a block describes: its first line.
@@ -73,9 +74,9 @@ fn name_of(block: &str) -> &str {
 }
 
 /// Tries a case, says what differs, and answers whether all went as expected.
-fn passes(rt: &HostRuntime, block: &str) -> io::Result<bool> {
+fn passes<W: Wait>(rt: &HostRuntime, wait: &W, block: &str) -> io::Result<bool> {
     let name = name_of(block);
-    match try_case(rt.alloc(), block) {
+    match try_case(wait, rt.alloc(), block) {
         Ok(None) => return Ok(true),
         Ok(Some(found)) => println!(rt; "  {name}: {found}")?,
         Err(bad) => println!(rt; "  {name}: {bad}")?,
@@ -101,13 +102,13 @@ impl Counts {
 }
 
 /// Tries the cases of a text, of which each begins after `\n== `.
-fn try_cases(rt: &HostRuntime, text: &str) -> io::Result<Counts> {
+fn try_cases<W: Wait>(rt: &HostRuntime, wait: &W, text: &str) -> io::Result<Counts> {
     let mut counts = Counts {
         passed: 0,
         failed: 0,
     };
     for block in text.split("\n== ").skip(1) {
-        counts.count(passes(rt, block)?);
+        counts.count(passes(rt, wait, block)?);
     }
     Ok(counts)
 }
@@ -125,8 +126,8 @@ fn fault_of(text: &str, counts: Counts) -> Option<&'static str> {
 }
 
 /// Writes what is wrong with a file, and the line for it.
-fn report(rt: &HostRuntime, name: &str, text: &str) -> io::Result<()> {
-    let mut counts = try_cases(rt, text)?;
+fn report<W: Wait>(rt: &HostRuntime, wait: &W, name: &str, text: &str) -> io::Result<()> {
+    let mut counts = try_cases(rt, wait, text)?;
     if let Some(fault) = fault_of(text, counts) {
         println!(rt; "  {fault}")?;
         counts.count(false);
@@ -136,15 +137,15 @@ fn report(rt: &HostRuntime, name: &str, text: &str) -> io::Result<()> {
 }
 
 /// Tries the cases of a file, and writes a line for it after a line for each case that failed.
-fn try_file(rt: &HostRuntime, name: &str) -> io::Result<()> {
+fn try_file<W: Wait>(rt: &HostRuntime, wait: &W, name: &str) -> io::Result<()> {
     // So a case at the very start begins like the others.
     let text = format!(in rt.alloc(); "\n{}", fs::read_to_string(rt, name)?)?;
-    report(rt, name, text.as_str())
+    report(rt, wait, name, text.as_str())
 }
 
 fn main(rt: HostRuntime) -> io::Result<()> {
     for name in case_files(&rt)? {
-        try_file(&rt, name.as_str())?;
+        try_file(&rt, &rt, name.as_str())?;
     }
     Ok(())
 }

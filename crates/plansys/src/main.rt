@@ -4,6 +4,7 @@
 mod real;
 
 use ps_calls::plansys;
+use ps_pool::NoGate;
 use ps_words::{USAGE, VERSION};
 use real::{RealFiles, RealSink};
 use std::io::ErrorKind;
@@ -37,7 +38,7 @@ fn main(rt: HostRuntime) -> io::Result<ExitCode> {
     let alloc = rt.alloc();
     let mut out = RealSink::new(rt.stdout());
     let mut err = RealSink::new(rt.stderr());
-    let mut files = RealFiles::new(rt);
-    let status = plansys(alloc, &words, &mut files, &mut out, &mut err);
+    let mut files = RealFiles::new(&rt);
+    let status = plansys(&rt, alloc, &words, &mut files, &mut out, &mut err, &NoGate);
     Ok(ExitCode::from(status))
 }

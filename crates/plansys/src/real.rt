@@ -14,14 +14,14 @@ const MOST_READ: u64 = 1_048_577;
 
 /// The files of the system.
 #[derive(Drop)]
-pub struct RealFiles<R> {
-    rt: R,
+pub struct RealFiles<'a, R> {
+    rt: &'a R,
     reads: u64,
     failed: u64,
 }
 
-impl<R> RealFiles<R> {
-    pub fn new(rt: R) -> Self {
+impl<'a, R> RealFiles<'a, R> {
+    pub fn new(rt: &'a R) -> Self {
         RealFiles {
             rt,
             reads: 0,
@@ -38,12 +38,12 @@ fn read_file<R: rt::Files>(rt: &R, alloc: Global, name: &str) -> io::Result<Vec<
     Ok(bytes)
 }
 
-impl<R: rt::Files> Files for RealFiles<R> {
+impl<'a, R: rt::Files> Files for RealFiles<'a, R> {
     ghost shown = { λ f. record { told = λ _. untold; reads = f.reads; failed = f.failed } };
 
     fn read(&mut self, alloc: Global, name: &str) -> Result<Vec<u8>, FileRefusal> {
         self.reads = risen(self.reads);
-        match read_file(&self.rt, alloc, name) {
+        match read_file(self.rt, alloc, name) {
             Ok(bytes) => Ok(bytes),
             Err(error) if error.kind() == ErrorKind::OutOfMemory => Err(FileRefusal::OutOfMemory),
             Err(_) => {

@@ -2,7 +2,7 @@
 ghost use Rattle.std.specs.Prelude.{◌≡◌, ◌<◌, ◌^◌, length, IfOk};
 ghost use Rattle.ps_rules.specs.Sound.{IsSound};
 ghost use Rattle.ps_text.specs.Names.{Keeps};
-ghost use Rattle.ps_session.specs.Answers.{GivesLeast};
+ghost use Rattle.ps_replies.specs.Plans.{GivesLeast};
 ghost use Rattle.ps_audit.specs.Findings.{compared, entries_of, Finds, FindsOf, line_of, line_of_fault, lines_in};
 
 use super::differences::line_of_difference;

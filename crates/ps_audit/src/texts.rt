@@ -5,7 +5,7 @@ ghost use Rattle.ps_rules.specs.Sound.{IsSound};
 ghost use Rattle.ps_rows.specs.Present.{Stands};
 ghost use Rattle.ps_replay.specs.Course.{Reaches};
 ghost use Rattle.ps_replay.specs.Replay.{Replays};
-ghost use Rattle.ps_session.specs.Answers.{GivesLeast};
+ghost use Rattle.ps_replies.specs.Plans.{GivesLeast};
 ghost use Rattle.ps_audit.specs.Texts.{AddsIfLegal};
 
 use super::replies::told;

@@ -1,5 +1,5 @@
 -- What the calls of a board do and answer.
-use Rattle.std.specs.Prelude.{◌≡◌, ℕ, Bool, true, false, ◌&&◌, not, if◌then◌else◌, Option, Some, None, is_none, option_and_then, List, map, slice_get, slice_set}
+use Rattle.std.specs.Prelude.{◌≡◌, ℕ, Bool, true, false, ◌&&◌, not, if◌then◌else◌, Option, Some, None, is_none, option_and_then, List, [], map, slice_get, slice_set}
 use Rattle.std.specs.Option.{option_map_or}
 use Rattle.ps_machine.specs.declared.journal.Event.{Event}
 use Rattle.ps_machine.specs.declared.journal.Entry.{Entry}
@@ -12,7 +12,9 @@ use Rattle.ps_action.specs.Trees.{TreeView}
 use Rattle.ps_ends.specs.Working.{recorded, unit_due}
 use Rattle.ps_ledger.specs.Members.{place_in}
 use Rattle.ps_ledger.specs.Ends.{last_outcome}
+use Rattle.ps_machine.specs.declared.inputs.Input.{Input}
 use Rattle.ps_board.specs.Grants.{grant_for, granted, granted_after, performer_names, turn_of}
+use Rattle.ps_board.specs.Kept.{all_in}
 use Rattle.ps_board.specs.Ticks.{closed_answer, ticked_answer}
 use Rattle.ps_board.specs.declared.ticks.Ticked.{Ticked}
 use Rattle.ps_board.specs.declared.ticks.Ticked.TheVariants.{Halted}
@@ -22,6 +24,10 @@ use Rattle.ps_board.specs.declared.turns.Step.TheVariants.{Said, Opened, End}
 use Rattle.ps_board.specs.declared.works.Grant.{Grant}
 use Rattle.ps_board.specs.declared.works.Turn.{Turn}
 use Rattle.ps_board.specs.declared.works.Turn.TheVariants.{Did, Nothing}
+
+-- a board of this input on which nothing was done yet
+abbrev pub nothing_done : Input → Shown
+nothing_done i = record { input = i; entries = []; grants = all_in i; halted = false }
 
 -- what the observer with this number does in its turn, in the order of the members: nothing where no run is open or the board is halted
 abbrev pub observing : Shown → ℕ → Option Event

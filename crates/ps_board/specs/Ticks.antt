@@ -80,18 +80,23 @@ IsEarliest firsts (Some o) = ((r : ℕ) → r < o.r → firsts r ≡ None) × (f
 
 -- ---- what the ticker may do, from some kind on
 
+-- it starts an act, or ends the run
 abbrev pub starts_on : Core → List Event
 starts_on c = starts c.entries.items ++ overs c.input c.entries.items
 
+-- it asks for a performer, or does what comes after that
 abbrev pub asks_on : Core → List Event
 asks_on c = puts_up c.entries.items ++ starts_on c
 
+-- it ends an act or fails it, or does what comes after that
 abbrev pub ends_on : Core → List Event
 ends_on c = ends c.entries.items ++ asks_on c
 
+-- it gives up on a request, or does what comes after that
 abbrev pub leaves_on : Core → List Event
 leaves_on c = leaves c.entries.items ++ ends_on c
 
+-- it confirms an offer, or does what comes after that
 abbrev pub confirms_on : Core → List Event
 confirms_on c = confirms c.entries.items ++ leaves_on c
 

@@ -5,9 +5,8 @@ ghost use Rattle.std.specs.Option.{option_copied};
 ghost use Rattle.ps_board.specs.declared.ticks.Ticked.TheVariants.{Nothing as Idle};
 ghost use Rattle.ps_board.specs.declared.works.Grant.{Grant as GrantView};
 ghost use Rattle.ps_board.specs.declared.works.Turn.TheVariants.{Did, Nothing, Work as Handed};
-ghost use Rattle.ps_board.specs.Board.{answer_of, commanded, GoesOn, grants_after, grants_without, is_end, is_free, IsOut, observing, performing, performing_answer, recording, shown_tree, step_of, tick_answer, ticking, with_done};
+ghost use Rattle.ps_board.specs.Board.{answer_of, commanded, GoesOn, grants_after, grants_without, is_end, is_free, IsOut, nothing_done, observing, performing, performing_answer, recording, shown_tree, step_of, tick_answer, ticking, with_done};
 ghost use Rattle.ps_board.specs.Grants.{AreOut, granted, granted_after, performer_names};
-ghost use Rattle.ps_board.specs.Kept.{all_in};
 ghost use Rattle.ps_ends.specs.Working.{recorded};
 ghost use Rattle.ps_rules.specs.Members.{observers, performers};
 ghost use Rattle.ps_rules.specs.History.{IsHistory};
@@ -130,7 +129,7 @@ impl Board {
     /// The board of this input, whose journal is empty. The only error is that memory ran out.
     pub fn open(alloc: Global, input: Input) -> Result<Board, AllocError>
         requires { IsSound input }
-        ensures { IfOk result (λ b. b ≡ record { input = input; entries = []; grants = all_in input; halted = false }) }
+        ensures { IfOk result (λ b. b ≡ nothing_done input) }
     {
         let present = Present::new(alloc, &input)?;
         let performers = present.ledger.performers.names.len();

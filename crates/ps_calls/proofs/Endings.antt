@@ -3,8 +3,8 @@ use Rattle.std.proofs.Common.{◌≡◌, ◌≢◌, ℕ, ◌≤◌, Bool, true, 
 use Rattle.ps_world.specs.declared.failures.Failure.TheVariants as failure
 use Rattle.ps_text.specs.Outside.{FilesView, SinkView, next}
 use Rattle.ps_validate.specs.declared.verdicts.Invalid.{Invalid}
-use Rattle.ps_words.specs.Words.{Request, SessionRequest, asked_of}
-use Rattle.ps_words.specs.Words.Request.{a_session, a_check, a_validation, a_replay}
+use Rattle.ps_words.specs.Words.{Request, asked_of}
+use Rattle.ps_words.specs.Words.Request.{a_generation, a_session, a_check, a_validation, a_replay}
 use Rattle.ps_inputs.specs.Faults.{IsDue, IsLoaded, failed_after, fault_status}
 use Rattle.ps_inputs.specs.Input.{HasFault, IsAsked, IsWork, Material, is_quiet, reading_of, texts_of}
 use Rattle.ps_inputs.specs.Reading.{MayFail, MayGive, Reading}
@@ -20,9 +20,9 @@ use Rattle.ps_audit.specs.declared.findings.Finding.TheVariants.{Legal, Illegal}
 use Rattle.ps_calls.specs.Headline.{Reports, verdict_of}
 use Rattle.ps_calls.specs.Headline.Answers.{done, at_fault, cannot_write, starved_at_work, starved_before}
 use Rattle.ps_calls.specs.Headline.Reports.{told, unwritten, starved, wordless}
-use Rattle.ps_calls.specs.Laws.{FailedReadsAreTold, FailedWritesAreTold, FaultsWriteNothing, FirstWordsDecide, IsBroken, IsOfFault, IsOfWork, IsStatusOf, IsToJudge, LeadsTo, ModesDecide, RefusedWritesAreTold, StatusesAreFew, TextsDecide, UnreadIsCounted, WordsDecide, WorkIsDoneInSilence}
+use Rattle.ps_calls.specs.Laws.{FailedReadsAreTold, FailedWritesAreTold, FaultsWriteNothing, FirstWordsDecide, IsBroken, IsOfFault, IsOfWork, IsStatusOf, IsToJudge, IsToRun, LeadsTo, ModesDecide, RefusedWritesAreTold, StatusesAreFew, TextsDecide, UnreadIsCounted, WordsDecide, WorkIsDoneInSilence}
 use Rattle.ps_calls.specs.Verdicts.{verdict_status}
-use Rattle.ps_calls.proofs.Modes.{judging-quiet, session-loud}
+use Rattle.ps_calls.proofs.Modes.{judging-quiet, running-loud}
 use Rattle.ps_calls.proofs.Statuses.{no_fault-broken, no_work-broken, no_work-fault, status-of_fault, status-of_work, status-performed, status-reported}
 
 -- ---- failures
@@ -246,43 +246,23 @@ not_one : (f : Finding) → finding_status f ≡ 1 → ⊥
 not_one Legal h = omega arith
 not_one (Illegal line) h = omega arith
 
--- work with the status 1 is a session
-one-session : (o : Request) (w : Work) (status : ℕ) → IsAsked o w → IsStatusOf w status → status ≡ 1 → (s : SessionRequest) × (o ≡ a_session s)
-one-session (a_session s) (work.Session t) status kind h one = (s, refl)
-one-session (a_session s) (work.Check names d) status kind h one = absurd kind
-one-session (a_session s) (work.Validation v) status kind h one = absurd kind
-one-session (a_session s) (work.Replay r) status kind h one = absurd kind
-one-session (a_check file) (work.Session t) status kind h one = absurd kind
-one-session (a_check file) (work.Check names d) status kind h one = absurd (omega arith)
-one-session (a_check file) (work.Validation v) status kind h one = absurd kind
-one-session (a_check file) (work.Replay r) status kind h one = absurd kind
-one-session (a_validation domain script plan) (work.Session t) status kind h one = absurd kind
-one-session (a_validation domain script plan) (work.Check names d) status kind h one = absurd kind
-one-session (a_validation domain script plan) (work.Validation v) status kind h one = absurd (no_one (verdict_of v).0 (sym h ∙ one))
-one-session (a_validation domain script plan) (work.Replay r) status kind h one = absurd kind
-one-session (a_replay q) (work.Session t) status kind h one = absurd kind
-one-session (a_replay q) (work.Check names d) status kind h one = absurd kind
-one-session (a_replay q) (work.Validation v) status kind h one = absurd kind
-one-session (a_replay q) (work.Replay r) status kind h one = absurd (not_one h.0 (sym h.2 ∙ one))
+-- work with the status 1 is a session or a generation
+one-run : (o : Request) (w : Work) (status : ℕ) → IsAsked o w → IsStatusOf w status → status ≡ 1 → IsToRun o
+one-run (a_session s) (work.Session t) status kind h one = inl (s, refl)
+one-run (a_generation n) (work.Generation g) status kind h one = inr (n, refl)
+one-run (a_check file) (work.Check names d) status kind h one = absurd (omega arith)
+one-run (a_validation domain script plan) (work.Validation v) status kind h one = absurd (no_one (verdict_of v).0 (sym h ∙ one))
+one-run (a_replay q) (work.Replay r) status kind h one = absurd (not_one h.0 (sym h.2 ∙ one))
+one-run o w status kind h one = absurd kind
 
 -- work with the status 7 is a validation or a replay
 seven-judged : (o : Request) (w : Work) (status : ℕ) → IsAsked o w → IsStatusOf w status → status ≡ 7 → IsToJudge o
 seven-judged (a_session s) (work.Session t) status kind h seven = absurd (omega arith)
-seven-judged (a_session s) (work.Check names d) status kind h seven = absurd kind
-seven-judged (a_session s) (work.Validation v) status kind h seven = absurd kind
-seven-judged (a_session s) (work.Replay r) status kind h seven = absurd kind
-seven-judged (a_check file) (work.Session t) status kind h seven = absurd kind
+seven-judged (a_generation n) (work.Generation g) status kind h seven = absurd (omega arith)
 seven-judged (a_check file) (work.Check names d) status kind h seven = absurd (omega arith)
-seven-judged (a_check file) (work.Validation v) status kind h seven = absurd kind
-seven-judged (a_check file) (work.Replay r) status kind h seven = absurd kind
-seven-judged (a_validation domain script plan) (work.Session t) status kind h seven = absurd kind
-seven-judged (a_validation domain script plan) (work.Check names d) status kind h seven = absurd kind
 seven-judged (a_validation domain script plan) (work.Validation v) status kind h seven = inl (domain, script, plan, refl)
-seven-judged (a_validation domain script plan) (work.Replay r) status kind h seven = absurd kind
-seven-judged (a_replay q) (work.Session t) status kind h seven = absurd kind
-seven-judged (a_replay q) (work.Check names d) status kind h seven = absurd kind
-seven-judged (a_replay q) (work.Validation v) status kind h seven = absurd kind
 seven-judged (a_replay q) (work.Replay r) status kind h seven = inr (q, refl)
+seven-judged o w status kind h seven = absurd kind
 
 one-of_work : (status : ℕ) → status ≡ 1 → IsOfWork status
 one-of_work status h = inl (omega arith)
@@ -295,7 +275,7 @@ modes_decide c _ (done w status l p s) =
     let r = l.loaded.request in
     let asked = l.loaded.asked in
     let kind = status-performed w _ _ status p in (
-      (λ h. let is = one-session r w status l.loaded.kind kind h in (is.0, asked ∙ ap Some is.1)),
+      (λ h. (r, asked, one-run r w status l.loaded.kind kind h)),
       (λ h. (r, asked, seven-judged r w status l.loaded.kind kind h)),
     )
 modes_decide c _ (at_fault f status l o r) = (
@@ -312,7 +292,7 @@ flags-apart b h l = cc
 pub first_words_decide : FirstWordsDecide
 first_words_decide c status h =
     let modes = modes_decide c status h in (
-      (λ quiet one. let is = modes.0 one in flags-apart (is_quiet c.words) quiet (session-loud c.words is.0 is.1)),
+      (λ quiet one. let is = modes.0 one in flags-apart (is_quiet c.words) quiet (running-loud c.words is.0 is.1 is.2)),
       (λ loud seven. let is = modes.1 seven in flags-apart (is_quiet c.words) (judging-quiet c.words is.0 is.1 is.2) loud),
     )
 

@@ -1,3 +1,4 @@
+pub mod Ends
 pub mod Endings
 pub mod Modes
 pub mod Performed

@@ -2,12 +2,12 @@
 use Rattle.std.proofs.Common.{◌≡◌, ℕ, Bool, true, false, ◌||◌, Option, Some, None, IfSome, inl, inr, ap, ◌∙◌, option_map, option_and_then, List, [], ◌∷◌, codes, if◌then◌else◌, refl, sym, subst}
 use Rattle.ps_world.specs.Lines.{same_text}
 use Rattle.ps_text.proofs.Tables.{same_text-same}
-use Rattle.ps_words.specs.Words.{Request, SessionRequest, asked_by, asked_in, asked_of, budget_in, check_app, check_of, is_well_formed, journal_replans_in, mode_of, replans_in, replay_app, replay_of, replay_with, rows_read, session_app, session_of, session_with, validate_app, validation_of, workers_in}
-use Rattle.ps_words.specs.Words.Request.{a_session, a_check, a_validation, a_replay}
+use Rattle.ps_words.specs.Words.{Request, SessionRequest, asked_by, asked_in, asked_of, budget_in, carts_in, check_app, check_of, gen_app, generation_of, is_well_formed, journal_replans_in, mode_of, replans_in, replay_app, replay_of, replay_with, rows_read, session_app, session_of, session_with, validate_app, validation_of, workers_in}
+use Rattle.ps_words.specs.Words.Request.{a_generation, a_session, a_check, a_validation, a_replay}
 use Rattle.ps_words.specs.declared.commands.Mode.{Mode}
 use Rattle.ps_words.specs.declared.commands.Mode.TheVariants as mode
 use Rattle.ps_inputs.specs.Input.{argument, is_quiet}
-use Rattle.ps_calls.specs.Laws.{IsToJudge}
+use Rattle.ps_calls.specs.Laws.{IsToJudge, IsToRun}
 
 -- the first word is this one
 abbrev begins : List (List ℕ) → List ℕ → Type 0
@@ -19,6 +19,7 @@ mode_in (a_session s) = mode.Session
 mode_in (a_check domain) = mode.Check
 mode_in (a_validation domain script plan) = mode.Validate
 mode_in (a_replay q) = mode.Replay
+mode_in (a_generation n) = mode.Gen
 
 -- the word of a mode
 abbrev word_of : Mode → List ℕ
@@ -26,6 +27,7 @@ word_of mode.Session = codes "session"
 word_of mode.Check = codes "check"
 word_of mode.Validate = codes "validate"
 word_of mode.Replay = codes "replay"
+word_of mode.Gen = codes "gen"
 
 -- what is made of something in a mode is of that mode
 made-mode : {A : Type 0} (f : A → Request) (m : Mode) → ((a : A) → mode_in (f a) ≡ m) → (o : Option A) → IfSome (option_map f o) (λ asked. mode_in asked ≡ m)
@@ -49,24 +51,32 @@ in-mode mode.Replay words =
     next-mode replay_of mode.Replay
     (λ rows. next-mode (λ b. option_map (λ r. replay_with rows b r) (journal_replans_in rows)) mode.Replay
     (λ b. made-mode (λ r. replay_with rows b r) mode.Replay (λ r. refl) (journal_replans_in rows)) (budget_in rows)) (rows_read replay_app words)
+in-mode mode.Gen words = next-mode generation_of mode.Gen (λ rows. made-mode a_generation mode.Gen (λ n. refl) (carts_in rows)) (rows_read gen_app words)
 
 -- the mode is one that this word names
 abbrev IsNamed : List ℕ → Option Mode → Type 0
 IsNamed word o = IfSome o (λ m. same_text word (word_of m) ≡ true)
 
 -- the modes that are tried, from the last to the first
-abbrev replay_if : Bool → Option Mode
-replay_if b = if b then Some mode.Replay else None
+abbrev gen_if : Bool → Option Mode
+gen_if b = if b then Some mode.Gen else None
+
+abbrev replay_if : List ℕ → Bool → Option Mode
+replay_if word b = if b then Some mode.Replay else gen_if (same_text word (codes "gen"))
 
 abbrev validate_if : List ℕ → Bool → Option Mode
-validate_if word b = if b then Some mode.Validate else replay_if (same_text word (codes "replay"))
+validate_if word b = if b then Some mode.Validate else replay_if word (same_text word (codes "replay"))
 
 abbrev check_if : List ℕ → Bool → Option Mode
 check_if word b = if b then Some mode.Check else validate_if word (same_text word (codes "validate"))
 
-by-replay : (word : List ℕ) (b : Bool) → same_text word (codes "replay") ≡ b → IsNamed word (replay_if b)
+by-gen : (word : List ℕ) (b : Bool) → same_text word (codes "gen") ≡ b → IsNamed word (gen_if b)
+by-gen word true is = is
+by-gen word false is = tt
+
+by-replay : (word : List ℕ) (b : Bool) → same_text word (codes "replay") ≡ b → IsNamed word (replay_if word b)
 by-replay word true is = is
-by-replay word false is = tt
+by-replay word false is = by-gen word (same_text word (codes "gen")) refl
 
 by-validate : (word : List ℕ) (b : Bool) → same_text word (codes "validate") ≡ b → IsNamed word (validate_if word b)
 by-validate word true is = is
@@ -111,6 +121,9 @@ quiet word = same_text word (codes "check") || (same_text word (codes "validate"
 loud-word : (word : List ℕ) → word ≡ codes "session" → quiet word ≡ false
 loud-word word e = subst (λ (w : List ℕ). quiet w ≡ false) (sym e) refl
 
+loud-gen : (word : List ℕ) → word ≡ codes "gen" → quiet word ≡ false
+loud-gen word e = subst (λ (w : List ℕ). quiet w ≡ false) (sym e) refl
+
 quiet-validate : (word : List ℕ) → word ≡ codes "validate" → quiet word ≡ true
 quiet-validate word e = subst (λ (w : List ℕ). quiet w ≡ true) (sym e) refl
 
@@ -120,6 +133,15 @@ quiet-replay word e = subst (λ (w : List ℕ). quiet w ≡ true) (sym e) refl
 -- a session isn't asked for by the words of a mode that always returns
 pub session-loud : (ws : List (List ℕ)) (s : SessionRequest) → asked_of ws ≡ Some (a_session s) → is_quiet ws ≡ false
 session-loud ws s e = loud-word (argument ws 0) (same_text-same (argument ws 0) (codes "session") (begins-asked ws (a_session s) e))
+
+-- and neither is a generation
+pub generation-loud : (ws : List (List ℕ)) (n : ℕ) → asked_of ws ≡ Some (a_generation n) → is_quiet ws ≡ false
+generation-loud ws n e = loud-gen (argument ws 0) (same_text-same (argument ws 0) (codes "gen") (begins-asked ws (a_generation n) e))
+
+-- so doing a session isn't
+pub running-loud : (ws : List (List ℕ)) (r : Request) → asked_of ws ≡ Some r → IsToRun r → is_quiet ws ≡ false
+running-loud ws r e (inl h) = session-loud ws h.0 (e ∙ ap Some h.1)
+running-loud ws r e (inr h) = generation-loud ws h.0 (e ∙ ap Some h.1)
 
 -- judging a plan or a journal is
 pub judging-quiet : (ws : List (List ℕ)) (r : Request) → asked_of ws ≡ Some r → IsToJudge r → is_quiet ws ≡ true

@@ -4,21 +4,23 @@ use Rattle.std.proofs.KnownBytes.{Appends-nil}
 use Rattle.ps_world.specs.Names.{Table}
 use Rattle.ps_world.specs.DomainTexts.{domain_text}
 use Rattle.ps_world.specs.declared.domains.Domain.{Domain}
-use Rattle.ps_machine.specs.declared.inputs.Line.{Line}
 use Rattle.ps_machine.specs.declared.inputs.Input.{Input}
+use Rattle.ps_machine.specs.declared.journal.Entry.{Entry}
+use Rattle.ps_rules.specs.History.{status_of}
 use Rattle.ps_text.specs.Outside.{Counts, CountsWork, Puts, SinkView}
 use Rattle.ps_text.specs.declared.sinks.SinkRefusal.{SinkRefusal}
 use Rattle.ps_text.specs.declared.sinks.SinkRefusal.TheVariants.{Failed, OutOfMemory}
 use Rattle.ps_validate.specs.declared.verdicts.Invalid.{Invalid}
+use Rattle.ps_inputs.specs.declared.works.Generation.{Generation}
 use Rattle.ps_inputs.specs.declared.works.Replay.{Replay}
 use Rattle.ps_inputs.specs.declared.works.Session.{Session}
 use Rattle.ps_inputs.specs.declared.works.Validation.{Validation}
 use Rattle.ps_inputs.specs.declared.works.Work.TheVariants as work
-use Rattle.ps_session.specs.Session.{Runs, RunsAll, built, input_with}
-use Rattle.ps_session.proofs.Sessions.{nothing_written}
+use Rattle.ps_gen.specs.Summary.{summary_text}
+use Rattle.ps_session.specs.Session.{IsJournal, Runs}
 use Rattle.ps_audit.specs.Findings.{finding_line, finding_status}
 use Rattle.ps_audit.specs.declared.findings.Finding.{Finding}
-use Rattle.ps_calls.specs.Headline.{IsFound, Performs, WritesWithStatus, answer_line, verdict_of}
+use Rattle.ps_calls.specs.Headline.{CountsSession, IsFound, Performs, WritesWithStatus, answer_line, verdict_of}
 use Rattle.ps_calls.specs.Verdicts.{verdict_line, verdict_status}
 
 -- ---- one text
@@ -66,16 +68,22 @@ found r f old new (Err e) is w = record { done = tt; cut = inr (f, is, w.cut); c
 pub unfound : (r : Replay) (start : SinkView) → Performs (work.Replay r) start start (Err OutOfMemory)
 unfound r start = record { done = tt; cut = inl (0, Appends-nil start.bytes); counted = refl }
 
--- an input of these parts
-same_input : (i : Input) (d : Domain) (lines : List Line) → d ≡ i.domain → lines ≡ i.lines → input_with d i.members lines i.budget i.replans ≡ built i
-same_input i d lines p q = λ j. input_with (p j) i.members (q j) i.budget i.replans
-
 -- a session's input was run
-pub ran : (s : Session) (d : Domain) (lines : List Line) (old new : SinkView) (r : Result ℕ SinkRefusal) → d ≡ s.input.domain → lines ≡ s.input.lines → RunsAll d lines s.input.budget s.names old new r → Performs (work.Session s) old new r
-ran s d lines old new r p q run = of_run (subst (λ i. Runs i s.names old new r) (same_input s.input d lines p q) (run s.input.members s.input.replans)) where
-  of_run : Runs (built s.input) s.names old new r → Performs (work.Session s) old new r
-  of_run run = record { done = run.done; cut = run.cut; counted = run.counted }
+pub ran : (s : Session) (old new : SinkView) (r : Result ℕ SinkRefusal) → Runs s.input s.names old new r → Performs (work.Session s) old new r
+ran s old new r run = record { done = run.done; cut = run.cut; counted = run.counted }
 
--- memory ran out before the session began
-pub unrun : (s : Session) (start : SinkView) → Performs (work.Session s) start start (Err OutOfMemory)
-unrun s start = record { done = tt; cut = nothing_written (built s.input) s.names start.bytes; counted = refl }
+-- the counts of a journal that was made
+pub counted-journal : (i : Input) (carts : ℕ) (journal : List Entry) (old new : SinkView) (r : Result ℕ SinkRefusal) → IsJournal i journal
+    → WritesWithStatus (summary_text carts journal) (status_of journal) old new r → CountsSession i carts old new r
+counted-journal i carts journal old new (Ok status) is w = record { done = (journal, is, w.done.0, w.done.1); cut = tt; counted = w.counted }
+counted-journal i carts journal old new (Err e) is w = record { done = tt; cut = inr (journal, is, w.cut); counted = w.counted }
+
+-- memory ran out before a journal was made
+pub unmade : (i : Input) (carts : ℕ) (start : SinkView) → CountsSession i carts start start (Err OutOfMemory)
+unmade i carts start = record { done = tt; cut = inl (0, Appends-nil start.bytes); counted = refl }
+
+-- a generation was done
+pub generated : (g : Generation) (i : Input) (old new : SinkView) (r : Result ℕ SinkRefusal) → i ≡ g.input → CountsSession i g.carts old new r → Performs (work.Generation g) old new r
+generated g i old new r same counts = of_input (subst (λ j. CountsSession j g.carts old new r) same counts) where
+  of_input : CountsSession g.input g.carts old new r → Performs (work.Generation g) old new r
+  of_input counts = record { done = counts.done; cut = counts.cut; counted = counts.counted }

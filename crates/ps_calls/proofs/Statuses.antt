@@ -24,6 +24,7 @@ flag_below false = omega arith
 -- finished work has a status of its kind
 pub status-performed : (w : Work) (old new : SinkView) (status : ℕ) → Performs w old new (Ok status) → IsStatusOf w status
 status-performed (work.Session s) old new status p = subst (λ n. n < 2) (sym p.done.2.answer) (flag_below (list_any (λ e. is_mishap e.what) p.done.2.journal))
+status-performed (work.Generation g) old new status p = subst (λ n. n < 2) (sym p.done.2) (flag_below (list_any (λ e. is_mishap e.what) p.done.0))
 status-performed (work.Check names d) old new status p = p.done.0
 status-performed (work.Validation v) old new status p = p.done.0
 status-performed (work.Replay r) old new status p = (p.done.0, p.done.1, p.done.2)
@@ -38,6 +39,7 @@ finding_of_work (Illegal line) = inr refl
 
 pub status-of_work : (w : Work) (status : ℕ) → IsStatusOf w status → IsOfWork status
 status-of_work (work.Session s) status h = inl h
+status-of_work (work.Generation g) status h = inl h
 status-of_work (work.Check names d) status h = inl (omega arith)
 status-of_work (work.Validation v) status h = subst IsOfWork (sym h) (verdict_of_work (verdict_of v).0)
 status-of_work (work.Replay r) status h = subst IsOfWork (sym h.2) (finding_of_work h.0)

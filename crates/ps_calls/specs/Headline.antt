@@ -19,7 +19,11 @@ use Rattle.ps_inputs.specs.declared.works.Replay.{Replay}
 use Rattle.ps_inputs.specs.declared.works.Validation.{Validation}
 use Rattle.ps_inputs.specs.declared.works.Work.{Work}
 use Rattle.ps_inputs.specs.declared.works.Work.TheVariants as work
-use Rattle.ps_session.specs.Session.{IsCut, IsDone, built}
+use Rattle.ps_session.specs.Session.{IsCut, IsDone, IsJournal}
+use Rattle.ps_gen.specs.Summary.{summary_text}
+use Rattle.ps_rules.specs.History.{status_of}
+use Rattle.ps_machine.specs.declared.inputs.Input.{Input}
+use Rattle.ps_machine.specs.declared.journal.Entry.{Entry}
 use Rattle.ps_audit.specs.Findings.{Finds as FindsJournal, finding_line, finding_status}
 use Rattle.ps_audit.specs.declared.findings.Finding.{Finding}
 use Rattle.ps_calls.specs.Verdicts.{verdict_line, verdict_status}
@@ -46,20 +50,32 @@ answer_line v = verdict_line v.1 v.0
 abbrev pub IsFound : Replay → Finding → Type 0
 IsFound r f = FindsJournal r.input r.names r.journal.items f
 
--- The work is done, with this status: a session writes the text of a whole history, whose status it is, a check the domain's
--- canonical text, a validation the line that says what the plan is worth, a replay the line that says what the journal is found to be.
+-- the counts of the journal of a session with so many carts are written, with the status of that journal
+abbrev pub IsCountDone : Input → ℕ → Option (List ℕ) → Option (List ℕ) → ℕ → Type 0
+IsCountDone i carts old new status =
+    (journal : List Entry) × IsJournal i journal × (status ≡ status_of journal) × Appends old new (summary_text carts journal)
+
+-- a prefix of these counts is written, or nothing before there is such a journal
+abbrev pub IsCountCut : Input → ℕ → Option (List ℕ) → Option (List ℕ) → Type 0
+IsCountCut i carts old new =
+    AppendsPrefix old new [] ⊎ ((journal : List Entry) × IsJournal i journal × AppendsPrefix old new (summary_text carts journal))
+
+-- The work is done, with this status: a session writes the text of its journal, whose status it is, and a generation the counts of such a
+-- journal, with the status of that; a check writes the domain's canonical text, a validation the line that says what the plan is worth, a replay the line that says what the journal is found to be.
 abbrev pub IsWorkDone : Work → Option (List ℕ) → Option (List ℕ) → ℕ → Type 0
-IsWorkDone (work.Session s) old new status = IsDone (built s.input) s.names old new status
+IsWorkDone (work.Session s) old new status = IsDone s.input s.names old new status
+IsWorkDone (work.Generation g) old new status = IsCountDone g.input g.carts old new status
 IsWorkDone (work.Check names d) old new status = (status ≡ 0) × Appends old new (domain_text names d)
 IsWorkDone (work.Validation v) old new status =
     (status ≡ verdict_status (verdict_of v).0) × Appends old new (answer_line (verdict_of v))
 IsWorkDone (work.Replay r) old new status =
     (f : Finding) × IsFound r f × (status ≡ finding_status f) × Appends old new (finding_line f)
 
--- The work is broken off: what it wrote is a prefix of the text of a history, of the domain's text, or of the line of a plan or of a
--- journal; before it is found what a journal is, nothing is written.
+-- The work is broken off: what it wrote is a prefix of the text of a history, of a journal's counts, of the domain's text, or of the line
+-- of a plan or of a journal; before a journal is made that is counted, or it is found what a journal is, nothing is written.
 abbrev pub IsWorkCut : Work → Option (List ℕ) → Option (List ℕ) → Type 0
-IsWorkCut (work.Session s) old new = IsCut (built s.input) s.names old new
+IsWorkCut (work.Session s) old new = IsCut s.input s.names old new
+IsWorkCut (work.Generation g) old new = IsCountCut g.input g.carts old new
 IsWorkCut (work.Check names d) old new = AppendsPrefix old new (domain_text names d)
 IsWorkCut (work.Validation v) old new = AppendsPrefix old new (answer_line (verdict_of v))
 IsWorkCut (work.Replay r) old new =
@@ -70,6 +86,18 @@ pub record Performs (w : Work) (old new : SinkView) (r : Result ℕ SinkRefusal)
   pub done : IfOk r (IsWorkDone w old.bytes new.bytes)
   pub cut : OnErr r (IsWorkCut w old.bytes new.bytes)
   pub counted : CountsWork old new r
+
+-- doing the session of an input in memory, and writing the counts of its journal
+pub record CountsSession (i : Input) (carts : ℕ) (old new : SinkView) (r : Result ℕ SinkRefusal) : Type 0 where
+  pub done : IfOk r (IsCountDone i carts old.bytes new.bytes)
+  pub cut : OnErr r (IsCountCut i carts old.bytes new.bytes)
+  pub counted : CountsWork old new r
+
+-- work that always returns
+abbrev pub IsQuiet : Work → Type 0
+IsQuiet (work.Session s) = ⊥
+IsQuiet (work.Generation g) = ⊥
+IsQuiet w = Unit {0}
 
 -- Writing a text: all of it, with this status, or a prefix of it, where a write was refused or memory ran out.
 pub record WritesWithStatus (text : List ℕ) (status : ℕ) (old new : SinkView) (r : Result ℕ SinkRefusal) : Type 0 where
@@ -95,6 +123,16 @@ pub data Reports (f : Fault) (old new : SinkView) : ℕ → Type 0 where
   unwritten : Puts (fault_line f) old new (Err Failed) → Reports f old new 5
   starved : Puts (fault_line f) old new (Err OutOfMemory) → Reports f old new 6
   wordless : Says out_of_memory_line old new → Reports f old new 6
+
+-- ending a call whose work came to this
+abbrev pub Finishes : Result ℕ SinkRefusal → SinkView → SinkView → ℕ → Type 0
+Finishes (Ok done) old new status = (status ≡ done) × (new ≡ old)
+Finishes (Err why) old new status = GivesUp why old new status
+
+-- telling why there is no work
+abbrev pub Refuses : Failure Fault → SinkView → SinkView → ℕ → Type 0
+Refuses (failure.Refused f) old new status = Reports f old new status
+Refuses failure.OutOfMemory old new status = (status ≡ 6) × Says out_of_memory_line old new
 
 -- ---- the headline
 

@@ -2,7 +2,7 @@
 use Rattle.std.specs.Prelude.{◌≡◌, ◌≢◌, ℕ, ◌<◌, ◌≤◌, ◌⊎◌, true, false, None, Some, List}
 use Rattle.ps_text.specs.Outside.{next}
 use Rattle.ps_words.specs.Words.{ReplayRequest, Request, SessionRequest, asked_of}
-use Rattle.ps_words.specs.Words.Request.{a_session, a_validation, a_replay}
+use Rattle.ps_words.specs.Words.Request.{a_generation, a_session, a_validation, a_replay}
 use Rattle.ps_inputs.specs.Reading.{Reading}
 use Rattle.ps_inputs.specs.Reading.FileFault.{no_file, too_long, too_many}
 use Rattle.ps_inputs.specs.Reading.Reading.{gives, faulty, unknown}
@@ -69,9 +69,10 @@ abbrev pub WordsDecide : Type 0
 WordsDecide = OfEachCall (λ c status.
     (status ≡ 2 → asked_of c.words ≡ None) × (asked_of c.words ≡ None → (status ≡ 2) ⊎ IsBroken status))
 
--- a status with which this work can end: 0 or 1 for a session, 0 for a check, 0 or 7 for a plan and for a journal, by what they are worth
+-- a status with which this work can end: 0 or 1 for a session and for a generation, 0 for a check, 0 or 7 for a plan and for a journal, by what they are worth
 abbrev pub IsStatusOf : Work → ℕ → Type 0
 IsStatusOf (work.Session s) status = status < 2
+IsStatusOf (work.Generation g) status = status < 2
 IsStatusOf (work.Check names d) status = status ≡ 0
 IsStatusOf (work.Validation v) status = status ≡ verdict_status (verdict_of v).0
 IsStatusOf (work.Replay r) status = (f : Finding) × IsFound r f × (status ≡ finding_status f)
@@ -100,10 +101,14 @@ TextsDecide = OfEachCall (λ c status. (r : Request) → asked_of c.words ≡ So
 abbrev pub IsToJudge : Request → Type 0
 IsToJudge r = ((domain script plan : List ℕ) × (r ≡ a_validation domain script plan)) ⊎ ((q : ReplayRequest) × (r ≡ a_replay q))
 
--- the answer 1 comes only to a session, and 7 only to a plan or a journal that is judged
+-- this request is to do a session, one of files or that of the generator
+abbrev pub IsToRun : Request → Type 0
+IsToRun r = ((s : SessionRequest) × (r ≡ a_session s)) ⊎ ((n : ℕ) × (r ≡ a_generation n))
+
+-- the answer 1 comes only to a session or a generation, and 7 only to a plan or a journal that is judged
 abbrev pub ModesDecide : Type 0
 ModesDecide = OfEachCall (λ c status.
-    (status ≡ 1 → (s : SessionRequest) × (asked_of c.words ≡ Some (a_session s)))
+    (status ≡ 1 → (r : Request) × (asked_of c.words ≡ Some r) × IsToRun r)
     × (status ≡ 7 → (r : Request) × (asked_of c.words ≡ Some r) × IsToJudge r))
 
 -- 1 doesn't come where the first word is that of a mode that always returns, and 7 nowhere else

@@ -2,57 +2,123 @@
 ghost use Rattle.ps_world.specs.DomainTexts.{domain_text};
 ghost use Rattle.ps_text.specs.Names.{AreNames};
 ghost use Rattle.ps_audit.specs.Findings.{finding_line, finding_status};
-ghost use Rattle.ps_inputs.specs.declared.works.Work.TheVariants.{Session as ASession, Validation as AValidation, Replay as AReplay};
-ghost use Rattle.ps_calls.specs.Headline.{Finds, Performs, WritesWithStatus, verdict_after};
+ghost use Rattle.ps_inputs.specs.declared.works.Work.TheVariants.{Session as ASession, Generation as AGeneration, Validation as AValidation, Replay as AReplay};
+ghost use Rattle.std.specs.Prelude.{◌≡◌};
+ghost use Rattle.ps_board.specs.Board.{nothing_done};
+ghost use Rattle.ps_gen.specs.Summary.{summary_text};
+ghost use Rattle.ps_rules.specs.History.{status_of};
+ghost use Rattle.ps_calls.specs.Headline.{CountsSession, Finds, IsQuiet, Performs, WritesWithStatus, verdict_after};
 ghost use Rattle.ps_calls.specs.Verdicts.{verdict_line, verdict_status};
 
 use super::verdicts::{verdict_line, verdict_status};
 use ps_audit::{Finding, audit, finding_line, finding_status};
+use ps_board::Board;
 use ps_domain::Expert;
-use ps_inputs::{Replay, Session, Validation, Work};
-use ps_machine::{Input, Line};
+use ps_gen::summary;
+use ps_inputs::{Generation, Replay, Session, Validation, Work};
+use ps_machine::{Entry, Input, Line};
 use ps_pddl::print_domain;
-use ps_session::run;
+use ps_pool::Gate;
+use ps_session::{run, run_unwritten, status_of};
 use ps_solve::Forward;
 use ps_text::{Names, Sink, SinkRefusal, put};
 use ps_validate::{Invalid, known_after, verdict};
 use ps_world::Domain;
 use std::alloc::{AllocError, Global};
+use std::sync::Wait;
 
-/// Does the work, and gives its status: 0 or 1 for a session, 0 for a check, 0 or 7 for a plan and for a journal.
-pub fn perform<O: Sink>(alloc: Global, work: Work, out: &mut O) -> Result<u8, SinkRefusal>
+/// Does the work, and gives its status: 0 or 1 for a session, written or not, 0 for a check, 0 or 7 for a plan and for a journal.
+pub fn perform<R: Wait, G: Gate, O: Sink>(
+    rt: &R,
+    alloc: Global,
+    work: Work,
+    gate: &G,
+    out: &mut O,
+) -> Result<u8, SinkRefusal>
     ensures { Performs work (O.shown out.old) (O.shown out.new) result }
 {
     match work {
-        Work::Session(session) => do_session(alloc, session, out),
-        Work::Check { names, domain } => check(alloc, &names, &domain, out),
-        Work::Validation(validation) => validate(alloc, validation, out),
-        Work::Replay(replay) => do_replay(alloc, replay, out),
+        Work::Session(session) => do_session(rt, alloc, session, gate, out),
+        Work::Generation(generation) => do_generation(rt, alloc, generation, gate, out),
+        quiet => perform_quiet(alloc, quiet, out),
     }
 }
 
-/// Does a session. The status is 1 where a line was refused, else 0.
-fn do_session<O: Sink>(alloc: Global, session: Session, out: &mut O) -> Result<u8, SinkRefusal>
+/// Does work that always returns: a check, a validation or a replay.
+pub fn perform_quiet<O: Sink>(alloc: Global, work: Work, out: &mut O) -> Result<u8, SinkRefusal>
+    requires { IsQuiet work }
+    ensures { Performs work (O.shown out.old) (O.shown out.new) result }
+{
+    match work {
+        Work::Check { names, domain } => check(alloc, &names, &domain, out),
+        Work::Validation(validation) => validate(alloc, validation, out),
+        Work::Replay(replay) => do_replay(alloc, replay, out),
+        Work::Session(_) | Work::Generation(_) => unreachable!(),
+    }
+}
+
+/// Does a session, and writes its journal. The status is 1 where a line was refused or a run failed, else 0.
+fn do_session<R: Wait, G: Gate, O: Sink>(
+    rt: &R,
+    alloc: Global,
+    session: Session,
+    gate: &G,
+    out: &mut O,
+) -> Result<u8, SinkRefusal>
     ensures { Performs (ASession session) (O.shown out.old) (O.shown out.new) result }
 {
     let Session { names, input, .. } = session;
-    let Input {
-        domain,
-        lines,
-        budget,
-        ..
-    } = input;
-    let expert = Expert::new(alloc, domain)?;
     let solver = Forward::new();
-    run(
-        alloc,
-        &names,
-        &expert,
-        &solver,
-        budget,
-        lines.as_slice(),
-        out,
-    )
+    run(rt, alloc, &names, input, &solver, gate, out)
+}
+
+/// Does the session of the generator's texts, and writes the counts of its journal. The status is that of the session.
+fn do_generation<R: Wait, G: Gate, O: Sink>(
+    rt: &R,
+    alloc: Global,
+    generation: Generation,
+    gate: &G,
+    out: &mut O,
+) -> Result<u8, SinkRefusal>
+    ensures { Performs (AGeneration generation) (O.shown out.old) (O.shown out.new) result }
+{
+    let Generation { carts, input, .. } = generation;
+    let mut board = Board::open(alloc, input)?;
+    count_session(rt, alloc, carts, &mut board, gate, out)
+}
+
+/// Does the session of the input of a board on which nothing was done, and writes the counts of its journal. The status is that of the
+/// session.
+fn count_session<R: Wait, G: Gate, O: Sink>(
+    rt: &R,
+    alloc: Global,
+    carts: u32,
+    board: &mut Board,
+    gate: &G,
+    out: &mut O,
+) -> Result<u8, SinkRefusal>
+    requires fresh { board.old ≡ nothing_done board.old.input }
+    requires replans { board.old.input.replans ≡ 0 }
+    ensures { CountsSession board.old.input carts (O.shown out.old) (O.shown out.new) result }
+{
+    let solver = Forward::new();
+    run_unwritten(rt, board, &solver, gate)?;
+    write_summary(alloc, carts, board.entries(), out)
+}
+
+/// Writes the counts of a journal. The status is that of its session.
+fn write_summary<O: Sink>(
+    alloc: Global,
+    carts: u32,
+    entries: &[Entry],
+    out: &mut O,
+) -> Result<u8, SinkRefusal>
+    ensures { WritesWithStatus (summary_text carts entries.now) (status_of entries.now)
+        (O.shown out.old) (O.shown out.new) result }
+{
+    let counts = summary(alloc, carts, entries)?;
+    put(out, counts.as_slice())?;
+    Ok(status_of(entries))
 }
 
 /// Writes the canonical text of a domain. The status is 0.

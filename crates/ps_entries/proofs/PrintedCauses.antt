@@ -62,7 +62,6 @@ module _ (t : Table) (names : AreNames t) where
   told-line line.Command h = refl
   told-line (line.Shape at) h = rw (word-long at h, whole_number-decimal at (long-of at h)) refl
   told-line line.Nest h = refl
-  told-line line.NotBuilt h = refl
 
   told-edit : (r : EditRefusal) → is_cause (length t) (refusal.Edit r) ≡ true → told (refusal_text t (refusal.Edit r)) ≡ Some (refusal.Edit r)
   told-edit edit.NoType h = refl

@@ -37,13 +37,12 @@ abbrev pub one_word_cause : List (List ℕ) → ℕ → Option Refusal
 one_word_cause ws at =
     if reads ws at (codes "command") then Some (refusal.Line line.Command)
     else (if reads ws at (codes "nest") then Some (refusal.Line line.Nest)
-    else (if reads ws at (codes "notbuilt") then Some (refusal.Line line.NotBuilt)
     else (if reads ws at (codes "notype") then Some (refusal.Edit edit.NoType)
     else (if reads ws at (codes "instancethere") then Some (refusal.Edit edit.InstanceThere)
     else (if reads ws at (codes "full") then Some (refusal.Edit edit.Full)
     else (if reads ws at (codes "constant") then Some (refusal.Edit edit.Constant)
     else (if reads ws at (codes "nopredicate") then Some (refusal.Edit edit.NoPredicate)
-    else None)))))))
+    else None))))))
 
 -- any other cause of one word
 abbrev pub later_word_cause : List (List ℕ) → ℕ → Option Refusal

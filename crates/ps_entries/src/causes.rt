@@ -61,8 +61,6 @@ fn one_word_cause(words: &Words, at: usize) -> Option<Refusal>
         Some(Refusal::Line(LineCause::Command))
     } else if words.reads(at, b"nest") {
         Some(Refusal::Line(LineCause::Nest))
-    } else if words.reads(at, b"notbuilt") {
-        Some(Refusal::Line(LineCause::NotBuilt))
     } else if words.reads(at, b"notype") {
         Some(Refusal::Edit(EditRefusal::NoType))
     } else if words.reads(at, b"instancethere") {

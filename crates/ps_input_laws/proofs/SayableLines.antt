@@ -6,7 +6,7 @@ use Rattle.ps_action.specs.declared.refusals.PlanTextRefusal.{PlanTextRefusal}
 use Rattle.ps_machine.specs.declared.inputs.Command.TheVariants.{RunPlan}
 use Rattle.ps_machine.specs.declared.inputs.Line.{Line}
 use Rattle.ps_machine.specs.declared.inputs.Line.TheVariants.{Good, Bad}
-use Rattle.ps_machine.specs.declared.inputs.LineCause.TheVariants.{Nest, NotBuilt}
+use Rattle.ps_machine.specs.declared.inputs.LineCause.TheVariants.{Nest}
 use Rattle.ps_text.specs.Names.{AreNames, Keeps}
 use Rattle.ps_plan.specs.PlanText.{plan_fault, planned, said_by}
 use Rattle.ps_script.specs.Lines.{IsRead}
@@ -46,7 +46,7 @@ given_said t between after bytes run known keeps h (read.RunPlan file) is = one_
 -- what a command line adds can be said
 added_said : (t : Table) (one : Flattened) (new : List Line) (after : Table) → AreNames t → Adds t one new after → All (IsSayableLine after) new
 added_said t (plain bytes) new after known is =
-    subst (All (IsSayableLine after)) (sym is.2) (given_said t after after bytes (Bad NotBuilt) known (λ n lt. refl) tt is.0 is.1)
+    subst (All (IsSayableLine after)) (sym is.2) (one_line after is.0 (lines_are_sayable t bytes is.0 after known is.1))
 added_said t (with_plan bytes text) new after known is =
     let between = is.1 in
     let plan = plan_in between text in

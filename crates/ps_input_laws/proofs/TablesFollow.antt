@@ -12,6 +12,7 @@ use Rattle.ps_text.proofs.Kept.{kept_along, kept_interned}
 use Rattle.ps_plan.specs.PlanText.{Said, named_all, placed, plan_fault, planned, said_by, step_of, table_after}
 use Rattle.ps_script.specs.Lines.{IsRead}
 use Rattle.ps_script.specs.declared.reading.Read.{Read}
+use Rattle.ps_script.specs.declared.reading.Read.TheVariants as read
 use Rattle.ps_members.specs.Members.{AreLines, IsMember}
 use Rattle.ps_members.specs.Members.AreLines.{none_left, fault, good}
 use Rattle.ps_members.specs.declared.places.Place.{Place}
@@ -53,7 +54,7 @@ plan_kept t text (Some why) = λ n lt. refl
 plan_kept t text None = steps_kept t [] (said_by text)
 
 pub plan_follows : (t : Table) (text : List ℕ) → AreNames t → Follows t (plan_in t text).1
-plan_follows t text known = record { names = (after_plan t text known).names; keeps = plan_kept t text (plan_fault text) }
+plan_follows t text known = record { names = after_plan t text known; keeps = plan_kept t text (plan_fault text) }
 
 -- ---- scripts
 
@@ -64,7 +65,7 @@ line_follows t bytes r after known is =
 
 -- the table after a command line follows that before it
 pub added_follows : (t : Table) (one : Flattened) (new : List Line) (after : Table) → AreNames t → Adds t one new after → Follows t after
-added_follows t (plain bytes) new after known is = line_follows t bytes is.0 after known is.1
+added_follows t (plain bytes) new after known is = line_follows t bytes (read.Line is.0) after known is.1
 added_follows t (with_plan bytes text) new after known is =
     let first = line_follows t bytes is.0 is.1 known is.2 in
     then_follow t is.1 after first (subst (Follows is.1) (sym is.4) (plan_follows is.1 text first.names))

@@ -1,5 +1,5 @@
 -- A script with its files, line by line.
-use Rattle.std.proofs.Common.{◌≡◌, ℕ, suc, ◌+◌, ◌<◌, ◌≤◌, ◌⊎◌, inl, inr, Bool, true, false, ◌&&◌, if◌then◌else◌, nat_lt, None, Result, Ok, Err, List, [], ◌∷◌, ◌++◌, length, drop, get_or, slice_range, refl, sym, ap, ◌∙◌, subst, append_assoc, arith}
+use Rattle.std.proofs.Common.{◌≡◌, ℕ, suc, ◌+◌, ◌<◌, ◌≤◌, inl, inr, Bool, true, false, if◌then◌else◌, nat_lt, None, Result, Ok, Err, List, [], ◌∷◌, ◌++◌, length, drop, get_or, slice_range, refl, sym, ap, ◌∙◌, subst, append_assoc, arith}
 use Rattle.std.proofs.Common.{drop-cons}
 use Rattle.std.proofs.Math.Seq.{drop-length}
 use Rattle.std.proofs.lemmas.Bool.Decides.{nat_tests}
@@ -8,7 +8,7 @@ use Rattle.std.specs.Global.{Vec}
 use Rattle.ps_world.specs.Names.{Table}
 use Rattle.ps_world.specs.declared.failures.Failure.{Failure}
 use Rattle.ps_world.specs.declared.failures.Failure.TheVariants.{Refused, OutOfMemory}
-use Rattle.ps_machine.specs.declared.inputs.LineCause.TheVariants.{Nest, NotBuilt}
+use Rattle.ps_machine.specs.declared.inputs.LineCause.TheVariants.{Nest}
 use Rattle.ps_machine.specs.declared.inputs.Command.TheVariants.{RunPlan as RunPlanLine}
 use Rattle.ps_machine.specs.declared.inputs.Line.{Line}
 use Rattle.ps_machine.specs.declared.inputs.Line.TheVariants.{Good, Bad}
@@ -18,12 +18,13 @@ use Rattle.ps_text.specs.Outside.{FilesView}
 use Rattle.ps_text.specs.ScriptLines.{script_lines}
 use Rattle.ps_text.specs.Words.{pieces}
 use Rattle.ps_text.specs.declared.spans.Span.{Span}
-use Rattle.ps_script.specs.Files.{after_run, file_in, is_run_plan}
+use Rattle.ps_script.specs.Files.{is_run_plan, is_source}
 use Rattle.ps_script.specs.Kinds.{IsKind}
-use Rattle.ps_script.specs.Lines.{IsRead}
+use Rattle.ps_script.specs.Lines.{IsRead, is_nothing}
 use Rattle.ps_script.specs.Lines.IsRead.{nothing, source, source_nothing, run_plan, run_nothing, without_class, without_number, without_form, without_shape, good}
-use Rattle.ps_script.specs.declared.kinds.Kind.TheVariants.{Nothing, RunPlan, Command}
+use Rattle.ps_script.specs.declared.kinds.Kind.TheVariants.{Nothing, Command}
 use Rattle.ps_script.specs.declared.reading.Read.{Read}
+use Rattle.ps_script.specs.declared.reading.Read.TheVariants as reads
 use Rattle.ps_inputs.specs.Reading.{MayFail, Reading, Texts, and_then, most_lines, read_file}
 use Rattle.ps_inputs.specs.Reading.FileFault.{too_many}
 use Rattle.ps_inputs.specs.Reading.Reading.{gives, faulty}
@@ -32,7 +33,7 @@ use Rattle.ps_inputs.specs.Flats.Flattened.{plain, with_plan, too_deep}
 use Rattle.ps_inputs.specs.Scripts.{IsScript, given_by, plan_in}
 use Rattle.ps_inputs.specs.Scripts.IsScript.{nothing as no_script, one_more}
 use Rattle.ps_inputs.specs.Faults.{ReadsPart}
-use Rattle.ps_inputs.specs.Parts.{Adds, HasRoom, IsAdded, IsCommandLine, Opens, PutsDeep, PutsPlain, PutsPlan, ReadsText, ReadsFileLine, Walks, WalksLines, count_of}
+use Rattle.ps_inputs.specs.Parts.{Adds, HasRoom, IsAdded, IsPushed, Opens, PutsDeep, PutsPlain, PutsPlan, ReadsText, ReadsFileLine, Walks, WalksLines, count_of}
 use Rattle.ps_inputs.specs.declared.reading.scripts.Script.{Script}
 use Rattle.ps_inputs.specs.declared.faults.Fault.{Fault}
 use Rattle.ps_inputs.specs.declared.faults.Fault.TheVariants.{Usage, NoDomain, NoMember, Crowd, Twice, TooLong, Lines, Unread}
@@ -49,12 +50,31 @@ scripts_join a b c xs _ ls _ h (one_more before lines table one new _ g adds) =
     (subst (λ (ms : List Line). IsScript a ((xs ++ before) ++ one ∷ []) ms c) (append_assoc ls lines new)
     (one_more (xs ++ before) (ls ++ lines) table one new c (scripts_join a b table xs before ls lines h g) adds))
 
--- a command line is read as one line
-one_read : (run : Line) (t : Table) (bytes : List ℕ) (r : Read) (after : Table) → IsCommandLine bytes → IsRead t bytes r after → length (given_by run r) ≡ 1
-one_read run t bytes r after h read =
-    elim read as (λ r a i. length (given_by run r) ≡ 1) [
+-- a command line is read as a line
+pub command_read : (t : Table) (bytes : List ℕ) (r : Read) (after : Table) → IsKind bytes Command → IsRead t bytes r after → (line : Line) × (r ≡ reads.Line line)
+command_read t bytes r after h read =
+    elim read as (λ r a i. (line : Line) × (r ≡ reads.Line line)) [
       | nothing e ↦ absurd (cc (h.0, e))
-      | source file some is e ↦ elim h.1 [ inl n ↦ absurd (cc (n, is)) | inr n ↦ absurd (cc (n, e)) ]
+      | source file some is e ↦ elim h.1 [ inl n ↦ absurd (cc (n.1, e)) | inr n ↦ absurd (cc (n.0, is)) ]
+      | source_nothing some is e ↦ (_, refl)
+      | run_plan file some other is e ↦ elim h.1 [
+        | inl n ↦ absurd (cc (n.0, other))
+        | inr n ↦ elim n.1 [ inl m ↦ absurd (cc (m, is)) | inr m ↦ absurd (cc (m, e)) ]
+      ]
+      | run_nothing some other is e ↦ (_, refl)
+      | without_class at p f ↦ (_, refl)
+      | without_number at p f ↦ (_, refl)
+      | without_form tokens p are f ↦ (_, refl)
+      | without_shape form tokens i p are f g ↦ (_, refl)
+      | good form tokens ls after ts command is e s c ↦ (_, refl)
+    ]
+
+-- a line that may run the plan in a file gives one line
+one_read : (run : Line) (t : Table) (bytes : List ℕ) (r : Read) (after : Table) → is_nothing bytes ≡ false → is_source bytes ≡ false → IsRead t bytes r after → length (given_by run r) ≡ 1
+one_read run t bytes r after something no_source read =
+    elim read as (λ r a i. length (given_by run r) ≡ 1) [
+      | nothing e ↦ absurd (cc (something, e))
+      | source file some is e ↦ absurd (cc (no_source, is))
       | source_nothing some is e ↦ refl
       | run_plan file some other is e ↦ refl
       | run_nothing some other is e ↦ refl
@@ -96,17 +116,16 @@ more_few : (before after : Script) (new : List Line) → count_of before < most_
 more_few before after new lt e one = omega (arith, ap length e, length-append before.lines.items new, one)
 
 -- a command line is read
-pub plain_added : (bytes : List ℕ) (before after : Script) (r : Read) (ends : Bool) → ends ≡ is_quit bytes → IsCommandLine bytes → count_of before < most_lines → IsRead before.names bytes r after.names → after.lines.items ≡ before.lines.items ++ given_by (Bad NotBuilt) r → PutsPlain bytes before after (Ok ends)
-plain_added bytes before after r ends e line lt read pushed files =
-    let here = given_by (Bad NotBuilt) r in
-    let one : length here ≡ 1 = one_read (Bad NotBuilt) before.names bytes r after.names line read in
+pub plain_added : (bytes : List ℕ) (before after : Script) (ends : Bool) → ends ≡ is_quit bytes → count_of before < most_lines → IsPushed bytes before after → PutsPlain bytes before after (Ok ends)
+plain_added bytes before after ends e lt pushed files =
+    let here = pushed.0 ∷ [] in
     let flat : Flat = record { lines = plain bytes ∷ []; ended = is_quit bytes } in
     let added : IsAdded before after flat ends = record {
       lines = here;
-      read = one_more [] [] before.names (plain bytes) here after.names no_script (r, read, refl);
-      added = pushed;
-      count = one;
-      few = more_few before after here lt pushed one;
+      read = one_more [] [] before.names (plain bytes) here after.names no_script (pushed.0, pushed.1, refl);
+      added = pushed.2;
+      count = refl;
+      few = more_few before after here lt pushed.2 refl;
       ends = sym e;
     } in
     room_read (count_of before) (gives [] flat) files files (Ok ends) lt (read_nothing files flat ends added)
@@ -131,11 +150,11 @@ deep_added before after lt same pushed files =
 abbrev with_its_plan : List ℕ → List ℕ → Reading Flat
 with_its_plan bytes plan = gives [] (record { lines = with_plan bytes plan ∷ []; ended = false })
 
-pub plan_added : (bytes file : List ℕ) (old new : FilesView) (before after : Script) (v : Vec ℕ) (r : Read) (between : Table) (plan : Result (List PlanStep) PlanTextRefusal) → IsCommandLine bytes → count_of before < most_lines → ReadsText file old new (Ok v) → IsRead before.names bytes r between → plan_in between v.items ≡ (plan, after.names) → after.lines.items ≡ before.lines.items ++ given_by (Good (RunPlanLine plan)) r → PutsPlan bytes file old new before after (Ok false)
-plan_added bytes file old new before after v r between plan line lt text read names pushed =
+pub plan_added : (bytes file : List ℕ) (old new : FilesView) (before after : Script) (v : Vec ℕ) (r : Read) (between : Table) (plan : Result (List PlanStep) PlanTextRefusal) → is_nothing bytes ≡ false → is_source bytes ≡ false → count_of before < most_lines → ReadsText file old new (Ok v) → IsRead before.names bytes r between → plan_in between v.items ≡ (plan, after.names) → after.lines.items ≡ before.lines.items ++ given_by (Good (RunPlanLine plan)) r → PutsPlan bytes file old new before after (Ok false)
+plan_added bytes file old new before after v r between plan something no_source lt text read names pushed =
     let run = Good (RunPlanLine plan) in
     let here = given_by run r in
-    let one : length here ≡ 1 = one_read run before.names bytes r between line read in
+    let one : length here ≡ 1 = one_read run before.names bytes r between something no_source read in
     let of : (t : List ℕ) → v.items ≡ t → (plan, after.names) ≡ plan_in between t = λ t e. sym names ∙ ap (plan_in between) e in
     let added : (t : List ℕ) → v.items ≡ t → IsAdded before after (record { lines = with_plan bytes t ∷ []; ended = false }) false = λ t e. record {
       lines = here;
@@ -152,26 +171,26 @@ plan_added bytes file old new before after v r between plan line lt text read na
 
 -- ---- a file
 
-module _ (plans : Bool) (levels : ℕ) (file : List ℕ) (old : FilesView) (before after : Script) (r : Result Bool (Failure Fault)) where
+module _ (levels : ℕ) (file : List ℕ) (old : FilesView) (before after : Script) (r : Result Bool (Failure Fault)) where
   -- no more files may be opened
-  pub opens_deep : levels ≡ 0 → PutsDeep before after r → Opens plans levels file old old before after r
+  pub opens_deep : levels ≡ 0 → PutsDeep before after r → Opens levels file old old before after r
   unfolding on_source
-  opens_deep e h = subst (λ (n : ℕ). Opens plans n file old old before after r) (sym e) (h old)
+  opens_deep e h = subst (λ (n : ℕ). Opens n file old old before after r) (sym e) (h old)
 
   -- the file's text was read, and then its lines
-  pub opens_file : (m : ℕ) (middle new : FilesView) (v : Vec ℕ) (used : List ℕ) → levels ≡ suc m → used ≡ v.items → ReadsText file old middle (Ok v) → Walks plans m used middle new before after r → Opens plans levels file old new before after r
+  pub opens_file : (m : ℕ) (middle new : FilesView) (v : Vec ℕ) (used : List ℕ) → levels ≡ suc m → used ≡ v.items → ReadsText file old middle (Ok v) → Walks m used middle new before after r → Opens levels file old new before after r
   unfolding on_source
   opens_file m middle new v used e same text lines =
-      subst (λ (n : ℕ). Opens plans n file old new before after r) (sym e)
-      (then_read (read_file old.told file) (λ t x. walk plans t (on_source plans m t) (count_of before) (script_lines x)) old middle new v r text
-      (λ x had. subst (λ (u : List ℕ). Walks plans m u middle new before after r) (same ∙ had) lines))
+      subst (λ (n : ℕ). Opens n file old new before after r) (sym e)
+      (then_read (read_file old.told file) (λ t x. walk t (on_source m t) (count_of before) (script_lines x)) old middle new v r text
+      (λ x had. subst (λ (u : List ℕ). Walks m u middle new before after r) (same ∙ had) lines))
 
 -- the file's text wasn't read
-pub opens_nothing : (plans : Bool) (levels : ℕ) (file : List ℕ) (old new : FilesView) (before after : Script) (m : ℕ) (why : Failure Fault) → levels ≡ suc m → ReadsText file old new (Err why) → Opens plans levels file old new before after (Err why)
+pub opens_nothing : (levels : ℕ) (file : List ℕ) (old new : FilesView) (before after : Script) (m : ℕ) (why : Failure Fault) → levels ≡ suc m → ReadsText file old new (Err why) → Opens levels file old new before after (Err why)
 unfolding on_source
-opens_nothing plans levels file old new before after m why e h =
-    subst (λ (n : ℕ). Opens plans n file old new before after (Err why)) (sym e)
-    (then_ended (read_file old.told file) (λ x. walk plans old.told (on_source plans m old.told) (count_of before) (script_lines x)) old new why h)
+opens_nothing levels file old new before after m why e h =
+    subst (λ (n : ℕ). Opens n file old new before after (Err why)) (sym e)
+    (then_ended (read_file old.told file) (λ x. walk old.told (on_source m old.told) (count_of before) (script_lines x)) old new why h)
 
 -- ---- one line of a file
 
@@ -179,31 +198,20 @@ opens_nothing plans levels file old new before after m why e h =
 pub none_added : (script : Script) → length script.lines.items ≤ most_lines → IsAdded script script no_line false
 none_added script few = record { lines = []; read = no_script; added = sym (append-nil script.lines.items); count = refl; few = few; ends = refl }
 
-pub takes_nothing : (plans : Bool) (levels : ℕ) (bytes : List ℕ) (files : FilesView) (script : Script) → length script.lines.items ≤ most_lines → IsKind bytes Nothing → ReadsFileLine plans levels bytes files files script script (Ok false)
-takes_nothing plans levels bytes files script few is = rw is (read_nothing files no_line false (none_added script few))
+pub takes_nothing : (levels : ℕ) (bytes : List ℕ) (files : FilesView) (script : Script) → length script.lines.items ≤ most_lines → IsKind bytes Nothing → ReadsFileLine levels bytes files files script script (Ok false)
+takes_nothing levels bytes files script few is = rw is (read_nothing files no_line false (none_added script few))
 
-module _ (plans : Bool) (levels : ℕ) (bytes : List ℕ) (old : FilesView) (before after : Script) (r : Result Bool (Failure Fault)) where
-  -- a line that runs the plan in a file, where the files of plans aren't read
-  pub takes_no_plan : (file : List ℕ) → plans ≡ false → IsKind bytes (RunPlan file) → PutsPlain bytes before after r → ReadsFileLine plans levels bytes old old before after r
-  takes_no_plan file e is h = rw (is.0, is.1, e) (h old)
-
+module _ (levels : ℕ) (bytes : List ℕ) (old : FilesView) (before after : Script) (r : Result Bool (Failure Fault)) where
   -- a line without `source` and `run plan`, or one of these that names no file
-  other_command : (plan : Bool) → PutsPlain bytes before after r → (is_run_plan bytes ≡ false) ⊎ (file_in (after_run (after_run bytes)) ≡ None) → is_run_plan bytes ≡ plan → Adds (if plans && plan then plan_line old.told (count_of before) bytes (file_in (after_run (after_run bytes))) else plain_line (count_of before) bytes) old old before after r
-  other_command plan h (inl other) e = rw (sym e ∙ other) (by_plans plans) where
-    by_plans : (b : Bool) → Adds (if b && false then plan_line old.told (count_of before) bytes (file_in (after_run (after_run bytes))) else plain_line (count_of before) bytes) old old before after r
-    by_plans true = h old
-    by_plans false = h old
-  other_command plan h (inr none) e = rw none (by_both (plans && plan)) where
-    by_both : (b : Bool) → Adds (if b then plan_line old.told (count_of before) bytes None else plain_line (count_of before) bytes) old old before after r
-    by_both true = h old
-    by_both false = h old
-
-  pub takes_command : IsKind bytes Command → PutsPlain bytes before after r → ReadsFileLine plans levels bytes old old before after r
+  pub takes_command : IsKind bytes Command → PutsPlain bytes before after r → ReadsFileLine levels bytes old old before after r
   takes_command is h =
       elim is.1 [
         | inl s ↦ rw (is.0, s.0, s.1) (h old)
-        | inr s ↦ rw (is.0, s.0) (other_command (is_run_plan bytes) h s.1 refl)
-      ]
+        | inr s ↦ elim s.1 [ inl other ↦ rw (is.0, s.0, other) (h old) | inr none ↦ rw (is.0, s.0, none) (by_plan (is_run_plan bytes)) ]
+      ] where
+        by_plan : (b : Bool) → Adds (if b then plan_line old.told (count_of before) bytes None else plain_line (count_of before) bytes) old old before after r
+        by_plan true = h old
+        by_plan false = h old
 
 -- ---- the lines of a file
 
@@ -219,8 +227,8 @@ added_after flat more first middle last b ended h g = record {
 }
 
 -- what follows a line
-abbrev rest_of : Bool → ℕ → ℕ → List (List ℕ) → Texts → Flat → Reading Flat
-rest_of plans levels n rest t flat = followed flat (walk plans t (on_source plans levels t) (n + length flat.lines) rest)
+abbrev rest_of : ℕ → ℕ → List (List ℕ) → Texts → Flat → Reading Flat
+rest_of levels n rest t flat = followed flat (walk t (on_source levels t) (n + length flat.lines) rest)
 
 -- what follows these command lines, where they don't end the script
 abbrev joined : Flat → Reading Flat → Reading Flat
@@ -237,38 +245,38 @@ joined_read flat part old new first middle last b (Err why) h g =
 count_after : (flat : Flat) (first middle : Script) (b : Bool) → IsAdded first middle flat b → count_of middle ≡ count_of first + length flat.lines
 count_after flat first middle b h = omega (arith, ap length h.added, length-append first.lines.items h.lines, h.count)
 
-module _ (plans : Bool) (levels : ℕ) (bytes : List ℕ) (rest : List (List ℕ)) (old new : FilesView) (first : Script) where
+module _ (levels : ℕ) (bytes : List ℕ) (rest : List (List ℕ)) (old new : FilesView) (first : Script) where
   -- the line wasn't read
-  pub line_ended : (last : Script) (why : Failure Fault) → ReadsFileLine plans levels bytes old new first last (Err why) → WalksLines plans levels (bytes ∷ rest) old new first last (Err why)
-  line_ended last why h = then_ended (step plans old.told (on_source plans levels old.told) (count_of first) bytes) (rest_of plans levels (count_of first) rest old.told) old new why h
+  pub line_ended : (last : Script) (why : Failure Fault) → ReadsFileLine levels bytes old new first last (Err why) → WalksLines levels (bytes ∷ rest) old new first last (Err why)
+  line_ended last why h = then_ended (step old.told (on_source levels old.told) (count_of first) bytes) (rest_of levels (count_of first) rest old.told) old new why h
 
   -- the line ends the script
-  pub line_last : (last : Script) → ReadsFileLine plans levels bytes old new first last (Ok true) → WalksLines plans levels (bytes ∷ rest) old new first last (Ok true)
+  pub line_last : (last : Script) → ReadsFileLine levels bytes old new first last (Ok true) → WalksLines levels (bytes ∷ rest) old new first last (Ok true)
   line_last last h =
-      then_read (step plans old.told (on_source plans levels old.told) (count_of first) bytes) (rest_of plans levels (count_of first) rest) old new new true (Ok true) h
+      then_read (step old.told (on_source levels old.told) (count_of first) bytes) (rest_of levels (count_of first) rest) old new new true (Ok true) h
       (λ flat added. ended_here flat added flat.ended added.ends) where
-        ended_here : (flat : Flat) → IsAdded first last flat true → (b : Bool) → b ≡ true → Adds (if b then gives [] flat else joined flat (walk plans new.told (on_source plans levels new.told) (count_of first + length flat.lines) rest)) new new first last (Ok true)
+        ended_here : (flat : Flat) → IsAdded first last flat true → (b : Bool) → b ≡ true → Adds (if b then gives [] flat else joined flat (walk new.told (on_source levels new.told) (count_of first + length flat.lines) rest)) new new first last (Ok true)
         ended_here flat added b e = rw e (read_nothing new flat true added)
 
   -- it doesn't
-  pub line_next : (middle last : Script) (end : FilesView) (r : Result Bool (Failure Fault)) → ReadsFileLine plans levels bytes old new first middle (Ok false) → WalksLines plans levels rest new end middle last r → WalksLines plans levels (bytes ∷ rest) old end first last r
+  pub line_next : (middle last : Script) (end : FilesView) (r : Result Bool (Failure Fault)) → ReadsFileLine levels bytes old new first middle (Ok false) → WalksLines levels rest new end middle last r → WalksLines levels (bytes ∷ rest) old end first last r
   line_next middle last end r h g =
-      then_read (step plans old.told (on_source plans levels old.told) (count_of first) bytes) (rest_of plans levels (count_of first) rest) old new end false r h
+      then_read (step old.told (on_source levels old.told) (count_of first) bytes) (rest_of levels (count_of first) rest) old new end false r h
       (λ flat added. goes_on flat added flat.ended added.ends) where
-        goes_on : (flat : Flat) → IsAdded first middle flat false → (b : Bool) → b ≡ false → Adds (if b then gives [] flat else joined flat (walk plans new.told (on_source plans levels new.told) (count_of first + length flat.lines) rest)) new end first last r
+        goes_on : (flat : Flat) → IsAdded first middle flat false → (b : Bool) → b ≡ false → Adds (if b then gives [] flat else joined flat (walk new.told (on_source levels new.told) (count_of first + length flat.lines) rest)) new end first last r
         goes_on flat added b e =
-            rw e (joined_read flat (walk plans new.told (on_source plans levels new.told) (count_of first + length flat.lines) rest) new end first middle last false r added
-            (subst (λ (n : ℕ). Adds (walk plans new.told (on_source plans levels new.told) n rest) new end middle last r) (count_after flat first middle false added) g))
+            rw e (joined_read flat (walk new.told (on_source levels new.told) (count_of first + length flat.lines) rest) new end first middle last false r added
+            (subst (λ (n : ℕ). Adds (walk new.told (on_source levels new.told) n rest) new end middle last r) (count_after flat first middle false added) g))
 
 -- no lines
-pub walk_nothing : (plans : Bool) (levels : ℕ) (files : FilesView) (script : Script) → length script.lines.items ≤ most_lines → WalksLines plans levels [] files files script script (Ok false)
-walk_nothing plans levels files script few = read_nothing files no_line false (none_added script few)
+pub walk_nothing : (levels : ℕ) (files : FilesView) (script : Script) → length script.lines.items ≤ most_lines → WalksLines levels [] files files script script (Ok false)
+walk_nothing levels files script few = read_nothing files no_line false (none_added script few)
 
 -- ---- the loop
 
 -- What the other lines come to from here, all lines come to from the first.
-abbrev pub Follows : Bool → ℕ → List (List ℕ) → List (List ℕ) → FilesView → FilesView → Script → Script → Type 0
-Follows plans levels all rest old now first middle = (new : FilesView) (last : Script) (r : Result Bool (Failure Fault)) → WalksLines plans levels rest now new middle last r → WalksLines plans levels all old new first last r
+abbrev pub Follows : ℕ → List (List ℕ) → List (List ℕ) → FilesView → FilesView → Script → Script → Type 0
+Follows levels all rest old now first middle = (new : FilesView) (last : Script) (r : Result Bool (Failure Fault)) → WalksLines levels rest now new middle last r → WalksLines levels all old new first last r
 
 -- the span at a place
 abbrev span_at : List Span → ℕ → Span
@@ -284,25 +292,25 @@ rest-cons text spans i lt =
     let one : suc i ≡ i + 1 = omega arith in
     ap (pieces text) (drop-cons spans i (record { from = 0; to = 0 }) lt ∙ ap (λ (n : ℕ). span_at spans i ∷ drop n spans) one)
 
-module _ (plans : Bool) (levels : ℕ) (text : List ℕ) (spans : List Span) (i : ℕ) (lt : i < length spans) (all : List (List ℕ)) (old now new : FilesView) (first middle last : Script) (follows : Follows plans levels all (pieces text (drop i spans)) old now first middle) where
-  here : (end : FilesView) (s : Script) (r : Result Bool (Failure Fault)) → WalksLines plans levels (line_at text spans i ∷ pieces text (drop (i + 1) spans)) now end middle s r → WalksLines plans levels all old end first s r
-  here end s r h = follows end s r (subst (λ (ls : List (List ℕ)). WalksLines plans levels ls now end middle s r) (sym (rest-cons text spans i lt)) h)
+module _ (levels : ℕ) (text : List ℕ) (spans : List Span) (i : ℕ) (lt : i < length spans) (all : List (List ℕ)) (old now new : FilesView) (first middle last : Script) (follows : Follows levels all (pieces text (drop i spans)) old now first middle) where
+  here : (end : FilesView) (s : Script) (r : Result Bool (Failure Fault)) → WalksLines levels (line_at text spans i ∷ pieces text (drop (i + 1) spans)) now end middle s r → WalksLines levels all old end first s r
+  here end s r h = follows end s r (subst (λ (ls : List (List ℕ)). WalksLines levels ls now end middle s r) (sym (rest-cons text spans i lt)) h)
 
-  pub loop_ended : (why : Failure Fault) → ReadsFileLine plans levels (line_at text spans i) now new middle last (Err why) → WalksLines plans levels all old new first last (Err why)
-  loop_ended why h = here new last (Err why) (line_ended plans levels (line_at text spans i) (pieces text (drop (i + 1) spans)) now new middle last why h)
+  pub loop_ended : (why : Failure Fault) → ReadsFileLine levels (line_at text spans i) now new middle last (Err why) → WalksLines levels all old new first last (Err why)
+  loop_ended why h = here new last (Err why) (line_ended levels (line_at text spans i) (pieces text (drop (i + 1) spans)) now new middle last why h)
 
-  pub loop_last : (b : Bool) → b ≡ true → ReadsFileLine plans levels (line_at text spans i) now new middle last (Ok b) → WalksLines plans levels all old new first last (Ok true)
+  pub loop_last : (b : Bool) → b ≡ true → ReadsFileLine levels (line_at text spans i) now new middle last (Ok b) → WalksLines levels all old new first last (Ok true)
   loop_last b e h =
       here new last (Ok true)
-      (line_last plans levels (line_at text spans i) (pieces text (drop (i + 1) spans)) now new middle last (subst (λ (x : Bool). ReadsFileLine plans levels (line_at text spans i) now new middle last (Ok x)) e h))
+      (line_last levels (line_at text spans i) (pieces text (drop (i + 1) spans)) now new middle last (subst (λ (x : Bool). ReadsFileLine levels (line_at text spans i) now new middle last (Ok x)) e h))
 
-  pub loop_next : (b : Bool) → b ≡ false → ReadsFileLine plans levels (line_at text spans i) now new middle last (Ok b) → Follows plans levels all (pieces text (drop (i + 1) spans)) old new first last
+  pub loop_next : (b : Bool) → b ≡ false → ReadsFileLine levels (line_at text spans i) now new middle last (Ok b) → Follows levels all (pieces text (drop (i + 1) spans)) old new first last
   loop_next b e h end s r g =
       here end s r
-      (line_next plans levels (line_at text spans i) (pieces text (drop (i + 1) spans)) now new middle last s end r (subst (λ (x : Bool). ReadsFileLine plans levels (line_at text spans i) now new middle last (Ok x)) e h) g)
+      (line_next levels (line_at text spans i) (pieces text (drop (i + 1) spans)) now new middle last s end r (subst (λ (x : Bool). ReadsFileLine levels (line_at text spans i) now new middle last (Ok x)) e h) g)
 
 -- all lines were read
-pub loop_done : (plans : Bool) (levels : ℕ) (text : List ℕ) (spans : List Span) (i : ℕ) (all : List (List ℕ)) (old now : FilesView) (first middle : Script) → i ≡ length spans → length middle.lines.items ≤ most_lines → Follows plans levels all (pieces text (drop i spans)) old now first middle → WalksLines plans levels all old now first middle (Ok false)
-loop_done plans levels text spans i all old now first middle e few follows =
+pub loop_done : (levels : ℕ) (text : List ℕ) (spans : List Span) (i : ℕ) (all : List (List ℕ)) (old now : FilesView) (first middle : Script) → i ≡ length spans → length middle.lines.items ≤ most_lines → Follows levels all (pieces text (drop i spans)) old now first middle → WalksLines levels all old now first middle (Ok false)
+loop_done levels text spans i all old now first middle e few follows =
     let none : [] ≡ pieces text (drop i spans) = sym (ap (λ (n : ℕ). pieces text (drop n spans)) e ∙ ap (pieces text) (drop-length spans)) in
-    follows now middle (Ok false) (subst (λ (ls : List (List ℕ)). WalksLines plans levels ls now now middle middle (Ok false)) none (walk_nothing plans levels now middle few))
+    follows now middle (Ok false) (subst (λ (ls : List (List ℕ)). WalksLines levels ls now now middle middle (Ok false)) none (walk_nothing levels now middle few))

@@ -1,13 +1,12 @@
 pub mod Flattening
+pub mod GeneratedLines
 pub mod JudgedMembers
-pub mod Later
-pub mod LinesNamed
 pub mod Loaded
 pub mod MemberTexts
 pub mod OneScript
 pub mod PlanNames
+pub mod Pushed
 pub mod ReadParts
-pub mod ScriptLines
 pub mod SoundInput
 pub mod Soundness
 pub mod TableNames

@@ -1,30 +1,24 @@
 -- The work, by what its files hold.
-use Rattle.std.proofs.Common.{◌≡◌, ℕ, ◌≤◌, Bool, true, false, Result, Ok, Err, List, [], All, length, map, take, sym, ap, ◌∙◌, subst, arith}
+use Rattle.std.proofs.Common.{◌≡◌, ℕ, ◌≤◌, Result, Ok, Err, List, [], length, map, refl, sym, ap, ◌∙◌, subst}
 use Rattle.std.specs.Global.{Vec}
-use Rattle.std.proofs.lemmas.List.{length-take}
-use Rattle.std.proofs.lemmas.List.Elements.{All-weaker}
 use Rattle.ps_world.specs.Names.{Table}
 use Rattle.ps_world.specs.declared.failures.Failure.{Failure}
 use Rattle.ps_world.specs.declared.failures.Failure.TheVariants.{Refused, OutOfMemory}
-use Rattle.ps_text.specs.Names.{Keeps}
 use Rattle.ps_text.specs.Outside.{FilesView}
-use Rattle.ps_text.proofs.Kept.{kept_front}
 use Rattle.ps_world.specs.declared.domains.Domain.{Domain}
-use Rattle.ps_machine.specs.Tables.{IsLineOf}
 use Rattle.ps_machine.specs.declared.inputs.Input.{Input}
 use Rattle.ps_machine.specs.declared.inputs.Line.{Line}
-use Rattle.ps_print.specs.CanonicalWords.{IsParamOf}
 use Rattle.ps_words.specs.Words.{ReplayRequest, Request, SessionRequest}
-use Rattle.ps_words.specs.Words.Request.{a_session, a_check, a_validation, a_replay}
+use Rattle.ps_words.specs.Words.Request.{a_session, a_check, a_validation, a_replay, a_generation}
 use Rattle.ps_inputs.specs.Reading.{MayGive, Reading, Texts, and_then, read_file}
 use Rattle.ps_inputs.specs.Reading.Reading.{gives}
 use Rattle.ps_inputs.specs.Flats.{Flat, script_in}
 use Rattle.ps_inputs.specs.Scripts.{IsScript}
 use Rattle.ps_inputs.specs.Members.{AreAtFault, AreMembers, NamedText}
-use Rattle.ps_inputs.specs.Input.{HasBadMembers, InputTexts, IsBegun, IsDomain, IsInput, Material, domain_file_of, domain_text_of, first_names, named_texts, reading_of, texts_in, texts_of}
-use Rattle.ps_inputs.specs.Input.Material.{for_session, for_check, for_validation, for_replay}
+use Rattle.ps_inputs.specs.Input.{HasBadMembers, InputTexts, IsBegun, IsDomain, IsInput, Material, domain_in, domain_text_of, generated, named_texts, reading_of, texts_in, texts_of}
+use Rattle.ps_inputs.specs.Input.Material.{for_session, for_check, for_validation, for_replay, for_generation}
 use Rattle.ps_inputs.specs.Faults.{ReadsPart}
-use Rattle.ps_inputs.specs.Parts.{Fits, IsAnswered, IsJudged, IsJudgedAs, IsJudgedInput, IsScriptFrom, IsUnjudged, Joins, Judges, LoadsRequest, ReadsDomainFile, ReadsInput, ReadsMembers, ReadsScript, ReadsText, named}
+use Rattle.ps_inputs.specs.Parts.{Generates, IsAnswered, IsGenerated, IsJudged, IsJudgedAs, IsJudgedInput, IsScriptFrom, IsUnjudged, Joins, Judges, LoadsRequest, ReadsDomainFile, ReadsInput, ReadsMembers, ReadsScript, ReadsText, named}
 use Rattle.ps_inputs.specs.declared.judging.Loaded.{Loaded}
 use Rattle.ps_inputs.specs.declared.reading.domains.Judged.{Judged}
 use Rattle.ps_inputs.specs.declared.reading.inputs.Unjudged.{Unjudged}
@@ -32,16 +26,14 @@ use Rattle.ps_inputs.specs.declared.reading.members.MemberText.{MemberText}
 use Rattle.ps_inputs.specs.declared.reading.scripts.Script.{Script}
 use Rattle.ps_inputs.specs.declared.faults.Fault.{Fault}
 use Rattle.ps_inputs.specs.declared.faults.Fault.TheVariants.{Usage, NoDomain, NoMember, Crowd, Twice, TooLong, Lines, Unread}
+use Rattle.ps_inputs.specs.declared.works.Generation.{Generation}
 use Rattle.ps_inputs.specs.declared.works.Replay.{Replay}
 use Rattle.ps_inputs.specs.declared.works.Session.{Session}
 use Rattle.ps_inputs.specs.declared.works.Validation.{Validation}
 use Rattle.ps_inputs.specs.declared.works.Work.{Work}
 use Rattle.ps_inputs.specs.declared.works.Work.TheVariants as work
 use Rattle.ps_inputs.specs.declared.works.Work.TheVariants.{Check}
-use Rattle.ps_inputs.proofs.Later.{line-later, params-later}
 use Rattle.ps_inputs.proofs.ReadParts.{give_be, out_of_memory, read_nothing, then_ended, then_read}
-use Rattle.ps_inputs.proofs.ScriptLines.{IsLeft, left_after}
-use Rattle.ps_inputs.proofs.TableNames.{AreNames-first, after_read, domain_within}
 
 -- ---- the domain
 
@@ -50,7 +42,7 @@ pub judged_domain : (text : List ℕ) (j : Judged) (d : Domain) → j.domain ≡
 judged_domain text j d e is = subst (IsJudgedAs text j.names) e is
 
 -- one that isn't has its fault
-judged_fault : (texts : Texts) (names : Table) (request : Request) (m : Material) (fault : Fault) → IsJudgedAs (domain_text_of m) names (Err fault) → MayGive (read_file texts (domain_file_of request)) (λ text. IsJudgedAs text names (Err fault)) → IsAnswered texts request m (Err fault)
+judged_fault : (texts : Texts) (names : Table) (request : Request) (m : Material) (fault : Fault) → IsJudgedAs (domain_text_of m) names (Err fault) → MayGive (domain_in texts request) (λ text. IsJudgedAs text names (Err fault)) → IsAnswered texts request m (Err fault)
 judged_fault texts names request m Usage is told = absurd is
 judged_fault texts names request m (NoDomain cause) is told = (is, told)
 judged_fault texts names request m (NoMember file cause) is told = absurd is
@@ -84,7 +76,7 @@ module _ (file : List ℕ) (old new : FilesView) where
 
 -- ---- the texts of an input
 
-module _ (plans : Bool) (domain_file script_file : List ℕ) (member_files : List (List ℕ)) (old : FilesView) where
+module _ (domain_file script_file : List ℕ) (member_files : List (List ℕ)) (old : FilesView) where
   -- what the members' texts give
   abbrev input_of : List ℕ → Flat → List NamedText → Reading InputTexts
   input_of d flat members = gives [] (record { domain = d; script = flat.lines; members = members })
@@ -93,27 +85,27 @@ module _ (plans : Bool) (domain_file script_file : List ℕ) (member_files : Lis
   members_after t d flat = and_then (named_texts t member_files) (input_of d flat)
 
   abbrev script_after : Texts → List ℕ → Reading InputTexts
-  script_after t d = and_then (script_in plans t script_file) (members_after t d)
+  script_after t d = and_then (script_in t script_file) (members_after t d)
 
-  pub input_undomained : (new : FilesView) (why : Failure Fault) → ReadsDomainFile domain_file old new (Err why) → ReadsInput plans domain_file script_file member_files old new (Err why)
+  pub input_undomained : (new : FilesView) (why : Failure Fault) → ReadsDomainFile domain_file old new (Err why) → ReadsInput domain_file script_file member_files old new (Err why)
   unfolding texts_in
   input_undomained new why h = then_ended (read_file old.told domain_file) (script_after old.told) old new why h
 
   module _ (middle : FilesView) (j : Judged) (first : ReadsDomainFile domain_file old middle (Ok j)) where
-    pub input_unscripted : (new : FilesView) (why : Failure Fault) → ReadsScript j.names plans script_file middle new (Err why) → ReadsInput plans domain_file script_file member_files old new (Err why)
+    pub input_unscripted : (new : FilesView) (why : Failure Fault) → ReadsScript j.names script_file middle new (Err why) → ReadsInput domain_file script_file member_files old new (Err why)
     unfolding texts_in
     input_unscripted new why h =
-        then_read (read_file old.told domain_file) script_after old middle new j (Err why) first (λ d is. then_ended (script_in plans middle.told script_file) (members_after middle.told d) middle new why h)
+        then_read (read_file old.told domain_file) script_after old middle new j (Err why) first (λ d is. then_ended (script_in middle.told script_file) (members_after middle.told d) middle new why h)
 
-    module _ (later new : FilesView) (script : Script) (second : ReadsScript j.names plans script_file middle later (Ok script)) where
-      pub input_unmembered : (why : Failure Fault) → ReadsMembers member_files later new (Err why) → ReadsInput plans domain_file script_file member_files old new (Err why)
+    module _ (later new : FilesView) (script : Script) (second : ReadsScript j.names script_file middle later (Ok script)) where
+      pub input_unmembered : (why : Failure Fault) → ReadsMembers member_files later new (Err why) → ReadsInput domain_file script_file member_files old new (Err why)
       unfolding texts_in
       input_unmembered why h =
           then_read (read_file old.told domain_file) script_after old middle new j (Err why) first
-          (λ d is. then_read (script_in plans middle.told script_file) (λ t flat. members_after t d flat) middle later new script (Err why) second
+          (λ d is. then_read (script_in middle.told script_file) (λ t flat. members_after t d flat) middle later new script (Err why) second
           (λ flat are. then_ended (named_texts later.told member_files) (input_of d flat) later new why h))
 
-      unjudged : (u : Unjudged) (d : List ℕ) (flat : Flat) (members : List NamedText) → u.names ≡ script.names → u.domain ≡ j.domain → u.lines.items ≡ script.lines.items → IsJudged d j → IsScriptFrom j.names flat script → map named u.members.items ≡ members → IsUnjudged old.told domain_file (record { domain = d; script = flat.lines; members = members }) u
+      unjudged : (u : Unjudged) (d : List ℕ) (flat : Flat) (members : List NamedText) → u.names ≡ script.names → u.domain ≡ j.domain → u.lines.items ≡ script.lines.items → IsJudged d j → IsScriptFrom j.names flat.lines script → map named u.members.items ≡ members → IsUnjudged (read_file old.told domain_file) (record { domain = d; script = flat.lines; members = members }) u
       unjudged u d flat members names domain lines is are same = record {
         between = j.names;
         judged = subst (IsJudgedAs d j.names) (sym domain) is;
@@ -123,28 +115,20 @@ module _ (plans : Bool) (domain_file script_file : List ℕ) (member_files : Lis
         members = same;
       }
 
-      pub input_read : (u : Unjudged) (v : Vec MemberText) → u.names ≡ script.names → u.domain ≡ j.domain → u.lines.items ≡ script.lines.items → u.members.items ≡ v.items → ReadsMembers member_files later new (Ok v) → ReadsInput plans domain_file script_file member_files old new (Ok u)
+      pub input_read : (u : Unjudged) (v : Vec MemberText) → u.names ≡ script.names → u.domain ≡ j.domain → u.lines.items ≡ script.lines.items → u.members.items ≡ v.items → ReadsMembers member_files later new (Ok v) → ReadsInput domain_file script_file member_files old new (Ok u)
       unfolding texts_in
       input_read u v names domain lines kept h =
           then_read (read_file old.told domain_file) script_after old middle new j (Ok u) first
-          (λ d is. then_read (script_in plans middle.told script_file) (λ t flat. members_after t d flat) middle later new script (Ok u) second
+          (λ d is. then_read (script_in middle.told script_file) (λ t flat. members_after t d flat) middle later new script (Ok u) second
           (λ flat are. then_read (named_texts later.told member_files) (λ t members. input_of d flat members) later new new v (Ok u) h
           (λ members same. read_nothing new (record { domain = d; script = flat.lines; members = members }) u (unjudged u d flat members names domain lines is are (ap (map named) kept ∙ same)))))
 
 -- ---- the input that texts are
 
-kept_longer : (t u : Table) → Keeps t u → length t ≤ length u
-kept_longer t u kept =
-    let same : length (take (length t) u) ≡ length t = ap length (kept_front t u kept) in
-    omega (arith, same, length-take (length t) u)
-
-module _ (told : Texts) (domain_file : List ℕ) (texts : InputTexts) (u : Unjudged) (budget replans : ℕ) (read : IsUnjudged told domain_file texts u) where
+module _ (domain : Reading (List ℕ)) (texts : InputTexts) (u : Unjudged) (budget replans : ℕ) (read : IsUnjudged domain texts u) where
   module _ (d : Domain) (good : u.domain ≡ Ok d) where
     read_domain : IsDomain texts.domain d read.between
     read_domain = subst (IsJudgedAs texts.domain read.between) good read.judged
-
-    script_left : IsLeft read.between u.names texts.script u.lines.items
-    script_left = left_after read.between texts.script u.lines.items u.names (after_read first_names read.between texts.domain (Ok d) read_domain AreNames-first) read.lines
 
     begun : IsBegun texts d u.names
     begun = record { between = read.between; read = read_domain; given = u.lines.items; lines = read.lines }
@@ -156,31 +140,18 @@ module _ (told : Texts) (domain_file : List ℕ) (texts : InputTexts) (u : Unjud
     joined_input : (l : Loaded) → Joins u.names d u.lines.items (map named u.members.items) budget replans (Ok l) → IsInput budget replans texts l.input l.names
     joined_input l is = record {
       between = read.between;
-      read = subst (λ (x : Domain). IsDomain texts.domain x read.between) (sym is.4) read_domain;
+      read = subst (λ (x : Domain). IsDomain texts.domain x read.between) (sym is.3) read_domain;
       named = u.names;
-      lines = subst (λ (ls : List Line). IsScript read.between texts.script ls u.names) (sym is.5) read.lines;
-      members = subst (λ (x : Domain). AreMembers x u.names texts.members l.input.members l.names) (sym is.4) (subst (λ (ts : List NamedText). AreMembers d u.names ts l.input.members l.names) read.members is.0);
+      lines = subst (λ (ls : List Line). IsScript read.between texts.script ls u.names) (sym is.4) read.lines;
+      members = subst (λ (x : Domain). AreMembers x u.names texts.members l.input.members l.names) (sym is.3) (subst (λ (ts : List NamedText). AreMembers d u.names ts l.input.members l.names) read.members is.0);
       few = is.1;
       apart = is.2;
-      bounded = is.6;
-      renewed = is.7;
+      bounded = is.5;
+      renewed = is.6;
     }
 
-    joined_fits : (l : Loaded) → Joins u.names d u.lines.items (map named u.members.items) budget replans (Ok l) → Fits l.input l.names
-    joined_fits l is =
-        let grows : length u.names ≤ length l.names = kept_longer u.names l.names is.3 in
-        let within = domain_within first_names texts.domain d read.between AreNames-first read_domain in
-        let between : length read.between ≤ length l.names = omega (arith, grows, script_left.grows) in
-        let constants : All (IsParamOf (length l.names)) d.constants = params-later (length read.between) (length l.names) between d.constants within.constants in
-        let lines : All (IsLineOf (length l.names)) u.lines.items = All-weaker (IsLineOf (length u.names)) (IsLineOf (length l.names)) (line-later (length u.names) (length l.names) grows) u.lines.items script_left.named in
-        record {
-          few = omega (arith, ap length is.5, read.few);
-          named = subst (All (IsLineOf (length l.names))) (sym is.5) lines;
-          constants = subst (λ (x : Domain). All (IsParamOf (length l.names)) x.constants) (sym is.4) constants;
-        }
-
-    pub judged_input : (r : Result Loaded (Failure Fault)) → Joins u.names d u.lines.items (map named u.members.items) budget replans r → IsJudgedInput told domain_file texts budget replans r
-    judged_input (Ok l) is = (joined_input l is, joined_fits l is)
+    pub judged_input : (r : Result Loaded (Failure Fault)) → Joins u.names d u.lines.items (map named u.members.items) budget replans r → IsJudgedInput domain texts budget replans r
+    judged_input (Ok l) is = (joined_input l is, subst (λ (ls : List Line). length ls ≤ 10000) (sym is.4) read.few)
     judged_input (Err (Refused Usage)) is = absurd is
     judged_input (Err (Refused (NoDomain cause))) is = absurd is
     judged_input (Err (Refused (NoMember file cause))) is = bad_members (NoMember file cause) is
@@ -191,7 +162,7 @@ module _ (told : Texts) (domain_file : List ℕ) (texts : InputTexts) (u : Unjud
     judged_input (Err (Refused (Unread file))) is = absurd is
     judged_input (Err OutOfMemory) is = tt
 
-  no_domain : (fault : Fault) → IsJudgedAs texts.domain read.between (Err fault) → MayGive (read_file told domain_file) (λ text. IsJudgedAs text read.between (Err fault)) → IsJudgedInput told domain_file texts budget replans (Err (Refused fault))
+  no_domain : (fault : Fault) → IsJudgedAs texts.domain read.between (Err fault) → MayGive domain (λ text. IsJudgedAs text read.between (Err fault)) → IsJudgedInput domain texts budget replans (Err (Refused fault))
   no_domain Usage is also = absurd is
   no_domain (NoDomain cause) is also = (is, also)
   no_domain (NoMember file cause) is also = absurd is
@@ -202,13 +173,13 @@ module _ (told : Texts) (domain_file : List ℕ) (texts : InputTexts) (u : Unjud
   no_domain (Unread file) is also = absurd is
 
   -- the domain's text is none
-  pub undomained : (fault : Fault) → u.domain ≡ Err fault → IsJudgedInput told domain_file texts budget replans (Err (Refused fault))
+  pub undomained : (fault : Fault) → u.domain ≡ Err fault → IsJudgedInput domain texts budget replans (Err (Refused fault))
   undomained fault bad =
       no_domain fault (subst (IsJudgedAs texts.domain read.between) bad read.judged)
-      (subst (λ (r : Result Domain Fault). MayGive (read_file told domain_file) (λ text. IsJudgedAs text read.between r)) bad read.told_judged)
+      (subst (λ (r : Result Domain Fault). MayGive domain (λ text. IsJudgedAs text read.between r)) bad read.told_judged)
 
 -- a fault of the texts is the answer
-answered_fault : (told : Texts) (request : Request) (m : Material) (budget replans : ℕ) (fault : Fault) → IsJudgedInput told (domain_file_of request) (texts_of m) budget replans (Err (Refused fault)) → IsAnswered told request m (Err fault)
+answered_fault : (told : Texts) (request : Request) (m : Material) (budget replans : ℕ) (fault : Fault) → IsJudgedInput (domain_in told request) (texts_of m) budget replans (Err (Refused fault)) → IsAnswered told request m (Err fault)
 answered_fault told request m budget replans Usage is = is
 answered_fault told request m budget replans (NoDomain cause) is = is
 answered_fault told request m budget replans (NoMember file cause) is = is
@@ -225,25 +196,25 @@ module _ (s : SessionRequest) (old new : FilesView) where
   abbrev session_of : InputTexts → Reading Material
   session_of input = gives [] (for_session s.budget input)
 
-  pub session_unread : (why : Failure Fault) → ReadsInput false s.domain s.script s.members old new (Err why) → LoadsRequest (a_session s) old new (Err why)
+  pub session_unread : (why : Failure Fault) → ReadsInput s.domain s.script s.members old new (Err why) → LoadsRequest (a_session s) old new (Err why)
   unfolding reading_of
-  session_unread why h = then_ended (texts_in false old.told s.domain s.script s.members) session_of old new why h
+  session_unread why h = then_ended (texts_in old.told s.domain s.script s.members) session_of old new why h
 
-  module _ (u : Unjudged) (h : ReadsInput false s.domain s.script s.members old new (Ok u)) where
-    session_read : (r : Result Work Fault) → ((input : InputTexts) → IsUnjudged old.told s.domain input u → IsAnswered old.told (a_session s) (for_session s.budget input) r) → LoadsRequest (a_session s) old new (Ok r)
+  module _ (u : Unjudged) (h : ReadsInput s.domain s.script s.members old new (Ok u)) where
+    session_read : (r : Result Work Fault) → ((input : InputTexts) → IsUnjudged (read_file old.told s.domain) input u → IsAnswered old.told (a_session s) (for_session s.budget input) r) → LoadsRequest (a_session s) old new (Ok r)
     unfolding reading_of
     session_read r f =
-        then_read (texts_in false old.told s.domain s.script s.members) (λ t input. session_of input) old new new u (Ok r) h
+        then_read (texts_in old.told s.domain s.script s.members) (λ t input. session_of input) old new new u (Ok r) h
         (λ input is. read_nothing new (for_session s.budget input) r (f input is))
 
     pub session_good : (l : Loaded) (w : Session) → w.names ≡ l.names → w.input ≡ l.input → Judges u s.budget 0 (Ok l) → LoadsRequest (a_session s) old new (Ok (Ok (work.Session w)))
     session_good l w names input judges =
         session_read (Ok (work.Session w))
-        (λ texts is. (tt, subst (λ (t : Table). IsInput s.budget 0 texts w.input t) (sym names) (subst (λ (i : Input). IsInput s.budget 0 texts i l.names) (sym input) (judges old.told s.domain texts is).0)))
+        (λ texts is. (tt, subst (λ (t : Table). IsInput s.budget 0 texts w.input t) (sym names) (subst (λ (i : Input). IsInput s.budget 0 texts i l.names) (sym input) (judges (read_file old.told s.domain) texts is).0)))
 
     pub session_bad : (fault : Fault) → Judges u s.budget 0 (Err (Refused fault)) → LoadsRequest (a_session s) old new (Ok (Err fault))
     session_bad fault judges =
-        session_read (Err fault) (λ texts is. answered_fault old.told (a_session s) (for_session s.budget texts) s.budget 0 fault (judges old.told s.domain texts is))
+        session_read (Err fault) (λ texts is. answered_fault old.told (a_session s) (for_session s.budget texts) s.budget 0 fault (judges (read_file old.told s.domain) texts is))
 
     -- memory runs out after all files are read
     pub session_starved : LoadsRequest (a_session s) old new (Err OutOfMemory)
@@ -262,20 +233,20 @@ module _ (request : Request) (domain_file script_file last_file : List ℕ) (mem
   -- what reading all of them comes to
   abbrev LoadsAll : FilesView → Result (Result Work Fault) (Failure Fault) → Type 0
   LoadsAll new r =
-      ReadsPart (and_then (texts_in true old.told domain_file script_file member_files) (last_after old.told)) old new (IsAnswered old.told request) r
+      ReadsPart (and_then (texts_in old.told domain_file script_file member_files) (last_after old.told)) old new (IsAnswered old.told request) r
 
-  input_unread : (new : FilesView) (why : Failure Fault) → ReadsInput true domain_file script_file member_files old new (Err why) → LoadsAll new (Err why)
-  input_unread new why h = then_ended (texts_in true old.told domain_file script_file member_files) (last_after old.told) old new why h
+  input_unread : (new : FilesView) (why : Failure Fault) → ReadsInput domain_file script_file member_files old new (Err why) → LoadsAll new (Err why)
+  input_unread new why h = then_ended (texts_in old.told domain_file script_file member_files) (last_after old.told) old new why h
 
-  module _ (middle new : FilesView) (u : Unjudged) (first : ReadsInput true domain_file script_file member_files old middle (Ok u)) where
+  module _ (middle new : FilesView) (u : Unjudged) (first : ReadsInput domain_file script_file member_files old middle (Ok u)) where
     last_unread : (why : Failure Fault) → ReadsText last_file middle new (Err why) → LoadsAll new (Err why)
     last_unread why h =
-        then_read (texts_in true old.told domain_file script_file member_files) last_after old middle new u (Err why) first
+        then_read (texts_in old.told domain_file script_file member_files) last_after old middle new u (Err why) first
         (λ input is. then_ended (read_file middle.told last_file) (last_of input) middle new why h)
 
-    last_read : (last : Vec ℕ) → ReadsText last_file middle new (Ok last) → (r : Result Work Fault) → ((input : InputTexts) → IsUnjudged old.told domain_file input u → IsAnswered old.told request (made input last.items) r) → LoadsAll new (Ok r)
+    last_read : (last : Vec ℕ) → ReadsText last_file middle new (Ok last) → (r : Result Work Fault) → ((input : InputTexts) → IsUnjudged (read_file old.told domain_file) input u → IsAnswered old.told request (made input last.items) r) → LoadsAll new (Ok r)
     last_read last h r f =
-        then_read (texts_in true old.told domain_file script_file member_files) last_after old middle new u (Ok r) first
+        then_read (texts_in old.told domain_file script_file member_files) last_after old middle new u (Ok r) first
         (λ input is. then_read (read_file middle.told last_file) (λ t x. last_of input x) middle new new last (Ok r) h
         (λ x e. read_nothing new (made input x) r (subst (λ (y : List ℕ). IsAnswered old.told request (made input y) r) e (f input is))))
 
@@ -285,17 +256,17 @@ module _ (domain_file script_file plan_file : List ℕ) (old : FilesView) where
   abbrev validation_request : Request
   validation_request = a_validation domain_file script_file plan_file
 
-  pub validation_unread : (new : FilesView) (why : Failure Fault) → ReadsInput true domain_file script_file [] old new (Err why) → LoadsRequest validation_request old new (Err why)
+  pub validation_unread : (new : FilesView) (why : Failure Fault) → ReadsInput domain_file script_file [] old new (Err why) → LoadsRequest validation_request old new (Err why)
   unfolding reading_of
   validation_unread new why h = input_unread validation_request domain_file script_file plan_file [] for_validation old new why h
 
-  module _ (middle new : FilesView) (u : Unjudged) (first : ReadsInput true domain_file script_file [] old middle (Ok u)) where
+  module _ (middle new : FilesView) (u : Unjudged) (first : ReadsInput domain_file script_file [] old middle (Ok u)) where
     pub validation_unplanned : (why : Failure Fault) → ReadsText plan_file middle new (Err why) → LoadsRequest validation_request old new (Err why)
     unfolding reading_of
     validation_unplanned why h = last_unread validation_request domain_file script_file plan_file [] for_validation old middle new u first why h
 
     module _ (plan : Vec ℕ) (h : ReadsText plan_file middle new (Ok plan)) where
-      validation_read : (r : Result Work Fault) → ((input : InputTexts) → IsUnjudged old.told domain_file input u → IsAnswered old.told validation_request (for_validation input plan.items) r) → LoadsRequest validation_request old new (Ok r)
+      validation_read : (r : Result Work Fault) → ((input : InputTexts) → IsUnjudged (read_file old.told domain_file) input u → IsAnswered old.told validation_request (for_validation input plan.items) r) → LoadsRequest validation_request old new (Ok r)
       unfolding reading_of
       validation_read r f = last_read validation_request domain_file script_file plan_file [] for_validation old middle new u first plan h r f
 
@@ -305,14 +276,14 @@ module _ (domain_file script_file plan_file : List ℕ) (old : FilesView) where
           (λ texts is. (
             tt,
             (
-              subst (λ (t : Table). IsInput 0 0 texts w.input t) (sym names) (subst (λ (i : Input). IsInput 0 0 texts i l.names) (sym input) (judges old.told domain_file texts is).0),
+              subst (λ (t : Table). IsInput 0 0 texts w.input t) (sym names) (subst (λ (i : Input). IsInput 0 0 texts i l.names) (sym input) (judges (read_file old.told domain_file) texts is).0),
               ap (λ (v : Vec ℕ). v.items) same,
             ),
           ))
 
       pub validation_bad : (fault : Fault) → Judges u 0 0 (Err (Refused fault)) → LoadsRequest validation_request old new (Ok (Err fault))
       validation_bad fault judges =
-          validation_read (Err fault) (λ texts is. answered_fault old.told validation_request (for_validation texts plan.items) 0 0 fault (judges old.told domain_file texts is))
+          validation_read (Err fault) (λ texts is. answered_fault old.told validation_request (for_validation texts plan.items) 0 0 fault (judges (read_file old.told domain_file) texts is))
 
       -- memory runs out after all files are read
       pub validation_starved : LoadsRequest validation_request old new (Err OutOfMemory)
@@ -321,17 +292,17 @@ module _ (domain_file script_file plan_file : List ℕ) (old : FilesView) where
 -- ---- a replay
 
 module _ (s : ReplayRequest) (old : FilesView) where
-  pub replay_unread : (new : FilesView) (why : Failure Fault) → ReadsInput true s.domain s.script s.members old new (Err why) → LoadsRequest (a_replay s) old new (Err why)
+  pub replay_unread : (new : FilesView) (why : Failure Fault) → ReadsInput s.domain s.script s.members old new (Err why) → LoadsRequest (a_replay s) old new (Err why)
   unfolding reading_of
   replay_unread new why h = input_unread (a_replay s) s.domain s.script s.journal s.members (for_replay s.budget s.replans) old new why h
 
-  module _ (middle new : FilesView) (u : Unjudged) (first : ReadsInput true s.domain s.script s.members old middle (Ok u)) where
+  module _ (middle new : FilesView) (u : Unjudged) (first : ReadsInput s.domain s.script s.members old middle (Ok u)) where
     pub replay_unrecorded : (why : Failure Fault) → ReadsText s.journal middle new (Err why) → LoadsRequest (a_replay s) old new (Err why)
     unfolding reading_of
     replay_unrecorded why h = last_unread (a_replay s) s.domain s.script s.journal s.members (for_replay s.budget s.replans) old middle new u first why h
 
     module _ (journal : Vec ℕ) (h : ReadsText s.journal middle new (Ok journal)) where
-      replay_read : (r : Result Work Fault) → ((input : InputTexts) → IsUnjudged old.told s.domain input u → IsAnswered old.told (a_replay s) (for_replay s.budget s.replans input journal.items) r) → LoadsRequest (a_replay s) old new (Ok r)
+      replay_read : (r : Result Work Fault) → ((input : InputTexts) → IsUnjudged (read_file old.told s.domain) input u → IsAnswered old.told (a_replay s) (for_replay s.budget s.replans input journal.items) r) → LoadsRequest (a_replay s) old new (Ok r)
       unfolding reading_of
       replay_read r f = last_read (a_replay s) s.domain s.script s.journal s.members (for_replay s.budget s.replans) old middle new u first journal h r f
 
@@ -342,7 +313,7 @@ module _ (s : ReplayRequest) (old : FilesView) where
             tt,
             (
               subst (λ (t : Table). IsInput s.budget s.replans texts w.input t) (sym names)
-                  (subst (λ (i : Input). IsInput s.budget s.replans texts i l.names) (sym input) (judges old.told s.domain texts is).0),
+                  (subst (λ (i : Input). IsInput s.budget s.replans texts i l.names) (sym input) (judges (read_file old.told s.domain) texts is).0),
               ap (λ (v : Vec ℕ). v.items) same,
             ),
           ))
@@ -350,8 +321,36 @@ module _ (s : ReplayRequest) (old : FilesView) where
       pub replay_bad : (fault : Fault) → Judges u s.budget s.replans (Err (Refused fault)) → LoadsRequest (a_replay s) old new (Ok (Err fault))
       replay_bad fault judges =
           replay_read (Err fault)
-          (λ texts is. answered_fault old.told (a_replay s) (for_replay s.budget s.replans texts journal.items) s.budget s.replans fault (judges old.told s.domain texts is))
+          (λ texts is. answered_fault old.told (a_replay s) (for_replay s.budget s.replans texts journal.items) s.budget s.replans fault (judges (read_file old.told s.domain) texts is))
 
       -- memory runs out after all files are read
       pub replay_starved : LoadsRequest (a_replay s) old new (Err OutOfMemory)
       replay_starved = out_of_memory (reading_of old.told (a_replay s)) old new (h.failed ∙ first.failed) (h.same ∙ first.same)
+
+-- ---- a generation
+
+module _ (carts : ℕ) (u : Unjudged) (is : IsGenerated carts u) where
+  generation_read : (r : Result Work Fault) → ((told : Texts) → IsAnswered told (a_generation carts) (for_generation carts) r) → Generates carts (Ok r)
+  unfolding reading_of
+  generation_read r f files = read_nothing files (for_generation carts) r (f files.told)
+
+  pub generation_good : (l : Loaded) (w : Generation) → w.carts ≡ carts → w.names ≡ l.names → w.input ≡ l.input → Judges u 20000 0 (Ok l) → Generates carts (Ok (Ok (work.Generation w)))
+  generation_good l w count names input judges =
+      generation_read (Ok (work.Generation w))
+      (λ told. (
+        count,
+        (
+          subst (λ (t : Table). IsInput 20000 0 (generated carts) w.input t) (sym names)
+              (subst (λ (i : Input). IsInput 20000 0 (generated carts) i l.names) (sym input) (judges (domain_in told (a_generation carts)) (generated carts) is).0),
+          count,
+        ),
+      ))
+
+  pub generation_bad : (fault : Fault) → Judges u 20000 0 (Err (Refused fault)) → Generates carts (Ok (Err fault))
+  generation_bad fault judges =
+      generation_read (Err fault)
+      (λ told. answered_fault told (a_generation carts) (for_generation carts) 20000 0 fault (judges (domain_in told (a_generation carts)) (generated carts) is))
+
+-- memory runs out
+pub generation_starved : (carts : ℕ) → Generates carts (Err OutOfMemory)
+generation_starved carts files = out_of_memory (reading_of files.told (a_generation carts)) files files refl refl

@@ -1,11 +1,11 @@
 -- A script is read as one list of lines at most.
 use Rattle.std.proofs.Common.{◌≡◌, List, [], ◌∷◌, ◌++◌, refl, sym, ap, subst, ◌∙◌}
 use Rattle.ps_world.specs.Names.{Table}
-use Rattle.ps_machine.specs.declared.inputs.LineCause.TheVariants.{NotBuilt}
 use Rattle.ps_machine.specs.declared.inputs.Command.TheVariants.{RunPlan}
 use Rattle.ps_machine.specs.declared.inputs.Line.{Line}
-use Rattle.ps_machine.specs.declared.inputs.Line.TheVariants.{Good, Bad}
+use Rattle.ps_machine.specs.declared.inputs.Line.TheVariants.{Good}
 use Rattle.ps_script.specs.declared.reading.Read.{Read}
+use Rattle.ps_script.specs.declared.reading.Read.TheVariants as read
 use Rattle.ps_script.proofs.OneAnswer.{lines_are_read_as_one}
 use Rattle.ps_inputs.specs.Laws.{ScriptsAreReadAsOne}
 use Rattle.ps_inputs.specs.Scripts.{Adds, IsScript, given_by, plan_in}
@@ -16,8 +16,9 @@ use Rattle.ps_inputs.specs.Flats.Flattened.{plain, with_plan, too_deep}
 -- a command line adds one list of lines at most
 adds_one : (table : Table) (one : Flattened) (new more : List Line) (after other : Table) → Adds table one new after → Adds table one more other → (new ≡ more) × (after ≡ other)
 adds_one table (plain bytes) new more after other h g =
-    let same = lines_are_read_as_one table bytes h.0 g.0 after other h.1 g.1 in
-    (h.2 ∙ ap (given_by (Bad NotBuilt)) same.0 ∙ sym g.2, same.1)
+    let same = lines_are_read_as_one table bytes (read.Line h.0) (read.Line g.0) after other h.1 g.1 in
+    let one : h.0 ≡ g.0 = (let line : read.Line h.0 ≡ read.Line g.0 = same.0 in cc) in
+    (h.2 ∙ ap (λ (l : Line). l ∷ []) one ∙ sym g.2, same.1)
 adds_one table (with_plan bytes text) new more after other h g =
     let same = lines_are_read_as_one table bytes h.0 g.0 h.1 g.1 h.2 g.2 in
     let run : Read → Table → List Line = λ r t. given_by (Good (RunPlan (plan_in t text).0)) r in

@@ -1,22 +1,17 @@
 -- The names of a plan's text are put into a table of names.
-use Rattle.std.proofs.Common.{◌≡◌, ℕ, ◌-◌, ◌≤◌, ℤ, Bool, true, false, if◌then◌else◌, Option, Some, None, IfSome, Result, List, [], ◌∷◌, length, refl, ap, sym, ◌∙◌, arith}
+use Rattle.std.proofs.Common.{◌≡◌, ℕ, ◌-◌, ℤ, Bool, true, false, if◌then◌else◌, Option, Some, None, IfSome, List, [], ◌∷◌, length, refl, ap, sym, ◌∙◌, arith}
 use Rattle.std.specs.List.{cons_option, filter_map, list_all}
 use Rattle.std.specs.Option.{option_map, option_zip}
 use Rattle.std.proofs.lemmas.Bool.{and_parts}
-use Rattle.std.proofs.lemmas.List.Elements.{All-nil}
 use Rattle.ps_world.specs.Names.{Table}
 use Rattle.ps_world.specs.Lines.{lines_of}
 use Rattle.ps_action.specs.declared.acts.PlanStep.{PlanStep}
-use Rattle.ps_machine.specs.Tables.{IsLineOf, IsStepOf}
-use Rattle.ps_machine.specs.declared.inputs.Command.TheVariants.{RunPlan}
-use Rattle.ps_machine.specs.declared.inputs.Line.TheVariants.{Good}
 use Rattle.ps_text.specs.Names.{folded, interned, is_name, AreNames}
 use Rattle.ps_text.specs.Words.{word_at}
-use Rattle.ps_plan.specs.PlanText.{Said, amount_of, fits, is_skipped, line_of, named_all, names_from, parts_of, placed, planned, plan_fault, said_by, said_of, says, step_of, table_after, times_of}
+use Rattle.ps_plan.specs.PlanText.{Said, amount_of, fits, is_skipped, line_of, named_all, names_from, parts_of, placed, planned, plan_fault, said_of, says, step_of, table_after, times_of}
 use Rattle.ps_action.specs.declared.refusals.PlanTextRefusal.{PlanTextRefusal}
 use Rattle.ps_plan.proofs.LineParts.{names_from-more}
 use Rattle.ps_plan.proofs.NamedParts.{fit_parts}
-use Rattle.ps_plan.proofs.PlanNames.{planned-grows, planned-within}
 use Rattle.ps_inputs.specs.Scripts.{plan_in, unless_faulty}
 use Rattle.ps_inputs.proofs.TableNames.{with_name}
 
@@ -67,18 +62,9 @@ all_lines_named : (t : Table) (steps : List PlanStep) (lines : List (List ℕ)) 
 all_lines_named t steps [] n = n
 all_lines_named t steps (line ∷ lines) n = one_named t steps (says line) (filter_map says lines) (λ t' steps' m. all_lines_named t' steps' lines m) (line_named line) n
 
--- What a plan's text leaves: a table of names, which has at least those before, and among them those of its steps.
-pub record IsPlanLeft (before : Table) (left : Result (List PlanStep) PlanTextRefusal × Table) : Type 0 where
-  pub names : AreNames left.1
-  pub grows : length before ≤ length left.1
-  pub named : IsLineOf (length left.1) (Good (RunPlan left.0))
-
-pub after_plan : (t : Table) (text : List ℕ) → AreNames t → IsPlanLeft t (plan_in t text)
+-- a plan's text leaves a table of names
+pub after_plan : (t : Table) (text : List ℕ) → AreNames t → AreNames (plan_in t text).1
 after_plan t text n = by_case (plan_fault text) where
-  by_case : (fault : Option PlanTextRefusal) → IsPlanLeft t (unless_faulty t text fault)
-  by_case (Some fault) = record { names = n; grows = omega arith; named = tt }
-  by_case None = record {
-    names = all_lines_named t [] (lines_of text) n;
-    grows = planned-grows t [] (said_by text);
-    named = planned-within t [] (said_by text) (All-nil (IsStepOf (length t)));
-  }
+  by_case : (fault : Option PlanTextRefusal) → AreNames (unless_faulty t text fault).1
+  by_case (Some fault) = n
+  by_case None = all_lines_named t [] (lines_of text) n

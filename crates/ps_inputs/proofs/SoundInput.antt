@@ -7,7 +7,7 @@ use Rattle.ps_action.specs.declared.refusals.PlanTextRefusal.{PlanTextRefusal}
 use Rattle.ps_machine.specs.declared.inputs.Input.{Input}
 use Rattle.ps_machine.specs.declared.inputs.Line.{Line}
 use Rattle.ps_machine.specs.declared.inputs.Line.TheVariants.{Good, Bad}
-use Rattle.ps_machine.specs.declared.inputs.LineCause.TheVariants.{Nest, NotBuilt}
+use Rattle.ps_machine.specs.declared.inputs.LineCause.TheVariants.{Nest}
 use Rattle.ps_machine.specs.declared.inputs.Command.TheVariants.{RunPlan}
 use Rattle.ps_machine.specs.declared.members.Member.{Member}
 use Rattle.ps_machine.specs.declared.members.Member.TheVariants.{Performer, Observer}
@@ -52,7 +52,7 @@ given_sound table after bytes run sound (read.RunPlan file) is = one_line run so
 
 -- what a command line adds is sound
 added_sound : (table : Table) (one : Flattened) (new : List Line) (after : Table) → Adds table one new after → All IsSoundLine new
-added_sound table (plain bytes) new after is = subst (All IsSoundLine) (sym is.2) (given_sound table after bytes (Bad NotBuilt) tt is.0 is.1)
+added_sound table (plain bytes) new after is = subst (All IsSoundLine) (sym is.2) (one_line is.0 (lines_are_sound table bytes is.0 after is.1))
 added_sound table (with_plan bytes text) new after is =
     subst (All IsSoundLine) (sym is.3) (given_sound table is.1 bytes (Good (RunPlan (plan_in is.1 text).0)) (plan_sound is.1 text (plan_fault text) refl) is.0 is.2)
 added_sound table too_deep new after is = subst (All IsSoundLine) (sym is.0) (one_line (Bad Nest) tt)

@@ -1,11 +1,11 @@
 -- Reading keeps a table of names one.
-use Rattle.std.proofs.Common.{◌≡◌, ℕ, ◌<◌, Bool, suc, zero, true, false, if◌then◌else◌, Option, Some, None, is_none, is_ok, Ok, List, length, [], ◌∷◌, codes, map, drop, slice_range, slice_index_or, refl, sym, ap, ◌∙◌, subst, arith, inl, inr}
+use Rattle.std.proofs.Common.{◌≡◌, ℕ, ◌<◌, Bool, suc, zero, true, false, if◌then◌else◌, Option, Some, None, is_none, is_ok, List, [], ◌∷◌, codes, map, drop, slice_range, slice_index_or, refl, sym, ap, ◌∙◌, subst, arith, inl, inr}
 use Rattle.std.proofs.lemmas.Bool.{and_parts, cases_Bool}
 use Rattle.ps_world.specs.Names.{Table}
 use Rattle.ps_world.specs.Lines.{same_text}
 use Rattle.ps_world.specs.declared.domains.Domain.{Domain}
 use Rattle.ps_text.specs.Names.{folded, interned, is_name, name_fault, IsNameText, AreNames}
-use Rattle.ps_text.specs.Words.{pieces, words}
+use Rattle.ps_text.specs.Words.{pieces}
 use Rattle.ps_text.specs.Decimals.{number_of}
 use Rattle.ps_text.specs.Tokens.{begins_number, class_of, is_marked, is_sign, span_of}
 use Rattle.ps_text.specs.declared.lexing.Class.{Class}
@@ -18,9 +18,6 @@ use Rattle.ps_forms.specs.Lexemes.{lexemes_of, name_within, named, table_after}
 use Rattle.ps_pddl.specs.Reading.{HasWords, IsRead}
 use Rattle.ps_pddl.specs.Reading.IsRead.{without_class, without_shape, with_meaning}
 use Rattle.ps_forms.specs.declared.lexemes.Lexeme.{Lexeme}
-use Rattle.ps_forms.proofs.Judged.{judged_grammatical}
-use Rattle.ps_pddl.proofs.ReadFits.{read_fits}
-use Rattle.ps_print.specs.CanonicalWords.{IsDomainOf}
 use Rattle.ps_inputs.specs.Input.{first_names}
 
 is_none-same : {X : Type 0} (o : Option X) → is_none o ≡ true → o ≡ None
@@ -112,11 +109,6 @@ after_read t after bytes read h n =
       | without_shape ls a f has refuses ↦ after_words t a bytes ls has n
       | with_meaning ls a ts r has right shallow spelt means ↦ after_words t a bytes ls has n
     ]
-
--- a domain's names stand in the table after it
-pub domain_within : (t : Table) (bytes : List ℕ) (d : Domain) (after : Table) → AreNames t → IsRead t bytes (Ok d) after → IsDomainOf (length after) d
-domain_within t bytes d after n (with_meaning ls _ ts read words shape shallow spelt means) =
-    (read_fits t bytes ls after ts d n words spelt (judged_grammatical ts ls spelt shape shallow) means).1
 
 -- the first table is one
 pub AreNames-first : AreNames first_names

@@ -6,9 +6,9 @@ use Rattle.ps_world.specs.declared.failures.Failure.{Failure}
 use Rattle.ps_world.specs.declared.failures.Failure.TheVariants.{Refused, OutOfMemory}
 use Rattle.ps_text.specs.Outside.{FilesView, after, next}
 use Rattle.ps_words.specs.Words.{Request, asked_of}
-use Rattle.ps_inputs.specs.Reading.{Reading, Texts, MayBe, MayFail, MayGive, MayReadNext, longest_file, most_lines, read_file}
+use Rattle.ps_inputs.specs.Reading.{Reading, Texts, MayBe, MayFail, MayGive, MayReadNext, longest_file, most_lines}
 use Rattle.ps_inputs.specs.Reading.FileFault.{too_long, too_many}
-use Rattle.ps_inputs.specs.Input.{HasBadMembers, IsAsked, IsNoDomain, IsWork, cannot_read_line, crowd_line, domain_file_of, domain_line, domain_text_of, lines_line, member_line, reading_of, texts_of, too_long_line, twice_line, usage_line}
+use Rattle.ps_inputs.specs.Input.{HasBadMembers, IsAsked, IsNoDomain, IsWork, cannot_read_line, crowd_line, domain_in, domain_line, domain_text_of, lines_line, member_line, reading_of, texts_of, too_long_line, twice_line, usage_line}
 use Rattle.ps_inputs.specs.declared.works.Work.{Work}
 use Rattle.ps_inputs.specs.declared.faults.Fault.{Fault}
 use Rattle.ps_inputs.specs.declared.faults.Fault.TheVariants.{Usage, NoDomain, NoMember, Crowd, Twice, TooLong, Lines, Unread}
@@ -80,10 +80,10 @@ pub record ReadsPart {A B : Type 0} (part : Reading A) (old new : FilesView) (Is
 
 -- ---- loading the work
 
--- The text of the domain's file is no domain, for this cause, where that file tells it; and no file is at fault, as far as they tell,
--- but reading all of them gives such a text.
+-- The text of the domain is none, for this cause, where it is told; and no file is at fault, as far as they tell, but reading all of
+-- them gives such a text.
 pub record IsNoDomainIn (texts : Texts) (request : Request) (cause : List ℕ) : Type 0 where
-  pub domain : MayGive (read_file texts (domain_file_of request)) (λ text. IsNoDomain text cause)
+  pub domain : MayGive (domain_in texts request) (λ text. IsNoDomain text cause)
   pub all : MayGive (reading_of texts request) (λ m. IsNoDomain (domain_text_of m) cause)
 
 -- No file is at fault, as far as they tell, but reading all of them gives texts of members that are.

@@ -50,12 +50,12 @@ plan_line texts n bytes None = plain_line n bytes
 plan_line texts n bytes (Some file) =
     with_room n (and_then (read_file texts file) (λ plan. gives [] (record { lines = with_plan bytes plan ∷ []; ended = false })))
 
--- One line of a file: nothing, a file's lines, a line that runs a plan where the files of plans are read, or another command line.
-abbrev pub step : Bool → Texts → (ℕ → List ℕ → Reading Flat) → ℕ → List ℕ → Reading Flat
-step plans texts on_source n bytes =
+-- one line of a file: nothing, a file's lines, a line that runs the plan in a file, or another command line
+abbrev pub step : Texts → (ℕ → List ℕ → Reading Flat) → ℕ → List ℕ → Reading Flat
+step texts on_source n bytes =
     if is_nothing bytes then gives [] no_line
     else (if is_source bytes then source_line on_source n bytes (file_in (after_run bytes))
-    else (if plans && is_run_plan bytes then plan_line texts n bytes (file_in (after_run (after_run bytes)))
+    else (if is_run_plan bytes then plan_line texts n bytes (file_in (after_run (after_run bytes)))
     else plain_line n bytes))
 
 -- these command lines, and then those of the rest, unless these end the script
@@ -65,18 +65,17 @@ followed now rest =
     else and_then rest (λ more. gives [] (record { lines = now.lines ++ more.lines; ended = more.ended }))
 
 -- the lines of a file, one after another
-abbrev pub walk : Bool → Texts → (ℕ → List ℕ → Reading Flat) → ℕ → List (List ℕ) → Reading Flat
-walk plans texts on_source n [] = gives [] no_line
-walk plans texts on_source n (bytes ∷ rest) =
-    and_then (step plans texts on_source n bytes) (λ now. followed now (walk plans texts on_source (n + length now.lines) rest))
+abbrev pub walk : Texts → (ℕ → List ℕ → Reading Flat) → ℕ → List (List ℕ) → Reading Flat
+walk texts on_source n [] = gives [] no_line
+walk texts on_source n (bytes ∷ rest) =
+    and_then (step texts on_source n bytes) (λ now. followed now (walk texts on_source (n + length now.lines) rest))
 
 -- The lines of a file that is named where so many levels of files may still be opened: its own lines, or one that stands too deep.
-unfoldable pub on_source : Bool → ℕ → Texts → ℕ → List ℕ → Reading Flat
-on_source plans zero texts n file = one_line n too_deep false
-on_source plans (suc levels) texts n file =
-    and_then (read_file texts file) (λ t. walk plans texts (on_source plans levels texts) n (script_lines t))
+unfoldable pub on_source : ℕ → Texts → ℕ → List ℕ → Reading Flat
+on_source zero texts n file = one_line n too_deep false
+on_source (suc levels) texts n file =
+    and_then (read_file texts file) (λ t. walk texts (on_source levels texts) n (script_lines t))
 
--- The script in a file, with the files that it names, and with those of plans where they are read: its own file, and four levels
--- of files from there.
-abbrev pub script_in : Bool → Texts → List ℕ → Reading Flat
-script_in plans texts file = on_source plans 5 texts 0 file
+-- the script in a file, with the files that it names: its own file, and four levels of files from there
+abbrev pub script_in : Texts → List ℕ → Reading Flat
+script_in texts file = on_source 5 texts 0 file

@@ -1,24 +1,26 @@
 -- The input of a call: what its words and the texts of its files say.
-use Rattle.std.specs.Prelude.{◌≡◌, ℕ, Bool, true, false, ◌||◌, None, Ok, Err, List, [], ◌∷◌, ◌++◌, codes, slice_index_or}
+use Rattle.std.specs.Prelude.{◌≡◌, ℕ, Bool, false, ◌||◌, None, Ok, Err, List, [], ◌∷◌, ◌++◌, codes, map, slice_index_or}
 use Rattle.ps_world.specs.Names.{Table}
 use Rattle.ps_world.specs.Lines.{same_text, line_end}
 use Rattle.ps_world.specs.declared.domains.Domain.{Domain}
 use Rattle.ps_machine.specs.declared.inputs.Input.{Input}
 use Rattle.ps_machine.specs.declared.inputs.Line.{Line}
 use Rattle.ps_words.specs.Words.{Request}
-use Rattle.ps_words.specs.Words.Request.{a_session, a_check, a_validation, a_replay}
+use Rattle.ps_words.specs.Words.Request.{a_session, a_check, a_validation, a_replay, a_generation}
+use Rattle.ps_gen.specs.Texts as generator
 use Rattle.ps_pddl.specs.Reading.{IsRead}
 use Rattle.ps_pddl.specs.declared.refusals.DomainRefusal.{DomainRefusal}
 use Rattle.ps_inputs.specs.DomainFaults.{cause_text}
 use Rattle.ps_inputs.specs.Reading.{Reading, Texts, and_then, read_file}
 use Rattle.ps_inputs.specs.Reading.Reading.{gives}
 use Rattle.ps_inputs.specs.Flats.{Flattened, script_in}
+use Rattle.ps_inputs.specs.Flats.Flattened.{plain}
 use Rattle.ps_inputs.specs.Scripts.{IsScript}
 use Rattle.ps_inputs.specs.Members.{AreAtFault, AreMembers, NamedText, first_repeated, is_crowd}
 use Rattle.ps_inputs.specs.declared.faults.Fault.{Fault}
 use Rattle.ps_inputs.specs.declared.faults.Fault.TheVariants.{NoDomain}
 use Rattle.ps_inputs.specs.declared.works.Work.{Work}
-use Rattle.ps_inputs.specs.declared.works.Work.TheVariants.{Session, Check, Validation, Replay}
+use Rattle.ps_inputs.specs.declared.works.Work.TheVariants.{Session, Check, Validation, Replay, Generation}
 
 -- ---- the texts
 
@@ -30,12 +32,27 @@ pub record InputTexts : Type 0 where
 
 -- What the files of a request hold: for a session its budget and its input's texts; for a check the domain's text; for a plan to be
 -- validated an input's texts and the text of the plan; for a replay its budget and how often a plan may be made anew, an input's texts and
--- the text of the journal.
+-- the text of the journal; for a generation, which has no files, how many carts there are.
 pub data Material : Type 0 where
   for_session : ℕ → InputTexts → Material
   for_check : List ℕ → Material
   for_validation : InputTexts → List ℕ → Material
   for_replay : ℕ → ℕ → InputTexts → List ℕ → Material
+  for_generation : ℕ → Material
+
+-- the generator's members
+abbrev pub generated_members : List NamedText
+generated_members =
+    record { file = codes "carrier"; text = generator.carrier_text }
+    ∷ record { file = codes "helper"; text = generator.helper_text } ∷ []
+
+-- the generator's texts of an input with so many carts
+abbrev pub generated : ℕ → InputTexts
+generated carts = record {
+  domain = generator.domain_text;
+  script = map plain (generator.script_lines carts);
+  members = generated_members;
+}
 
 -- reading files, one after another
 abbrev pub named_texts : Texts → List (List ℕ) → Reading (List NamedText)
@@ -45,39 +62,39 @@ named_texts texts (file ∷ files) =
     and_then (named_texts texts files) (λ more.
     gives [] (record { file = file; text = t } ∷ more)))
 
--- Reading the files of an input: the domain's, the script's with the files that it names where they stand, and with those of plans where
--- these are read, then the members'.
-unfoldable pub texts_in : Bool → Texts → List ℕ → List ℕ → List (List ℕ) → Reading InputTexts
-texts_in plans texts domain_file script_file member_files =
+-- reading the files of an input: the domain's, the script's with the files that it names where they stand, then the members'
+unfoldable pub texts_in : Texts → List ℕ → List ℕ → List (List ℕ) → Reading InputTexts
+texts_in texts domain_file script_file member_files =
     and_then (read_file texts domain_file) (λ domain.
-    and_then (script_in plans texts script_file) (λ script.
+    and_then (script_in texts script_file) (λ script.
     and_then (named_texts texts member_files) (λ members.
     gives [] (record { domain = domain; script = script.lines; members = members }))))
 
--- Reading the files of a request: the input's, then the plan's or the journal's. A session doesn't read the files of plans that its script
--- names.
+-- reading the files of a request: the input's, then the plan's or the journal's
 unfoldable pub reading_of : Texts → Request → Reading Material
 reading_of texts (a_session s) =
-    and_then (texts_in false texts s.domain s.script s.members) (λ input.
+    and_then (texts_in texts s.domain s.script s.members) (λ input.
     gives [] (for_session s.budget input))
 reading_of texts (a_check file) =
     and_then (read_file texts file) (λ domain.
     gives [] (for_check domain))
 reading_of texts (a_validation domain_file script_file plan_file) =
-    and_then (texts_in true texts domain_file script_file []) (λ input.
+    and_then (texts_in texts domain_file script_file []) (λ input.
     and_then (read_file texts plan_file) (λ plan.
     gives [] (for_validation input plan)))
 reading_of texts (a_replay r) =
-    and_then (texts_in true texts r.domain r.script r.members) (λ input.
+    and_then (texts_in texts r.domain r.script r.members) (λ input.
     and_then (read_file texts r.journal) (λ journal.
     gives [] (for_replay r.budget r.replans input journal)))
+reading_of texts (a_generation carts) = gives [] (for_generation carts)
 
--- the file of the domain
-abbrev pub domain_file_of : Request → List ℕ
-domain_file_of (a_session s) = s.domain
-domain_file_of (a_check file) = file
-domain_file_of (a_validation domain script plan) = domain
-domain_file_of (a_replay r) = r.domain
+-- reading the text of the domain alone: its file, or the generator's text
+abbrev pub domain_in : Texts → Request → Reading (List ℕ)
+domain_in texts (a_session s) = read_file texts s.domain
+domain_in texts (a_check file) = read_file texts file
+domain_in texts (a_validation domain script plan) = read_file texts domain
+domain_in texts (a_replay r) = read_file texts r.domain
+domain_in texts (a_generation carts) = gives [] generator.domain_text
 
 -- the texts of the input; a check has that of the domain alone
 abbrev pub texts_of : Material → InputTexts
@@ -85,6 +102,7 @@ texts_of (for_session budget input) = input
 texts_of (for_check domain) = record { domain = domain; script = []; members = [] }
 texts_of (for_validation input plan) = input
 texts_of (for_replay budget replans input journal) = input
+texts_of (for_generation carts) = generated carts
 
 -- the text of the domain
 abbrev pub domain_text_of : Material → List ℕ
@@ -114,6 +132,10 @@ pub record IsInput (budget replans : ℕ) (texts : InputTexts) (i : Input) (name
   pub bounded : i.budget ≡ budget
   pub renewed : i.replans ≡ replans
 
+-- how many states a search may reach where the words don't say
+abbrev pub usual_budget : ℕ
+usual_budget = 20000
+
 -- the texts are read as this work
 abbrev pub IsWork : Material → Work → Type 0
 IsWork (for_session budget input) (Session s) = IsInput budget 0 input s.input s.names
@@ -121,6 +143,8 @@ IsWork (for_check domain) (Check names d) = IsDomain domain d names
 IsWork (for_validation input plan) (Validation v) = IsInput 0 0 input v.input v.names × (v.plan.items ≡ plan)
 IsWork (for_replay budget replans input journal) (Replay r) =
     IsInput budget replans input r.input r.names × (r.journal.items ≡ journal)
+IsWork (for_generation carts) (Generation g) =
+    IsInput usual_budget 0 (generated carts) g.input g.names × (g.carts ≡ carts)
 IsWork m w = ⊥
 
 -- the work is of the kind that is asked for
@@ -129,6 +153,7 @@ IsAsked (a_session s) (Session t) = Unit {0}
 IsAsked (a_check file) (Check names d) = Unit {0}
 IsAsked (a_validation domain script plan) (Validation v) = Unit {0}
 IsAsked (a_replay r) (Replay w) = Unit {0}
+IsAsked (a_generation carts) (Generation g) = g.carts ≡ carts
 IsAsked r w = ⊥
 
 -- ---- the lines for what is at fault

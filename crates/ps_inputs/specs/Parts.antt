@@ -1,30 +1,29 @@
 -- What reading each part of the input comes to.
-use Rattle.std.specs.Prelude.{◌≡◌, ℕ, ◌≤◌, ◌<◌, ◌⊎◌, Bool, true, false, Result, Ok, Err, None, Some, List, ◌++◌, All, length, map}
+use Rattle.std.specs.Prelude.{◌≡◌, ℕ, ◌≤◌, ◌<◌, Bool, true, false, Result, Ok, Err, None, Some, List, [], ◌∷◌, ◌++◌, length, map}
 use Rattle.std.specs.Global.{Vec}
 use Rattle.ps_world.specs.Names.{Table, name_text}
 use Rattle.ps_world.specs.declared.failures.Failure.{Failure}
 use Rattle.ps_world.specs.declared.failures.Failure.TheVariants.{Refused, OutOfMemory}
 use Rattle.ps_world.specs.declared.names.Name.{Name}
 use Rattle.ps_world.specs.declared.domains.Domain.{Domain}
-use Rattle.ps_machine.specs.Tables.{IsLineOf}
-use Rattle.ps_machine.specs.declared.inputs.Input.{Input}
 use Rattle.ps_machine.specs.declared.inputs.Line.{Line}
 use Rattle.ps_machine.specs.declared.members.Member.{Member}
-use Rattle.ps_print.specs.CanonicalWords.{IsParamOf}
 use Rattle.ps_members.specs.Members.{IsMember}
 use Rattle.ps_members.specs.declared.refusals.ScriptRefusal.{ScriptRefusal}
-use Rattle.ps_text.specs.Names.{Keeps}
 use Rattle.ps_text.specs.Outside.{FilesView}
 use Rattle.ps_text.specs.ScriptLines.{script_lines}
-use Rattle.ps_script.specs.Files.{after_run, file_in, is_source}
-use Rattle.ps_script.specs.Lines.{is_nothing}
+use Rattle.ps_script.specs.Lines.{IsRead}
+use Rattle.ps_script.specs.declared.reading.Read.TheVariants as read
 use Rattle.ps_words.specs.Words.{Request}
+use Rattle.ps_words.specs.Words.Request.{a_generation}
+use Rattle.ps_gen.specs.Texts as generator
 use Rattle.ps_inputs.specs.Reading.{MayGive, Reading, Texts, most_lines, read_file}
+use Rattle.ps_inputs.specs.Reading.Reading.{gives}
 use Rattle.ps_inputs.specs.Members.{AreAtFault, AreMembers, IsNoMember, NamedText, first_repeated, is_crowd, member_cause}
-use Rattle.ps_inputs.specs.Flats.{Flat, on_source, one_line, plain_line, plan_line, script_in, step, walk}
-use Rattle.ps_inputs.specs.Flats.Flattened.{too_deep}
+use Rattle.ps_inputs.specs.Flats.{Flat, Flattened, on_source, one_line, plain_line, plan_line, script_in, step, walk}
+use Rattle.ps_inputs.specs.Flats.Flattened.{plain, too_deep}
 use Rattle.ps_inputs.specs.Scripts.{IsScript}
-use Rattle.ps_inputs.specs.Input.{HasBadMembers, InputTexts, IsAsked, IsDomain, IsInput, IsNoDomain, IsWork, Material, domain_file_of, domain_text_of, named_texts, reading_of, texts_in, texts_of}
+use Rattle.ps_inputs.specs.Input.{HasBadMembers, InputTexts, IsAsked, IsDomain, IsInput, IsNoDomain, IsWork, Material, domain_in, domain_text_of, generated, named_texts, reading_of, texts_in, texts_of}
 use Rattle.ps_inputs.specs.Faults.{ReadsPart}
 use Rattle.ps_inputs.specs.declared.faults.Fault.{Fault}
 use Rattle.ps_inputs.specs.declared.faults.Fault.TheVariants.{NoDomain, NoMember, Crowd, Twice, Lines}
@@ -64,10 +63,6 @@ HasRoom n (Ok u) = n < most_lines
 HasRoom n (Err (Refused Lines)) = most_lines ≤ n
 HasRoom n (Err failure) = ⊥
 
--- a line says something, and the lines of no file stand in its place
-abbrev pub IsCommandLine : List ℕ → Type 0
-IsCommandLine bytes = (is_nothing bytes ≡ false) × ((is_source bytes ≡ false) ⊎ (file_in (after_run bytes) ≡ None))
-
 -- Command lines were read after the lines before them: each is one line more, there are not too many, and the answer is whether the last
 -- of them ends the script.
 pub record IsAdded (before after : Script) (flat : Flat) (ended : Bool) : Type 0 where
@@ -86,6 +81,18 @@ Adds part old new before after r = ReadsPart part old new (IsAdded before after)
 abbrev pub count_of : Script → ℕ
 count_of s = length s.lines.items
 
+-- a command line is read as a line, which stands after the lines before it
+abbrev pub IsPushed : List ℕ → Script → Script → Type 0
+IsPushed bytes before after =
+    (line : Line) × IsRead before.names bytes (read.Line line) after.names
+    × (after.lines.items ≡ before.lines.items ++ line ∷ [])
+
+-- command lines are read one after another, and stand after the lines before them, a line for each
+abbrev pub ArePushed : List (List ℕ) → Script → Script → Type 0
+ArePushed commands before after =
+    (lines : List Line) × IsScript before.names (map plain commands) lines after.names
+    × (after.lines.items ≡ before.lines.items ++ lines) × (length lines ≡ length commands)
+
 -- reading a line that names no file, which reads none
 abbrev pub PutsPlain : List ℕ → Script → Script → Result Bool (Failure Fault) → Type 0
 PutsPlain bytes before after r = (files : FilesView) → Adds (plain_line (count_of before) bytes) files files before after r
@@ -99,35 +106,39 @@ abbrev pub PutsPlan : List ℕ → List ℕ → FilesView → FilesView → Scri
 PutsPlan bytes file old new before after r = Adds (plan_line old.told (count_of before) bytes (Some file)) old new before after r
 
 -- reading a file that is named where so many levels of files may still be opened
-abbrev pub Opens : Bool → ℕ → List ℕ → FilesView → FilesView → Script → Script → Result Bool (Failure Fault) → Type 0
-Opens plans levels file old new before after r = Adds (on_source plans levels old.told (count_of before) file) old new before after r
+abbrev pub Opens : ℕ → List ℕ → FilesView → FilesView → Script → Script → Result Bool (Failure Fault) → Type 0
+Opens levels file old new before after r = Adds (on_source levels old.told (count_of before) file) old new before after r
 
 -- reading one line of a file, which may name a file
-abbrev pub ReadsFileLine : Bool → ℕ → List ℕ → FilesView → FilesView → Script → Script → Result Bool (Failure Fault) → Type 0
-ReadsFileLine plans levels bytes old new before after r = Adds (step plans old.told (on_source plans levels old.told) (count_of before) bytes) old new before after r
+abbrev pub ReadsFileLine : ℕ → List ℕ → FilesView → FilesView → Script → Script → Result Bool (Failure Fault) → Type 0
+ReadsFileLine levels bytes old new before after r = Adds (step old.told (on_source levels old.told) (count_of before) bytes) old new before after r
 
 -- reading these lines of a file
-abbrev pub WalksLines : Bool → ℕ → List (List ℕ) → FilesView → FilesView → Script → Script → Result Bool (Failure Fault) → Type 0
-WalksLines plans levels ls old new before after r = Adds (walk plans old.told (on_source plans levels old.told) (count_of before) ls) old new before after r
+abbrev pub WalksLines : ℕ → List (List ℕ) → FilesView → FilesView → Script → Script → Result Bool (Failure Fault) → Type 0
+WalksLines levels ls old new before after r = Adds (walk old.told (on_source levels old.told) (count_of before) ls) old new before after r
 
 -- reading the lines of a text
-abbrev pub Walks : Bool → ℕ → List ℕ → FilesView → FilesView → Script → Script → Result Bool (Failure Fault) → Type 0
-Walks plans levels text old new before after r = WalksLines plans levels (script_lines text) old new before after r
+abbrev pub Walks : ℕ → List ℕ → FilesView → FilesView → Script → Script → Result Bool (Failure Fault) → Type 0
+Walks levels text old new before after r = WalksLines levels (script_lines text) old new before after r
 
 -- The command lines, read with a table before them, are the lines of this script, and not too many.
-pub record IsScriptFrom (names : Table) (flat : Flat) (script : Script) : Type 0 where
-  pub read : IsScript names flat.lines script.lines.items script.names
+pub record IsScriptFrom (names : Table) (commands : List Flattened) (script : Script) : Type 0 where
+  pub read : IsScript names commands script.lines.items script.names
   pub few : length script.lines.items ≤ most_lines
 
 -- reading the script in a file
-abbrev pub ReadsScript : Table → Bool → List ℕ → FilesView → FilesView → Result Script (Failure Fault) → Type 0
-ReadsScript names plans file old new r = ReadsPart (script_in plans old.told file) old new (IsScriptFrom names) r
+abbrev pub ReadsScript : Table → List ℕ → FilesView → FilesView → Result Script (Failure Fault) → Type 0
+ReadsScript names file old new r = ReadsPart (script_in old.told file) old new (λ flat. IsScriptFrom names flat.lines) r
 
 -- ---- members
 
 -- the text of a member
 abbrev pub named : MemberText → NamedText
 named m = record { file = m.file.items; text = m.text.items }
+
+-- this is the text of a member, with the name of its file
+abbrev pub IsNamed : List ℕ → List ℕ → MemberText → Type 0
+IsNamed file text m = named m ≡ record { file = file; text = text }
 
 -- reading the texts of members
 abbrev pub ReadsMembers : List (List ℕ) → FilesView → FilesView → Result (Vec MemberText) (Failure Fault) → Type 0
@@ -167,61 +178,62 @@ JudgesMembers d first texts after (Err OutOfMemory) = Unit {0}
 
 -- ---- the input
 
--- What was read of the texts of an input, whose domain stands in this file: the domain is judged, and so is the text of its file, where
--- that is told; the lines are those of the script, with the table after them; the members' texts are kept.
-pub record IsUnjudged (told : Texts) (domain_file : List ℕ) (texts : InputTexts) (u : Unjudged) : Type 0 where
+-- What was read of the texts of an input, where reading the domain's alone comes to this: the domain is judged, and so is what that
+-- gives, where it is told; the lines are those of the script, with the table after them; the members' texts are kept.
+pub record IsUnjudged (domain : Reading (List ℕ)) (texts : InputTexts) (u : Unjudged) : Type 0 where
   pub between : Table
   pub judged : IsJudgedAs texts.domain between u.domain
-  pub told_judged : MayGive (read_file told domain_file) (λ text. IsJudgedAs text between u.domain)
+  pub told_judged : MayGive domain (λ text. IsJudgedAs text between u.domain)
   pub lines : IsScript between texts.script u.lines.items u.names
   pub few : length u.lines.items ≤ most_lines
   pub members : map named u.members.items ≡ texts.members
 
 -- reading the texts of an input
-abbrev pub ReadsInput : Bool → List ℕ → List ℕ → List (List ℕ) → FilesView → FilesView → Result Unjudged (Failure Fault) → Type 0
-ReadsInput plans domain_file script_file member_files old new r =
-    ReadsPart (texts_in plans old.told domain_file script_file member_files) old new (IsUnjudged old.told domain_file) r
+abbrev pub ReadsInput : List ℕ → List ℕ → List (List ℕ) → FilesView → FilesView → Result Unjudged (Failure Fault) → Type 0
+ReadsInput domain_file script_file member_files old new r =
+    ReadsPart (texts_in old.told domain_file script_file member_files) old new (IsUnjudged (read_file old.told domain_file)) r
 
--- What an input's names are in: the table has all those of its lines, of which there are few, and of the domain's constants.
-pub record Fits (i : Input) (names : Table) : Type 0 where
-  pub few : length i.lines ≤ most_lines
-  pub named : All (IsLineOf (length names)) i.lines
-  pub constants : All (IsParamOf (length names)) i.domain.constants
+-- the generator's texts were read
+abbrev pub IsGenerated : ℕ → Unjudged → Type 0
+IsGenerated carts u = IsUnjudged (gives [] generator.domain_text) (generated carts) u
 
 -- judging members beside a domain and lines, with the table after these
 abbrev pub Joins : Table → Domain → List Line → List NamedText → ℕ → ℕ → Result Loaded (Failure Fault) → Type 0
 Joins first d lines texts budget replans (Ok l) =
     AreMembers d first texts l.input.members l.names
-    × (is_crowd l.input.members ≡ false) × (first_repeated l.input.members ≡ None) × Keeps first l.names
+    × (is_crowd l.input.members ≡ false) × (first_repeated l.input.members ≡ None)
     × (l.input.domain ≡ d) × (l.input.lines ≡ lines) × (l.input.budget ≡ budget) × (l.input.replans ≡ replans)
 Joins first d lines texts budget replans (Err (Refused fault)) = AreAtFault d first texts fault
 Joins first d lines texts budget replans (Err OutOfMemory) = Unit {0}
 
--- texts are an input, or they have this fault; and where it is that of the domain, so has its file, where that is told
-abbrev pub IsJudgedInput : Texts → List ℕ → InputTexts → ℕ → ℕ → Result Loaded (Failure Fault) → Type 0
-IsJudgedInput told domain_file texts budget replans (Ok l) = IsInput budget replans texts l.input l.names × Fits l.input l.names
-IsJudgedInput told domain_file texts budget replans (Err (Refused (NoDomain cause))) =
-    IsNoDomain texts.domain cause.items × MayGive (read_file told domain_file) (λ text. IsNoDomain text cause.items)
-IsJudgedInput told domain_file texts budget replans (Err (Refused fault)) = HasBadMembers texts fault
-IsJudgedInput told domain_file texts budget replans (Err OutOfMemory) = Unit {0}
+-- texts are an input, with few lines, or they have this fault; and where it is that of the domain, so has its text read alone, where
+-- that is told
+abbrev pub IsJudgedInput : Reading (List ℕ) → InputTexts → ℕ → ℕ → Result Loaded (Failure Fault) → Type 0
+IsJudgedInput domain texts budget replans (Ok l) = IsInput budget replans texts l.input l.names × (length l.input.lines ≤ most_lines)
+IsJudgedInput domain texts budget replans (Err (Refused (NoDomain cause))) =
+    IsNoDomain texts.domain cause.items × MayGive domain (λ text. IsNoDomain text cause.items)
+IsJudgedInput domain texts budget replans (Err (Refused fault)) = HasBadMembers texts fault
+IsJudgedInput domain texts budget replans (Err OutOfMemory) = Unit {0}
 
 -- judging what was read of any texts
 abbrev pub Judges : Unjudged → ℕ → ℕ → Result Loaded (Failure Fault) → Type 0
 Judges u budget replans r =
-    (told : Texts) (domain_file : List ℕ) (texts : InputTexts) → IsUnjudged told domain_file texts u
-    → IsJudgedInput told domain_file texts budget replans r
+    (domain : Reading (List ℕ)) (texts : InputTexts) → IsUnjudged domain texts u → IsJudgedInput domain texts budget replans r
 
 -- ---- the work
 
--- what the files hold is the work that is asked for, or it has this fault; where its domain's text is none, so is that of the domain's
--- file, where it is told
+-- what the files hold is the work that is asked for, or it has this fault; where its domain's text is none, so is that text read alone,
+-- where it is told
 abbrev pub IsAnswered : Texts → Request → Material → Result Work Fault → Type 0
 IsAnswered texts request m (Ok w) = IsAsked request w × IsWork m w
 IsAnswered texts request m (Err (NoDomain cause)) =
-    IsNoDomain (domain_text_of m) cause.items
-    × MayGive (read_file texts (domain_file_of request)) (λ text. IsNoDomain text cause.items)
+    IsNoDomain (domain_text_of m) cause.items × MayGive (domain_in texts request) (λ text. IsNoDomain text cause.items)
 IsAnswered texts request m (Err fault) = HasBadMembers (texts_of m) fault
 
 -- reading all files of a request, and judging their texts
 abbrev pub LoadsRequest : Request → FilesView → FilesView → Result (Result Work Fault) (Failure Fault) → Type 0
 LoadsRequest request old new r = ReadsPart (reading_of old.told request) old new (IsAnswered old.told request) r
+
+-- judging the generator's texts, which reads no file
+abbrev pub Generates : ℕ → Result (Result Work Fault) (Failure Fault) → Type 0
+Generates carts r = (files : FilesView) → LoadsRequest (a_generation carts) files files r

@@ -1,7 +1,7 @@
 -- The lines of a script.
 use Rattle.std.specs.Prelude.{◌≡◌, ℕ, Option, Some, None, Result, Ok, Err, List, [], ◌∷◌, ◌++◌}
 use Rattle.ps_world.specs.Names.{Table}
-use Rattle.ps_machine.specs.declared.inputs.LineCause.TheVariants.{Nest, NotBuilt}
+use Rattle.ps_machine.specs.declared.inputs.LineCause.TheVariants.{Nest}
 use Rattle.ps_machine.specs.declared.inputs.Line.{Line}
 use Rattle.ps_machine.specs.declared.inputs.Line.TheVariants.{Good, Bad}
 use Rattle.ps_machine.specs.declared.inputs.Command.TheVariants.{RunPlan}
@@ -31,10 +31,10 @@ unless_faulty table text None = (Ok (planned table [] (said_by text)).0, (planne
 abbrev pub plan_in : Table → List ℕ → Result (List PlanStep) PlanTextRefusal × Table
 plan_in table text = unless_faulty table text (plan_fault text)
 
--- What a command line adds to those before it, with a table before it and the table after it. The text of a plan's file stands
--- after the words of its line; a line that runs a plan whose file isn't read can't be done yet.
+-- What a command line adds to those before it, with a table before it and the table after it: the line that it is read as. The text of
+-- a plan's file stands after the words of its line.
 abbrev pub Adds : Table → Flattened → List Line → Table → Type 0
-Adds table (plain bytes) new after = (r : Read) × IsRead table bytes r after × (new ≡ given_by (Bad NotBuilt) r)
+Adds table (plain bytes) new after = (line : Line) × IsRead table bytes (read.Line line) after × (new ≡ line ∷ [])
 Adds table (with_plan bytes text) new after =
     (r : Read) × (between : Table) × IsRead table bytes r between
     × (new ≡ given_by (Good (RunPlan (plan_in between text).0)) r) × (after ≡ (plan_in between text).1)

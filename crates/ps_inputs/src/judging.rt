@@ -1,6 +1,5 @@
 //! Judging the texts of an input after all of them are read.
 ghost use Rattle.std.specs.Prelude.{map};
-ghost use Rattle.ps_text.specs.Names.{Keeps};
 ghost use Rattle.ps_inputs.specs.Parts.{Joins, Judges, JudgesMembers, MayBeTogether, ReadsAll, ReadsMember, named};
 
 use crate::causes::member_cause;
@@ -29,8 +28,7 @@ fn judge_member(
     expert: &Expert,
     one: &MemberText,
 ) -> Result<Member, Failure<Fault>>
-    ensures reads { ReadsMember expert.now names.old (named one.now) names.new result }
-    ensures kept { Keeps names.old names.new }
+    ensures { ReadsMember expert.now names.old (named one.now) names.new result }
 {
     match read_member(alloc, names, expert, one.text.as_slice()) {
         Ok(member) => Ok(member),
@@ -50,8 +48,7 @@ fn judge_each(
     expert: &Expert,
     texts: &[MemberText],
 ) -> Result<Vec<Member>, Failure<Fault>>
-    ensures reads { ReadsAll expert.now names.old (map named texts.now) names.new result }
-    ensures kept { Keeps names.old names.new }
+    ensures { ReadsAll expert.now names.old (map named texts.now) names.new result }
 {
     let mut members = Vec::new(alloc);
     for one in texts {
@@ -87,8 +84,7 @@ fn judge_members(
     expert: &Expert,
     texts: &[MemberText],
 ) -> Result<Vec<Member>, Failure<Fault>>
-    ensures judges { JudgesMembers expert.now names.old (map named texts.now) names.new result }
-    ensures kept { Keeps names.old names.new }
+    ensures { JudgesMembers expert.now names.old (map named texts.now) names.new result }
 {
     let members = judge_each(alloc, names, expert, texts)?;
     check_together(alloc, names, members.as_slice())?;

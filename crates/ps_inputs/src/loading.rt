@@ -1,18 +1,20 @@
 //! Loading: the work that words and files give.
-ghost use Rattle.std.specs.Prelude.{◌≤◌};
 ghost use Rattle.ps_words.specs.Words.{IsInRange, replay_said, said, settings_said};
-ghost use Rattle.ps_words.specs.Words.Request.{a_check, a_replay, a_session, a_validation};
+ghost use Rattle.ps_words.specs.Words.Request.{a_check, a_generation, a_replay, a_session, a_validation};
 ghost use Rattle.ps_inputs.specs.Faults.{Loads, word_texts};
-ghost use Rattle.ps_inputs.specs.Parts.{LoadsRequest};
+ghost use Rattle.ps_inputs.specs.Parts.{Generates, LoadsRequest};
 
 use crate::faults::Fault;
 use crate::judging::{Loaded, judge};
-use crate::reading::{Judged, read_domain_file, read_input, read_text};
-use crate::works::{Replay, Session, Validation, Work};
+use crate::reading::{Judged, generate, read_domain_file, read_input, read_text};
+use crate::works::{Generation, Replay, Session, Validation, Work};
 use ps_text::Files;
 use ps_words::{Asked, ReplaySettings, Settings, read_words};
 use ps_world::Failure;
 use std::alloc::Global;
+
+/// How many states a search may reach where the words don't say.
+const USUAL_BUDGET: u32 = 20_000;
 
 /// Reads the files of a session: the domain's, the script's with the files that it names, and the members'. Texts that are at fault are
 /// told after all files are read.
@@ -21,19 +23,12 @@ fn load_session<'a, F: Files>(
     settings: &Settings<'a>,
     files: &mut F,
 ) -> Result<Result<Work, Fault>, Failure<Fault>>
-    requires { 1 ≤ settings.now.budget }
+    requires { IsInRange (a_session (settings_said settings.now)) }
     ensures { LoadsRequest (a_session (settings_said settings.now)) (F.shown files.old)
         (F.shown files.new) result }
 {
     let members = settings.members.as_slice();
-    let read = read_input(
-        alloc,
-        false,
-        settings.domain,
-        settings.script,
-        members,
-        files,
-    )?;
+    let read = read_input(alloc, settings.domain, settings.script, members, files)?;
     match judge(alloc, read, settings.budget, 0) {
         Ok(Loaded { names, input }) => Ok(Ok(Work::Session(Session { names, input }))),
         Err(Failure::Refused(fault)) => Ok(Err(fault)),
@@ -68,7 +63,7 @@ fn load_validation<F: Files>(
     ensures { LoadsRequest (a_validation domain.now script.now plan.now) (F.shown files.old)
         (F.shown files.new) result }
 {
-    let read = read_input(alloc, true, domain, script, &[], files)?;
+    let read = read_input(alloc, domain, script, &[], files)?;
     let plan = read_text(alloc, plan, files)?;
     match judge(alloc, read, 0, 0) {
         Ok(Loaded { names, input }) => Ok(Ok(Work::Validation(Validation { names, input, plan }))),
@@ -89,20 +84,30 @@ fn load_replay<'a, F: Files>(
         (F.shown files.new) result }
 {
     let members = settings.members.as_slice();
-    let read = read_input(
-        alloc,
-        true,
-        settings.domain,
-        settings.script,
-        members,
-        files,
-    )?;
+    let read = read_input(alloc, settings.domain, settings.script, members, files)?;
     let journal = read_text(alloc, settings.journal, files)?;
     match judge(alloc, read, settings.budget, settings.replans as u8) {
         Ok(Loaded { names, input }) => Ok(Ok(Work::Replay(Replay {
             names,
             input,
             journal,
+        }))),
+        Err(Failure::Refused(fault)) => Ok(Err(fault)),
+        Err(Failure::OutOfMemory) => Err(Failure::OutOfMemory),
+    }
+}
+
+/// Judges the generator's texts, for which no file is read.
+fn load_generation(alloc: Global, carts: u32) -> Result<Result<Work, Fault>, Failure<Fault>>
+    requires { IsInRange (a_generation carts) }
+    ensures { Generates carts result }
+{
+    let read = generate(alloc, carts)?;
+    match judge(alloc, read, USUAL_BUDGET, 0) {
+        Ok(Loaded { names, input }) => Ok(Ok(Work::Generation(Generation {
+            carts,
+            names,
+            input,
         }))),
         Err(Failure::Refused(fault)) => Ok(Err(fault)),
         Err(Failure::OutOfMemory) => Err(Failure::OutOfMemory),
@@ -127,14 +132,16 @@ fn load_asked<'a, F: Files>(
             plan,
         } => load_validation(alloc, domain, script, plan, files),
         Asked::Replay(settings) => load_replay(alloc, &settings, files),
+        Asked::Generate { carts } => load_generation(alloc, carts),
     }
 }
 
 /// Reads the words, all files that they name and all files that these name, and judges their texts.
 ///
 /// The first fault decides, in this order: `Usage`; then for each file as it is read, the domain's, the script's with the files that
-/// it names, the members' in the order of the words, the plan's or the journal's, `Unread` or `TooLong`, and `Lines` at the line that is
-/// one too many; then `NoDomain`; `NoMember` of the first text that is none; `Crowd`; `Twice` of the first name that an earlier member has.
+/// it names, those of plans too, the members' in the order of the words, the plan's or the journal's, `Unread` or `TooLong`, and `Lines`
+/// at the line that is one too many; then `NoDomain`; `NoMember` of the first text that is none; `Crowd`; `Twice` of the first name that
+/// an earlier member has. Where a session is to be generated, no file is read: the generator's texts are judged.
 pub fn load<F: Files>(
     alloc: Global,
     words: &[String],

@@ -2,11 +2,13 @@
 mod domains;
 mod files;
 mod flatten;
+mod generated;
 mod inputs;
 mod members;
 mod scripts;
 
 pub use domains::{Judged, read_domain_file};
 pub use files::read_text;
+pub use generated::generate;
 pub use inputs::{Unjudged, read_input};
 pub use members::MemberText;

@@ -1,23 +1,19 @@
 //! The work that words and files give.
-ghost use Rattle.std.specs.Prelude.{◌<◌, ◌≤◌, ◌^◌, length, All};
-ghost use Rattle.ps_machine.specs.Tables.{IsLineOf};
+ghost use Rattle.std.specs.Prelude.{◌≡◌, ◌<◌, ◌^◌, length};
 ghost use Rattle.ps_rules.specs.Sound.{IsSound};
-ghost use Rattle.ps_print.specs.CanonicalWords.{IsParamOf};
-ghost use Rattle.ps_inputs.specs.Propositions.{line_prop, sound_prop};
+ghost use Rattle.ps_inputs.specs.Propositions.{sound_prop};
 
 use ps_machine::Input;
 use ps_text::Names;
 use ps_world::Domain;
 
-/// A session, with the table of all of its names.
+/// A session that is within the limits, with the table of all of its names. It makes no plan anew.
 #[derive(Drop)]
 pub struct Session {
     pub names: Names,
     pub input: Input,
-    ghost few: { length input.lines < 2 ^ 32 },
-    ghost searches: { 1 ≤ input.budget },
-    ghost named: { All (IsLineOf (length names)) input.lines } by { Prim.hlevel line_prop },
-    ghost constants: { All (IsParamOf (length names)) input.domain.constants },
+    ghost sound: { IsSound input } by { Prim.hlevel sound_prop },
+    ghost once: { input.replans ≡ 0 },
 }
 
 /// A plan that is to be validated after the edits of an input, with the table of the input's names. It isn't read yet.
@@ -41,6 +37,17 @@ pub struct Replay {
     ghost short: { length journal.items < 2 ^ 32 },
 }
 
+/// A session of the generator's texts, of which a summary is told, with the table of all of its names. It makes no plan anew.
+#[derive(Drop)]
+pub struct Generation {
+    /// How many carts there are.
+    pub carts: u32,
+    pub names: Names,
+    pub input: Input,
+    ghost sound: { IsSound input } by { Prim.hlevel sound_prop },
+    ghost once: { input.replans ≡ 0 },
+}
+
 /// What a call is to do, with all that it is done on.
 #[derive(Drop)]
 pub enum Work {
@@ -52,4 +59,6 @@ pub enum Work {
     Validation(Validation),
     /// To judge a journal.
     Replay(Replay),
+    /// To do the lines of the generator's script, and to sum up what came of it.
+    Generation(Generation),
 }

@@ -22,7 +22,6 @@ impl Printed for LineCause {
             LineCause::Command => out.extend_from_slice(b"Command"),
             LineCause::Shape { at } => push_after(b"Shape ", at, names, out),
             LineCause::Nest => out.extend_from_slice(b"Nest"),
-            LineCause::NotBuilt => out.extend_from_slice(b"NotBuilt"),
         }
     }
 }

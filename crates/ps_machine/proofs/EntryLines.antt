@@ -65,7 +65,6 @@ is_line-cause (line.Number at) = is_line-decimal at
 is_line-cause line.Command = refl
 is_line-cause (line.Shape at) = is_line-decimal at
 is_line-cause line.Nest = refl
-is_line-cause line.NotBuilt = refl
 
 is_line-ground : (names : Table) (r : GroundRefusal) → AreLines names → is_line (ground_text names r) ≡ true
 is_line-ground names ground.NoAction h = refl

@@ -61,7 +61,6 @@ line_cause_text (line.Number at) = codes "Number " ++ decimal at
 line_cause_text line.Command = codes "Command"
 line_cause_text (line.Shape at) = codes "Shape " ++ decimal at
 line_cause_text line.Nest = codes "Nest"
-line_cause_text line.NotBuilt = codes "NotBuilt"
 
 -- the cause for which an act can't be grounded
 abbrev pub ground_text : Table → GroundRefusal → List ℕ

@@ -17,8 +17,6 @@ pub enum LineCause {
     Shape { at: usize },
     /// The file to read stands in too many others.
     Nest,
-    /// A session can't do what the line asks for yet.
-    NotBuilt,
 }
 
 /// What a line asks for.

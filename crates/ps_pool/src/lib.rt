@@ -7,4 +7,4 @@ mod ordered;
 
 pub use gate::{Gate, NoGate};
 pub use laws::{a_good_plan_goes_well, one_end};
-pub use ordered::{RunStop, run_ordered};
+pub use ordered::{RunStop, go_on, run_ordered};

@@ -191,6 +191,34 @@ fn take_round<R: Wait, G: Gate>(rt: &R, board: &mut Board, gate: &G) -> Result<b
 /// Goes on with the open run until it is over: each member takes its turn, in their order, and then the ticker, again and again, all
 /// with hand 1. A unit of work is done in its performer's turn, and the gate is called once for it. It promises no return. On an error
 /// the run is as far as it came, and the grant of a unit that couldn't be handed in may be out.
+pub fn go_on<R: Wait, S: Solver, G: Gate>(
+    rt: &R,
+    board: &mut Board,
+    solver: &S,
+    gate: &G,
+) -> Result<(), AllocError>
+    requires opened { is_running board.old.entries ≡ true }
+    requires rest { IsAtRest board.old }
+    requires replans { board.old.input.replans ≡ 0 }
+    ensures ends { OnOk result (EndsAs (S.says solver.now) board.old.input board.old.entries
+        board.new.entries) }
+    ensures in_run { GrowsInRun board.old.entries board.new.entries }
+    ensures rest { OnOk result (IsAtRest board.new) }
+    ensures stops { OnErr result (ReachesBy (S.says solver.now) board.old.input
+        board.old.entries board.new.entries) }
+    ensures input { board.new.input ≡ board.old.input }
+{
+    for _ in rt.forever() {
+        match take_round(rt, board, gate) {
+            Ok(true) => return Ok(()),
+            Ok(false) => {}
+            Err(AllocError) => return Err(AllocError),
+        }
+    }
+    unreachable!()
+}
+
+/// Goes on with the open run until it is over, as `go_on` does.
 pub fn run_ordered<R: Wait, S: Solver, G: Gate>(
     rt: &R,
     mut board: Board,
@@ -210,12 +238,8 @@ pub fn run_ordered<R: Wait, S: Solver, G: Gate>(
     ensures stops_in_run { IfErr result (λ stop. GrowsInRun board.entries stop.board.entries) }
     ensures stops_input { IfErr result (λ stop. stop.board.input ≡ board.input) }
 {
-    for _ in rt.forever() {
-        match take_round(rt, &mut board, gate) {
-            Ok(true) => return Ok(board),
-            Ok(false) => {}
-            Err(AllocError) => return Err(RunStop { board }),
-        }
+    match go_on(rt, &mut board, solver, gate) {
+        Ok(()) => Ok(board),
+        Err(AllocError) => Err(RunStop { board }),
     }
-    unreachable!()
 }

@@ -1,5 +1,12 @@
-pub mod DueLines
-pub mod Entries
-pub mod Named
-pub mod Sessions
+pub mod AddedTexts
+pub mod Advancing
+pub mod Asking
+pub mod Begun
+pub mod Hands
+pub mod Journals
+pub mod Queries
+pub mod Steps
+pub mod Success
 pub mod Taken
+pub mod Whole
+pub mod Writing

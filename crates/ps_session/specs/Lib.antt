@@ -1,3 +1,4 @@
 pub mod Answers
-pub mod Events
+pub mod Laws
+pub mod Lines
 pub mod Session

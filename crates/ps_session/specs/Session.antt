@@ -1,45 +1,57 @@
--- What a session writes.
-use Rattle.std.specs.Prelude.{◌≡◌, ℕ, List, Option, All, Result, IfOk, OnErr, map}
+-- What a session does, and what it writes.
+use Rattle.std.specs.Prelude.{◌≡◌, ℕ, ◌≤◌, List, ◌∷◌, ◌++◌, Option, All, Result, IfOk, OnErr}
+use Rattle.std.specs.Bool.{Decides}
 use Rattle.std.specs.Io.KnownBytes.{Appends}
 use Rattle.ps_world.specs.Names.{Table}
+use Rattle.ps_action.specs.Search.{answer}
+use Rattle.ps_rules.specs.Choices.{session_ordered}
 use Rattle.ps_rules.specs.History.{IsHistory, IsWhole, status_of}
-use Rattle.ps_rules.specs.Journal.{journal_text, AreEntriesIn}
-use Rattle.ps_world.specs.declared.domains.Domain.{Domain}
-use Rattle.ps_machine.specs.declared.inputs.LineCause.TheVariants.{NotBuilt}
-use Rattle.ps_machine.specs.declared.inputs.Command.TheVariants as command
-use Rattle.ps_machine.specs.declared.inputs.Line.{Line}
-use Rattle.ps_machine.specs.declared.inputs.Line.TheVariants.{Good, Bad}
-use Rattle.ps_machine.specs.declared.members.Member.{Member}
+use Rattle.ps_rules.specs.Journal.{AreEntriesIn, journal_text}
+use Rattle.ps_rules.specs.Runs.{kind}
+use Rattle.ps_rules.specs.Settled.{is_reached}
 use Rattle.ps_machine.specs.declared.inputs.Input.{Input}
+use Rattle.ps_machine.specs.declared.journal.Outcome.{Outcome}
+use Rattle.ps_machine.specs.declared.journal.Outcome.TheVariants as outcome
+use Rattle.ps_machine.specs.declared.journal.Event.TheVariants as event
 use Rattle.ps_machine.specs.declared.journal.Entry.{Entry}
 use Rattle.ps_text.specs.Outside.{AppendsPrefix, CountsWork, SinkView}
 use Rattle.ps_text.specs.declared.sinks.SinkRefusal.{SinkRefusal}
 
--- a line as a session takes it: one that asks for a run is a bad line, since a session can't open runs yet
-abbrev pub as_built : Line → Line
-as_built (Good command.Run) = Bad NotBuilt
-as_built (Good (command.RunAction act)) = Bad NotBuilt
-as_built (Good (command.RunPlan plan)) = Bad NotBuilt
-as_built line = line
+-- ---- the journal of a session
 
--- the input of these parts as a session takes it
-abbrev pub input_with : Domain → List Member → List Line → ℕ → ℕ → Input
-input_with d members lines budget replans =
-    record { domain = d; members = members; lines = map as_built lines; budget = budget; replans = replans }
+-- The entries are those of the session whose members take turns in order, so many in each run, where the solver answers as it should.
+pub record IsOrdered (i : Input) (es : List Entry) : Type 0 where
+  pub turns : ℕ
+  pub all : es ≡ session_ordered answer i turns
 
-abbrev pub built : Input → Input
-built i = input_with i.domain i.members i.lines i.budget i.replans
+-- an entry that ends a run
+abbrev pub over : ℕ → Outcome → Entry
+over hand how = record { hand = hand; what = event.Over how }
 
--- The bytes are those of a whole session of this input, which ends with this status: their entries, read from the
--- bytes line by line, are a legal history in which each line of the terminal has its entry, by the terminal's hand;
--- the bytes are just the text of that history; and the status is a function of it.
+-- a run that ends is told to have succeeded exactly where its goal holds then
+abbrev pub TellSuccess : Input → List Entry → Type 0
+TellSuccess i es =
+    (before after : List Entry) (hand : ℕ) (how : Outcome) → es ≡ before ++ over hand how ∷ after
+    → Decides (is_reached i before (kind before)) (how ≡ outcome.Success)
+
+-- The entries are the journal of a session of this input: a legal history, in which each line of the terminal has its entry and no run is
+-- left open. Each is by the terminal or by the one worker, the members' turns come in order, and success is told just where it is.
+pub record IsJournal (i : Input) (es : List Entry) : Type 0 where
+  pub history : IsHistory i es
+  pub whole : IsWhole i es
+  pub hands : All (λ e. e.hand ≤ 1) es
+  pub success : TellSuccess i es
+  pub ordered : IsOrdered i es
+
+-- ---- what is written
+
+-- The bytes are those of a session of this input, which ends with this status: their entries, read from the bytes line by line, are its
+-- journal, the bytes are just the text of that journal, and the status is a function of it.
 pub record IsSession (i : Input) (names : Table) (bytes : List ℕ) (status : ℕ) : Type 0 where
   pub journal : List Entry
   pub entries : AreEntriesIn names bytes journal
   pub text : journal_text names i journal ≡ bytes
-  pub history : IsHistory i journal
-  pub whole : IsWhole i journal
-  pub hands : All (λ e. e.hand ≡ 0) journal
+  pub is : IsJournal i journal
   pub answer : status ≡ status_of journal
 
 -- what a sink took is a whole session
@@ -58,8 +70,3 @@ pub record Runs (i : Input) (names : Table) (old new : SinkView) (r : Result ℕ
   pub done : IfOk r (IsDone i names old.bytes new.bytes)
   pub cut : OnErr r (IsCut i names old.bytes new.bytes)
   pub counted : CountsWork old new r
-
--- Doing a session of these lines, whoever its members are and however often its runs may be planned anew: no run is opened yet.
-abbrev pub RunsAll : Domain → List Line → ℕ → Table → SinkView → SinkView → Result ℕ SinkRefusal → Type 0
-RunsAll d lines budget names old new r =
-    (members : List Member) (replans : ℕ) → Runs (input_with d members lines budget replans) names old new r

@@ -1,7 +1,11 @@
-//! The session: each line of the terminal in turn, with its entry and its reply lines.
+//! The session: each line of the terminal in turn, with the run that it opens, its entries and their replies.
 #![tactic(auto)]
 
-mod plans;
+mod laws;
+mod lines;
+mod replies;
 mod session;
+mod texts;
 
-pub use session::run;
+pub use laws::{histories_tell_success, one_journal};
+pub use session::{run, run_unwritten, status_of};

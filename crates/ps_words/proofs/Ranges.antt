@@ -1,12 +1,13 @@
--- The numbers of a session or a replay that words ask for are in their ranges.
+-- The numbers that words ask for are in their ranges.
 use Rattle.std.proofs.Common.{◌≡◌, ℕ, ◌≤◌, ◌&&◌, Bool, true, false, nat_le, List, Option, Some, None, option_map, option_and_then, arith, codes, refl}
 use Rattle.std.specs.Option.{IfSome}
 use Rattle.std.proofs.lemmas.Bool.Decides.{nat_tests}
 use Rattle.clap.proofs.WalkLemmas.{both}
 use Rattle.clap.specs.Walk.{Row, Text, first_of}
-use Rattle.ps_words.specs.Words.{IsInRange, asked_in, budget_in, check_app, check_of, journal_replans_in, number_of, number_or, replans_in, replay_app, replay_of, replay_with, rows_read, session_app, session_of, session_with, validate_app, validation_of, within, workers_in}
+use Rattle.ps_words.specs.Words.{IsInRange, asked_in, budget_in, carts_in, check_app, check_of, gen_app, generation_of, journal_replans_in, number_of, number_or, replans_in, replay_app, replay_of, replay_with, rows_read, session_app, session_of, session_with, text_in, validate_app, validation_of, within, workers_in}
+use Rattle.ps_words.specs.Words.Request.{a_generation}
 use Rattle.ps_words.specs.declared.commands.Mode.{Mode}
-use Rattle.ps_words.specs.declared.commands.Mode.TheVariants.{Session, Check, Validate, Replay}
+use Rattle.ps_words.specs.declared.commands.Mode.TheVariants.{Session, Check, Validate, Replay, Gen}
 
 -- a number that is found to be within a range is in it
 within-range : (low high m n : ℕ) → within low high m ≡ Some n → (low ≤ n) × (n ≤ high)
@@ -65,9 +66,19 @@ validation-range : (o : Option (List Row)) → IfSome (option_map validation_of 
 validation-range None = tt
 validation-range (Some rows) = tt
 
+-- the number of carts, where it is in its range
+carts-range : (o : Option ℕ) → ((n : ℕ) → o ≡ Some n → (1 ≤ n) × (n ≤ 100)) → IfSome (option_map a_generation o) IsInRange
+carts-range None few = tt
+carts-range (Some n) few = few n refl
+
+generation-range : (o : Option (List Row)) → IfSome (option_and_then generation_of o) IsInRange
+generation-range None = tt
+generation-range (Some rows) = carts-range (carts_in rows) (λ n is. read-range 1 100 n (number_of (text_in (codes "carts") rows)) is)
+
 -- what words ask for in a mode is in its ranges
 pub asked_in_range : (m : Mode) (words : List Text) → IfSome (asked_in m words) IsInRange
 asked_in_range Session words = session-range (rows_read session_app words)
 asked_in_range Check words = check-range (rows_read check_app words)
 asked_in_range Validate words = validation-range (rows_read validate_app words)
 asked_in_range Replay words = replay-range (rows_read replay_app words)
+asked_in_range Gen words = generation-range (rows_read gen_app words)

@@ -5,7 +5,7 @@ use Rattle.clap.specs.Kinds.{IsAmong, Kinds}
 use Rattle.clap.specs.Walk.{Row}
 use Rattle.clap.specs.declared.error.kind.ErrorKind.{ErrorKind}
 use Rattle.clap.proofs.OnLiterals.{clap_on_literals}
-use Rattle.ps_words.specs.Words.{check_app, mode_app, replay_app, session_app, unless_faulty, validate_app}
+use Rattle.ps_words.specs.Words.{check_app, gen_app, mode_app, replay_app, session_app, unless_faulty, validate_app}
 use Rattle.ps_words.specs.declared.commands.Mode.{Mode}
 use Rattle.ps_words.specs.declared.commands.Mode.TheVariants as mode
 
@@ -40,8 +40,13 @@ pub replay_simple : is_simple_and_free replay_app ≡ true
 unfolding replay_app clap_on_literals
 replay_simple = refl
 
+pub gen_simple : is_simple_and_free gen_app ≡ true
+unfolding gen_app clap_on_literals
+gen_simple = refl
+
 pub mode_simple : (m : Mode) → is_simple_and_free (mode_app m) ≡ true
 mode_simple mode.Session = session_simple
 mode_simple mode.Check = check_simple
 mode_simple mode.Validate = validate_simple
 mode_simple mode.Replay = replay_simple
+mode_simple mode.Gen = gen_simple

@@ -11,7 +11,7 @@ use Rattle.clap.specs.Walk.{Row, Rule, Text, all_of, first_of}
 use Rattle.clap.specs.declared.builder.action.ArgAction.TheVariants.{Append, Set, SetTrue}
 use Rattle.ps_world.specs.Lines.{same_text}
 use Rattle.ps_words.specs.declared.asked.Asked.{Asked}
-use Rattle.ps_words.specs.declared.asked.Asked.TheVariants.{Session, Check, Validate, Replay}
+use Rattle.ps_words.specs.declared.asked.Asked.TheVariants.{Session, Check, Validate, Replay, Generate}
 use Rattle.ps_words.specs.declared.asked.ReplaySettings.{ReplaySettings}
 use Rattle.ps_words.specs.declared.asked.Settings.{Settings}
 use Rattle.ps_words.specs.declared.commands.Mode.{Mode}
@@ -48,6 +48,7 @@ pub data Request : Type 0 where
   a_check : Text → Request
   a_validation : Text → Text → Text → Request
   a_replay : ReplayRequest → Request
+  a_generation : ℕ → Request
 
 -- the most workers
 abbrev pub most_workers : ℕ
@@ -61,12 +62,17 @@ most_budget = 200000
 abbrev pub most_replans : ℕ
 most_replans = 8
 
--- the numbers of a session or a replay are in their ranges
+-- the most carts of a generated session
+abbrev pub most_carts : ℕ
+most_carts = 100
+
+-- the numbers that are asked for are in their ranges
 abbrev pub IsInRange : Request → Type 0
 IsInRange (a_session s) = (1 ≤ s.workers) × (s.workers ≤ most_workers) × (1 ≤ s.budget) × (s.budget ≤ most_budget)
 IsInRange (a_check domain) = Unit {0}
 IsInRange (a_validation domain script plan) = Unit {0}
 IsInRange (a_replay r) = (1 ≤ r.budget) × (r.budget ≤ most_budget) × (r.replans ≤ most_replans)
+IsInRange (a_generation carts) = (1 ≤ carts) × (carts ≤ most_carts)
 
 -- what these settings of a session say
 abbrev pub settings_said : Settings → SessionRequest
@@ -96,6 +102,7 @@ said (Session settings) = a_session (settings_said settings)
 said (Check domain) = a_check domain.now
 said (Validate domain script plan) = a_validation domain.now script.now plan.now
 said (Replay settings) = a_replay (replay_said settings)
+said (Generate carts) = a_generation carts
 
 -- ---- the form of the words after the mode
 
@@ -185,6 +192,10 @@ option_rule id required = record (new_rule id) { long = Some id; action = Some S
 abbrev pub flag_rule : Text → Rule
 flag_rule id = record (new_rule id) { long = Some id; action = Some SetTrue }
 
+-- one word after the options, which has to be there
+abbrev pub word_rule : Text → Rule
+word_rule id = record (new_rule id) { action = Some Set; required = true }
+
 -- any number of words after the options
 abbrev pub words_rule : Text → Rule
 words_rule id = record (new_rule id) { action = Some Append }
@@ -218,12 +229,17 @@ replay_app = command_of (codes "replay") (
     option_rule (codes "domain") true ∷ option_rule (codes "script") true ∷ option_rule (codes "journal") true
     ∷ option_rule (codes "budget") false ∷ option_rule (codes "replans") false ∷ words_rule (codes "members") ∷ [])
 
+-- gen N
+unfoldable pub gen_app : App
+gen_app = command_of (codes "gen") (word_rule (codes "carts") ∷ [])
+
 -- the command of a mode
 abbrev pub mode_app : Mode → App
 mode_app mode.Session = session_app
 mode_app mode.Check = check_app
 mode_app mode.Validate = validate_app
 mode_app mode.Replay = replay_app
+mode_app mode.Gen = gen_app
 
 -- what the words give for each option, where there is no fault in them
 abbrev pub unless_faulty : Kinds → List Row → Option (List Row)
@@ -335,12 +351,21 @@ abbrev pub replay_of : List Row → Option Request
 replay_of rows = option_and_then (λ budget. option_map (λ replans. replay_with rows budget replans)
     (journal_replans_in rows)) (budget_in rows)
 
+-- how many carts a generated session has, if the word is a number in its range
+abbrev pub carts_in : List Row → Option ℕ
+carts_in rows = number_in 1 most_carts (text_in (codes "carts") rows)
+
+-- the generated session that is asked for, where the number of its carts has its form and its range
+abbrev pub generation_of : List Row → Option Request
+generation_of rows = option_map a_generation (carts_in rows)
+
 -- the mode of this name
 abbrev pub mode_of : Text → Option Mode
 mode_of word = if same_text word (codes "session") then Some mode.Session
     else (if same_text word (codes "check") then Some mode.Check
     else (if same_text word (codes "validate") then Some mode.Validate
-    else (if same_text word (codes "replay") then Some mode.Replay else None)))
+    else (if same_text word (codes "replay") then Some mode.Replay
+    else (if same_text word (codes "gen") then Some mode.Gen else None))))
 
 -- what the words ask for in a mode, by what they give for the options of its command
 abbrev pub asked_from : Mode → List Row → Option Request
@@ -348,6 +373,7 @@ asked_from mode.Session rows = session_of rows
 asked_from mode.Check rows = Some (check_of rows)
 asked_from mode.Validate rows = Some (validation_of rows)
 asked_from mode.Replay rows = replay_of rows
+asked_from mode.Gen rows = generation_of rows
 
 -- what the words ask for in a mode, where its command takes them
 abbrev pub asked_in : Mode → List Text → Option Request
@@ -355,6 +381,7 @@ asked_in mode.Session words = option_and_then session_of (rows_read session_app 
 asked_in mode.Check words = option_map check_of (rows_read check_app words)
 asked_in mode.Validate words = option_map validation_of (rows_read validate_app words)
 asked_in mode.Replay words = option_and_then replay_of (rows_read replay_app words)
+asked_in mode.Gen words = option_and_then generation_of (rows_read gen_app words)
 
 -- what the words ask for where their first is this mode, and these follow it
 abbrev pub asked_by : List Text → List Text → Option Mode → Option Request

@@ -2,11 +2,11 @@
 ghost use Rattle.std.specs.Prelude.{◌≡◌, IfOk, IfSome, codes, map, option_map};
 ghost use Rattle.clap.specs.Matches.{found_of};
 ghost use Rattle.clap.specs.Walk.{rows_of};
-ghost use Rattle.ps_words.specs.Words.{word_texts, said, session_of, replay_of, words_in, asked_from, asked_in, asked_of, IsInRange};
+ghost use Rattle.ps_words.specs.Words.{word_texts, said, session_of, replay_of, generation_of, words_in, asked_from, asked_in, asked_of, IsInRange};
 
 use super::commands::{Mode, is_set, mode_command, mode_of, taken, text_of, value_of, words_of};
 use super::form::is_well_formed;
-use super::numbers::number_or;
+use super::numbers::{number_in, number_or};
 use clap::ArgMatches;
 use std::alloc::{AllocError, Global};
 
@@ -65,6 +65,11 @@ pub enum Asked<'a> {
     },
     /// To judge a journal.
     Replay(ReplaySettings<'a>),
+    /// To do a generated session, and to count its entries.
+    Generate {
+        /// How many carts the session has: 1 to 100.
+        carts: u32,
+    },
 }
 
 /// The session of these members that is asked for, where each number has its form and its range.
@@ -120,6 +125,14 @@ fn replay_of<'a>(alloc: Global, matches: &ArgMatches<'a>) -> Result<Option<Asked
     Ok(replay_with(matches, members))
 }
 
+/// The generated session that is asked for, where the number of its carts has its form and its range.
+fn generation_of<'a>(matches: &ArgMatches<'a>) -> Option<Asked<'a>>
+    ensures { option_map said result ≡ generation_of (rows_of (found_of matches.now)) }
+{
+    let carts = number_in(text_of(matches, "carts"), 1, 100)?;
+    Some(Asked::Generate { carts })
+}
+
 /// What the words ask for in a mode, by what they give for its command.
 fn asked_from<'a>(
     alloc: Global,
@@ -140,6 +153,7 @@ fn asked_from<'a>(
             plan: text_of(matches, "plan"),
         })),
         Mode::Replay => replay_of(alloc, matches),
+        Mode::Gen => Ok(generation_of(matches)),
     }
 }
 
@@ -163,7 +177,7 @@ fn asked_in<'a>(
 ///
 /// The first word is the mode, and options follow it, each at most once, as `--name value` or `--name=value`, or as `--ordered`
 /// alone. A value isn't empty and doesn't begin with `-`. A number has 1 to 9 decimal digits. Last come the members of a session or
-/// a replay, each a file; after the first of them no option stands.
+/// a replay, each a file; after the first of them no option stands. The mode `gen` has no options, and one number of carts.
 pub fn read_words<'a>(alloc: Global, words: &'a [String]) -> Result<Option<Asked<'a>>, AllocError>
     ensures asked { IfOk result (λ a. option_map said a ≡ asked_of (word_texts words.now)) }
     ensures ranges { IfOk result (λ a. IfSome (option_map said a) IsInRange) }

@@ -4,7 +4,8 @@ ghost use Rattle.clap.specs.Faults.{is_simple_and_free};
 ghost use Rattle.clap.specs.Matches.{found_of};
 ghost use Rattle.clap.specs.Simple.{App, app_of, with_rule};
 ghost use Rattle.clap.specs.Walk.{first_of, rows_of};
-ghost use Rattle.ps_words.specs.Words.{word_texts, command_of, option_rule, flag_rule, words_rule, session_app, check_app, validate_app, replay_app, mode_app, rows_read, text_in, words_in, is_set_in, mode_of};
+ghost use Rattle.ps_words.specs.Words.{word_texts, command_of, option_rule, flag_rule, word_rule, words_rule, rows_read, text_in, words_in, is_set_in, mode_of};
+ghost use Rattle.ps_words.specs.Words.{session_app, check_app, validate_app, replay_app, gen_app, mode_app};
 
 use clap::error::ErrorKind;
 use clap::{Arg, ArgAction, ArgMatches, Command};
@@ -21,6 +22,8 @@ pub enum Mode {
     Validate,
     /// Judge a journal.
     Replay,
+    /// Do a generated session, and count its entries.
+    Gen,
 }
 
 /// The mode of this name.
@@ -32,6 +35,7 @@ pub fn mode_of(word: &str) -> Option<Mode>
         "check" => Some(Mode::Check),
         "validate" => Some(Mode::Validate),
         "replay" => Some(Mode::Replay),
+        "gen" => Some(Mode::Gen),
         _ => None,
     }
 }
@@ -75,6 +79,20 @@ fn with_flag<'a>(
     let command = command?;
     let flag = Arg::new(alloc, id).long(id).action(ArgAction::SetTrue);
     command.arg(flag)
+}
+
+/// The command, if it could be made so far, with one word after its options, which has to be there and has this id.
+fn with_word<'a>(
+    alloc: Global,
+    command: Result<Command<'a>, AllocError>,
+    id: &'a str,
+) -> Result<Command<'a>, AllocError>
+    ensures { (app : App) → IfOk command.entry (λ c. app_of c ≡ app)
+        → IfOk result (λ c. app_of c ≡ with_rule app (word_rule id.now)) }
+{
+    let command = command?;
+    let word = Arg::new(alloc, id).action(ArgAction::Set).required(true);
+    command.arg(word)
 }
 
 /// The command, if it could be made so far, with any number of words after its options, which have this id.
@@ -136,6 +154,14 @@ fn replay_command<'a>(alloc: Global) -> Result<Command<'a>, AllocError>
     with_words(alloc, command, "members")
 }
 
+/// The command of a generated session.
+fn gen_command<'a>(alloc: Global) -> Result<Command<'a>, AllocError>
+    ensures { IfOk result (λ c. app_of c ≡ gen_app) }
+{
+    let command = Ok(bare_command(alloc, "gen"));
+    with_word(alloc, command, "carts")
+}
+
 /// The command of a mode.
 pub fn mode_command<'a>(alloc: Global, mode: Mode) -> Result<Command<'a>, AllocError>
     ensures { IfOk result (λ c. app_of c ≡ mode_app mode) }
@@ -145,6 +171,7 @@ pub fn mode_command<'a>(alloc: Global, mode: Mode) -> Result<Command<'a>, AllocE
         Mode::Check => check_command(alloc),
         Mode::Validate => validate_command(alloc),
         Mode::Replay => replay_command(alloc),
+        Mode::Gen => gen_command(alloc),
     }
 }
 
@@ -165,14 +192,14 @@ pub fn taken<'a>(
     }
 }
 
-/// The value of an option, if it was given.
+/// The value of an option, or the one word after the options, if it was given.
 pub fn value_of<'a>(matches: &ArgMatches<'a>, id: &str) -> Option<&'a str>
     ensures { option_map (λ t. t.now) result ≡ first_of id.now (rows_of (found_of matches.now)) }
 {
     matches.get_str(id)
 }
 
-/// The value of an option that a command requires.
+/// The value of an option, or the one word after the options, that a command requires.
 pub fn text_of<'a>(matches: &ArgMatches<'a>, id: &str) -> &'a str
     ensures { result.now ≡ text_in id.now (rows_of (found_of matches.now)) }
 {

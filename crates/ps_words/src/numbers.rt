@@ -1,4 +1,4 @@
-//! The numbers of options.
+//! Numbers in words.
 ghost use Rattle.std.specs.Prelude.{◌≡◌, option_map};
 ghost use Rattle.ps_words.specs.Words.{is_digit, are_digits, is_number, number_of, number_in, number_or};
 
@@ -34,7 +34,7 @@ fn number_of(text: &str) -> Option<u32>
 }
 
 /// The number that a text writes, if it is one from `low` to `high`.
-fn number_in(text: &str, low: u32, high: u32) -> Option<u32>
+pub fn number_in(text: &str, low: u32, high: u32) -> Option<u32>
     ensures { result ≡ number_in low high text.now }
 {
     let number = number_of(text)?;

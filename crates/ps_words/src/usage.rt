@@ -3,13 +3,13 @@
 /// The modes, each with its options, their ranges and defaults, and an example.
 pub const USAGE: &str = "\
 plansys session --domain FILE --script FILE [--workers N] [--budget N] [--replans 0] [--ordered] [MEMBER ..]
-    Does the lines of a script over a domain, and writes the journal. A line `source FILE` stands for the lines of that file,
-    on at most four levels, and `quit` ends the script. Each MEMBER is the file of a performer or an observer; they have no part in
-    a session yet, but are read and judged.
-    --workers N   how many workers a run has, from 1 to 16; 2 if it isn't given; it changes nothing yet
+    Does the lines of a script over a domain, with the runs that they open, and writes the journal. A line `source FILE` stands for
+    the lines of that file, on at most four levels, and `quit` ends the script. Each MEMBER is the file of a performer, which does acts
+    of runs, or of an observer, which edits beside them.
+    --workers N   how many workers a run has, from 1 to 16; 2 if it isn't given; it changes nothing yet: one does all
     --budget N    how many states a search for a plan may reach before it gives up, from 1 to 200000; 20000 if it isn't given
     --replans 0   how often a plan may be made anew; only 0, which it is if it isn't given
-    --ordered     the workers' turns come in a fixed order; it changes nothing yet
+    --ordered     members take turns in the order of the words; it changes nothing yet: they always do
     plansys session --domain samples/rooms/domain.pddl --script samples/rooms/script samples/rooms/asker samples/rooms/charger samples/rooms/mover
 plansys check --domain FILE
     Reads a domain, and writes it in its canonical text.
@@ -23,6 +23,10 @@ plansys replay --domain FILE --script FILE --journal FILE [--budget N] [--replan
     --budget N    how many states a search for a plan may reach before it gives up, from 1 to 200000; 20000 if it isn't given
     --replans N   how often a run's plan may be made anew, from 0 to 8; 3 if it isn't given
     plansys replay --domain samples/rooms/domain.pddl --script samples/rooms/run --journal samples/rooms/journal samples/rooms/asker samples/rooms/charger samples/rooms/mover
+plansys gen N
+    Does a generated session in memory, in which N carts, from 1 to 100, are brought through a warehouse one after the other, and
+    writes how many runs, starts of acts, requests, offers and entries it has.
+    plansys gen 7
 plansys --help
 plansys --version
 An option stands once, as `--name value` or `--name=value`, after the mode and before the members. A value isn't empty and doesn't begin

@@ -133,6 +133,38 @@ replay j --domain d --script s -> none
 Replay --domain d --script s --journal j -> none
 session --domain d --script s --journal j -> none";
 
+/// Command lines of generated sessions, and the number of carts.
+const GENERATIONS: &str = "\
+gen 1 -> gen 1
+gen 7 -> gen 7
+gen 007 -> gen 7
+gen 100 -> gen 100
+gen 000000100 -> gen 100
+gen -> none
+gen  -> none
+gen 0 -> none
+gen 101 -> none
+gen 0000000001 -> none
+gen 4294967297 -> none
+gen +1 -> none
+gen -1 -> none
+gen 1x -> none
+gen one -> none
+gen 1 2 -> none
+gen 1 1 -> none
+gen --x 1 -> none
+gen --carts 1 -> none
+gen --carts=1 -> none
+gen --ordered 1 -> none
+gen 1 --ordered -> none
+gen 1 --domain d -> none
+gen - -> none
+gen -- 1 -> none
+gen --help -> none
+gen help -> none
+Gen 1 -> none
+1 gen -> none";
+
 /// The words of a line, which one space parts.
 fn words(alloc: Global, line: &str) -> Result<Vec<String>, AllocError> {
     let mut all = Vec::new(alloc);
@@ -154,6 +186,7 @@ fn told_of_asked(alloc: Global, asked: Option<Asked<'_>>) -> Result<String, Allo
             },
         ) => { format!(in alloc; "validate {domain} {script} {plan}") }
         Some(Asked::Replay(settings)) => told_of_replay(alloc, settings),
+        Some(Asked::Generate { carts }) => format!(in alloc; "gen {carts}"),
         None => String::from_str(alloc, "none"),
     }
 }
@@ -199,5 +232,6 @@ fn told(alloc: Global, line: &str) -> Result<String, AllocError> {
 fn command_lines_are_read(rt: HostRuntime) -> Result<(), Fail> {
     assert_told(&rt, rt.alloc(), SESSIONS, told)?;
     assert_told(&rt, rt.alloc(), REPLAYS, told)?;
+    assert_told(&rt, rt.alloc(), GENERATIONS, told)?;
     assert_told(&rt, rt.alloc(), OTHERS, told)
 }

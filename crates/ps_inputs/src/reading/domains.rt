@@ -18,7 +18,7 @@ pub struct Judged {
 }
 
 /// Judges a domain's text.
-fn judge_domain(alloc: Global, text: &[u8]) -> Result<Judged, AllocError>
+pub fn judge_domain(alloc: Global, text: &[u8]) -> Result<Judged, AllocError>
     ensures { IfOk result (IsJudged text.now) }
 {
     let mut names = Names::new(alloc)?;

@@ -20,20 +20,19 @@ const LEVELS: u8 = 5;
 fn open<F: Files>(
     alloc: Global,
     files: &mut F,
-    plans: bool,
     levels: u8,
     file: &str,
     script: &mut Script,
 ) -> Result<bool, Failure<Fault>>
     requires { length script.old.lines.items ≤ most_lines }
-    ensures { Opens plans levels file.now (F.shown files.old)
+    ensures { Opens levels file.now (F.shown files.old)
         (F.shown files.new) script.old script.new result }
 {
     if levels == 0 {
         return put_deep(script);
     }
     let text = read_text(alloc, file, files)?;
-    walk(alloc, files, plans, levels - 1, text.as_slice(), script)
+    walk(alloc, files, levels - 1, text.as_slice(), script)
 }
 
 /// Reads one line of a file, with all lines of the file that it may name. Answers whether the script ends with it.
@@ -41,20 +40,18 @@ fn open<F: Files>(
 fn take<F: Files>(
     alloc: Global,
     files: &mut F,
-    plans: bool,
     levels: u8,
     line: &[u8],
     script: &mut Script,
 ) -> Result<bool, Failure<Fault>>
     requires { length script.old.lines.items ≤ most_lines }
-    ensures { ReadsFileLine plans levels line.now (F.shown files.old)
+    ensures { ReadsFileLine levels line.now (F.shown files.old)
         (F.shown files.new) script.old script.new result }
 {
     match kind_of(alloc, line)? {
         Kind::Nothing => Ok(false),
-        Kind::Source(file) => open(alloc, files, plans, levels, file.as_str(), script),
-        Kind::RunPlan(file) if plans => put_plan(alloc, files, line, file.as_str(), script),
-        Kind::RunPlan(_) => put_plain(alloc, line, script),
+        Kind::Source(file) => open(alloc, files, levels, file.as_str(), script),
+        Kind::RunPlan(file) => put_plan(alloc, files, line, file.as_str(), script),
         Kind::Command => put_plain(alloc, line, script),
     }
 }
@@ -64,25 +61,17 @@ fn take<F: Files>(
 fn walk<F: Files>(
     alloc: Global,
     files: &mut F,
-    plans: bool,
     levels: u8,
     text: &[u8],
     script: &mut Script,
 ) -> Result<bool, Failure<Fault>>
     requires { length script.old.lines.items ≤ most_lines }
-    ensures { Walks plans levels text.now (F.shown files.old)
+    ensures { Walks levels text.now (F.shown files.old)
         (F.shown files.new) script.old script.new result }
 {
     let spans = script_lines(alloc, text)?;
     for span in &spans {
-        let ended = take(
-            alloc,
-            files,
-            plans,
-            levels,
-            &text[span.from..span.to],
-            script,
-        )?;
+        let ended = take(alloc, files, levels, &text[span.from..span.to], script)?;
         if ended {
             return Ok(true);
         }
@@ -93,19 +82,18 @@ fn walk<F: Files>(
 /// The lines of the script in a file, with the lines of the files that it names in their places, each read as it is taken.
 ///
 /// A line that names a file and stands in the fifth file in a row is too deep. A `quit` line ends all files, and nothing after it is
-/// read. Where `plans` is true the file of a plan that a line runs is read where the line stands. The first fault decides: a file
-/// that can't be read, that is too long, or one line more than 10,000.
+/// read. The file of a plan that a line runs is read where the line stands. The first fault decides: a file that can't be read, that is
+/// too long, or one line more than 10,000.
 pub fn read_script<F: Files>(
     alloc: Global,
     names: Names,
-    plans: bool,
     file: &str,
     files: &mut F,
 ) -> Result<Script, Failure<Fault>>
-    ensures { ReadsScript names plans file.now (F.shown files.old) (F.shown files.new) result }
+    ensures { ReadsScript names file.now (F.shown files.old) (F.shown files.new) result }
 {
     let lines = Vec::new(alloc);
     let mut script = Script { names, lines };
-    open(alloc, files, plans, LEVELS, file, &mut script)?;
+    open(alloc, files, LEVELS, file, &mut script)?;
     Ok(script)
 }

@@ -22,21 +22,20 @@ pub struct Unjudged {
     pub members: Vec<MemberText>,
 }
 
-/// Reads the files of an input: the domain's, the script's with the files that it names, and with those of plans where `plans` is true,
-/// and the members'. A domain's text that is none is told after all files are read.
+/// Reads the files of an input: the domain's, the script's with the files that it names, and the members'. A domain's text that is none is
+/// told after all files are read.
 pub fn read_input<F: Files>(
     alloc: Global,
-    plans: bool,
     domain: &str,
     script: &str,
     members: &[&str],
     files: &mut F,
 ) -> Result<Unjudged, Failure<Fault>>
-    ensures { ReadsInput plans domain.now script.now (map (λ m. m.now) members.now)
+    ensures { ReadsInput domain.now script.now (map (λ m. m.now) members.now)
         (F.shown files.old) (F.shown files.new) result }
 {
     let Judged { names, domain } = read_domain_file(alloc, domain, files)?;
-    let Script { names, lines } = read_script(alloc, names, plans, script, files)?;
+    let Script { names, lines } = read_script(alloc, names, script, files)?;
     let members = read_members(alloc, members, files)?;
     Ok(Unjudged {
         names,

@@ -1,11 +1,13 @@
 //! The lines of a script.
 ghost use Rattle.std.specs.Prelude.{◌≡◌, ◌≤◌, ◌++◌, false, length, IfOk, OnOk};
 ghost use Rattle.ps_script.specs.Files.{is_source};
+ghost use Rattle.ps_script.specs.Kinds.{IsKind};
 ghost use Rattle.ps_script.specs.Lines.{is_nothing};
+ghost use Rattle.ps_script.specs.declared.kinds.Kind.TheVariants as kind;
 ghost use Rattle.ps_inputs.specs.Flats.{is_quit};
 ghost use Rattle.ps_inputs.specs.Reading.{most_lines};
 ghost use Rattle.ps_inputs.specs.Scripts.{given_by, plan_in};
-ghost use Rattle.ps_inputs.specs.Parts.{HasRoom, IsCommandLine, PutsDeep, PutsPlain, PutsPlan};
+ghost use Rattle.ps_inputs.specs.Parts.{HasRoom, IsPushed, PutsDeep, PutsPlain, PutsPlan};
 
 use super::files::read_text;
 use crate::faults::Fault;
@@ -77,16 +79,27 @@ fn plan_in(
     }
 }
 
-/// Puts a command line whose file isn't read, or that names none, at the end of those before it. Answers whether it ends the script.
+/// Reads a command line that names no file, and puts it at the end of those before it.
+pub fn push_plain(alloc: Global, line: &[u8], script: &mut Script) -> Result<(), AllocError>
+    requires { IsKind line.now kind.Command }
+    ensures { OnOk result (IsPushed line.now script.old script.new) }
+{
+    let Read::Line(read) = read_line(alloc, &mut script.names, line)? else {
+        unreachable!()
+    };
+    script.lines.push(read)?;
+    Ok(())
+}
+
+/// Puts a command line that names no file at the end of those before it. Answers whether it ends the script.
 pub fn put_plain(alloc: Global, line: &[u8], script: &mut Script) -> Result<bool, Failure<Fault>>
-    requires line { IsCommandLine line.now }
+    requires line { IsKind line.now kind.Command }
     requires few { length script.old.lines.items ≤ most_lines }
     ensures { PutsPlain line.now script.old script.new result }
 {
     check_room(script.lines.as_slice())?;
     let ends = is_quit(alloc, line)?;
-    let read = read_line(alloc, &mut script.names, line)?;
-    push_read(read, Line::Bad(LineCause::NotBuilt), &mut script.lines)?;
+    push_plain(alloc, line, script)?;
     Ok(ends)
 }
 

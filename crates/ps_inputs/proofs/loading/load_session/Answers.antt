@@ -1,39 +1,40 @@
-use Rattle.std.proofs.Common.{◌≡◌, ℕ, false, Ok, Err, List, map, refl, subst, arith}
+use Rattle.std.proofs.Common.{◌≡◌, ℕ, Ok, Err, List, map, refl, subst, arith}
 use Rattle.std.specs.Borrow.{Bor}
 use Rattle.std.proofs.lemmas.Result.{err_from_is_err_and}
 use Rattle.ps_world.specs.declared.failures.Failure.TheVariants.{Refused}
 use Rattle.ps_words.specs.Words.{settings_said}
 use Rattle.ps_inputs.specs.Parts.{Judges, ReadsInput}
+use Rattle.ps_inputs.specs.Reading.{read_file}
 use Rattle.ps_inputs.proofs.Loaded.{session_bad, session_good, session_unread}
+use Rattle.ps_inputs.proofs.SoundInput.{input_sound}
 use Rattle.ps_inputs.proofs.loading.load_session.Goals as goal
 
 pub returns-in_err-read : goal.returns-in_err-read
 returns-in_err-read g c =
     let p = err_from_is_err_and c.from_residual.result c.from_residual.ensures.1 in
     let s = settings_said c.args.settings.now in
-    let h = subst (λ (ms : List (Bor (List ℕ))). ReadsInput false s.domain s.script (map (λ m. m.now) ms) (g.F.Files.shown c.args.files.now) (g.F.Files.shown c.read_input.new.files) (Err c.in_err-read.field-0.0)) c.as_slice-members.ensures.value c.in_err-read.ensures in
+    let h = subst (λ (ms : List (Bor (List ℕ))). ReadsInput s.domain s.script (map (λ m. m.now) ms) (g.F.Files.shown c.args.files.now) (g.F.Files.shown c.read_input.new.files) (Err c.in_err-read.field-0.0)) c.as_slice-members.ensures.value c.in_err-read.ensures in
     rw (p.1, p.2) (session_unread s (g.F.Files.shown c.args.files.now) (g.F.Files.shown c.read_input.new.files) c.in_err-read.field-0.0 h)
 
 pub invariant_of-result : goal.invariant_of-result
 invariant_of-result g c =
-    let judges : Judges c.in_ok-read.read c.args.settings.now.budget 0 (Ok c.in-Ok.field-0) = subst (Judges c.in_ok-read.read c.args.settings.now.budget 0) c.in-Ok.is c.judge.ensures in
-    let judged = judges (g.F.Files.shown c.args.files.now).told c.args.settings.now.domain.now c.in_ok-read.ensures.given.1 c.in_ok-read.ensures.given.4 in
+    let s = settings_said c.args.settings.now in
+    let judges : Judges c.in_ok-read.read s.budget 0 (Ok c.in-Ok.field-0) = subst (Judges c.in_ok-read.read s.budget 0) c.in-Ok.is c.judge.ensures in
+    let judged = judges (read_file (g.F.Files.shown c.args.files.now).told s.domain) c.in_ok-read.ensures.given.1 c.in_ok-read.ensures.given.4 in
     record {
-      few = omega (arith, judged.1.few);
-      searches = omega (arith, c.requires, judged.0.bounded);
-      named = judged.1.named;
-      constants = judged.1.constants;
+      sound = input_sound s.budget 0 c.in_ok-read.ensures.given.1 c.in-Ok.field-0.input c.in-Ok.field-0.names judged.0 judged.1 c.requires.2 c.requires.3 (omega arith);
+      once = judged.0.renewed;
     }
 
 pub returns-in-Ok : goal.returns-in-Ok
 returns-in-Ok g c =
     let s = settings_said c.args.settings.now in
-    let h = subst (λ (ms : List (Bor (List ℕ))). ReadsInput false s.domain s.script (map (λ m. m.now) ms) (g.F.Files.shown c.args.files.now) (g.F.Files.shown c.read_input.new.files) (Ok c.in_ok-read.read)) c.as_slice-members.ensures.value c.in_ok-read.ensures in
+    let h = subst (λ (ms : List (Bor (List ℕ))). ReadsInput s.domain s.script (map (λ m. m.now) ms) (g.F.Files.shown c.args.files.now) (g.F.Files.shown c.read_input.new.files) (Ok c.in_ok-read.read)) c.as_slice-members.ensures.value c.in_ok-read.ensures in
     session_good s (g.F.Files.shown c.args.files.now) (g.F.Files.shown c.read_input.new.files) c.in_ok-read.read h c.in-Ok.field-0 _ refl refl (subst (Judges c.in_ok-read.read c.args.settings.now.budget 0) c.in-Ok.is c.judge.ensures)
 
 pub returns-in-Err-Refused : goal.returns-in-Err-Refused
 returns-in-Err-Refused g c =
     let s = settings_said c.args.settings.now in
     let l : c.judge.result ≡ Err (Refused c.in-Err-Refused.fault) = cc in
-    let h = subst (λ (ms : List (Bor (List ℕ))). ReadsInput false s.domain s.script (map (λ m. m.now) ms) (g.F.Files.shown c.args.files.now) (g.F.Files.shown c.read_input.new.files) (Ok c.in_ok-read.read)) c.as_slice-members.ensures.value c.in_ok-read.ensures in
+    let h = subst (λ (ms : List (Bor (List ℕ))). ReadsInput s.domain s.script (map (λ m. m.now) ms) (g.F.Files.shown c.args.files.now) (g.F.Files.shown c.read_input.new.files) (Ok c.in_ok-read.read)) c.as_slice-members.ensures.value c.in_ok-read.ensures in
     session_bad s (g.F.Files.shown c.args.files.now) (g.F.Files.shown c.read_input.new.files) c.in_ok-read.read h c.in-Err-Refused.fault (subst (Judges c.in_ok-read.read c.args.settings.now.budget 0) l c.judge.ensures)

@@ -18,5 +18,5 @@ decreases-walk g l = 3 * l.levels + 2
 abbrev pub invariant-walk-loop-span : goal.invariant-walk-loop-span
 invariant-walk-loop-span g l = record {
   few : length l.script.lines.items ≤ most_lines;
-  follows : Follows l.plans l.levels (script_lines l.text) (pieces l.text (drop l.span-index l.span-items)) (g.F.Files.shown l.fn.files) (g.F.Files.shown l.files) l.fn.script l.script;
+  follows : Follows l.levels (script_lines l.text) (pieces l.text (drop l.span-index l.span-items)) (g.F.Files.shown l.fn.files) (g.F.Files.shown l.files) l.fn.script l.script;
 }

@@ -4,5 +4,5 @@ use Rattle.ps_inputs.proofs.reading.scripts.put_plain.Goals as goal
 
 pub returns : goal.returns
 returns c =
-    plain_added c.args.line.now c.args.script.now _ c.in_ok-read.read c.in_ok-ends.ends c.in_ok-ends.ensures c.requires.line
-    (omega (arith, ap length c.as_slice.ensures.value, c.in_ok-check_room.ensures)) c.in_ok-read.ensures.read c.in_ok-push_read.ensures
+    plain_added c.args.line.now c.args.script.now _ c.in_ok-ends.ends c.in_ok-ends.ensures
+    (omega (arith, ap length c.as_slice.ensures.value, c.in_ok-check_room.ensures)) c.in_ok-push_plain.ensures

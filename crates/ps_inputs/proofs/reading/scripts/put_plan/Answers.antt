@@ -1,4 +1,4 @@
-use Rattle.std.proofs.Common.{length, inl, ap, sym, ◌∙◌, arith}
+use Rattle.std.proofs.Common.{length, ap, sym, ◌∙◌, arith}
 use Rattle.ps_inputs.specs.Scripts.{plan_in}
 use Rattle.ps_inputs.proofs.Flattening.{plan_added}
 use Rattle.ps_inputs.proofs.reading.scripts.put_plan.Goals as goal
@@ -6,5 +6,5 @@ use Rattle.ps_inputs.proofs.reading.scripts.put_plan.Goals as goal
 pub returns : goal.returns
 returns g c =
     plan_added c.args.line.now c.args.file.now (g.F.Files.shown c.args.files.now) (g.F.Files.shown c.read_text.new.files) c.args.script.now _ c.in_ok-text.text c.in_ok-read.read c.read_line.new.names c.in_ok-plan.plan
-    (c.requires.line, inl c.requires.plan) (omega (arith, ap length c.as_slice.ensures.value, c.in_ok-check_room.ensures)) c.in_ok-text.ensures.reads c.in_ok-read.ensures.read
+    c.requires.line c.requires.plan (omega (arith, ap length c.as_slice.ensures.value, c.in_ok-check_room.ensures)) c.in_ok-text.ensures.reads c.in_ok-read.ensures.read
     (ap (plan_in c.read_line.new.names) (sym c.as_slice-2.ensures.value) ∙ c.in_ok-plan.ensures) c.in_ok-push_read.ensures

@@ -1,0 +1,153 @@
+-- What a call that answers a line makes of a board.
+use Rattle.std.proofs.Common.{◌≡◌, ◌≢◌, ℕ, zero, suc, ◌+◌, true, false, Option, Some, None, is_none, option_and_then, List, [], ◌∷◌, ◌++◌, append-nil, length, length-append, replicate, slice_index_or, refl, ap, sym, ◌∙◌, subst, arith}
+use Rattle.std.specs.Option.{option_map_or}
+use Rattle.ps_machine.specs.declared.inputs.Input.{Input}
+use Rattle.ps_machine.specs.declared.inputs.Line.{Line}
+use Rattle.ps_machine.specs.declared.journal.Event.{Event}
+use Rattle.ps_machine.specs.declared.journal.Entry.{Entry}
+use Rattle.ps_rules.specs.Choices.{line_event, Says, with_block}
+use Rattle.ps_rules.specs.History.{IsHistory}
+use Rattle.ps_rules.specs.Lines.{answered, next_line}
+use Rattle.ps_rules.specs.Runs.{is_running, opens}
+use Rattle.ps_board.specs.Board.{commanded, is_end, nothing_done, step_of, with_done}
+use Rattle.ps_board.specs.Grants.{granted}
+use Rattle.ps_board.specs.declared.board.Shown.{Shown}
+use Rattle.ps_board.specs.declared.turns.Step.{Step}
+use Rattle.ps_board.specs.declared.turns.Step.TheVariants.{Said, Opened, End}
+use Rattle.ps_pool.specs.Courses.{GrowsInRun}
+use Rattle.ps_pool.specs.Ordered.{EndsAs, IsAtRest}
+use Rattle.ps_session.specs.Lines.{Advances, IsAnswered, IsIdle}
+use Rattle.ps_session.proofs.Steps.{a-line, no-line, opened-event, run-answered, run-opened, said-answered, said-closed, said-event}
+
+-- ---- idle boards
+
+abbrev nowhere : ℕ → List (Option ℕ)
+nowhere n = replicate n None
+
+none-replicated : (n p : ℕ) → slice_index_or (nowhere n) p None ≡ None
+none-replicated zero p = refl
+none-replicated (suc n) zero = refl
+none-replicated (suc n) (suc p) = none-replicated n p
+
+-- nothing was done on a board
+pub idle-first : (i : Input) (b : Shown) → b ≡ nothing_done i → IsIdle i b
+idle-first i b e = subst (IsIdle i) (sym e) (record {
+  input = refl;
+  rest = record { halted = refl; all_in = λ p. none-replicated _ p };
+  closed = refl;
+})
+
+rest-kept : (old new : Shown) → new.grants ≡ old.grants → new.halted ≡ old.halted → IsAtRest old → IsAtRest new
+rest-kept old new grants halted rest = record {
+  halted = halted ∙ rest.halted;
+  all_in = λ p. ap (λ gs. granted gs p) grants ∙ rest.all_in p;
+}
+
+-- what a call does that answers the next line
+pub record Commanded (says : Says) (old new : Shown) (s : Step) : Type 0 where
+  pub answer : s ≡ step_of (commanded says old)
+  pub end : is_end s ≡ is_none (next_line old.input old.entries)
+  pub entries : new.entries ≡ with_done old 0 (commanded says old)
+  pub input : new.input ≡ old.input
+  pub grants : new.grants ≡ old.grants
+  pub halted : new.halted ≡ old.halted
+
+module _ (says : Says) (old new : Shown) (s : Step) (c : Commanded says old new s) (idle : IsIdle old.input old) where
+  abbrev i : Input
+  i = old.input
+
+  pub rests : IsAtRest new
+  rests = rest-kept old new c.grants c.halted idle.rest
+
+  -- the event that answers a line
+  pub record Answering : Type 0 where
+    pub line : Line
+    pub next : next_line i old.entries ≡ Some line
+    pub event : Event
+    pub made : line_event says i old.entries line ≡ Some event
+    pub entries : new.entries ≡ with_block i 0 old.entries event
+
+  abbrev answering : (e : Event) → commanded says old ≡ Some e → false ≡ is_none (next_line i old.entries) → Answering
+  answering e made left =
+      let here = a-line (next_line i old.entries) left in record {
+        line = here.0;
+        next = here.1;
+        event = e;
+        made = sym (ap (option_and_then (line_event says i old.entries)) here.1) ∙ made;
+        entries = c.entries ∙ ap (λ o. option_map_or (with_block i 0 old.entries) o old.entries) made;
+      }
+
+  -- ---- a line that opens no run
+
+  pub saying : s ≡ Said → (a : Answering) × (opens a.event ≡ false)
+  saying is =
+      let e = said-event (commanded says old) (sym c.answer ∙ is) in
+      (answering e.0 e.1 (sym (ap is_end is) ∙ c.end), e.2)
+
+  longer : (from : ℕ) → from ≡ length old.entries → (final : List Entry) → IsAnswered says i old.entries final → from ≢ length final
+  longer from same final a equal = by-since a.since a.grown where
+    by-since : (since : List Entry) → final ≡ old.entries ++ since → ⊥
+    by-since [] grown =
+        let count : answered final ≡ answered old.entries = ap answered (grown ∙ append-nil old.entries) in
+        let more = a.counted in omega (arith, count, more)
+    by-since (e ∷ es) grown =
+        let len : length final ≡ length old.entries + length (e ∷ es) = ap length grown ∙ length-append old.entries (e ∷ es) in
+        omega (arith, len, same, equal)
+
+  goes-on : (from : ℕ) (final : Shown) → from ≡ length old.entries → IsIdle i final → IsAnswered says i old.entries final.entries
+      → Advances says i old final from
+  goes-on from final same still a = record {
+    idle = still;
+    place = same;
+    line = λ other. a;
+    end = λ equal. absurd (longer from same final.entries a equal);
+  }
+
+  pub advances-said : (from : ℕ) → from ≡ length old.entries → IsHistory i old.entries → s ≡ Said → Advances says i old new from
+  advances-said from same history is =
+      let a = saying is in
+      let now : IsAnswered says i old.entries new.entries =
+      subst (IsAnswered says i old.entries) (sym a.0.entries) (said-answered says i old.entries a.0.line history idle.closed a.0.next a.0.event a.0.made a.1) in
+      let still : IsIdle i new = record {
+        input = c.input;
+        rest = rests;
+        closed = ap is_running a.0.entries ∙ said-closed i old.entries a.0.event a.1 idle.closed;
+      } in
+      goes-on from new same still now
+
+  -- ---- a line that opens a run
+
+  pub opening : s ≡ Opened → (a : Answering) × (opens a.event ≡ true)
+  opening is =
+      let e = opened-event (commanded says old) (sym c.answer ∙ is) in
+      (answering e.0 e.1 (sym (ap is_end is) ∙ c.end), e.2)
+
+  pub now-running : s ≡ Opened → is_running new.entries ≡ true
+  now-running is = let a = opening is in ap is_running a.0.entries ∙ run-opened i old.entries a.0.event a.1
+
+  pub advances-run : (from : ℕ) (final : Shown) → from ≡ length old.entries → IsHistory i old.entries → s ≡ Opened
+      → EndsAs says new.input new.entries final.entries → GrowsInRun new.entries final.entries → IsAtRest final → final.input ≡ new.input
+      → Advances says i old final from
+  advances-run from final same history is ends grows rest input =
+      let a = opening is in
+      let ended : EndsAs says i (with_block i 0 old.entries a.0.event) final.entries =
+      subst (λ es. EndsAs says i es final.entries) a.0.entries (subst (λ j. EndsAs says j new.entries final.entries) c.input ends) in
+      let grown : GrowsInRun (with_block i 0 old.entries a.0.event) final.entries = subst (λ es. GrowsInRun es final.entries) a.0.entries grows in
+      let still : IsIdle i final = record { input = input ∙ c.input; rest = rest; closed = ends.over } in
+      goes-on from final same still
+      (run-answered says i old.entries a.0.line history idle.closed a.0.next a.0.event final.entries a.0.made a.1 ended grown)
+
+  -- ---- no line
+
+  pub advances-end : (from : ℕ) → from ≡ length old.entries → s ≡ End → Advances says i old new from
+  advances-end from same is =
+      let none : next_line i old.entries ≡ None = no-line (next_line i old.entries) (sym (ap is_end is) ∙ c.end) in
+      let undone : commanded says old ≡ None = ap (option_and_then (line_event says i old.entries)) none in
+      let entries : new.entries ≡ old.entries = c.entries ∙ ap (λ o. option_map_or (with_block i 0 old.entries) o old.entries) undone in
+      let all : new ≡ old = λ t. record { input = c.input t; entries = entries t; grants = c.grants t; halted = c.halted t } in
+      record {
+        idle = subst (IsIdle i) (sym all) idle;
+        place = same;
+        line = λ other. absurd (other (same ∙ ap length (sym entries)));
+        end = λ equal. (none, all);
+      }

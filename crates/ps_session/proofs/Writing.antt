@@ -1,0 +1,151 @@
+-- A session that is written as it goes on.
+use Rattle.std.proofs.Common.{◌≡◌, ◌≢◌, ℕ, ◌==◌, ◌⊎◌, inl, inr, Bool, true, false, None, Result, Ok, Err, List, [], ◌++◌, drop, length, length-append, nat_lt, ◌+◌, ◌≤◌, refl, arith, ap, sym, ◌∙◌, subst, append-nil}
+use Rattle.std.specs.Io.KnownBytes.{Appends}
+use Rattle.std.proofs.KnownBytes.{Appends-trans}
+use Rattle.std.proofs.lemmas.Bool.Decides.{nat_tests}
+use Rattle.std.proofs.lemmas.Bool.{eq-eqb, eqb-true, true≢false}
+use Rattle.ps_world.specs.Names.{Table}
+use Rattle.ps_machine.specs.declared.inputs.Input.{Input}
+use Rattle.ps_machine.specs.declared.journal.Entry.{Entry}
+use Rattle.ps_rules.specs.Choices.{Says}
+use Rattle.ps_rules.specs.History.{IsHistory}
+use Rattle.ps_rules.specs.History.IsHistory.{nothing}
+use Rattle.ps_rules.specs.Journal.{header, journal_text}
+use Rattle.ps_rules.specs.Lines.{next_line}
+use Rattle.ps_rules.proofs.JournalTexts.{journal_text-append}
+use Rattle.ps_text.specs.Outside.{AppendsPrefix, Counts, CountsWork, next, Puts, SinkView}
+use Rattle.ps_text.specs.declared.sinks.SinkRefusal.{SinkRefusal}
+use Rattle.ps_text.specs.declared.sinks.SinkRefusal.TheVariants as sink
+use Rattle.ps_board.specs.declared.board.Shown.{Shown}
+use Rattle.ps_session.specs.Answers.{AskAtEnd}
+use Rattle.ps_session.specs.Lines.{Advances, IsBegun, IsIdle, IsWritten, PutsWork, text_from}
+use Rattle.ps_session.specs.Session.{IsCut}
+use Rattle.ps_session.proofs.Begun.{begun-next, begun-start}
+use Rattle.ps_session.proofs.Taken.{AppendsPrefix-all, AppendsPrefix-append, AppendsPrefix-nil}
+use Rattle.ps_session.proofs.AddedTexts.{since-dropped, text-since}
+
+-- ---- counts
+
+-- a refused write breaks work off
+pub counts-work : (A B : Type 0) (old new : SinkView) (why : SinkRefusal) → Counts {A = A} old new (Err why) → CountsWork {A = B} old new (Err why)
+counts-work A B old new sink.Failed h = h
+counts-work A B old new sink.OutOfMemory h = h.0
+
+-- work that is broken off is so from an earlier moment with the same counts
+pub work-since : (A B : Type 0) (a b c : SinkView) (why : SinkRefusal) → b.failed ≡ a.failed → b.refused ≡ a.refused → CountsWork {A = A} b c (Err why) → CountsWork {A = B} a c (Err why)
+work-since A B a b c sink.Failed f r h = (h.0 ∙ ap next f, h.1 ∙ ap next r)
+work-since A B a b c sink.OutOfMemory f r h = h ∙ f
+
+-- a text that was put
+pub put-work : (text : List ℕ) (old new : SinkView) (r : Result (Unit {0}) SinkRefusal) → Puts text old new r → PutsWork text old new r
+put-work text old new (Ok u) p = record { whole = p.whole; prefix = tt; counted = p.counted }
+put-work text old new (Err why) p = record { whole = tt; prefix = p.prefix; counted = counts-work (Unit {0}) (Unit {0}) old new why p.counted }
+
+-- memory ran out before there was a text
+pub textless : (text : List ℕ) (s : SinkView) → PutsWork text s s (Err sink.OutOfMemory)
+textless text s = record { whole = tt; prefix = AppendsPrefix-nil s.bytes text; counted = refl }
+
+-- ---- one line
+
+decide : (m n : ℕ) → (m ≡ n) ⊎ (m ≢ n)
+decide m n = by-test (m == n) refl where
+  by-test : (b : Bool) → (m == n) ≡ b → (m ≡ n) ⊎ (m ≢ n)
+  by-test true e = inl (eqb-true m n e)
+  by-test false e = inr (λ same. true≢false (sym (eq-eqb m n same) ∙ e))
+
+module _ (says : Says) (i : Input) (b new : Shown) (from : ℕ) (went : Advances says i b new from) where
+  -- the entries that came since
+  pub record Came : Type 0 where
+    pub since : List Entry
+    pub grown : new.entries ≡ b.entries ++ since
+    pub asks : AskAtEnd since
+
+  pub came : Came
+  came =
+      elim (decide from (length new.entries)) [
+        | inl same ↦ record { since = []; grown = ap (λ (s : Shown). s.entries) (went.end same).1 ∙ sym (append-nil b.entries); asks = tt }
+        | inr other ↦ let line = went.line other in record { since = line.since; grown = line.grown; asks = line.asks }
+      ]
+
+  -- of them none but the last asks
+  pub asks-since : AskAtEnd (drop from new.entries)
+  asks-since =
+      subst AskAtEnd (sym (ap (λ n. drop n new.entries) went.place ∙ since-dropped b.entries new.entries came.since came.grown)) came.asks
+
+  -- it is begun
+  pub begun-on : IsBegun says i b.entries → IsBegun says i new.entries
+  begun-on begun =
+      elim (decide from (length new.entries)) [
+        | inl same ↦ subst (IsBegun says i) (sym (ap (λ (s : Shown). s.entries) (went.end same).1)) begun
+        | inr other ↦ begun-next says i b.entries new.entries begun (went.line other)
+      ]
+
+  -- where nothing came, no line is left
+  pub no-line-left : from ≡ length new.entries → next_line i new.entries ≡ None
+  no-line-left same = let ended = went.end same in subst (λ (s : Shown). next_line i s.entries ≡ None) (sym ended.1) ended.0
+
+  -- it came, or nothing did
+  pub no-more : nat_lt from (length new.entries) ≡ false → next_line i new.entries ≡ None
+  no-more test =
+      let len : length new.entries ≡ length b.entries + length came.since = ap length came.grown ∙ length-append b.entries came.since in
+      let place = went.place in
+      let past : length new.entries ≤ from = grind (arith, nat_tests) in
+      no-line-left (omega (arith, len, place, past))
+
+  module _ (names : Table) (start old now : SinkView) (w : IsWritten says i names b start old) (history : IsHistory i new.entries) where
+    -- the journal's text, as it has grown
+    text-grown : journal_text names i new.entries ≡ journal_text names i b.entries ++ text_from names i new.entries from
+    text-grown =
+        ap (journal_text names i) came.grown ∙ journal_text-append names i b.entries came.since
+        ∙ ap (λ text. journal_text names i b.entries ++ text)
+        (sym (ap (text_from names i new.entries) went.place ∙ text-since names i b.entries new.entries came.since came.grown))
+
+    -- it is written
+    pub written-on : PutsWork (text_from names i new.entries from) old now (Ok tt) → IsWritten says i names new start now
+    written-on put = record {
+      idle = went.idle;
+      begun = begun-on w.begun;
+      history = history;
+      text = subst (Appends start.bytes now.bytes) (sym text-grown)
+          (Appends-trans start.bytes old.bytes now.bytes (journal_text names i b.entries) (text_from names i new.entries from) w.text put.whole);
+      failures = put.counted.0 ∙ w.failures;
+      refusals = put.counted.1 ∙ w.refusals;
+    }
+
+    -- it is cut off
+    pub cut-on : (why : SinkRefusal) → PutsWork (text_from names i new.entries from) old now (Err why) → IsCut i names start.bytes now.bytes
+    cut-on why put = record {
+      journal = new.entries;
+      history = history;
+      text = subst (AppendsPrefix start.bytes now.bytes) (sym text-grown)
+          (AppendsPrefix-append start.bytes old.bytes now.bytes (journal_text names i b.entries) (text_from names i new.entries from) w.text put.prefix);
+    }
+
+-- memory ran out between lines
+pub cut-between : (says : Says) (i : Input) (names : Table) (b : Shown) (start now : SinkView) → IsWritten says i names b start now → IsCut i names start.bytes now.bytes
+cut-between says i names b start now w = record {
+  journal = b.entries;
+  history = w.history;
+  text = AppendsPrefix-all start.bytes now.bytes (journal_text names i b.entries) w.text;
+}
+
+-- ---- the beginning
+
+-- the header is written
+pub written-first : (says : Says) (i : Input) (names : Table) (b : Shown) (start now : SinkView) → IsIdle i b → b.entries ≡ [] → Puts header start now (Ok tt) → IsWritten says i names b start now
+written-first says i names b start now idle none put = record {
+  idle = idle;
+  begun = subst (IsBegun says i) (sym none) (begun-start says i);
+  history = subst (IsHistory i) (sym none) nothing;
+  text = subst (λ es. Appends start.bytes now.bytes (journal_text names i es)) (sym none) put.whole;
+  failures = put.counted.0;
+  refusals = put.counted.1;
+}
+
+-- nothing is written
+pub cut-nothing : (i : Input) (names : Table) (s : SinkView) → IsCut i names s.bytes s.bytes
+cut-nothing i names s = record { journal = []; history = nothing; text = AppendsPrefix-nil s.bytes _ }
+
+-- the header is cut off
+pub cut-header : (i : Input) (names : Table) (start now : SinkView) (why : SinkRefusal) → Puts header start now (Err why) → IsCut i names start.bytes now.bytes
+cut-header i names start now why put = record { journal = []; history = nothing; text = put.prefix }

@@ -1,0 +1,102 @@
+-- How a session goes on, line by line.
+use Rattle.std.specs.Prelude.{◌≡◌, ◌≢◌, ℕ, ◌+◌, ◌≤◌, Bool, true, false, None, Some, List, [], ◌++◌, Result, IfOk, OnOk, OnErr, drop, fold, length, slice_get, take}
+use Rattle.std.specs.Option.{option_map_or}
+use Rattle.std.specs.Io.KnownBytes.{Appends}
+use Rattle.ps_world.specs.Names.{Table}
+use Rattle.ps_rules.specs.Choices.{after_line, Says}
+use Rattle.ps_rules.specs.History.{IsHistory}
+use Rattle.ps_rules.specs.Journal.{entry_text, journal_text, text_after}
+use Rattle.ps_rules.specs.Lines.{answered, due_lines, next_line}
+use Rattle.ps_rules.specs.Runs.{is_running}
+use Rattle.ps_machine.specs.declared.inputs.Input.{Input}
+use Rattle.ps_machine.specs.declared.inputs.Line.{Line}
+use Rattle.ps_machine.specs.declared.journal.Entry.{Entry}
+use Rattle.ps_text.specs.Outside.{AppendsPrefix, CountsWork, SinkView}
+use Rattle.ps_text.specs.declared.sinks.SinkRefusal.{SinkRefusal}
+use Rattle.ps_board.specs.declared.board.Shown.{Shown}
+use Rattle.ps_pool.specs.Ordered.{IsAtRest}
+use Rattle.ps_session.specs.Answers.{AskAtEnd, is_ask}
+use Rattle.ps_session.specs.Session.{IsCut, IsJournal}
+
+-- ---- one line
+
+-- The next line was answered, and where it opened a run, that has ended: however many turns a run is allowed, if they are enough.
+pub record IsAnswered (says : Says) (i : Input) (old new : List Entry) : Type 0 where
+  pub line : Line
+  pub next : next_line i old ≡ Some line
+  pub turns : ℕ
+  pub all : (n : ℕ) → turns ≤ n → new ≡ after_line says i n old line
+  pub counted : answered new ≡ answered old + 1
+  pub since : List Entry
+  pub grown : new ≡ old ++ since
+  pub asks : AskAtEnd since
+
+-- A board on which no run is open and no grant is out.
+pub record IsIdle (i : Input) (b : Shown) : Type 0 where
+  pub input : b.input ≡ i
+  pub rest : IsAtRest b
+  pub closed : is_running b.entries ≡ false
+
+-- Going on by a line: the next one was answered, and the journal has grown from this place on, or none is left and nothing changed.
+pub record Advances (says : Says) (i : Input) (old new : Shown) (from : ℕ) : Type 0 where
+  pub idle : IsIdle i new
+  pub place : from ≡ length old.entries
+  pub line : from ≢ length new.entries → IsAnswered says i old.entries new.entries
+  pub end : from ≡ length new.entries → (next_line i old.entries ≡ None) × (new ≡ old)
+
+-- ---- many lines
+
+-- These entries are those of the first lines of a session, as many as they answer, whose runs have ended.
+pub record IsBegun (says : Says) (i : Input) (es : List Entry) : Type 0 where
+  pub turns : ℕ
+  pub all : (n : ℕ) → turns ≤ n → es ≡ fold (after_line says i n) [] (take (answered es) (due_lines i.lines))
+  pub few : answered es ≤ length (due_lines i.lines)
+
+-- ---- text
+
+-- A sink takes a text, or, where a write was refused or memory ran out, a prefix of it.
+pub record PutsWork (text : List ℕ) (old new : SinkView) (r : Result (Unit {0}) SinkRefusal) : Type 0 where
+  pub whole : OnOk r (Appends old.bytes new.bytes text)
+  pub prefix : OnErr r (AppendsPrefix old.bytes new.bytes text)
+  pub counted : CountsWork old new r
+
+-- the text of the entry at this place, if there is one
+abbrev pub text_at : Table → Input → List Entry → ℕ → List ℕ
+text_at names i es k = option_map_or (entry_text names i (take k es)) (slice_get es k) []
+
+-- the text of the entries from this place on
+abbrev pub text_from : Table → Input → List Entry → ℕ → List ℕ
+text_from names i es from = text_after names i (take from es) (drop from es)
+
+-- if the entry at this place asks, it is the last
+abbrev pub AsksLast : List Entry → ℕ → Type 0
+AsksLast es k = (e : Entry) → slice_get es k ≡ Some e → is_ask e.what ≡ true → length es ≡ k + 1
+
+-- A session was begun on this board, and a sink took the text of its journal; no write was refused.
+pub record IsWritten (says : Says) (i : Input) (names : Table) (b : Shown) (start now : SinkView) : Type 0 where
+  pub idle : IsIdle i b
+  pub begun : IsBegun says i b.entries
+  pub history : IsHistory i b.entries
+  pub text : Appends start.bytes now.bytes (journal_text names i b.entries)
+  pub failures : now.failed ≡ start.failed
+  pub refusals : now.refused ≡ start.refused
+
+-- Going on by a line with a session that was written up to here: it is written up to there, and it is answered whether a line was
+-- left; or what was written since the start is cut off.
+pub record WritesOn (says : Says) (i : Input) (names : Table) (old new : Shown) (start now : SinkView) (r : Result Bool SinkRefusal) : Type 0 where
+  pub written : OnOk r (IsWritten says i names new start now)
+  pub more : IfOk r (λ more. more ≡ false → next_line i new.entries ≡ None)
+  pub cut : OnErr r (IsCut i names start.bytes now.bytes)
+  pub counted : CountsWork start now r
+
+-- going on by a line with a session, wherever it was begun and written up to here
+abbrev pub WritesLine : Says → Input → Table → Shown → Shown → SinkView → SinkView → Result Bool SinkRefusal → Type 0
+WritesLine says i names old new before after r =
+    (start : SinkView) → IsWritten says i names old start before → WritesOn says i names old new start after r
+
+-- Writing a session: the journal is whole, and so is its text; or its text is cut off.
+pub record WritesLines (i : Input) (names : Table) (b : Shown) (start now : SinkView) (r : Result (Unit {0}) SinkRefusal) : Type 0 where
+  pub journal : OnOk r (IsJournal i b.entries)
+  pub text : OnOk r (Appends start.bytes now.bytes (journal_text names i b.entries))
+  pub cut : OnErr r (IsCut i names start.bytes now.bytes)
+  pub counted : CountsWork start now r
