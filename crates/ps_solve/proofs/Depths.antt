@@ -1,12 +1,12 @@
 -- A search at a depth: what its nodes are, and what is answered there.
-use Rattle.std.proofs.Common.{◌≡◌, ℕ, suc, ◌+◌, ◌-◌, ◌<◌, Bool, true, false, cond, nat_le, List, [], ◌∷◌, Option, Some, None, option_map, unwrap_or, map, flat_map, length, refl, ap, sym, ◌∙◌, subst, arith, add-one}
+use Rattle.std.proofs.Common.{◌≡◌, ℕ, zero, suc, ◌+◌, ◌-◌, ◌<◌, Bool, true, false, cond, nat_le, List, [], ◌∷◌, Option, Some, None, option_map, unwrap_or, map, flat_map, length, refl, ap, sym, ◌∙◌, subst, arith, add-one}
 use Rattle.std.proofs.lemmas.List.Folds.{flat_map-map}
 use Rattle.ps_world.specs.declared.conditions.Cond.{Cond}
 use Rattle.ps_world.specs.declared.domains.Domain.{Domain}
 use Rattle.ps_world.specs.declared.known.Knowledge.{Knowledge}
 use Rattle.ps_action.specs.declared.acts.Act.{Act}
 use Rattle.ps_action.specs.declared.answers.Answer.{Answer}
-use Rattle.ps_action.specs.declared.answers.Answer.TheVariants.{Spent}
+use Rattle.ps_action.specs.declared.answers.Answer.TheVariants.{Plan, Spent}
 use Rattle.ps_action.specs.Plans.{most_acts}
 use Rattle.ps_action.specs.Search.{answer_from, at_depth, least_plan, level, reach, unplanned}
 use Rattle.ps_solve.specs.Endings.{ending, searched, unfinished}
@@ -81,6 +81,16 @@ module _ (d : Domain) (k : Knowledge) (goal : Cond) where
         let least_here : option_map (λ (m : Node). m.path) (found d k goal ns) ≡ least_plan d k n = ap (λ l. option_map (λ (m : Node). m.path) (found d k goal l)) h.nodes_are ∙ sym (least_at d k goal there n h.none) in
         ends_at _ ns (length seen) budget n next level_here count_here ∙ ap (λ o. at_depth d k budget n o next) least_here
 
+    -- where there is a plan of so many acts, the least of them is answered, however many depths are left
+    planned : (budget more n : ℕ) (path : List Act) → least_plan d k n ≡ Some path → Plan path ≡ answer_from d k budget more n
+    planned budget zero n path e = ap (λ o. at_depth d k budget n o (Spent n)) (sym e)
+    planned budget (suc more) n path e = ap (λ o. at_depth d k budget n o (answer_from d k budget more (n + 1))) (sym e)
+
+    -- where a node at a depth meets the goal, the path of the first is the answer
+    pub is_planned : (n : ℕ) (ns : List Node) (seen : List State) (budget more : ℕ) (path : List Act) → IsAtDepth d k goal n ns seen → option_map (λ (m : Node). m.path) (found d k goal ns) ≡ Some path → Plan path ≡ answer_from d k budget more n
+    is_planned n ns seen budget more path h e =
+        planned budget more n path (least_at d k goal there n h.none ∙ ap (λ l. option_map (λ (m : Node). m.path) (found d k goal l)) (sym h.nodes_are) ∙ e)
+
     module _ (n : ℕ) (ns : List Node) (seen : List State) (budget most : ℕ) (h : IsAtDepth d k goal n ns seen) (left : answer_from d k budget (most - n) n ≡ answer_from d k budget most 0) where
       -- what ends the search at this depth
       abbrev ending_here : Option Answer
@@ -105,17 +115,13 @@ module _ (d : Domain) (k : Knowledge) (goal : Cond) where
           let none_left : 0 ≡ most - n = omega arith in
           answers n ns seen budget (Spent n) h ∙ ap (λ m. answer_from d k budget m n) none_left ∙ left
 
--- where the search goes on, no path leads to the goal
-none_ending : (o : Option (List Act)) (ns : List Node) (count budget n : ℕ) → ending o ns count budget n ≡ None → o ≡ None
-none_ending None ns count budget n e = refl
-none_ending (Some path) ns count budget n e = absurd (cc)
-
 none_path : (o : Option Node) → option_map (λ (m : Node). m.path) o ≡ None → o ≡ None
 none_path None e = refl
 none_path (Some m) e = absurd (cc)
 
-pub none_found : (o : Option Node) (ns : List Node) (count budget n : ℕ) → ending (option_map (λ (m : Node). m.path) o) ns count budget n ≡ None → o ≡ None
-none_found o ns count budget n e = none_path o (none_ending (option_map (λ (m : Node). m.path) o) ns count budget n e)
+-- where no node has a path to the goal, none meets it
+pub none_found : (d : Domain) (k : Knowledge) (goal : Cond) (ns : List Node) → option_map (λ (m : Node). m.path) (found d k goal ns) ≡ None → found d k goal ns ≡ None
+none_found d k goal ns e = none_path (found d k goal ns) e
 
 -- an answer that is right for the most acts there are
 pub searched_from : (d : Domain) (k : Knowledge) (budget : ℕ) (a : Answer) → ((most : ℕ) → most ≡ most_acts → a ≡ answer_from d k budget most 0) → a ≡ searched d k budget

@@ -1,11 +1,11 @@
 -- Leads, one after another, and their nodes.
-use Rattle.std.proofs.Common.{◌≡◌, ℕ, suc, ◌+◌, true, false, cond, List, [], ◌∷◌, ◌++◌, Option, Some, None, option_map, drop, map, flat_map, refl, ap, sym, ◌∙◌, add-one}
+use Rattle.std.proofs.Common.{◌≡◌, ℕ, suc, ◌+◌, Bool, true, false, cond, List, [], ◌∷◌, ◌++◌, Option, Some, None, option_map, drop, find, map, flat_map, refl, ap, sym, ◌∙◌, add-one}
 use Rattle.std.specs.List.{cons_option}
 use Rattle.std.proofs.lemmas.List.{append_assoc}
 use Rattle.ps_world.specs.declared.domains.Domain.{Domain}
 use Rattle.ps_world.specs.declared.facts.Fact.{Fact}
 use Rattle.ps_world.specs.declared.known.Knowledge.{Knowledge}
-use Rattle.ps_solve.specs.Leads.{IsPruned, Lead, first_leads, leads_from, plain_lead}
+use Rattle.ps_solve.specs.Leads.{IsPruned, Lead, first_leads, good_path, leads_from, plain_lead}
 use Rattle.ps_solve.specs.Nodes.{Node, firsts, is_met, met, with_state}
 use Rattle.ps_solve.specs.Prepared.{successor_node, successor_nodes, successor}
 use Rattle.ps_solve.specs.Rows.{plain_node}
@@ -15,6 +15,7 @@ use Rattle.ps_solve.specs.declared.prepared.Prepared.{Prepared}
 use Rattle.ps_solve.proofs.Expanding.{one_given}
 use Rattle.ps_solve.proofs.Firsts.{met-append, still_met}
 use Rattle.ps_solve.proofs.Lists.{map-flat_map, map-map}
+use Rattle.ps_solve.proofs.Reaching.{path_found}
 
 module _ (d : Domain) (k : Knowledge) (atoms : List Fact) where
   -- ---- the nodes of leads
@@ -50,6 +51,13 @@ module _ (d : Domain) (k : Knowledge) (atoms : List Fact) where
   nodes_led next qs ns seen e =
       plain_nodes next ∙ ap nodes_of e ∙ firsts_are seen (flat_map (leads_from d k atoms 0 qs) ns)
       ∙ ap (firsts seen) (all_leads_are qs ns)
+
+  -- the path of the first good of the first leads is that of the first good of the first nodes
+  pub good_nodes : (good : State → Bool) (qs : List Prepared) (ns : List Node) (seen : List State) → good_path good (first_leads seen (flat_map (leads_from d k atoms 0 qs) ns)) ≡ option_map (λ (n : Node). n.path) (find (λ n. good n.state) (firsts seen (flat_map (successor_nodes d k atoms qs) ns)))
+  good_nodes good qs ns seen =
+      let leads = flat_map (leads_from d k atoms 0 qs) ns in
+      path_found good (first_leads seen leads)
+      ∙ ap (λ l. option_map (λ (n : Node). n.path) (find (λ n. good n.state) l)) (firsts_are seen leads ∙ ap (firsts seen) (all_leads_are qs ns))
 
   -- ---- one lead after another
 

@@ -76,7 +76,8 @@ none_left p q (f ∷ fs) e = none_left_at p q f fs (p f) (q f) refl e (none_left
 neither : (a b : Bool) → a ≡ false → b ≡ false → (a || b) ≡ false
 neither a b e f = λ i. e i || f i
 
-none_put : (f : Fact) (adds fs : List Fact) → list_any (same_fact f) adds ≡ false → list_any (same_fact f) fs ≡ false → list_any (same_fact f) (fold (insert_key fact_cmp) fs adds) ≡ false
+-- what is put among facts that aren't it leaves it out
+pub none_put : (f : Fact) (adds fs : List Fact) → list_any (same_fact f) adds ≡ false → list_any (same_fact f) fs ≡ false → list_any (same_fact f) (fold (insert_key fact_cmp) fs adds) ≡ false
 none_put f [] fs a e = e
 none_put f (g ∷ adds) fs a e =
     let w = both (same_fact f g) (list_any (same_fact f) adds) a in

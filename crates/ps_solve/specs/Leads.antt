@@ -1,11 +1,15 @@
 -- Nodes with the ground actions that lead to them.
-use Rattle.std.specs.Prelude.{◌≡◌, ℕ, suc, true, if◌then◌else◌, option_map, List, [], ◌∷◌, slice_get, Some}
+use Rattle.std.specs.Prelude.{◌≡◌, ℕ, suc, Bool, true, if◌then◌else◌, Option, option_map, List, [], ◌∷◌, slice_get, Some, None}
 use Rattle.std.specs.List.{cons_option}
+use Rattle.ps_world.specs.CondViews.{cond_tree}
+use Rattle.ps_world.specs.declared.conditions.Cond.{Cond}
 use Rattle.ps_world.specs.declared.domains.Domain.{Domain}
 use Rattle.ps_world.specs.declared.facts.Fact.{Fact}
 use Rattle.ps_world.specs.declared.known.Knowledge.{Knowledge}
+use Rattle.ps_action.specs.Truth.{is_true}
+use Rattle.ps_action.specs.declared.acts.Act.{Act}
 use Rattle.ps_solve.specs.Independence.{is_pruned}
-use Rattle.ps_solve.specs.States.{State}
+use Rattle.ps_solve.specs.States.{State, at}
 use Rattle.ps_solve.specs.Nodes.{Node, is_met, met, with_state}
 use Rattle.ps_solve.specs.Prepared.{successor_node, successor_nodes, successor}
 use Rattle.ps_solve.specs.Rows.{plain_node}
@@ -30,6 +34,15 @@ leads_from d k atoms i (p ∷ ps) n = cons_option (option_map (λ m. record { no
 abbrev pub first_leads : List State → List Lead → List Lead
 first_leads seen [] = []
 first_leads seen (l ∷ ls) = if is_met seen l.node.state then first_leads seen ls else l ∷ first_leads (with_state seen l.node.state) ls
+
+-- whether a state meets the goal
+abbrev pub is_good : Domain → Knowledge → Cond → State → Bool
+is_good d k goal s = is_true d (at k s) (cond_tree goal)
+
+-- the path of the first lead whose state is good, if there is one
+abbrev pub good_path : (State → Bool) → List Lead → Option (List Act)
+good_path good [] = None
+good_path good (l ∷ ls) = if good l.node.state then Some l.node.path else good_path good ls
 
 -- what the ground actions that are pruned at a lead lead to was met
 abbrev pub IsPruned : Domain → Knowledge → List Fact → List Prepared → List State → Lead → Type 0

@@ -1,4 +1,6 @@
+pub mod Acts
 pub mod Endings
+pub mod Fixed
 pub mod Independence
 pub mod Laws
 pub mod Leads

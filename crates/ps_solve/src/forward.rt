@@ -1,25 +1,31 @@
 //! The solver that looks forward.
-ghost use Rattle.std.specs.Prelude.{◌≡◌, ◌++◌, Some, [], filter_map, flat_map, fold, length, map, option_to_list, IfOk, OnOk};
+ghost use Rattle.std.specs.Prelude.{◌≡◌, ◌++◌, List, Some, [], false, filter_map, flat_map, fold, length, map, option_to_list, IfOk, OnOk};
+ghost use Rattle.std.specs.List.{list_any};
 ghost use Rattle.std.specs.Result.{result_ok};
 ghost use Rattle.std.specs.BTreeSet.{insert_key};
 ghost use Rattle.ps_world.specs.Facts.{fact_cmp};
-ghost use Rattle.ps_action.specs.Grounding.{all_ground, ground_act};
-ghost use Rattle.ps_action.specs.Search.{answer};
+ghost use Rattle.ps_world.specs.Knowledge.{same_fact};
+ghost use Rattle.ps_world.specs.declared.facts.Fact.{Fact as FactView};
+ghost use Rattle.ps_action.specs.Grounding.{ground_act};
+ghost use Rattle.ps_action.specs.Search.{answer, possible_acts};
+ghost use Rattle.ps_solve.specs.Fixed.{AreFixed, possible_facts};
 ghost use Rattle.ps_solve.specs.Independence.{HaveFootprints};
 ghost use Rattle.ps_solve.specs.Endings.{searched};
 ghost use Rattle.ps_solve.specs.States.{state_of};
 ghost use Rattle.ps_solve.specs.Nodes.{Node, grounds, moves};
 ghost use Rattle.ps_solve.specs.Prepared.{AreSound, successor_nodes};
-ghost use Rattle.ps_solve.specs.Rows.{AreAtoms, adds, plain_node, plain_state};
+ghost use Rattle.ps_solve.specs.Rows.{AreAtoms, IsOver, adds, plain_node, plain_state};
 ghost use Rattle.ps_solve.specs.declared.nodes.Reached.{Reached as ReachedView};
 
+use super::acts::all_acts;
 use super::atoms::Atoms;
+use super::fixed::Fixed;
 use super::light::lighten;
 use super::prepared::{Prepared, prepare_all};
 use super::rows::Row;
 use super::search::Search;
 use ps_action::{Act, Answer, GroundAction};
-use ps_domain::{Expert, GroundAllRefusal};
+use ps_domain::Expert;
 use ps_plan::Solver;
 use ps_problem::Problem;
 use ps_world::{Cond, Failure, Name};
@@ -47,10 +53,13 @@ fn push_ground(
     act: &Act,
     found: &mut Vec<GroundAction>,
 ) -> Result<(), AllocError>
-    ensures { OnOk result ((n : Node) → moves expert.now problem.now found.new.items n
+    ensures moves { OnOk result ((n : Node) → moves expert.now problem.now found.new.items n
         ≡ moves expert.now problem.now found.old.items n
         ++ moves expert.now problem.now
         (option_to_list (result_ok (ground_act expert.now instances.now act.now))) n) }
+    ensures adds { OnOk result (flat_map adds found.new.items
+        ≡ flat_map adds found.old.items
+        ++ flat_map adds (option_to_list (result_ok (ground_act expert.now instances.now act.now)))) }
 {
     match expert.ground(instances, act) {
         Ok(mut action) => {
@@ -63,24 +72,64 @@ fn push_ground(
     }
 }
 
-/// Ground actions that lead to the same nodes as those of the acts of these, but of the acts that can't be grounded: an act says its
-/// action by its name alone, so that of two actions with one name it means the first.
+/// Puts the ground action of an act at the end, unless the act can't be grounded or leads nowhere, since a fact that it needs never
+/// is known.
+fn push_useful(
+    alloc: Global,
+    expert: &Expert,
+    problem: &Problem,
+    fixed: &Fixed,
+    instances: &[(Name, Name)],
+    act: &Act,
+    found: &mut Vec<GroundAction>,
+) -> Result<(), AllocError>
+    requires { instances.now ≡ problem.now.instances }
+    ensures moves { OnOk result ((facts : List FactView) (n : Node)
+        → AreFixed fixed.now.heads.keys fixed.now.facts facts
+        → AreAtoms facts (flat_map adds
+        (option_to_list (result_ok (ground_act expert.now instances.now act.now))))
+        → IsOver facts n.state → moves expert.now problem.now found.new.items n
+        ≡ moves expert.now problem.now found.old.items n
+        ++ moves expert.now problem.now
+        (option_to_list (result_ok (ground_act expert.now instances.now act.now))) n) }
+    ensures adds { OnOk result ((f : FactView)
+        → list_any (same_fact f) (flat_map adds found.old.items) ≡ false
+        → list_any (same_fact f) (flat_map adds
+        (option_to_list (result_ok (ground_act expert.now instances.now act.now)))) ≡ false
+        → list_any (same_fact f) (flat_map adds found.new.items) ≡ false) }
+{
+    if fixed.is_idle(expert, act) {
+        return Ok(());
+    }
+    push_ground(alloc, expert, problem, instances, act, found)?;
+    Ok(())
+}
+
+/// Ground actions that lead to the same nodes as those of these acts, but of the acts that can't be grounded or lead nowhere: an act
+/// says its action by its name alone, so that of two actions with one name it means the first.
 fn grounds(
     alloc: Global,
     expert: &Expert,
     problem: &Problem,
+    fixed: &Fixed,
     instances: &[(Name, Name)],
-    all: &[GroundAction],
+    acts: &[Act],
 ) -> Result<Vec<GroundAction>, AllocError>
-    ensures { IfOk result (λ v. (n : Node)
-        → moves expert.now problem.now v.items n
+    requires { instances.now ≡ problem.now.instances }
+    ensures moves { IfOk result (λ v. (facts : List FactView) (n : Node)
+        → AreFixed fixed.now.heads.keys fixed.now.facts facts
+        → AreAtoms facts (flat_map adds
+        (filter_map (λ act. result_ok (ground_act expert.now instances.now act)) acts.now))
+        → IsOver facts n.state → moves expert.now problem.now v.items n
         ≡ moves expert.now problem.now
-        (filter_map (λ act. result_ok (ground_act expert.now instances.now act))
-        (map (λ g. g.act) all.now)) n) }
+        (filter_map (λ act. result_ok (ground_act expert.now instances.now act)) acts.now) n) }
+    ensures adds { IfOk result (λ v. AreAtoms (flat_map adds
+        (filter_map (λ act. result_ok (ground_act expert.now instances.now act)) acts.now))
+        (flat_map adds v.items)) }
 {
-    let mut found = Vec::with_capacity(alloc, all.len())?;
-    for action in all {
-        push_ground(alloc, expert, problem, instances, &action.act, &mut found)?;
+    let mut found = Vec::new(alloc);
+    for act in acts {
+        push_useful(alloc, expert, problem, fixed, instances, act, &mut found)?;
     }
     Ok(found)
 }
@@ -113,36 +162,40 @@ impl<'a> Question<'a> {
         ensures { IfOk result (λ a. a ≡ answer self.now.expert.now self.now.problem.now
             self.now.budget) }
     {
-        match self.expert.ground_all(instances) {
-            Ok(all) => self.answer_by(alloc, instances, &all),
-            Err(Failure::Refused(GroundAllRefusal::TooMany)) => Ok(Answer::TooMany),
-            Err(Failure::OutOfMemory) => Err(AllocError),
+        match all_acts(alloc, self.expert, instances)? {
+            Some(acts) => self.answer_by(alloc, instances, &acts),
+            None => Ok(Answer::TooMany),
         }
     }
 
-    /// The answer, from all ground actions.
+    /// The answer, from all acts.
     fn answer_by(
         &self,
         alloc: Global,
         instances: &[(Name, Name)],
-        all: &[GroundAction],
+        acts: &[Act],
     ) -> Result<Answer, AllocError>
         requires goal { self.now.problem.now.goal ≡ Some self.now.goal.now }
         requires instances { instances.now ≡ self.now.problem.now.instances }
-        requires all { all.now ≡ all_ground self.now.expert.now instances.now }
+        requires acts { acts.now ≡ possible_acts self.now.expert.now self.now.problem.now }
         ensures { IfOk result (λ a. a ≡ searched self.now.expert.now self.now.problem.now
             self.now.budget) }
     {
-        let light = grounds(alloc, self.expert, self.problem, instances, all)?;
+        let fixed = Fixed::of(alloc, self.expert, self.problem)?;
+        let light = grounds(alloc, self.expert, self.problem, &fixed, instances, acts)?;
         self.answer_over(alloc, &light)
     }
 
     /// The answer, from ground actions that lead to the same nodes as all of them.
     fn answer_over(&self, alloc: Global, light: &[GroundAction]) -> Result<Answer, AllocError>
         requires goal { self.now.problem.now.goal ≡ Some self.now.goal.now }
-        requires moves { (n : Node) → moves self.now.expert.now self.now.problem.now light.now n
+        requires moves { (n : Node)
+            → IsOver (possible_facts self.now.expert.now self.now.problem.now) n.state
+            → moves self.now.expert.now self.now.problem.now light.now n
             ≡ moves self.now.expert.now self.now.problem.now
             (grounds self.now.expert.now self.now.problem.now) n }
+        requires adds { AreAtoms (possible_facts self.now.expert.now self.now.problem.now)
+            (flat_map adds light.now) }
         ensures { IfOk result (λ a. a ≡ searched self.now.expert.now self.now.problem.now
             self.now.budget) }
     {
@@ -158,9 +211,13 @@ impl<'a> Question<'a> {
         light: &[GroundAction],
     ) -> Result<Answer, AllocError>
         requires goal { self.now.problem.now.goal ≡ Some self.now.goal.now }
-        requires moves { (n : Node) → moves self.now.expert.now self.now.problem.now light.now n
+        requires moves { (n : Node)
+            → IsOver (possible_facts self.now.expert.now self.now.problem.now) n.state
+            → moves self.now.expert.now self.now.problem.now light.now n
             ≡ moves self.now.expert.now self.now.problem.now
             (grounds self.now.expert.now self.now.problem.now) n }
+        requires possible { AreAtoms (possible_facts self.now.expert.now self.now.problem.now)
+            atoms.now }
         requires first { AreAtoms atoms.now self.now.problem.now.facts }
         requires atoms { AreAtoms atoms.now (flat_map adds light.now) }
         ensures { IfOk result (λ a. a ≡ searched self.now.expert.now self.now.problem.now

@@ -1,7 +1,9 @@
 //! A solver that looks forward, level by level, for the least of the shortest good plans.
 #![tactic(auto)]
 
+mod acts;
 mod atoms;
+mod fixed;
 mod footprints;
 mod forward;
 mod laws;

@@ -4,6 +4,7 @@ ghost use Rattle.ps_world.specs.CondViews.{cond_tree};
 ghost use Rattle.ps_action.specs.Truth.{all_true, is_true};
 ghost use Rattle.ps_solve.specs.States.{State, at};
 ghost use Rattle.ps_solve.specs.Nodes.{Node, move};
+ghost use Rattle.ps_solve.specs.Rows.{adds};
 
 use ps_action::{GroundAction, Known, Types, is_true};
 use ps_world::{Cond, Conds, Duplicate};
@@ -62,8 +63,10 @@ pub fn lighten<K: Known, T: Types>(
     types: &T,
     action: &mut GroundAction,
 ) -> Result<(), AllocError>
-    ensures { OnOk result ((n : Node) → move (T.types types.now) (K.known given.now) n action.new
+    ensures moves { OnOk result ((n : Node)
+        → move (T.types types.now) (K.known given.now) n action.new
         ≡ move (T.types types.now) (K.known given.now) n action.old) }
+    ensures adds { OnOk result (adds action.new ≡ adds action.old) }
 {
     lighten_conds(alloc, given, types, &mut action.conditions.at_start)?;
     lighten_conds(alloc, given, types, &mut action.conditions.over_all)?;

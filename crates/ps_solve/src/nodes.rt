@@ -2,9 +2,8 @@
 ghost use Rattle.std.specs.Prelude.{◌≡◌, List, [], ◌∷◌, ◌++◌, false, length, map, IfOk, OnOk};
 ghost use Rattle.std.specs.List.{list_any};
 ghost use Rattle.ps_world.specs.declared.facts.Fact.{Fact as FactView};
-ghost use Rattle.ps_solve.specs.Nodes.{met};
 ghost use Rattle.ps_solve.specs.Rows.{AreWide, HaveWide, plain_state, same_row};
-ghost use Rattle.ps_solve.specs.Leads.{first_leads, plain_lead};
+ghost use Rattle.ps_solve.specs.Leads.{plain_lead};
 
 use super::atoms::Atoms;
 use super::rows::Row;
@@ -22,7 +21,7 @@ pub struct Reached {
 }
 
 /// The acts before, and one more.
-fn path_to(alloc: Global, before: &[Act], act: Act) -> Result<Vec<Act>, AllocError>
+pub fn path_to(alloc: Global, before: &[Act], act: Act) -> Result<Vec<Act>, AllocError>
     ensures { IfOk result (λ path. path.items ≡ before.now ++ act ∷ []) }
 {
     let mut path = Vec::with_capacity(alloc, before.len() + 1)?;
@@ -45,7 +44,7 @@ fn remember(alloc: Global, seen: &mut IndexSet<Row>, row: &Row) -> Result<(), Al
     Ok(())
 }
 
-/// Puts a row at the end, with the acts before it, and the one that leads to it and its place, unless it was met.
+/// Puts a row that wasn't met at the end, with the acts before it, and the one that leads to it and its place.
 pub fn discover(
     alloc: Global,
     atoms: &Atoms,
@@ -56,33 +55,28 @@ pub fn discover(
     act: Act,
     by: usize,
 ) -> Result<(), AllocError>
+    requires new { list_any (same_row row) seen.old.keys ≡ false }
     requires wide { AreWide atoms.now seen.old.keys }
     requires level { HaveWide atoms.now next.old.items }
     requires row { length row.flags.items ≡ length atoms.now }
     ensures leads { OnOk result (map (plain_lead atoms.now) next.new.items
         ≡ map (plain_lead atoms.now) next.old.items
-        ++ first_leads (map (plain_state atoms.now) seen.old.keys)
-        (record {
+        ++ record {
           node = record {
             state = plain_state atoms.now row;
             path = before.now
                 ++ act ∷ [];
           };
           by = by;
-        } ∷ [])) }
+        } ∷ []) }
     ensures seen { OnOk result (map (plain_state atoms.now) seen.new.keys
-        ≡ met (map (plain_state atoms.now) seen.old.keys)
-        (record { state = plain_state atoms.now row; path = before.now ++ act ∷ [] } ∷ [])) }
+        ≡ map (plain_state atoms.now) seen.old.keys ++ plain_state atoms.now row ∷ []) }
     ensures wide { OnOk result (AreWide atoms.now seen.new.keys) }
     ensures level { OnOk result (HaveWide atoms.now next.new.items) }
 {
-    // The atoms say with their slice that they rise.
-    let _atoms = atoms.as_slice();
-    if !seen.contains(&row) {
-        remember(alloc, seen, &row)?;
-        let path = path_to(alloc, before, act)?;
-        next.push(Reached { row, path, by })?;
-    }
+    remember(alloc, seen, &row)?;
+    let path = path_to(alloc, before, act)?;
+    next.push(Reached { row, path, by })?;
     Ok(())
 }
 

@@ -1,19 +1,17 @@
 //! The search, level by level.
-ghost use Rattle.std.specs.Prelude.{◌≡◌, ◌≤◌, ◌∷◌, ◌++◌, ℕ, Some, [], find, filter_map, flat_map, length, map, option_map, IfOk, OnOk};
+ghost use Rattle.std.specs.Prelude.{◌≡◌, ◌≤◌, ◌∷◌, ◌++◌, ℕ, Some, None, [], false, filter_map, flat_map, length, map, slice_get, IfOk, OnOk};
 ghost use Rattle.std.specs.Option.{option_copied};
-ghost use Rattle.ps_world.specs.CondViews.{cond_tree};
-ghost use Rattle.ps_action.specs.Truth.{is_true};
-ghost use Rattle.ps_solve.specs.Endings.{ending, searched};
-ghost use Rattle.ps_solve.specs.States.{at, state_of};
+ghost use Rattle.ps_solve.specs.Endings.{searched, unfinished};
+ghost use Rattle.ps_solve.specs.States.{state_of};
 ghost use Rattle.ps_solve.specs.Nodes.{grounds, met, moves, root};
 ghost use Rattle.ps_solve.specs.Independence.{HaveFootprints, is_pruned};
-ghost use Rattle.ps_solve.specs.Leads.{ArePruned, IsPruned, first_leads, leads_from, plain_lead};
+ghost use Rattle.ps_solve.specs.Leads.{ArePruned, IsPruned, first_leads, good_path, is_good, leads_from, plain_lead};
 ghost use Rattle.ps_solve.specs.Prepared.{AreSound, IsSound, successor_nodes};
 ghost use Rattle.ps_solve.specs.Rows.{AreWide, HaveWide, plain_node, plain_state};
 ghost use Rattle.ps_solve.specs.declared.nodes.Reached.{Reached as ReachedView};
 
 use super::atoms::Atoms;
-use super::nodes::{Reached, begin, discover};
+use super::nodes::{Reached, begin, discover, path_to};
 use super::prepared::Prepared;
 use super::rows::Row;
 use super::steps::{At, step};
@@ -39,9 +37,8 @@ pub struct Search<'a, K: Known, T: Types> {
 impl<'a, K: Known, T: Types> Search<'a, K, T> {
     /// Whether a row meets the goal.
     fn is_good(&self, row: &Row) -> bool
-        ensures { result ≡ is_true (T.types self.now.types.now)
-            (at (K.known self.now.given.now) (plain_state self.now.atoms.now row.now))
-            (cond_tree self.now.goal.now) }
+        ensures { result ≡ is_good (T.types self.now.types.now) (K.known self.now.given.now)
+            self.now.goal.now (plain_state self.now.atoms.now row.now) }
     {
         let here = At {
             given: self.given,
@@ -51,23 +48,70 @@ impl<'a, K: Known, T: Types> Search<'a, K, T> {
         is_true(&here, self.types, self.goal)
     }
 
-    /// The path of the first of these nodes that meets the goal. None exactly where none does.
-    fn first_good(&self, alloc: Global, level: &[Reached]) -> Result<Option<Seq<Act>>, AllocError>
-        ensures { IfOk result (λ path. path
-            ≡ option_map (λ n. n.path)
-            (find (λ n. is_true (T.types self.now.types.now)
-            (at (K.known self.now.given.now) n.state) (cond_tree self.now.goal.now))
-            (map (plain_node self.now.atoms.now) level.now))) }
+    /// Puts a row that a ground action leads to at the end, unless it was met. Where it is new and meets the goal, its path is
+    /// answered, and nothing more is looked for.
+    fn meet(
+        &self,
+        alloc: Global,
+        node: &Reached,
+        place: usize,
+        act: Act,
+        row: Row,
+        seen: &mut IndexSet<Row>,
+        next: &mut Vec<Reached>,
+    ) -> Result<Option<Seq<Act>>, AllocError>
+        requires wide { AreWide self.now.atoms.now seen.old.keys }
+        requires level { HaveWide self.now.atoms.now next.old.items }
+        requires row { length row.flags.items ≡ length self.now.atoms.now }
+        ensures found { IfOk result (λ path. path
+            ≡ good_path (is_good (T.types self.now.types.now)
+            (K.known self.now.given.now) self.now.goal.now)
+            (first_leads (map (plain_state self.now.atoms.now) seen.old.keys)
+            (record {
+              node = record {
+                state = plain_state self.now.atoms.now row;
+                path = node.now.path.items
+                    ++ act ∷ [];
+              };
+              by = place;
+            } ∷ []))) }
+        ensures leads { IfOk result (λ path. path ≡ None
+            → map (plain_lead self.now.atoms.now) next.new.items
+            ≡ map (plain_lead self.now.atoms.now) next.old.items
+            ++ first_leads (map (plain_state self.now.atoms.now) seen.old.keys)
+            (record {
+              node = record {
+                state = plain_state self.now.atoms.now row;
+                path = node.now.path.items
+                    ++ act ∷ [];
+              };
+              by = place;
+            } ∷ [])) }
+        ensures seen { IfOk result (λ path. path ≡ None
+            → map (plain_state self.now.atoms.now) seen.new.keys
+            ≡ met (map (plain_state self.now.atoms.now) seen.old.keys)
+            (record {
+              state = plain_state self.now.atoms.now row;
+              path = node.now.path.items
+                  ++ act ∷ [];
+            } ∷ [])) }
+        ensures wide { OnOk result (AreWide self.now.atoms.now seen.new.keys) }
+        ensures level { OnOk result (HaveWide self.now.atoms.now next.new.items) }
     {
-        for node in level.iter() {
-            if self.is_good(&node.row) {
-                return Ok(Some(Seq::of(Vec::from_slice(alloc, &node.path)?)));
-            }
+        // The atoms say with their slice that they rise.
+        let _atoms = self.atoms.as_slice();
+        if seen.contains(&row) {
+            return Ok(None);
         }
+        if self.is_good(&row) {
+            return Ok(Some(Seq::of(path_to(alloc, &node.path, act)?)));
+        }
+        discover(alloc, self.atoms, seen, next, row, &node.path, act, place)?;
         Ok(None)
     }
 
-    /// Puts the row that a ground action leads to at the end, if the step doesn't fail and the row wasn't met.
+    /// Puts the row that a ground action leads to at the end, if the step doesn't fail and the row wasn't met. Where it is new and
+    /// meets the goal, its path is answered.
     fn follow(
         &self,
         alloc: Global,
@@ -76,18 +120,27 @@ impl<'a, K: Known, T: Types> Search<'a, K, T> {
         action: &Prepared,
         seen: &mut IndexSet<Row>,
         next: &mut Vec<Reached>,
-    ) -> Result<(), AllocError>
+    ) -> Result<Option<Seq<Act>>, AllocError>
         requires wide { AreWide self.now.atoms.now seen.old.keys }
         requires sound { IsSound self.now.atoms.now action.now }
         requires node { length node.now.row.flags.items ≡ length self.now.atoms.now }
         requires level { HaveWide self.now.atoms.now next.old.items }
-        ensures leads { OnOk result (map (plain_lead self.now.atoms.now) next.new.items
+        ensures found { IfOk result (λ path. path
+            ≡ good_path (is_good (T.types self.now.types.now)
+            (K.known self.now.given.now) self.now.goal.now)
+            (first_leads (map (plain_state self.now.atoms.now) seen.old.keys)
+            (leads_from (T.types self.now.types.now)
+            (K.known self.now.given.now) self.now.atoms.now place (action.now ∷ [])
+            (plain_node self.now.atoms.now node.now)))) }
+        ensures leads { IfOk result (λ path. path ≡ None
+            → map (plain_lead self.now.atoms.now) next.new.items
             ≡ map (plain_lead self.now.atoms.now) next.old.items
             ++ first_leads (map (plain_state self.now.atoms.now) seen.old.keys)
             (leads_from (T.types self.now.types.now)
             (K.known self.now.given.now) self.now.atoms.now place (action.now ∷ [])
             (plain_node self.now.atoms.now node.now))) }
-        ensures seen { OnOk result (map (plain_state self.now.atoms.now) seen.new.keys
+        ensures seen { IfOk result (λ path. path ≡ None
+            → map (plain_state self.now.atoms.now) seen.new.keys
             ≡ met (map (plain_state self.now.atoms.now) seen.old.keys)
             (successor_nodes (T.types self.now.types.now)
             (K.known self.now.given.now) self.now.atoms.now (action.now ∷ [])
@@ -96,10 +149,8 @@ impl<'a, K: Known, T: Types> Search<'a, K, T> {
         ensures level { OnOk result (HaveWide self.now.atoms.now next.new.items) }
     {
         match step(alloc, self.given, self.types, self.atoms, &node.row, action)? {
-            Some(row) => discover(
-                alloc, self.atoms, seen, next, row, &node.path, action.act, place,
-            ),
-            None => Ok(()),
+            Some(row) => self.meet(alloc, node, place, action.act, row, seen, next),
+            None => Ok(None),
         }
     }
 
@@ -117,15 +168,63 @@ impl<'a, K: Known, T: Types> Search<'a, K, T> {
         }
     }
 
+    /// Tries a ground action at a node, unless it is pruned there, as `follow` does.
+    fn attempt(
+        &self,
+        alloc: Global,
+        node: &Reached,
+        place: usize,
+        action: &Prepared,
+        seen: &mut IndexSet<Row>,
+        next: &mut Vec<Reached>,
+    ) -> Result<Option<Seq<Act>>, AllocError>
+        requires wide { AreWide self.now.atoms.now seen.old.keys }
+        requires sound { IsSound self.now.atoms.now action.now }
+        requires node { length node.now.row.flags.items ≡ length self.now.atoms.now }
+        requires level { HaveWide self.now.atoms.now next.old.items }
+        requires place { slice_get self.now.actions.now place ≡ Some action.now }
+        requires pruned { IsPruned (T.types self.now.types.now)
+            (K.known self.now.given.now) self.now.atoms.now self.now.actions.now
+            (map (plain_state self.now.atoms.now) seen.old.keys)
+            (plain_lead self.now.atoms.now node.now) }
+        ensures found { IfOk result (λ path. path
+            ≡ good_path (is_good (T.types self.now.types.now)
+            (K.known self.now.given.now) self.now.goal.now)
+            (first_leads (map (plain_state self.now.atoms.now) seen.old.keys)
+            (leads_from (T.types self.now.types.now)
+            (K.known self.now.given.now) self.now.atoms.now place (action.now ∷ [])
+            (plain_node self.now.atoms.now node.now)))) }
+        ensures leads { IfOk result (λ path. path ≡ None
+            → map (plain_lead self.now.atoms.now) next.new.items
+            ≡ map (plain_lead self.now.atoms.now) next.old.items
+            ++ first_leads (map (plain_state self.now.atoms.now) seen.old.keys)
+            (leads_from (T.types self.now.types.now)
+            (K.known self.now.given.now) self.now.atoms.now place (action.now ∷ [])
+            (plain_node self.now.atoms.now node.now))) }
+        ensures seen { IfOk result (λ path. path ≡ None
+            → map (plain_state self.now.atoms.now) seen.new.keys
+            ≡ met (map (plain_state self.now.atoms.now) seen.old.keys)
+            (successor_nodes (T.types self.now.types.now)
+            (K.known self.now.given.now) self.now.atoms.now (action.now ∷ [])
+            (plain_node self.now.atoms.now node.now))) }
+        ensures wide { OnOk result (AreWide self.now.atoms.now seen.new.keys) }
+        ensures level { OnOk result (HaveWide self.now.atoms.now next.new.items) }
+    {
+        if self.is_pruned(node.by, place, action) {
+            return Ok(None);
+        }
+        self.follow(alloc, node, place, action, seen, next)
+    }
+
     /// Puts the new rows that a node leads to at the end, in the order of the ground actions, of which those that are pruned lead to
-    /// nothing new.
+    /// nothing new. Where one of them meets the goal, the path to the first is answered, and nothing more is looked for.
     fn expand(
         &self,
         alloc: Global,
         node: &Reached,
         seen: &mut IndexSet<Row>,
         next: &mut Vec<Reached>,
-    ) -> Result<(), AllocError>
+    ) -> Result<Option<Seq<Act>>, AllocError>
         requires wide { AreWide self.now.atoms.now seen.old.keys }
         requires sound { AreSound self.now.atoms.now self.now.actions.now }
         requires node { length node.now.row.flags.items ≡ length self.now.atoms.now }
@@ -134,13 +233,22 @@ impl<'a, K: Known, T: Types> Search<'a, K, T> {
             (K.known self.now.given.now) self.now.atoms.now self.now.actions.now
             (map (plain_state self.now.atoms.now) seen.old.keys)
             (plain_lead self.now.atoms.now node.now) }
-        ensures leads { OnOk result (map (plain_lead self.now.atoms.now) next.new.items
+        ensures found { IfOk result (λ path. path
+            ≡ good_path (is_good (T.types self.now.types.now)
+            (K.known self.now.given.now) self.now.goal.now)
+            (first_leads (map (plain_state self.now.atoms.now) seen.old.keys)
+            (leads_from (T.types self.now.types.now)
+            (K.known self.now.given.now) self.now.atoms.now 0 self.now.actions.now
+            (plain_node self.now.atoms.now node.now)))) }
+        ensures leads { IfOk result (λ path. path ≡ None
+            → map (plain_lead self.now.atoms.now) next.new.items
             ≡ map (plain_lead self.now.atoms.now) next.old.items
             ++ first_leads (map (plain_state self.now.atoms.now) seen.old.keys)
             (leads_from (T.types self.now.types.now)
             (K.known self.now.given.now) self.now.atoms.now 0 self.now.actions.now
             (plain_node self.now.atoms.now node.now))) }
-        ensures seen { OnOk result (map (plain_state self.now.atoms.now) seen.new.keys
+        ensures seen { IfOk result (λ path. path ≡ None
+            → map (plain_state self.now.atoms.now) seen.new.keys
             ≡ met (map (plain_state self.now.atoms.now) seen.old.keys)
             (successor_nodes (T.types self.now.types.now)
             (K.known self.now.given.now) self.now.atoms.now self.now.actions.now
@@ -149,20 +257,23 @@ impl<'a, K: Known, T: Types> Search<'a, K, T> {
         ensures level { OnOk result (HaveWide self.now.atoms.now next.new.items) }
     {
         for (place, action) in self.actions.iter().enumerate() {
-            if !self.is_pruned(node.by, place, action) {
-                self.follow(alloc, node, place, action, seen, next)?;
+            if let Some(path) = self.attempt(alloc, node, place, action, seen, next)? {
+                return Ok(Some(path));
             }
         }
-        Ok(())
+        Ok(None)
     }
 
-    /// The new rows that a level leads to, in order.
+    /// Puts the new rows that a level leads to at the end, in order. Where one of them meets the goal, the path to the first is
+    /// answered, and nothing more is looked for.
     fn next_level(
         &self,
         alloc: Global,
         level: &[Reached],
         seen: &mut IndexSet<Row>,
-    ) -> Result<Vec<Reached>, AllocError>
+        next: &mut Vec<Reached>,
+    ) -> Result<Option<Seq<Act>>, AllocError>
+        requires empty { next.old.items ≡ [] }
         requires wide { AreWide self.now.atoms.now seen.old.keys }
         requires level { HaveWide self.now.atoms.now level.now }
         requires sound { AreSound self.now.atoms.now self.now.actions.now }
@@ -170,56 +281,51 @@ impl<'a, K: Known, T: Types> Search<'a, K, T> {
             (K.known self.now.given.now) self.now.atoms.now self.now.actions.now
             (map (plain_state self.now.atoms.now) seen.old.keys)
             (map (plain_lead self.now.atoms.now) level.now) }
-        ensures leads { IfOk result (λ next. map (plain_lead self.now.atoms.now) next.items
+        ensures found { IfOk result (λ path. path
+            ≡ good_path (is_good (T.types self.now.types.now)
+            (K.known self.now.given.now) self.now.goal.now)
+            (first_leads (map (plain_state self.now.atoms.now) seen.old.keys)
+            (flat_map (leads_from (T.types self.now.types.now)
+            (K.known self.now.given.now) self.now.atoms.now 0 self.now.actions.now)
+            (map (plain_node self.now.atoms.now) level.now)))) }
+        ensures leads { IfOk result (λ path. path ≡ None
+            → map (plain_lead self.now.atoms.now) next.new.items
             ≡ first_leads (map (plain_state self.now.atoms.now) seen.old.keys)
             (flat_map (leads_from (T.types self.now.types.now)
             (K.known self.now.given.now) self.now.atoms.now 0 self.now.actions.now)
             (map (plain_node self.now.atoms.now) level.now))) }
-        ensures seen { OnOk result (map (plain_state self.now.atoms.now) seen.new.keys
+        ensures seen { IfOk result (λ path. path ≡ None
+            → map (plain_state self.now.atoms.now) seen.new.keys
             ≡ met (map (plain_state self.now.atoms.now) seen.old.keys)
             (flat_map (successor_nodes (T.types self.now.types.now)
             (K.known self.now.given.now) self.now.atoms.now self.now.actions.now)
             (map (plain_node self.now.atoms.now) level.now))) }
         ensures wide { OnOk result (AreWide self.now.atoms.now seen.new.keys) }
-        ensures level { IfOk result (λ next. HaveWide self.now.atoms.now next.items) }
+        ensures level { OnOk result (HaveWide self.now.atoms.now next.new.items) }
     {
-        let mut next = Vec::new(alloc);
         for node in level {
-            self.expand(alloc, node, seen, &mut next)?;
-        }
-        Ok(next)
-    }
-
-    /// The answer at a depth, if the search ends there: the first path to the goal; `NoPlan` where no node is left; `Spent` where as
-    /// many states are reached as the budget says.
-    fn ending(
-        &self,
-        alloc: Global,
-        level: &[Reached],
-        reached: usize,
-        budget: u32,
-        depth: u32,
-    ) -> Result<Option<Answer>, AllocError>
-        ensures { IfOk result (λ answer. answer
-            ≡ ending (option_map (λ n. n.path)
-            (find (λ n. is_true (T.types self.now.types.now)
-            (at (K.known self.now.given.now) n.state) (cond_tree self.now.goal.now))
-            (map (plain_node self.now.atoms.now) level.now)))
-            (map (plain_node self.now.atoms.now) level.now) reached budget depth) }
-    {
-        if let Some(path) = self.first_good(alloc, level)? {
-            return Ok(Some(Answer::Plan(path)));
-        }
-        if level.is_empty() {
-            return Ok(Some(Answer::NoPlan));
-        }
-        if reached >= budget as usize {
-            return Ok(Some(Answer::Spent { depth }));
+            if let Some(path) = self.expand(alloc, node, seen, next)? {
+                return Ok(Some(path));
+            }
         }
         Ok(None)
     }
 
-    /// The answer, where the level and the states that were met are those of the start.
+    /// The answer at a depth where no node meets the goal, if the search ends there: `NoPlan` where no node is left; `Spent` where
+    /// as many states are reached as the budget says.
+    fn ending(&self, level: &[Reached], reached: usize, budget: u32, depth: u32) -> Option<Answer>
+        ensures { result ≡ unfinished (map (plain_node self.now.atoms.now) level.now) reached budget depth }
+    {
+        if level.is_empty() {
+            return Some(Answer::NoPlan);
+        }
+        if reached >= budget as usize {
+            return Some(Answer::Spent { depth });
+        }
+        None
+    }
+
+    /// The answer, where the level and the states that were met are those of the start, which doesn't meet the goal.
     fn answer_from(
         &self,
         alloc: Global,
@@ -237,6 +343,8 @@ impl<'a, K: Known, T: Types> Search<'a, K, T> {
             ≡ moves (T.types self.now.types.now) (K.known self.now.given.now)
             (grounds (T.types self.now.types.now) (K.known self.now.given.now))
             (plain_node self.now.atoms.now n) }
+        requires none { is_good (T.types self.now.types.now) (K.known self.now.given.now)
+            self.now.goal.now (state_of (K.known self.now.given.now)) ≡ false }
         requires leads { map (plain_lead self.now.atoms.now) level.old.items
             ≡ record { node = root (K.known self.now.given.now); by = length self.now.actions.now }
             ∷ [] }
@@ -250,12 +358,16 @@ impl<'a, K: Known, T: Types> Search<'a, K, T> {
         // The atoms say with their slice that they rise.
         let _atoms = self.atoms.as_slice();
         for depth in 0..MOST_ACTS {
-            if let Some(answer) = self.ending(alloc, level, seen.len(), budget, depth)? {
+            if let Some(answer) = self.ending(level, seen.len(), budget, depth) {
                 return Ok(answer);
             }
-            *level = self.next_level(alloc, level, seen)?;
+            let mut next = Vec::new(alloc);
+            if let Some(path) = self.next_level(alloc, level, seen, &mut next)? {
+                return Ok(Answer::Plan(path));
+            }
+            *level = next;
         }
-        match self.ending(alloc, level, seen.len(), budget, MOST_ACTS)? {
+        match self.ending(level, seen.len(), budget, MOST_ACTS) {
             Some(answer) => Ok(answer),
             None => Ok(Answer::Spent { depth: MOST_ACTS }),
         }
@@ -279,6 +391,9 @@ impl<'a, K: Known, T: Types> Search<'a, K, T> {
         ensures { IfOk result (λ answer. answer
             ≡ searched (T.types self.now.types.now) (K.known self.now.given.now) budget) }
     {
+        if self.is_good(&start) {
+            return Ok(Answer::Plan(Seq::new(alloc)));
+        }
         let mut seen = IndexSet::new(alloc);
         let mut level = begin(alloc, self.atoms, &mut seen, start, self.actions.len())?;
         self.answer_from(alloc, &mut level, &mut seen, budget)

@@ -1,33 +1,40 @@
-use Rattle.std.proofs.Common.{◌≡◌, ◌+◌, ◌++◌, ◌∷◌, [], Option, List, drop, filter_map, ap, sym, ◌∙◌, arith}
+use Rattle.std.proofs.Common.{◌≡◌, ◌+◌, ◌++◌, ◌∷◌, [], Option, List, drop, filter_map, flat_map, ap, sym, ◌∙◌, arith}
 use Rattle.std.specs.Result.{result_ok}
 use Rattle.std.proofs.lemmas.List.{append-nil, drop_all, drop_more}
 use Rattle.ps_action.specs.Grounding.{ground_act}
 use Rattle.ps_action.specs.declared.acts.Act.{Act}
 use Rattle.ps_action.specs.declared.acts.GroundAction.{GroundAction}
 use Rattle.ps_solve.specs.Nodes.{moves}
-use Rattle.ps_solve.proofs.Gathering.{gathered}
-use Rattle.ps_solve.proofs.Lists.{filter_map-map}
+use Rattle.ps_solve.specs.Rows.{adds}
+use Rattle.ps_solve.proofs.Gathering.{gathered, one_given}
 use Rattle.ps_solve.proofs.forward.grounds.Goals as goal
 
-pub loop-action-preserved : goal.loop-action-preserved
-loop-action-preserved c =
-    let all = c.args.all.now in
-    let i = c.loop-action.action-index in
-    let a = c.action-item.result in
-    let ground : GroundAction → Option GroundAction = λ a. result_ok (ground_act c.args.expert.now c.args.instances.now a.act) in
-    let split : drop i all ≡ a ∷ drop (i + 1) all = drop_more all i a (omega arith) ∙ ap (λ (x : GroundAction). x ∷ drop (i + 1) all) (sym c.action-item.is) in
-    λ n. gathered c.args.expert.now c.args.problem.now n ground all i a c.loop-action.found.items c.push_ground.new.found.items split (c.in_ok-push_ground.ensures n) ∙ c.loop-action.invariant n
-
-pub returns : goal.returns
-returns c =
-    let all = c.args.all.now in
-    let i = c.loop-action.action-index in
+pub loop-act-preserved : goal.loop-act-preserved
+loop-act-preserved c =
     let d = c.args.expert.now in
     let k = c.args.problem.now in
-    let found = c.loop-action.found.items in
-    let by_act : Act → Option GroundAction = λ act. result_ok (ground_act d c.args.instances.now act) in
+    let all = c.args.acts.now in
+    let i = c.loop-act.act-index in
+    let a = c.act-item.result in
+    let ground : Act → Option GroundAction = λ a. result_ok (ground_act d c.args.instances.now a) in
+    let split : drop i all ≡ a ∷ drop (i + 1) all = drop_more all i a (omega arith) ∙ ap (λ (x : Act). x ∷ drop (i + 1) all) (sym c.act-item.is) in
+    record {
+      moves = λ facts n fixed atoms over.
+          gathered d k n ground all i a c.loop-act.found.items c.push_useful.new.found.items split (c.in_ok-push_useful.ensures.moves facts n fixed (one_given ground i all (drop (i + 1) all) a facts split atoms) over)
+          ∙ c.loop-act.invariant.moves facts n fixed atoms over;
+      adds = λ f gone. c.in_ok-push_useful.ensures.adds f (c.loop-act.invariant.adds f gone) (one_given ground i all (drop (i + 1) all) a (flat_map adds (filter_map ground all)) split (λ g h. h) f gone);
+    }
+
+pub returns-clause-moves : goal.returns-clause-moves
+returns-clause-moves c =
+    let all = c.args.acts.now in
+    let i = c.loop-act.act-index in
+    let d = c.args.expert.now in
+    let k = c.args.problem.now in
+    let found = c.loop-act.found.items in
+    let ground : Act → Option GroundAction = λ a. result_ok (ground_act d c.args.instances.now a) in
     let gone : drop i all ≡ [] = drop_all i all (omega arith) in
-    λ n.
+    λ facts n fixed atoms over.
     sym (append-nil (moves d k found n))
-    ∙ (λ j. moves d k found n ++ moves d k (filter_map (λ (a : GroundAction). by_act a.act) (sym gone j)) n)
-    ∙ c.loop-action.invariant n ∙ ap (λ (l : List GroundAction). moves d k l n) (sym (filter_map-map by_act (λ (a : GroundAction). a.act) all))
+    ∙ (λ j. moves d k found n ++ moves d k (filter_map ground (sym gone j)) n)
+    ∙ c.loop-act.invariant.moves facts n fixed atoms over

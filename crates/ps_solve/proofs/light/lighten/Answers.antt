@@ -3,8 +3,8 @@ use Rattle.ps_action.specs.declared.acts.GroundAction.{GroundAction}
 use Rattle.ps_solve.proofs.Settled.{alike_moves}
 use Rattle.ps_solve.proofs.light.lighten.Goals as goal
 
-pub returns : goal.returns
-returns g c =
+pub returns-clause-moves : goal.returns-clause-moves
+returns-clause-moves g c =
     let action = c.args.action.now in
     let light : GroundAction = record {
       act = action.act;

@@ -1,5 +1,5 @@
 use Rattle.std.proofs.Common.{◌≡◌, ◌++◌, List, drop, flat_map, map}
-use Rattle.ps_solve.specs.Leads.{ArePruned, Lead, first_leads, leads_from, plain_lead}
+use Rattle.ps_solve.specs.Leads.{ArePruned, Lead, first_leads, good_path, is_good, leads_from, plain_lead}
 use Rattle.ps_solve.specs.Nodes.{Node, met}
 use Rattle.ps_solve.specs.Prepared.{successor_nodes}
 use Rattle.ps_solve.specs.Rows.{AreWide, HaveWide, plain_node, plain_state}
@@ -15,7 +15,9 @@ invariant-loop-node g l =
     let ps = l.self.actions.now in
     let from : Reached → List Lead = λ r. leads_from d k atoms 0 ps (plain_node atoms r) in
     let led : Reached → List Node = λ r. successor_nodes d k atoms ps (plain_node atoms r) in
+    let good = is_good d k l.self.goal.now in
     record {
+      found : good_path good (first_leads (map (plain_state atoms) l.seen.keys) (flat_map from (drop l.node-index l.level))) ≡ good_path good (first_leads (map (plain_state atoms) l.initial.seen.keys) (flat_map from l.level));
       leads : map (plain_lead atoms) l.next.items ++ first_leads (map (plain_state atoms) l.seen.keys) (flat_map from (drop l.node-index l.level)) ≡ first_leads (map (plain_state atoms) l.initial.seen.keys) (flat_map from l.level);
       seen : met (map (plain_state atoms) l.seen.keys) (flat_map led (drop l.node-index l.level)) ≡ met (map (plain_state atoms) l.initial.seen.keys) (flat_map led l.level);
       pruned : ArePruned d k atoms ps (map (plain_state atoms) l.seen.keys) (map (plain_lead atoms) (drop l.node-index l.level));
