@@ -51,7 +51,7 @@ const JOURNAL: &str = "0 run goal (move leia entrance kitchen) (move r2 entrance
 ";
 
 /// The lines of the entries after the first ten, which set the stage.
-fn printed(alloc: Global, names: &Names, entries: &[Entry]) -> Result<Vec<u8>, Fail> {
+pub fn printed(alloc: Global, names: &Names, entries: &[Entry]) -> Result<Vec<u8>, Fail> {
     let mut text = Vec::new(alloc);
     for entry in entries.iter().skip(10) {
         text.extend_from_slice(&print_entry(alloc, names, entry)?)?;
@@ -67,7 +67,7 @@ fn assert_tree(rt: &impl Abort, board: &Board, wanted: &str) -> Result<(), Fail>
 }
 
 /// Does lines up to the first that opens a run, and tells how many.
-fn open_run(board: &mut Board) -> Result<u32, Fail> {
+pub fn open_run(board: &mut Board) -> Result<u32, Fail> {
     for lines in 1..100 {
         if let Step::Opened = command(board)? {
             return Ok(lines);

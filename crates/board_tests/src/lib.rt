@@ -7,6 +7,8 @@ mod at_random;
 #[cfg(test)]
 mod in_order;
 #[cfg(test)]
+mod replans;
+#[cfg(test)]
 mod texts;
 #[cfg(test)]
 mod worlds;

@@ -9,10 +9,14 @@ pub struct Texts {
 }
 
 pub const ROOMS: &str = "(define (domain rooms) (:types robot room)
-(:predicates (robot_at ?r - robot ?ro - room) (connected ?a ?b - room) (battery_full ?r - robot))
+(:predicates (robot_at ?r - robot ?ro - room) (connected ?a ?b - room) (battery_full ?r - robot) (battery_low ?r - robot)
+ (charging_point_at ?ro - room))
 (:durative-action move :parameters (?r - robot ?a ?b - room) :duration (= ?duration 5)
  :condition (and (at start (and (connected ?a ?b) (robot_at ?r ?a))) (over all (battery_full ?r)))
- :effect (and (at start (not (robot_at ?r ?a))) (at end (robot_at ?r ?b)))))";
+ :effect (and (at start (not (robot_at ?r ?a))) (at end (robot_at ?r ?b))))
+(:durative-action charge :parameters (?r - robot ?ro - room) :duration (= ?duration 5)
+ :condition (and (at start (robot_at ?r ?ro)) (at start (charging_point_at ?ro)))
+ :effect (and (at end (not (battery_low ?r))) (at end (battery_full ?r)))))";
 
 const BOTH: &str = "set instance leia robot
 set instance r2 robot
@@ -107,4 +111,27 @@ pub const WAREHOUSE: Texts = Texts {
     words: "replay --domain d --script s --journal j porter carrier keeper",
     script: CARTS,
     members: &[("porter", PORTER), ("carrier", CARRIER), ("keeper", KEEPER)],
+};
+
+const CALLED: &str = "set instance leia robot
+set instance entrance room
+set instance kitchen room
+set instance chargingroom room
+set predicate (robot_at leia entrance)
+set predicate (connected entrance kitchen)
+set predicate (connected chargingroom kitchen)
+set predicate (charging_point_at chargingroom)
+set predicate (battery_full leia)
+set goal (and (robot_at leia kitchen))
+run";
+
+const CHARGER: &str = "performer charger\naction charge\nargs _ _\njob\nwork\nfinish ok\nend";
+
+const LATE: &str = "observer late\nset predicate (battery_low leia)\nend";
+
+/// A robot that nobody moves, and an observer that edits once.
+pub const UNMOVED: Texts = Texts {
+    words: "replay --domain d --script s --journal j --replans 1 late charger",
+    script: CALLED,
+    members: &[("late", LATE), ("charger", CHARGER)],
 };

@@ -85,7 +85,7 @@ pub fn performer_turn(board: &mut Board, hand: u8, p: u32) -> Result<Turn, Alloc
 }
 
 /// Whether the first member is an observer.
-fn begins_with_observer(input: &Input) -> bool
+pub fn begins_with_observer(input: &Input) -> bool
     ensures { IsTrue result → 0 < length (observers input.now) }
 {
     matches!(input.members.as_slice(), [Member::Observer(_), ..])

@@ -9,6 +9,7 @@ use ps_pool::NoGate;
 use ps_text::{MemFiles, MemSink};
 use std::alloc::{AllocError, Global};
 use std::sync::Wait;
+use std::thread::Threads;
 use std::{fmt, str};
 
 /// What differs first.
@@ -143,7 +144,7 @@ fn judge(
 }
 
 /// Makes the call of a case over files and sinks of which no call is chosen to fail yet.
-fn call<R: Wait>(
+fn call<R: Threads + Wait + Sync>(
     rt: &R,
     alloc: Global,
     case: &Case,
@@ -157,7 +158,7 @@ fn call<R: Wait>(
 }
 
 /// Makes the call of a case, and answers what differs first from what it expects.
-pub fn first_difference<R: Wait>(
+pub fn first_difference<R: Threads + Wait + Sync>(
     rt: &R,
     alloc: Global,
     case: &Case,

@@ -44,6 +44,7 @@ use case::{Bad, read_case, says_nothing};
 use judge::{Difference, first_difference};
 use std::alloc::Global;
 use std::sync::Wait;
+use std::thread::Threads;
 use std::{fs, io};
 
 /// The names of the case files in the current folder, in rising order.
@@ -60,7 +61,11 @@ fn case_files(rt: &HostRuntime) -> io::Result<Vec<String>> {
 }
 
 /// What differs from what a case expects, if something does.
-fn try_case<W: Wait>(wait: &W, alloc: Global, block: &str) -> Result<Option<Difference>, Bad> {
+fn try_case<W: Threads + Wait + Sync>(
+    wait: &W,
+    alloc: Global,
+    block: &str,
+) -> Result<Option<Difference>, Bad> {
     let case = read_case(alloc, block)?;
     Ok(first_difference(wait, alloc, &case)?)
 }
@@ -74,7 +79,7 @@ fn name_of(block: &str) -> &str {
 }
 
 /// Tries a case, says what differs, and answers whether all went as expected.
-fn passes<W: Wait>(rt: &HostRuntime, wait: &W, block: &str) -> io::Result<bool> {
+fn passes<W: Threads + Wait + Sync>(rt: &HostRuntime, wait: &W, block: &str) -> io::Result<bool> {
     let name = name_of(block);
     match try_case(wait, rt.alloc(), block) {
         Ok(None) => return Ok(true),
@@ -102,7 +107,11 @@ impl Counts {
 }
 
 /// Tries the cases of a text, of which each begins after `\n== `.
-fn try_cases<W: Wait>(rt: &HostRuntime, wait: &W, text: &str) -> io::Result<Counts> {
+fn try_cases<W: Threads + Wait + Sync>(
+    rt: &HostRuntime,
+    wait: &W,
+    text: &str,
+) -> io::Result<Counts> {
     let mut counts = Counts {
         passed: 0,
         failed: 0,
@@ -126,7 +135,12 @@ fn fault_of(text: &str, counts: Counts) -> Option<&'static str> {
 }
 
 /// Writes what is wrong with a file, and the line for it.
-fn report<W: Wait>(rt: &HostRuntime, wait: &W, name: &str, text: &str) -> io::Result<()> {
+fn report<W: Threads + Wait + Sync>(
+    rt: &HostRuntime,
+    wait: &W,
+    name: &str,
+    text: &str,
+) -> io::Result<()> {
     let mut counts = try_cases(rt, wait, text)?;
     if let Some(fault) = fault_of(text, counts) {
         println!(rt; "  {fault}")?;
@@ -137,7 +151,7 @@ fn report<W: Wait>(rt: &HostRuntime, wait: &W, name: &str, text: &str) -> io::Re
 }
 
 /// Tries the cases of a file, and writes a line for it after a line for each case that failed.
-fn try_file<W: Wait>(rt: &HostRuntime, wait: &W, name: &str) -> io::Result<()> {
+fn try_file<W: Threads + Wait + Sync>(rt: &HostRuntime, wait: &W, name: &str) -> io::Result<()> {
     // So a case at the very start begins like the others.
     let text = format!(in rt.alloc(); "\n{}", fs::read_to_string(rt, name)?)?;
     report(rt, wait, name, text.as_str())

@@ -53,6 +53,14 @@ free-none b p free = by-tests (is_running b.entries) (not b.halted) free
     by-tests true false e = absurd (cc)
     by-tests false goes e = absurd (cc)
 
+pub free-goes : (b : Shown) (p : ℕ) → is_free b p ≡ true → b.halted ≡ false
+free-goes b p free = by-tests (is_running b.entries) b.halted (is_none (granted b.grants p)) free
+  where
+    by-tests : (live halted none : Bool) → (live && (not halted && none)) ≡ true → halted ≡ false
+    by-tests true true none e = absurd (cc)
+    by-tests true false none e = refl
+    by-tests false halted none e = absurd (cc)
+
 pub free-live : (b : Shown) (p : ℕ) → is_free b p ≡ true → is_running b.entries ≡ true
 free-live b p free = by-tests (is_running b.entries) (not b.halted && is_none (granted b.grants p)) free
   where
@@ -75,12 +83,12 @@ pub handed : (i : Input) (es : List Entry) (n : Name) (t : Turn) (g : Grant) →
 handed i es n t g answer is = of-turn n (performed i n es) (work_of i n es) g (sym answer ∙ is)
 
 -- it is noted, and whose it is works
-pub kept-handed : (old new : Core) (hand : ℕ) (grants : List (Option ℕ)) (heard : List ℕ) (p : ℕ) (n : Name) (t : Turn) → IsKept new grants heard → new.input ≡ old.input
+pub kept-handed : (old new : Core) (hand : ℕ) (grants : List (Option ℕ)) (heard : List ℕ) (halted : Bool) (p : ℕ) (n : Name) (t : Turn) → IsKept new grants heard halted → new.input ≡ old.input
     → new.entries.items ≡ with_turn old hand (performed old.input n old.entries.items) → slice_get (performer_names old.input) p ≡ Some n → t ≡ performed_answer old.input old.entries.items n
-    → IsKept new (granted_after grants p t) heard
-kept-handed old new hand grants heard p n turn.Did k input entries at answer = k
-kept-handed old new hand grants heard p n turn.Nothing k input entries at answer = k
-kept-handed old new hand grants heard p n (turn.Work g) k input entries at answer =
+    → IsKept new (granted_after grants p t) heard halted
+kept-handed old new hand grants heard halted p n turn.Did k input entries at answer = k
+kept-handed old new hand grants heard halted p n turn.Nothing k input entries at answer = k
+kept-handed old new hand grants heard halted p n (turn.Work g) k input entries at answer =
     let w = handed old.input old.entries.items n (turn.Work g) g answer refl in
     let still : new.entries.items ≡ old.entries.items = entries ∙ ap (λ o. option_map_or (with_block old.input hand old.entries.items) o old.entries.items) w.0 in
     let works : is_working g.r n new.entries.items ≡ true = ap (is_working g.r n) still ∙ (work-works old.input n old.entries.items g.r g.unit w.2).0 in
@@ -89,6 +97,7 @@ kept-handed old new hand grants heard p n (turn.Work g) k input entries at answe
       shown = k.shown;
       out = out-more new.input new.entries.items grants k.out p g.r n (ap (λ i. slice_get (performer_names i) p) input ∙ at) works;
       heard = k.heard;
+      live = k.live;
     }
 
 -- and it is out

@@ -1,12 +1,13 @@
 -- What a board keeps, after each of its calls.
-use Rattle.std.proofs.Common.{◌≡◌, ℕ, zero, suc, ◌<◌, ◌==◌, ◌&&◌, Bool, true, false, if◌then◌else◌, Option, Some, None, option_map, IfSome, IsTrue, OnErr, OnOk, Result, Ok, Err, List, [], ◌∷◌, filter_map, find, length, map, replicate, slice_get, slice_index_or, slice_set, refl, arith, ap, sym, subst, ◌∙◌}
+use Rattle.std.proofs.Common.{◌≡◌, ℕ, zero, suc, ◌<◌, ◌==◌, ◌&&◌, Bool, true, false, if◌then◌else◌, Option, Some, None, option_map, IfSome, IsTrue, OnErr, OnOk, Result, Ok, Err, List, [], ◌∷◌, filter_map, find, get_or, length, map, replicate, slice_get, slice_index_or, slice_set, refl, arith, ap, sym, subst, ◌∙◌}
 use Rattle.std.specs.List.{cons_option}
+use Rattle.std.specs.Option.{option_map_or, unwrap_or}
 use Rattle.std.proofs.lemmas.Bool.{cond-false, cond-true, eqb-true, true≢false}
-use Rattle.std.proofs.lemmas.Option.{slice_get_within}
+use Rattle.std.proofs.lemmas.Option.{slice_get-get_or, slice_get_within}
 use Rattle.std.proofs.lemmas.List.{length-set}
 use Rattle.ps_ledger.proofs.Lists.{at-set}
 use Rattle.ps_ledger.specs.Members.{place_in}
-use Rattle.ps_world.specs.Names.{same_name}
+use Rattle.ps_world.specs.Names.{object, same_name}
 use Rattle.ps_world.specs.Knowledge.{edited}
 use Rattle.ps_world.specs.declared.names.Name.{Name}
 use Rattle.ps_world.specs.declared.edits.Edit.{Edit}
@@ -19,19 +20,20 @@ use Rattle.ps_machine.specs.declared.journal.Event.{Event}
 use Rattle.ps_machine.specs.declared.journal.Event.TheVariants as event
 use Rattle.ps_machine.specs.declared.journal.Entry.{Entry}
 use Rattle.ps_rules.specs.Auctions.{is_for_active, is_last, is_working}
-use Rattle.ps_rules.specs.Choices.{all_requests, edit_event, head_of, observer_turn, outcome_of, unit_event, unit_on, work_of}
+use Rattle.ps_rules.specs.Choices.{all_requests, edit_event, head_of, observer_turn, outcome_of, unit_event, unit_on, with_block, work_of}
 use Rattle.ps_rules.specs.History.{IsHistory}
 use Rattle.ps_rules.specs.Known.{know}
 use Rattle.ps_rules.specs.Legal.{is_legal}
 use Rattle.ps_rules.specs.Lines.{edit_refusal}
 use Rattle.ps_rules.specs.Members.{next_seen, next_unit, performers}
-use Rattle.ps_rules.specs.Runs.{is_running}
+use Rattle.ps_rules.specs.Runs.{is_running, says_open}
 use Rattle.ps_rules.specs.Sound.{IsSound}
 use Rattle.ps_rules.proofs.Kept.{name_eq}
 use Rattle.ps_choices.specs.Heard.{HasHeard}
 use Rattle.ps_choices.specs.Turns.{is_choice_of}
 use Rattle.ps_choices.proofs.First.{passes}
 use Rattle.ps_ends.specs.Working.{recorded, unit_due}
+use Rattle.ps_ends.proofs.Blocks.{running-block}
 use Rattle.ps_ends.proofs.Picking.{not_some, some_eq}
 use Rattle.ps_ends.proofs.Recording.{who_works_can_record}
 use Rattle.ps_board.specs.declared.whole.Core.{Core}
@@ -44,36 +46,48 @@ use Rattle.ps_board.proofs.Observing.{observer-legal}
 
 -- ---- where nothing is appended, and where something may be
 
-pub kept-still : (old new : Core) (grants : List (Option ℕ)) (heard : List ℕ) → IsKept old grants heard → Stands new → IsShown new → new.input ≡ old.input → new.entries.items ≡ old.entries.items
-    → IsKept new grants heard
-kept-still old new grants heard k stands shown input entries = record {
+-- after a turn in which nothing opened or ended a run, if something was done, an open one still is
+live-turn : (i : Input) (es : List Entry) (hand : ℕ) (done : Option Event) → IfSome done (λ e. says_open e ≡ None) → is_running es ≡ true
+    → is_running (option_map_or (with_block i hand es) done es) ≡ true
+live-turn i es hand None leaves live = live
+live-turn i es hand (Some e) leaves live = running-block i es (record { hand = hand; what = e }) ∙ ap (λ o. unwrap_or o (is_running es)) leaves ∙ live
+
+pub kept-still : (old new : Core) (grants : List (Option ℕ)) (heard : List ℕ) (halted : Bool) → IsKept old grants heard halted → Stands new → IsShown new → new.input ≡ old.input
+    → new.entries.items ≡ old.entries.items → IsKept new grants heard halted
+kept-still old new grants heard halted k stands shown input entries = record {
   core = stands;
   shown = shown;
   out = subst (λ i. AreOut i new.entries.items grants) (sym input) (subst (λ es. AreOut old.input es grants) (sym entries) k.out);
   heard = subst (λ i. HaveHeard i new.entries.items heard) (sym input) (subst (λ es. HaveHeard old.input es heard) (sym entries) k.heard);
+  live = λ h. ap is_running entries ∙ k.live h;
 }
 
-pub kept-turn : (old new : Core) (hand : ℕ) (grants : List (Option ℕ)) (heard : List ℕ) (done : Option Event) → IsKept old grants heard → Stands new → IsShown new
+pub kept-turn : (old new : Core) (hand : ℕ) (grants : List (Option ℕ)) (heard : List ℕ) (halted : Bool) (done : Option Event) → IsKept old grants heard halted → Stands new → IsShown new
     → new.input ≡ old.input → new.entries.items ≡ with_turn old hand done → IfSome done (λ e. is_legal old.input old.entries.items e ≡ true) → IfSome done (Spares old.input grants)
-    → IsKept new grants heard
-kept-turn old new hand grants heard done k stands shown input entries legal spares = record {
+    → (halted ≡ true → IfSome done (λ e. says_open e ≡ None)) → IsKept new grants heard halted
+kept-turn old new hand grants heard halted done k stands shown input entries legal spares leaves = record {
   core = stands;
   shown = shown;
   out = subst (λ i. AreOut i new.entries.items grants) (sym input)
       (subst (λ es. AreOut old.input es grants) (sym entries) (out-turn old.input old.entries.items hand grants done k.out spares));
   heard = subst (λ i. HaveHeard i new.entries.items heard) (sym input)
       (subst (λ es. HaveHeard old.input es heard) (sym entries) (heard-turn old.input old.entries.items hand heard done legal k.heard));
+  live = λ h. ap is_running entries ∙ live-turn old.input old.entries.items hand done (leaves h) (k.live h);
 }
 
 -- after a call that may append this, or run out of memory and append nothing, where the tree is shown then
-pub kept-result : {A E : Type 0} (old mid new : Core) (hand : ℕ) (grants : List (Option ℕ)) (heard : List ℕ) (done : Option Event) (r : Result A E) → IsKept old grants heard
-    → Stands new → IsShown new → new.input ≡ mid.input → new.entries.items ≡ mid.entries.items → mid.input ≡ old.input
+pub kept-result : {A E : Type 0} (old mid new : Core) (hand : ℕ) (grants : List (Option ℕ)) (heard : List ℕ) (halted : Bool) (done : Option Event) (r : Result A E)
+    → IsKept old grants heard halted → Stands new → IsShown new → new.input ≡ mid.input → new.entries.items ≡ mid.entries.items → mid.input ≡ old.input
     → OnOk r (mid.entries.items ≡ with_turn old hand done) → OnErr r (mid.entries.items ≡ old.entries.items) → OnOk r (IfSome done (λ e. is_legal old.input old.entries.items e ≡ true))
-    → IfSome done (Spares old.input grants) → IsKept new grants heard
-kept-result old mid new hand grants heard what (Ok a) k stands shown input entries mid_input ok err legal spares =
-    kept-turn old new hand grants heard what k stands shown (input ∙ mid_input) (entries ∙ ok) legal spares
-kept-result old mid new hand grants heard what (Err e) k stands shown input entries mid_input ok err legal spares =
-    kept-still old new grants heard k stands shown (input ∙ mid_input) (entries ∙ err)
+    → IfSome done (Spares old.input grants) → (halted ≡ true → IfSome done (λ e. says_open e ≡ None)) → IsKept new grants heard halted
+kept-result old mid new hand grants heard halted what (Ok a) k stands shown input entries mid_input ok err legal spares leaves =
+    kept-turn old new hand grants heard halted what k stands shown (input ∙ mid_input) (entries ∙ ok) legal spares leaves
+kept-result old mid new hand grants heard halted what (Err e) k stands shown input entries mid_input ok err legal spares leaves =
+    kept-still old new grants heard halted k stands shown (input ∙ mid_input) (entries ∙ err)
+
+-- what isn't halted owes nothing of a halted one
+pub not-halted : (halted : Bool) (done : Option Event) → halted ≡ false → halted ≡ true → IfSome done (λ e. says_open e ≡ None)
+not-halted halted what goes h = absurd (true≢false (sym h ∙ goes))
 
 pub on-ok : {A E P : Type 0} (r : Result A E) → P → OnOk r P
 on-ok (Ok a) p = p
@@ -102,7 +116,7 @@ replicated (suc n) x = ap suc (replicated n x)
 hears-nothing : (name : Name) (es : List Entry) → HasHeard name 0 es
 hears-nothing name es = record { heard = λ r lt h. absurd (omega (arith, lt)); there = omega arith }
 
-pub kept-open : (c : Core) (n : ℕ) → n ≡ length (performers c.input) → Stands c → IsShown c → IsKept c (replicate n None) (replicate n 0)
+pub kept-open : (c : Core) (n : ℕ) → n ≡ length (performers c.input) → Stands c → IsShown c → IsKept c (replicate n None) (replicate n 0) false
 kept-open c n many stands shown = record {
   core = stands;
   shown = shown;
@@ -111,15 +125,22 @@ kept-open c n many stands shown = record {
     all = replicated n 0 ∙ many;
     each = λ p name at. subst (λ u. HasHeard name u c.entries.items) (sym (same-everywhere 0 n p)) (hears-nothing name c.entries.items);
   };
+  live = λ h. absurd (true≢false (sym h));
 }
 
 -- ---- who is spared
 
 -- where no run is open no grant is out
-pub closed-spares : (c : Core) (grants : List (Option ℕ)) (heard : List ℕ) → IsKept c grants heard → is_running c.entries.items ≡ false → (e : Event) → Spares c.input grants e
-closed-spares c grants heard k closed e p r name at its =
+pub closed-spares : (c : Core) (grants : List (Option ℕ)) (heard : List ℕ) (halted : Bool) → IsKept c grants heard halted → is_running c.entries.items ≡ false
+    → (e : Event) → Spares c.input grants e
+closed-spares c grants heard halted k closed e p r name at its =
     let can = who_works_can_record c.input c.entries.items k.core.sound k.core.history r name (k.out.working p r name at its) in
     absurd (true≢false (sym can.running ∙ closed))
+
+-- and it isn't halted
+pub closed-goes : (halted live : Bool) → (halted ≡ true → live ≡ true) → live ≡ false → halted ≡ false
+closed-goes true live h closed = sym (h refl) ∙ closed
+closed-goes false live h closed = refl
 
 last-ends : (e : Event) → ends_work e ≡ false → (r : ℕ) (p : Name) → is_last r p e ≡ false
 last-ends (event.Finish s q ok) h r p = absurd (cc)
@@ -196,6 +217,25 @@ recorded-spares i sound es grants k s q at none_out = by-active (is_for_active s
     by-active false u = λ p r m there out. and-false (r == s) (same_name m q) (apart p r m there out)
     by-active true None = tt
     by-active true (Some u) = λ p r m there out. unit-spares i es s q u r m (apart p r m there out)
+
+-- what one who works records leaves the run open
+unit-leaves : (i : Input) (es : List Entry) (s : ℕ) (q : Name) (u : Task) → says_open (unit_event i es s q u) ≡ None
+unit-leaves i es s q unit.Work = refl
+unit-leaves i es s q (unit.Feedback percent text) = refl
+unit-leaves i es s q (unit.Edit edit) = by-outcome (edit_refusal (edited i.domain (know i es) edit))
+  where
+    by-outcome : (why : Option Refusal) → says_open (outcome_of (by.Performer s q) edit why) ≡ None
+    by-outcome None = refl
+    by-outcome (Some w) = refl
+unit-leaves i es s q (unit.Finish ok) = refl
+
+pub recorded-leaves : (i : Input) (es : List Entry) (s : ℕ) (q : Name) → IfSome (recorded i es s q) (λ e. says_open e ≡ None)
+recorded-leaves i es s q = by-active (is_for_active s es) (unit_due i s q es)
+  where
+    by-active : (active : Bool) (u : Option Task) → IfSome (if active then option_map (unit_event i es s q) u else Some (event.Stopped s q)) (λ e. says_open e ≡ None)
+    by-active false u = refl
+    by-active true None = tt
+    by-active true (Some u) = unit-leaves i es s q u
 
 -- ---- one grant more, and one fewer
 
@@ -295,6 +335,20 @@ place-there (m ∷ ms) n lt = by-first (place-there ms n) (same_name n m) refl
         let is : place_in (m ∷ ms) n ≡ suc (place_in ms n) = cond-false (same_name n m) 0 (suc (place_in ms n)) t in
         ap (slice_get (m ∷ ms)) is ∙ rest (omega (arith, lt, is))
 
+-- where no run is open no grant is out
+pub closed-in : (c : Core) (grants : List (Option ℕ)) (heard : List ℕ) (halted : Bool) → IsKept c grants heard halted → is_running c.entries.items ≡ false
+    → (p : ℕ) → granted grants p ≡ None
+closed-in c grants heard halted k closed p = by-grant (granted grants p) refl
+  where
+    by-grant : (g : Option ℕ) → granted grants p ≡ g → g ≡ None
+    by-grant None its = refl
+    by-grant (Some r) its =
+        let names : List Name = performer_names c.input in
+        let below : p < length names = subst (λ n. p < n) (k.out.all ∙ sym (mapped-length (λ p. p.name) (performers c.input))) (granted-below grants p r its) in
+        let name : Name = get_or names p (object) in
+        let can = who_works_can_record c.input c.entries.items k.core.sound k.core.history r name (k.out.working p r name (slice_get-get_or names p object below) its) in
+        absurd (true≢false (sym can.running ∙ closed))
+
 -- the performer whose grant is out stands at its place
 pub granted-named : (i : Input) (es : List Entry) (grants : List (Option ℕ)) → AreOut i es grants → (r : ℕ) (n : Name) → granted grants (place_in (performer_names i) n) ≡ Some r
     → slice_get (performer_names i) (place_in (performer_names i) n) ≡ Some n
@@ -320,11 +374,12 @@ heard-more i es heard have k upto n at hears = record {
         subst (λ u. HasHeard m u es) (sym (at-set heard k p upto 0 true same below)) (subst (λ x. HasHeard x upto es) (sym m_is) hears)
     by-place p m there false other = subst (λ u. HasHeard m u es) (sym (at-set heard k p upto 0 false other below)) (have.each p m there)
 
-pub kept-heard : (c : Core) (grants : List (Option ℕ)) (heard : List ℕ) → IsKept c grants heard → (k upto : ℕ) (n : Name) → slice_get (performer_names c.input) k ≡ Some n
-    → HasHeard n upto c.entries.items → IsKept c grants (slice_set heard k upto)
-kept-heard c grants heard kept k upto n at hears = record {
+pub kept-heard : (c : Core) (grants : List (Option ℕ)) (heard : List ℕ) (halted : Bool) → IsKept c grants heard halted → (k upto : ℕ) (n : Name) → slice_get (performer_names c.input) k ≡ Some n
+    → HasHeard n upto c.entries.items → IsKept c grants (slice_set heard k upto) halted
+kept-heard c grants heard halted kept k upto n at hears = record {
   core = kept.core;
   shown = kept.shown;
   out = kept.out;
   heard = heard-more c.input c.entries.items heard kept.heard k upto n at hears;
+  live = kept.live;
 }

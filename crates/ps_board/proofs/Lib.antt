@@ -1,4 +1,5 @@
 pub mod Answering
+pub mod Asking
 pub mod Due
 pub mod Forced
 pub mod Going
@@ -10,6 +11,8 @@ pub mod Observing
 pub mod Quiet
 pub mod Ready
 pub mod Rejecting
+pub mod Skipping
 pub mod Stuck
+pub mod Submitting
 pub mod Ticking
 pub mod Watches

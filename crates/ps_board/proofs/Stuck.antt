@@ -1,31 +1,44 @@
 -- That somebody can go on where a tick does nothing.
-use Rattle.std.proofs.Common.{◌≡◌, ℕ, Bool, true, false, not, ◌&&◌, Option, Some, None, is_none, is_some, option_and_then, option_map, if◌then◌else◌, map, slice_get, refl, ap, sym, ◌∙◌, inl, inr}
+use Rattle.std.proofs.Common.{◌≡◌, ℕ, Bool, true, false, not, ◌&&◌, Option, Some, None, is_none, is_some, option_and_then, option_map, if◌then◌else◌, length, map, slice_get, refl, ap, sym, ◌∙◌, inl, inr}
 use Rattle.std.specs.Option.{option_or}
 use Rattle.std.proofs.lemmas.Bool.{true≢false}
 use Rattle.ps_world.specs.declared.names.Name.{Name}
 use Rattle.ps_machine.specs.declared.members.Unit.{Unit as Task}
 use Rattle.ps_machine.specs.declared.journal.Event.{Event}
-use Rattle.ps_machine.specs.declared.journal.Event.TheVariants as event
+use Rattle.ps_machine.specs.declared.journal.Outcome.{Outcome}
 use Rattle.ps_rules.specs.Choices.{observer_turn, performed, performer_turn, ticked, unit_event, wants_plan, work_of}
 use Rattle.ps_rules.specs.History.{IsHistory}
+use Rattle.ps_rules.specs.Known.{know}
 use Rattle.ps_rules.specs.Members.{observers}
 use Rattle.ps_rules.specs.Runs.{is_running}
 use Rattle.ps_rules.specs.Sound.{IsSound}
 use Rattle.ps_ends.proofs.GoingOn.{somebody_goes_on}
+use Rattle.ps_ledger.specs.Ends.{last_outcome, outcome_of}
 use Rattle.ps_board.specs.declared.board.Shown.{Shown}
-use Rattle.ps_board.specs.declared.ticks.Ticked.TheVariants.{Nothing}
-use Rattle.ps_board.specs.Board.{GoesOn, handing, is_free, observing, performing}
+use Rattle.ps_board.specs.declared.ticks.Ticked.{Ticked}
+use Rattle.ps_board.specs.declared.ticks.Ticked.TheVariants.{Halted, Nothing}
+use Rattle.ps_board.specs.Board.{GoesOn, handing, is_free, observing, performing, tick_answer}
 use Rattle.ps_board.specs.Board.GoesOn.{granted_out, performs_next, works_next, observes_next}
 use Rattle.ps_board.specs.Grants.{grant_for, granted, performer_names}
-use Rattle.ps_board.specs.Ticks.{ticked_answer}
+use Rattle.ps_board.specs.Ticks.{closed_answer, done_answer, snapshot_of, ticked_answer}
+use Rattle.ps_board.specs.declared.ticks.Snapshot.{Snapshot}
 
 -- ---- the answer of a tick that does nothing
 
-quiet-tick : (wants : Bool) (done : Option Event) → ticked_answer wants done ≡ Nothing → (done ≡ None) × (wants ≡ false)
-quiet-tick true None e = absurd (cc)
-quiet-tick false None e = (refl, refl)
-quiet-tick wants (Some (event.Over how)) e = absurd (cc)
-quiet-tick wants (Some x) e = absurd (cc)
+not-done : (how : Option Outcome) → done_answer how ≡ Nothing → ⊥
+not-done None e = absurd (cc)
+not-done (Some how) e = absurd (cc)
+
+quiet-tick : (wants : Bool) (snapshot : Snapshot) (done : Option Event) → ticked_answer (if wants then Some snapshot else None) done ≡ Nothing → (done ≡ None) × (wants ≡ false)
+quiet-tick true snapshot None e = absurd (cc)
+quiet-tick false snapshot None e = (refl, refl)
+quiet-tick wants snapshot (Some x) e = absurd (not-done (outcome_of x) e)
+
+-- in an open run that isn't halted a tick answers by what it does
+pub tick-answers : (b : Shown) → is_running b.entries ≡ true → b.halted ≡ false → tick_answer b ≡ ticked_answer (snapshot_of b.input b.entries) (ticked b.input b.entries)
+tick-answers b live goes =
+    let does : Ticked = ticked_answer (snapshot_of b.input b.entries) (ticked b.input b.entries) in
+    ap (λ x. if not x then closed_answer (last_outcome b.entries) else (if b.halted then Halted else does)) live ∙ ap (λ h. if h then Halted else does) goes
 
 -- ---- who goes on
 
@@ -70,9 +83,9 @@ module _ (b : Shown) (live : is_running b.entries ≡ true) (goes : b.halted ≡
   by-observer k name at (Some x) its e = observes_next k x (observes k name at ∙ its)
 
 pub goes-on : (b : Shown) → IsSound b.input → IsHistory b.input b.entries → is_running b.entries ≡ true → b.halted ≡ false
-    → ticked_answer (wants_plan b.input b.entries) (ticked b.input b.entries) ≡ Nothing → GoesOn b
+    → ticked_answer (snapshot_of b.input b.entries) (ticked b.input b.entries) ≡ Nothing → GoesOn b
 goes-on b sound h live goes e =
-    let w = quiet-tick (wants_plan b.input b.entries) (ticked b.input b.entries) e in
+    let w = quiet-tick (wants_plan b.input b.entries) (record { at = length b.entries; problem = know b.input b.entries }) (ticked b.input b.entries) e in
     elim (somebody_goes_on b.input b.entries sound h live w.0 w.1) [
       | inl p ↦ by-grant b live goes p.0 p.1 p.2 p.3 (granted b.grants p.0) refl
       | inr o ↦ by-observer b live goes o.0 o.1 o.2 (observer_turn b.input o.1 b.entries) refl o.3

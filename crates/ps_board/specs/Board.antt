@@ -6,7 +6,7 @@ use Rattle.ps_machine.specs.declared.journal.Entry.{Entry}
 use Rattle.ps_rules.specs.Journal.{tree_of}
 use Rattle.ps_rules.specs.Runs.{has_run, is_running, opens}
 use Rattle.ps_rules.specs.Members.{observers}
-use Rattle.ps_rules.specs.Choices.{line_event, observer_turn, performed, Says, ticked, wants_plan, with_block}
+use Rattle.ps_rules.specs.Choices.{line_event, observer_turn, performed, Says, ticked, with_block}
 use Rattle.ps_rules.specs.Lines.{next_line}
 use Rattle.ps_action.specs.Trees.{TreeView}
 use Rattle.ps_ends.specs.Working.{recorded, unit_due}
@@ -15,7 +15,7 @@ use Rattle.ps_ledger.specs.Ends.{last_outcome}
 use Rattle.ps_machine.specs.declared.inputs.Input.{Input}
 use Rattle.ps_board.specs.Grants.{grant_for, granted, granted_after, performer_names, turn_of}
 use Rattle.ps_board.specs.Kept.{all_in}
-use Rattle.ps_board.specs.Ticks.{closed_answer, ticked_answer}
+use Rattle.ps_board.specs.Ticks.{closed_answer, snapshot_of, ticked_answer}
 use Rattle.ps_board.specs.declared.ticks.Ticked.{Ticked}
 use Rattle.ps_board.specs.declared.ticks.Ticked.TheVariants.{Halted}
 use Rattle.ps_board.specs.declared.board.Shown.{Shown}
@@ -63,11 +63,11 @@ is_end s = false
 abbrev pub ticking : Shown → Option Event
 ticking b = if is_running b.entries && not b.halted then ticked b.input b.entries else None
 
--- what it answers: how the last run ended, where none is open; that the open one was halted; or what was done
+-- what it answers: how the last run ended, where none is open; that the open one was halted; or what was done, or is handed out
 abbrev pub tick_answer : Shown → Ticked
 tick_answer b =
     if not (is_running b.entries) then closed_answer (last_outcome b.entries)
-    else (if b.halted then Halted else ticked_answer (wants_plan b.input b.entries) (ticked b.input b.entries))
+    else (if b.halted then Halted else ticked_answer (snapshot_of b.input b.entries) (ticked b.input b.entries))
 
 -- whether the performer with this number, in the order of the members, may do something: a run is open, it wasn't halted, and no grant of
 -- this performer is out
@@ -111,6 +111,11 @@ recording b g = recorded b.input b.entries g.r g.by
 -- the tree of the plan with the states of its acts, where a run was opened
 abbrev pub shown_tree : Shown → Option TreeView
 shown_tree b = if has_run b.entries then Some (tree_of b.input b.entries) else None
+
+-- A board is at rest: it isn't halted, and no grant is out.
+pub record IsAtRest (b : Shown) : Type 0 where
+  pub halted : b.halted ≡ false
+  pub all_in : (p : ℕ) → granted b.grants p ≡ None
 
 -- somebody can go on: a grant is out, or some performer or some observer does something in its turn
 pub data GoesOn (b : Shown) : Type 0 where

@@ -1,9 +1,10 @@
 -- What a board keeps between calls.
-use Rattle.std.specs.Prelude.{◌≡◌, ℕ, Option, Some, None, List, length, replicate, slice_get, slice_index_or}
+use Rattle.std.specs.Prelude.{◌≡◌, ℕ, Bool, true, Option, Some, None, List, length, replicate, slice_get, slice_index_or}
 use Rattle.ps_world.specs.declared.names.Name.{Name}
 use Rattle.ps_machine.specs.declared.inputs.Input.{Input}
 use Rattle.ps_machine.specs.declared.journal.Entry.{Entry}
 use Rattle.ps_rules.specs.Members.{performers}
+use Rattle.ps_rules.specs.Runs.{is_running}
 use Rattle.ps_choices.specs.Heard.{HasHeard}
 use Rattle.ps_board.specs.Core.{Stands}
 use Rattle.ps_board.specs.Grants.{AreOut, performer_names}
@@ -22,9 +23,10 @@ pub record HaveHeard (i : Input) (es : List Entry) (upto : List ℕ) : Type 0 wh
 abbrev pub IsShown : Core → Type 0
 IsShown c = c.present.tree.states ≡ c.present.ledger.acts.states.items
 
--- What is kept stands, the tree shows it, whose grant is out works, and what is noted of answers is so.
-pub record IsKept (c : Core) (grants : List (Option ℕ)) (upto : List ℕ) : Type 0 where
+-- What is kept stands, the tree shows it, whose grant is out works, what is noted of answers is so, and only an open run is halted.
+pub record IsKept (c : Core) (grants : List (Option ℕ)) (upto : List ℕ) (halted : Bool) : Type 0 where
   pub core : Stands c
   pub shown : IsShown c
   pub out : AreOut c.input c.entries.items grants
   pub heard : HaveHeard c.input c.entries.items upto
+  pub live : halted ≡ true → is_running c.entries.items ≡ true

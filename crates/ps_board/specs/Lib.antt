@@ -4,5 +4,6 @@ pub mod Commands
 pub mod Core
 pub mod Grants
 pub mod Kept
+pub mod Submits
 pub mod Ticks
 pub mod Watching

@@ -1,7 +1,8 @@
 -- What the ticker does.
-use Rattle.std.specs.Prelude.{◌≡◌, ℕ, ◌<◌, nat_lt, Bool, true, false, if◌then◌else◌, Option, Some, None, List, [], ◌∷◌, ◌++◌, find, map}
+use Rattle.std.specs.Prelude.{◌≡◌, ℕ, ◌<◌, nat_lt, Bool, true, false, if◌then◌else◌, Option, Some, None, List, [], ◌∷◌, ◌++◌, find, length, map}
 use Rattle.std.specs.Option.{option_to_list}
 use Rattle.ps_machine.specs.declared.journal.FailWhy.TheVariants as fail
+use Rattle.ps_machine.specs.declared.inputs.Input.{Input}
 use Rattle.ps_machine.specs.declared.journal.Outcome.{Outcome}
 use Rattle.ps_machine.specs.declared.journal.Event.{Event}
 use Rattle.ps_machine.specs.declared.journal.Event.TheVariants as event
@@ -9,13 +10,16 @@ use Rattle.ps_machine.specs.declared.journal.Entry.{Entry}
 use Rattle.ps_rules.specs.Auctions.{act_of, first_offer, is_open, offers, requests}
 use Rattle.ps_rules.specs.Choices.{confirms, ends, leaves, overs, puts_up, starts, ticked, wants_plan}
 use Rattle.ps_rules.specs.Legal.{is_legal}
+use Rattle.ps_rules.specs.Known.{know}
 use Rattle.ps_rules.specs.Runs.{says_plan}
+use Rattle.ps_ledger.specs.Ends.{outcome_of}
 use Rattle.ps_ledger.specs.Offers.{offered_on}
 use Rattle.ps_ledger.specs.declared.offers.Offer.{Offer}
 use Rattle.ps_board.specs.declared.ticks.AboutRequest.{AboutRequest}
 use Rattle.ps_board.specs.declared.ticks.AboutRequest.TheVariants as request
 use Rattle.ps_board.specs.declared.ticks.AboutAct.{AboutAct}
 use Rattle.ps_board.specs.declared.ticks.AboutAct.TheVariants as act
+use Rattle.ps_board.specs.declared.ticks.Snapshot.{Snapshot}
 use Rattle.ps_board.specs.declared.ticks.Ticked.{Ticked}
 use Rattle.ps_board.specs.declared.ticks.Ticked.TheVariants as tick
 use Rattle.ps_board.specs.declared.whole.Core.{Core}
@@ -102,11 +106,24 @@ confirms_on c = confirms c.entries.items ++ leaves_on c
 
 -- ---- answers
 
--- the answer of a tick in an open run that does this, if it does something, where the solver is asked or isn't
-abbrev pub ticked_answer : Bool → Option Event → Ticked
-ticked_answer wants (Some (event.Over how)) = tick.Over how
-ticked_answer wants (Some e) = tick.Did
-ticked_answer wants None = if wants then tick.WantsPlan else tick.Nothing
+-- what is handed out where the solver is asked: how many entries there are, and what is known after them
+abbrev pub snapshot_of : Input → List Entry → Option Snapshot
+snapshot_of i es = if wants_plan i es then Some (record { at = length es; problem = know i es }) else None
+
+-- the answer of a tick that ended the run so, if it ended it
+abbrev pub done_answer : Option Outcome → Ticked
+done_answer (Some how) = tick.Over how
+done_answer None = tick.Did
+
+-- the answer of a tick that did nothing, where this is handed out to ask the solver with, if it is asked
+abbrev pub idle_answer : Option Snapshot → Ticked
+idle_answer (Some snapshot) = tick.WantsPlan snapshot
+idle_answer None = tick.Nothing
+
+-- the answer of a tick in an open run that does this, if it does something, and else hands this out, if it does
+abbrev pub ticked_answer : Option Snapshot → Option Event → Ticked
+ticked_answer asked (Some e) = done_answer (outcome_of e)
+ticked_answer asked None = idle_answer asked
 
 -- the answer of a tick where no run is open and the last one ended so
 abbrev pub closed_answer : Option Outcome → Ticked
@@ -119,4 +136,4 @@ tick_of c = ticked c.input c.entries.items
 
 -- its answer
 abbrev pub answer_of : Core → Ticked
-answer_of c = ticked_answer (wants_plan c.input c.entries.items) (tick_of c)
+answer_of c = ticked_answer (snapshot_of c.input c.entries.items) (tick_of c)

@@ -1,13 +1,16 @@
 //! The board.
-ghost use Rattle.std.specs.Prelude.{◌≡◌, ◌<◌, ◌≤◌, ◌||◌, ◌&&◌, nat_le, if◌then◌else◌, IsTrue, IfErr, IfOk, OnOk, OnErr, None, Some, is_none, is_some, true, false, [], length, map, slice_get, slice_index_or, slice_set};
+ghost use Rattle.std.specs.Prelude.{◌≡◌, ◌<◌, ◌≤◌, ◌||◌, ◌&&◌, nat_le, if◌then◌else◌, IsTrue, IfErr, IfOk, OnOk, OnErr, None, Some, is_none, is_some, true, false, [], length, map, slice_get, slice_index_or, slice_set, take};
 ghost use Rattle.std.specs.Bool.{Decides};
 ghost use Rattle.std.specs.Option.{option_copied};
 ghost use Rattle.ps_board.specs.declared.ticks.Ticked.TheVariants.{Nothing as Idle};
 ghost use Rattle.ps_board.specs.declared.works.Grant.{Grant as GrantView};
 ghost use Rattle.ps_board.specs.declared.works.Turn.TheVariants.{Did, Nothing, Work as Handed};
-ghost use Rattle.ps_board.specs.Board.{answer_of, commanded, GoesOn, grants_after, grants_without, is_end, is_free, IsOut, nothing_done, observing, performing, performing_answer, recording, shown_tree, step_of, tick_answer, ticking, with_done};
+ghost use Rattle.ps_board.specs.Board.{answer_of, commanded, GoesOn, grants_after, grants_without, is_end, is_free, IsAtRest, IsOut, nothing_done, observing, performing, performing_answer, recording, shown_tree, step_of, tick_answer, ticking, with_done};
 ghost use Rattle.ps_board.specs.Grants.{AreOut, granted, granted_after, performer_names};
 ghost use Rattle.ps_ends.specs.Working.{recorded};
+ghost use Rattle.ps_action.specs.Search.{Fits};
+ghost use Rattle.ps_asked.specs.Asked.{WasAsked};
+ghost use Rattle.ps_board.specs.Submits.{IsSubmitted, taken_event};
 ghost use Rattle.ps_rules.specs.Members.{observers, performers};
 ghost use Rattle.ps_rules.specs.History.{IsHistory};
 ghost use Rattle.ps_rules.specs.Known.{know};
@@ -17,14 +20,16 @@ ghost use Rattle.ps_ledger.specs.Ends.{last_outcome};
 ghost use Rattle.ps_ledger.specs.Members.{place_in};
 ghost use Rattle.ps_rules.specs.Sound.{IsSound};
 
-use super::ticks::{Ticked, closed_answer};
+use super::submits::Submitted;
+use super::ticks::{Snapshot, Ticked, closed_answer};
 use super::turns::Step;
 use super::whole::Core;
 use super::works::{Grant, Turn};
+use ps_action::Answer;
 use ps_choices::heard_upto;
 use ps_domain::Expert;
 use ps_ledger::place_in;
-use ps_machine::{Entry, Input, Unit};
+use ps_machine::{Entry, Grows, Input, Unit};
 use ps_monitor::Monitor;
 use ps_plan::Solver;
 use ps_problem::Problem;
@@ -122,7 +127,13 @@ impl Model for Board {
 
     ghost view = { λ b. record { input = b.core.input; entries = b.core.entries.items; grants = b.grants.items; halted = b.halted } };
 
-    ghost invariant = { λ b. IsKept b.core b.grants.items b.heard.items };
+    ghost invariant = { λ b. IsKept b.core b.grants.items b.heard.items b.halted };
+}
+
+impl Grows for Board {
+    ghost history = { λ b. b.entries };
+
+    ghost input = { λ b. b.input };
 }
 
 impl Board {
@@ -181,9 +192,10 @@ impl Board {
         &self.core.input
     }
 
-    /// Whether a run is open.
+    /// Whether a run is open. Where none is, the board is at rest: it isn't halted, and no grant is out.
     pub fn is_running(&self) -> bool
-        ensures { result ≡ is_running self.now.entries }
+        ensures running { result ≡ is_running self.now.entries }
+        ensures rest { is_running self.now.entries ≡ false → IsAtRest self.now }
     {
         self.core.present.ledger.run.is_running()
     }
@@ -336,6 +348,34 @@ impl Board {
             Ok(()) => Ok(()),
             Err(AllocError) => Err(GrantBack { grant }),
         }
+    }
+
+    /// Takes in the answer of a solver that was asked with this snapshot, which a tick handed out: appends the block of what follows
+    /// it, if no entry since then counts, that is, changed what is known, planned anew or ended the run. An end of the run takes the
+    /// mark of a halted one away. The only error is that memory ran out, and then nothing changes.
+    pub fn submit(
+        &mut self,
+        hand: u8,
+        snapshot: Snapshot,
+        answer: Answer,
+    ) -> Result<Submitted, AllocError>
+        requires hand { IsTrue (nat_le 1 hand && nat_le hand 16) }
+        requires asked { WasAsked self.now.input self.now.entries snapshot.at }
+        requires known { snapshot.problem ≡ know self.now.input (take snapshot.at self.now.entries) }
+        requires fits { Fits self.now.input.domain snapshot.problem self.now.input.budget answer }
+        ensures answer { IfOk result (IsSubmitted self.old.input self.old.entries snapshot.at) }
+        ensures entries { IfOk result
+            (λ s. self.new.entries ≡ with_done self.old hand (taken_event s answer)) }
+        ensures input { self.new.input ≡ self.old.input }
+        ensures grants { self.new.grants ≡ self.old.grants }
+        ensures halted { self.new.halted ≡ (self.old.halted && is_running self.new.entries) }
+        ensures err { OnErr result (self.new ≡ self.old) }
+    {
+        let result = self.core.submit(self.alloc, hand, snapshot, answer);
+        self.core.show();
+        let running = self.core.present.ledger.run.is_running();
+        self.halted &= running;
+        result
     }
 
     /// Whether a performer may do something.

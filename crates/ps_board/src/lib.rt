@@ -4,6 +4,7 @@
 mod blocks;
 mod board;
 mod commands;
+mod submits;
 mod ticks;
 mod turns;
 mod watching;
@@ -12,7 +13,8 @@ mod works;
 
 pub use board::{Board, GrantBack, Shown};
 pub use commands::Next;
-pub use ticks::{AboutAct, AboutRequest, Ticked};
+pub use submits::Submitted;
+pub use ticks::{AboutAct, AboutRequest, Snapshot, Ticked};
 pub use turns::Step;
 pub use whole::Core;
 pub use works::{Grant, Turn};

@@ -1,18 +1,20 @@
 //! What the ticker does.
-ghost use Rattle.std.specs.Prelude.{◌≡◌, ◌&&◌, [], ◌∷◌, nat_le, true, Bool, if◌then◌else◌, None, Some, flat_map, IfOk, IfSome, IsTrue, OnErr, OnOk};
+ghost use Rattle.std.specs.Prelude.{◌≡◌, ◌&&◌, [], ◌∷◌, nat_le, true, false, if◌then◌else◌, None, Some, flat_map, IfOk, IfSome, IsTrue, OnErr, OnOk};
 ghost use Rattle.ps_machine.specs.declared.journal.Event.TheVariants.{Fail, Unserved};
 ghost use Rattle.ps_machine.specs.declared.journal.FailWhy.TheVariants.{AtEnd, Effect as ByEffect};
-ghost use Rattle.ps_rules.specs.Choices.{all_requests, overs, rejects, wants_plan};
+ghost use Rattle.ps_rules.specs.Choices.{all_requests, overs, rejects};
 ghost use Rattle.ps_rules.specs.Runs.{is_running};
-ghost use Rattle.ps_rules.specs.Settled.{places};
+ghost use Rattle.ps_rules.specs.Settled.{is_settled, places};
+ghost use Rattle.ps_ledger.specs.Ends.{outcome_of};
 ghost use Rattle.ps_board.specs.Core.{Stands, with_turn};
-ghost use Rattle.ps_board.specs.Ticks.{answer_of, asks_on, better, closed_answer, confirms_on, ends_on, fails_of, fails_on, first_legal, first_of, IsEarliest, leaves_on, IsTickers, on_act, on_request, starts_on, tick_of, ticked_answer};
+ghost use Rattle.ps_board.specs.Ticks.{answer_of, asks_on, better, closed_answer, confirms_on, done_answer, ends_on, fails_of, fails_on, first_legal, first_of, idle_answer, IsEarliest, leaves_on, IsTickers, on_act, on_request, snapshot_of, starts_on, tick_of};
 ghost use Rattle.ps_board.specs.declared.ticks.AboutAct.TheVariants.{Ask as ToAsk, Begin as ToBegin, Finish as ToFinish};
 ghost use Rattle.ps_board.specs.declared.ticks.AboutRequest.TheVariants.{Confirm as ToConfirm, Leave as ToLeave};
 
 use super::whole::Core;
 use ps_ledger::Offer;
 use ps_machine::{Event, FailWhy, Outcome};
+use ps_problem::Problem;
 use std::alloc::{AllocError, Global};
 
 /// What the ticker may do about a request.
@@ -35,15 +37,23 @@ pub enum AboutAct {
     Begin,
 }
 
+/// What was known when the solver was asked.
+#[derive(Drop)]
+pub struct Snapshot {
+    /// The number of entries then.
+    pub at: u64,
+    pub problem: Problem,
+}
+
 /// What came of a tick.
-#[derive(Clone, Copy)]
+#[derive(Drop)]
 pub enum Ticked {
     /// The block of one event was appended.
     Did,
     /// Nothing was to be done, and nothing was appended.
     Nothing,
-    /// The solver is asked for a plan, and nothing was appended.
-    WantsPlan,
+    /// The solver is asked for a plan for what is known, and nothing was appended.
+    WantsPlan(Snapshot),
     /// The run has ended so, now or before.
     Over(Outcome),
     /// The open run was halted, and nothing was appended.
@@ -58,13 +68,23 @@ fn event_if(may: bool, event: Event) -> Option<Event>
     if may { Some(event) } else { None }
 }
 
-/// The answer of a tick that does this.
-fn answer_to(event: &Event) -> Ticked
-    ensures { (wants : Bool) → result ≡ ticked_answer wants (Some event.now) }
+/// How an event ends the run, if it ends it.
+fn outcome_of(event: &Event) -> Option<Outcome>
+    ensures { result ≡ outcome_of event.now }
 {
     match event {
-        Event::Over(how) => Ticked::Over(*how),
-        _ => Ticked::Did,
+        Event::Over(how) => Some(*how),
+        _ => None,
+    }
+}
+
+/// The answer of a tick that ended the run so, if it ended it.
+fn done_answer(how: Option<Outcome>) -> Ticked
+    ensures { result ≡ done_answer how }
+{
+    match how {
+        Some(how) => Ticked::Over(how),
+        None => Ticked::Did,
     }
 }
 
@@ -225,8 +245,8 @@ impl Core {
         }
     }
 
-    /// How an act ends or fails, if it may.
-    fn finish_of(&self, act: u32) -> Option<Event>
+    /// How an act that was finished well ends or fails, if it may.
+    fn finish_well(&self, act: u32) -> Option<Event>
         requires stands { Stands self.now }
         requires live { is_running self.now.entries.items ≡ true }
         ensures first { result ≡ first_legal self.now (on_act ToFinish self.now.entries.items act) }
@@ -235,6 +255,34 @@ impl Core {
         match event_if(self.present.may_end_act(act), Event::End(act)) {
             Some(event) => Some(event),
             None => self.fail_of(act),
+        }
+    }
+
+    /// How an active act ends or fails, if it may. Its conditions are judged only once its work was finished well.
+    fn finish_active(&self, act: u32) -> Option<Event>
+        requires stands { Stands self.now }
+        requires live { is_running self.now.entries.items ≡ true }
+        ensures first { result ≡ first_legal self.now (on_act ToFinish self.now.entries.items act) }
+        ensures plan { IfSome result IsTickers }
+    {
+        if self.present.is_finished(true, act) {
+            self.finish_well(act)
+        } else {
+            self.fail_for(act, FailWhy::Script)
+        }
+    }
+
+    /// How an act ends or fails, if it may: only while it is active.
+    fn finish_of(&self, act: u32) -> Option<Event>
+        requires stands { Stands self.now }
+        requires live { is_running self.now.entries.items ≡ true }
+        ensures first { result ≡ first_legal self.now (on_act ToFinish self.now.entries.items act) }
+        ensures plan { IfSome result IsTickers }
+    {
+        if self.present.ledger.acts.is_active(act) {
+            self.finish_active(act)
+        } else {
+            None
         }
     }
 
@@ -250,14 +298,28 @@ impl Core {
         event_if(may, Event::Request { r, act })
     }
 
-    /// The start of an act, if it may come.
-    fn start_of(&self, act: u32) -> Option<Event>
+    /// The start of an act that is ready, if it may come.
+    fn start_ready(&self, act: u32) -> Option<Event>
         requires stands { Stands self.now }
         requires live { is_running self.now.entries.items ≡ true }
         ensures first { result ≡ first_legal self.now (on_act ToBegin self.now.entries.items act) }
         ensures plan { IfSome result IsTickers }
     {
         event_if(self.present.may_begin_act(act), Event::Start(act))
+    }
+
+    /// The start of an act, if it may come. Its conditions are judged only where it is ready.
+    fn start_of(&self, act: u32) -> Option<Event>
+        requires stands { Stands self.now }
+        requires live { is_running self.now.entries.items ≡ true }
+        ensures first { result ≡ first_legal self.now (on_act ToBegin self.now.entries.items act) }
+        ensures plan { IfSome result IsTickers }
+    {
+        if self.present.is_ready(act) {
+            self.start_ready(act)
+        } else {
+            None
+        }
     }
 
     /// What may be done about an act, if something may.
@@ -291,8 +353,21 @@ impl Core {
         None
     }
 
-    /// The end of the run, where it is settled and that needs no solver.
-    fn first_over(&self) -> Option<Event>
+    /// Whether some act of the plan is active.
+    fn any_active(&self) -> bool
+        requires { Stands self.now }
+        ensures { result ≡ true → is_settled self.now.input self.now.entries.items ≡ false }
+    {
+        for act in 0..self.present.count() {
+            if self.present.ledger.acts.is_active(act) {
+                return true;
+            }
+        }
+        false
+    }
+
+    /// The end of a run without an active act, where it is settled and that needs no solver.
+    fn over_idle(&self) -> Option<Event>
         requires stands { Stands self.now }
         requires live { is_running self.now.entries.items ≡ true }
         ensures first { result ≡ first_legal self.now
@@ -302,6 +377,21 @@ impl Core {
         match self.present.verdict(&self.input) {
             Some(how) => event_if(self.present.is_settled(&self.input), Event::Over(how)),
             None => None,
+        }
+    }
+
+    /// The end of the run, where it is settled and that needs no solver: not while an act is active.
+    fn first_over(&self) -> Option<Event>
+        requires stands { Stands self.now }
+        requires live { is_running self.now.entries.items ≡ true }
+        ensures first { result ≡ first_legal self.now
+            (overs self.now.input self.now.entries.items) }
+        ensures plan { IfSome result IsTickers }
+    {
+        if self.any_active() {
+            None
+        } else {
+            self.over_idle()
         }
     }
 
@@ -415,19 +505,35 @@ impl Core {
         }
     }
 
-    /// The answer of a tick that does nothing.
-    fn idle(&self) -> Ticked
+    /// The answer of a tick that does nothing where no act is active. The only error is that memory ran out.
+    fn answer_idle(&self) -> Result<Ticked, AllocError>
         requires stands { Stands self.now }
         requires live { is_running self.now.entries.items ≡ true }
-        ensures { result ≡ ticked_answer
-            (wants_plan self.now.input self.now.entries.items) None }
+        ensures { IfOk result
+            (λ t. t ≡ idle_answer (snapshot_of self.now.input self.now.entries.items)) }
     {
         let settled = self.present.is_settled(&self.input);
         let verdict = self.present.verdict(&self.input);
         if settled && verdict.is_none() {
-            Ticked::WantsPlan
+            let at = self.entries.len() as u64;
+            let problem = self.present.problem.copy()?;
+            Ok(Ticked::WantsPlan(Snapshot { at, problem }))
         } else {
-            Ticked::Nothing
+            Ok(Ticked::Nothing)
+        }
+    }
+
+    /// The answer of a tick that does nothing. The only error is that memory ran out.
+    fn idle(&self) -> Result<Ticked, AllocError>
+        requires stands { Stands self.now }
+        requires live { is_running self.now.entries.items ≡ true }
+        ensures { IfOk result
+            (λ t. t ≡ idle_answer (snapshot_of self.now.input self.now.entries.items)) }
+    {
+        if self.any_active() {
+            Ok(Ticked::Nothing)
+        } else {
+            self.answer_idle()
         }
     }
 
@@ -447,11 +553,11 @@ impl Core {
     {
         match self.next_tick() {
             Some(event) => {
-                let answer = answer_to(&event);
+                let how = outcome_of(&event);
                 self.put(alloc, hand, event)?;
-                Ok(answer)
+                Ok(done_answer(how))
             }
-            None => Ok(self.idle()),
+            None => self.idle(),
         }
     }
 }

@@ -1,5 +1,5 @@
 //! What a board is made of.
-ghost use Rattle.std.specs.Prelude.{◌≡◌, ◌≤◌, IsTrue, length, OnOk, OnErr};
+ghost use Rattle.std.specs.Prelude.{◌≡◌, ◌≤◌, IsTrue, true, length, OnOk, OnErr};
 ghost use Rattle.ps_rules.specs.Legal.{has_hand};
 ghost use Rattle.ps_rows.specs.Table.{MayBegin};
 ghost use Rattle.ps_board.specs.Kept.{IsShown};
@@ -49,6 +49,32 @@ fn most_entries(what: &Event) -> usize
 impl Core {
     /// Appends the block of an event, where all but the entries and what they tell is as it is after that event.
     fn append(&mut self, hand: u8, what: Event)
+        requires { IsDue self.now hand what }
+        ensures stands { Stands self.new }
+        ensures entries { HasBlock self.old hand what self.new }
+        ensures input { self.new.input ≡ self.old.input }
+    {
+        if is_quiet(&what) {
+            self.append_quiet(hand, what);
+        } else {
+            self.append_forcing(hand, what);
+        }
+    }
+
+    /// Appends the block of an event that forces no cancel: that event alone. No condition that is watched need be judged.
+    fn append_quiet(&mut self, hand: u8, what: Event)
+        requires due { IsDue self.now hand what }
+        requires quiet { is_quiet what ≡ true }
+        ensures stands { Stands self.new }
+        ensures entries { HasBlock self.old hand what self.new }
+        ensures input { self.new.input ≡ self.old.input }
+    {
+        self.present.ledger.take(&what);
+        push(&mut self.entries, Entry { hand, what });
+    }
+
+    /// Appends the block of an event that may force cancels.
+    fn append_forcing(&mut self, hand: u8, what: Event)
         requires { IsDue self.now hand what }
         ensures stands { Stands self.new }
         ensures entries { HasBlock self.old hand what self.new }

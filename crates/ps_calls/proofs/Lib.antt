@@ -1,5 +1,6 @@
 pub mod Ends
 pub mod Endings
 pub mod Modes
+pub mod OneSession
 pub mod Performed
 pub mod Statuses

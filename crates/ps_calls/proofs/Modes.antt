@@ -2,7 +2,7 @@
 use Rattle.std.proofs.Common.{◌≡◌, ℕ, Bool, true, false, ◌||◌, Option, Some, None, IfSome, inl, inr, ap, ◌∙◌, option_map, option_and_then, List, [], ◌∷◌, codes, if◌then◌else◌, refl, sym, subst}
 use Rattle.ps_world.specs.Lines.{same_text}
 use Rattle.ps_text.proofs.Tables.{same_text-same}
-use Rattle.ps_words.specs.Words.{Request, SessionRequest, asked_by, asked_in, asked_of, budget_in, carts_in, check_app, check_of, gen_app, generation_of, is_well_formed, journal_replans_in, mode_of, replans_in, replay_app, replay_of, replay_with, rows_read, session_app, session_of, session_with, validate_app, validation_of, workers_in}
+use Rattle.ps_words.specs.Words.{Request, SessionRequest, asked_by, asked_in, asked_of, budget_in, carts_in, check_app, check_of, gen_app, generation_of, is_well_formed, mode_of, replans_in, replay_app, replay_of, replay_with, rows_read, session_app, session_of, session_with, validate_app, validation_of, workers_in}
 use Rattle.ps_words.specs.Words.Request.{a_generation, a_session, a_check, a_validation, a_replay}
 use Rattle.ps_words.specs.declared.commands.Mode.{Mode}
 use Rattle.ps_words.specs.declared.commands.Mode.TheVariants as mode
@@ -42,15 +42,15 @@ next-mode f m h (Some a) = h a
 in-mode : (m : Mode) (words : List (List ℕ)) → IfSome (asked_in m words) (λ asked. mode_in asked ≡ m)
 in-mode mode.Session words =
     next-mode session_of mode.Session
-    (λ rows. next-mode (λ w. option_and_then (λ b. option_map (λ r. session_with rows w b) (replans_in rows)) (budget_in rows)) mode.Session
-    (λ w. next-mode (λ b. option_map (λ r. session_with rows w b) (replans_in rows)) mode.Session
-    (λ b. made-mode (λ r. session_with rows w b) mode.Session (λ r. refl) (replans_in rows)) (budget_in rows)) (workers_in rows)) (rows_read session_app words)
+    (λ rows. next-mode (λ w. option_and_then (λ b. option_map (λ r. session_with rows w b r) (replans_in rows)) (budget_in rows)) mode.Session
+    (λ w. next-mode (λ b. option_map (λ r. session_with rows w b r) (replans_in rows)) mode.Session
+    (λ b. made-mode (λ r. session_with rows w b r) mode.Session (λ r. refl) (replans_in rows)) (budget_in rows)) (workers_in rows)) (rows_read session_app words)
 in-mode mode.Check words = made-mode check_of mode.Check (λ rows. refl) (rows_read check_app words)
 in-mode mode.Validate words = made-mode validation_of mode.Validate (λ rows. refl) (rows_read validate_app words)
 in-mode mode.Replay words =
     next-mode replay_of mode.Replay
-    (λ rows. next-mode (λ b. option_map (λ r. replay_with rows b r) (journal_replans_in rows)) mode.Replay
-    (λ b. made-mode (λ r. replay_with rows b r) mode.Replay (λ r. refl) (journal_replans_in rows)) (budget_in rows)) (rows_read replay_app words)
+    (λ rows. next-mode (λ b. option_map (λ r. replay_with rows b r) (replans_in rows)) mode.Replay
+    (λ b. made-mode (λ r. replay_with rows b r) mode.Replay (λ r. refl) (replans_in rows)) (budget_in rows)) (rows_read replay_app words)
 in-mode mode.Gen words = next-mode generation_of mode.Gen (λ rows. made-mode a_generation mode.Gen (λ n. refl) (carts_in rows)) (rows_read gen_app words)
 
 -- the mode is one that this word names

@@ -18,9 +18,10 @@ use Rattle.ps_inputs.specs.declared.works.Validation.{Validation}
 use Rattle.ps_inputs.specs.declared.works.Work.TheVariants as work
 use Rattle.ps_gen.specs.Summary.{summary_text}
 use Rattle.ps_session.specs.Session.{IsJournal, Runs}
+use Rattle.ps_session.specs.declared.ways.Turns.TheVariants.{InOrder}
 use Rattle.ps_audit.specs.Findings.{finding_line, finding_status}
 use Rattle.ps_audit.specs.declared.findings.Finding.{Finding}
-use Rattle.ps_calls.specs.Headline.{CountsSession, IsFound, Performs, WritesWithStatus, answer_line, verdict_of}
+use Rattle.ps_calls.specs.Headline.{CountsSession, IsFound, Performs, WritesWithStatus, answer_line, turns_of, verdict_of}
 use Rattle.ps_calls.specs.Verdicts.{verdict_line, verdict_status}
 
 -- ---- one text
@@ -69,11 +70,11 @@ pub unfound : (r : Replay) (start : SinkView) → Performs (work.Replay r) start
 unfound r start = record { done = tt; cut = inl (0, Appends-nil start.bytes); counted = refl }
 
 -- a session's input was run
-pub ran : (s : Session) (old new : SinkView) (r : Result ℕ SinkRefusal) → Runs s.input s.names old new r → Performs (work.Session s) old new r
+pub ran : (s : Session) (old new : SinkView) (r : Result ℕ SinkRefusal) → Runs (turns_of s) s.input s.names old new r → Performs (work.Session s) old new r
 ran s old new r run = record { done = run.done; cut = run.cut; counted = run.counted }
 
 -- the counts of a journal that was made
-pub counted-journal : (i : Input) (carts : ℕ) (journal : List Entry) (old new : SinkView) (r : Result ℕ SinkRefusal) → IsJournal i journal
+pub counted-journal : (i : Input) (carts : ℕ) (journal : List Entry) (old new : SinkView) (r : Result ℕ SinkRefusal) → IsJournal InOrder i journal
     → WritesWithStatus (summary_text carts journal) (status_of journal) old new r → CountsSession i carts old new r
 counted-journal i carts journal old new (Ok status) is w = record { done = (journal, is, w.done.0, w.done.1); cut = tt; counted = w.counted }
 counted-journal i carts journal old new (Err e) is w = record { done = tt; cut = inr (journal, is, w.cut); counted = w.counted }

@@ -1,5 +1,5 @@
 -- What a call of the program claims.
-use Rattle.std.specs.Prelude.{◌≡◌, ℕ, ◌⊎◌, Option, List, [], Result, Ok, Err, IfOk, OnErr}
+use Rattle.std.specs.Prelude.{◌≡◌, ℕ, ◌⊎◌, if◌then◌else◌, Option, List, [], Result, Ok, Err, IfOk, OnErr}
 use Rattle.std.specs.Io.KnownBytes.{Appends}
 use Rattle.ps_world.specs.Names.{Table}
 use Rattle.ps_world.specs.declared.domains.Domain.{Domain}
@@ -16,10 +16,13 @@ use Rattle.ps_inputs.specs.Faults.{Loads, fault_line, fault_status}
 use Rattle.ps_inputs.specs.Input.{cannot_write_line, out_of_memory_line}
 use Rattle.ps_inputs.specs.declared.faults.Fault.{Fault}
 use Rattle.ps_inputs.specs.declared.works.Replay.{Replay}
+use Rattle.ps_inputs.specs.declared.works.Session.{Session}
 use Rattle.ps_inputs.specs.declared.works.Validation.{Validation}
 use Rattle.ps_inputs.specs.declared.works.Work.{Work}
 use Rattle.ps_inputs.specs.declared.works.Work.TheVariants as work
 use Rattle.ps_session.specs.Session.{IsCut, IsDone, IsJournal}
+use Rattle.ps_session.specs.declared.ways.Turns.{Turns}
+use Rattle.ps_session.specs.declared.ways.Turns.TheVariants.{InOrder, Workers}
 use Rattle.ps_gen.specs.Summary.{summary_text}
 use Rattle.ps_rules.specs.History.{status_of}
 use Rattle.ps_machine.specs.declared.inputs.Input.{Input}
@@ -50,20 +53,25 @@ answer_line v = verdict_line v.1 v.0
 abbrev pub IsFound : Replay → Finding → Type 0
 IsFound r f = FindsJournal r.input r.names r.journal.items f
 
--- the counts of the journal of a session with so many carts are written, with the status of that journal
+-- how the members of a session's runs take their turns: in order where that is said, else as so many workers take them
+abbrev pub turns_of : Session → Turns
+turns_of s = if s.ordered then InOrder else Workers s.workers
+
+-- the counts of the journal of a session with so many carts, whose members take turns in order, are written, with the status of that journal
 abbrev pub IsCountDone : Input → ℕ → Option (List ℕ) → Option (List ℕ) → ℕ → Type 0
 IsCountDone i carts old new status =
-    (journal : List Entry) × IsJournal i journal × (status ≡ status_of journal) × Appends old new (summary_text carts journal)
+    (journal : List Entry) × IsJournal InOrder i journal × (status ≡ status_of journal) × Appends old new (summary_text carts journal)
 
 -- a prefix of these counts is written, or nothing before there is such a journal
 abbrev pub IsCountCut : Input → ℕ → Option (List ℕ) → Option (List ℕ) → Type 0
 IsCountCut i carts old new =
-    AppendsPrefix old new [] ⊎ ((journal : List Entry) × IsJournal i journal × AppendsPrefix old new (summary_text carts journal))
+    AppendsPrefix old new [] ⊎ ((journal : List Entry) × IsJournal InOrder i journal × AppendsPrefix old new (summary_text carts journal))
 
 -- The work is done, with this status: a session writes the text of its journal, whose status it is, and a generation the counts of such a
--- journal, with the status of that; a check writes the domain's canonical text, a validation the line that says what the plan is worth, a replay the line that says what the journal is found to be.
+-- journal, with the status of that; a check writes the domain's canonical text, a validation the line that says what the plan is worth, a
+-- replay the line that says what the journal is found to be.
 abbrev pub IsWorkDone : Work → Option (List ℕ) → Option (List ℕ) → ℕ → Type 0
-IsWorkDone (work.Session s) old new status = IsDone s.input s.names old new status
+IsWorkDone (work.Session s) old new status = IsDone (turns_of s) s.input s.names old new status
 IsWorkDone (work.Generation g) old new status = IsCountDone g.input g.carts old new status
 IsWorkDone (work.Check names d) old new status = (status ≡ 0) × Appends old new (domain_text names d)
 IsWorkDone (work.Validation v) old new status =

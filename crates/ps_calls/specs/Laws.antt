@@ -8,11 +8,13 @@ use Rattle.ps_inputs.specs.Reading.FileFault.{no_file, too_long, too_many}
 use Rattle.ps_inputs.specs.Reading.Reading.{gives, faulty, unknown}
 use Rattle.ps_inputs.specs.Input.{HasFault, IsWork, Material, is_quiet, reading_of, texts_of}
 use Rattle.ps_inputs.specs.declared.faults.Fault.{Fault}
+use Rattle.ps_inputs.specs.declared.works.Session.{Session}
 use Rattle.ps_inputs.specs.declared.works.Work.{Work}
 use Rattle.ps_inputs.specs.declared.works.Work.TheVariants as work
 use Rattle.ps_audit.specs.Findings.{finding_status}
 use Rattle.ps_audit.specs.declared.findings.Finding.{Finding}
-use Rattle.ps_calls.specs.Headline.{Answers, Call, IsFound, verdict_of}
+use Rattle.ps_session.specs.Session.{IsSession}
+use Rattle.ps_calls.specs.Headline.{Answers, Call, IsFound, turns_of, verdict_of}
 use Rattle.ps_calls.specs.Verdicts.{verdict_status}
 
 -- this is so of each call with each status that it answers
@@ -69,7 +71,8 @@ abbrev pub WordsDecide : Type 0
 WordsDecide = OfEachCall (λ c status.
     (status ≡ 2 → asked_of c.words ≡ None) × (asked_of c.words ≡ None → (status ≡ 2) ⊎ IsBroken status))
 
--- a status with which this work can end: 0 or 1 for a session and for a generation, 0 for a check, 0 or 7 for a plan and for a journal, by what they are worth
+-- a status with which this work can end: 0 or 1 for a session and for a generation, 0 for a check, 0 or 7 for a plan and for a journal, by
+-- what they are worth
 abbrev pub IsStatusOf : Work → ℕ → Type 0
 IsStatusOf (work.Session s) status = status < 2
 IsStatusOf (work.Generation g) status = status < 2
@@ -119,3 +122,12 @@ FirstWordsDecide = OfEachCall (λ c status.
 -- no answer is more than 7
 abbrev pub StatusesAreFew : Type 0
 StatusesAreFew = OfEachCall (λ c status. status ≤ 7)
+
+-- ---- sessions in order
+
+-- two sessions of one input, with one table of names, write the same bytes and end with the same status, where their turns are ordered
+abbrev pub OrderedSessionsAreOne : Type 0
+OrderedSessionsAreOne = (s t : Session) (bytes other : List ℕ) (status end : ℕ)
+    → s.ordered ≡ true → t.ordered ≡ true → s.input ≡ t.input → s.names ≡ t.names
+    → IsSession (turns_of s) s.input s.names bytes status → IsSession (turns_of t) t.input t.names other end
+    → (bytes ≡ other) × (status ≡ end)

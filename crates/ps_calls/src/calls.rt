@@ -12,6 +12,7 @@ use ps_text::{Files, Sink, SinkRefusal};
 use ps_world::Failure;
 use std::alloc::Global;
 use std::sync::Wait;
+use std::thread::Threads;
 
 /// Runs the program on these words, and gives its exit status:
 ///
@@ -27,9 +28,17 @@ use std::sync::Wait;
 /// | 7 | the plan isn't valid; the journal isn't legal |
 ///
 /// The first fault decides, in the order of the work: the words, the domain's file, the script's file and the files that it
-/// names, the members' files, the plan's or the journal's file, the domain's text, the members' texts, their count, their names. The gate
-/// is called once for each unit of work of a session's members. It promises no return: a session may go on for ever.
-pub fn plansys<R: Wait, F: Files, O: Sink, E: Sink, G: Gate>(
+/// names, the members' files, the plan's or the journal's file, the domain's text, the members' texts, their count, their names.
+///
+/// A session that is done has one journal, however its workers' turns came: what `out` took is the text of that journal and nothing else. It
+/// is a legal history of the input, in which each line has its entry and no run is left open. Each entry's hand is 0, that of the terminal,
+/// or that of a worker, from 1 to as many as there are; each worker's entries stand in it once and in the order in which it made them, by
+/// the contract of the seats at which workers take turns. A run is told to have succeeded exactly where its goal then holds, and the status
+/// is a function of the journal. With `--ordered` there is one worker, the members take turns in the order of the words, and the journal is a
+/// function of the input.
+///
+/// The gate is called once for each unit of work of a session's members. It promises no return: a session may go on for ever.
+pub fn plansys<R: Threads + Wait + Sync, F: Files, O: Sink, E: Sink, G: Gate + Sync>(
     rt: &R,
     alloc: Global,
     words: &[String],

@@ -1,5 +1,7 @@
 //! Laws of the headline: each is the contract of a function that does nothing.
-ghost use Rattle.ps_calls.specs.Laws.{FailedReadsAreTold, FailedWritesAreTold, FaultsWriteNothing, FirstWordsDecide, ModesDecide, RefusedWritesAreTold, StatusesAreFew, TextsDecide, UnreadIsCounted, WordsDecide, WorkIsDoneInSilence};
+ghost use Rattle.ps_calls.specs.Laws.{FailedReadsAreTold, FailedWritesAreTold, FaultsWriteNothing, FirstWordsDecide, ModesDecide, OrderedSessionsAreOne, RefusedWritesAreTold, StatusesAreFew, TextsDecide, UnreadIsCounted, WordsDecide, WorkIsDoneInSilence};
+
+use ps_session::one_journal;
 
 /// Where the count of failed reads changes, the answer is 4, 5 or 6.
 pub fn failed_reads_are_told()
@@ -55,3 +57,10 @@ pub fn first_words_decide()
 pub fn statuses_are_few()
     ensures { StatusesAreFew }
 {}
+
+/// With `--ordered` the journal is a function of the input: two such sessions of one input write the same bytes and end with the same status.
+pub fn ordered_sessions_are_one()
+    ensures { OrderedSessionsAreOne }
+{
+    one_journal();
+}

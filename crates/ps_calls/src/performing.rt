@@ -7,7 +7,8 @@ ghost use Rattle.std.specs.Prelude.{◌≡◌};
 ghost use Rattle.ps_board.specs.Board.{nothing_done};
 ghost use Rattle.ps_gen.specs.Summary.{summary_text};
 ghost use Rattle.ps_rules.specs.History.{status_of};
-ghost use Rattle.ps_calls.specs.Headline.{CountsSession, Finds, IsQuiet, Performs, WritesWithStatus, verdict_after};
+ghost use Rattle.ps_session.specs.Session.{AreTurns};
+ghost use Rattle.ps_calls.specs.Headline.{CountsSession, Finds, IsQuiet, Performs, WritesWithStatus, turns_of, verdict_after};
 ghost use Rattle.ps_calls.specs.Verdicts.{verdict_line, verdict_status};
 
 use super::verdicts::{verdict_line, verdict_status};
@@ -19,16 +20,17 @@ use ps_inputs::{Generation, Replay, Session, Validation, Work};
 use ps_machine::{Entry, Input, Line};
 use ps_pddl::print_domain;
 use ps_pool::Gate;
-use ps_session::{run, run_unwritten, status_of};
+use ps_session::{Turns, run, run_unwritten, status_of};
 use ps_solve::Forward;
 use ps_text::{Names, Sink, SinkRefusal, put};
 use ps_validate::{Invalid, known_after, verdict};
 use ps_world::Domain;
 use std::alloc::{AllocError, Global};
 use std::sync::Wait;
+use std::thread::Threads;
 
 /// Does the work, and gives its status: 0 or 1 for a session, written or not, 0 for a check, 0 or 7 for a plan and for a journal.
-pub fn perform<R: Wait, G: Gate, O: Sink>(
+pub fn perform<R: Threads + Wait + Sync, G: Gate + Sync, O: Sink>(
     rt: &R,
     alloc: Global,
     work: Work,
@@ -57,8 +59,20 @@ pub fn perform_quiet<O: Sink>(alloc: Global, work: Work, out: &mut O) -> Result<
     }
 }
 
+/// How the members of a session's runs take their turns.
+fn turns_of(session: &Session) -> Turns
+    ensures turns { result ≡ turns_of session.now }
+    ensures workers { AreTurns result }
+{
+    if session.ordered {
+        Turns::InOrder
+    } else {
+        Turns::Workers(session.workers)
+    }
+}
+
 /// Does a session, and writes its journal. The status is 1 where a line was refused or a run failed, else 0.
-fn do_session<R: Wait, G: Gate, O: Sink>(
+fn do_session<R: Threads + Wait + Sync, G: Gate + Sync, O: Sink>(
     rt: &R,
     alloc: Global,
     session: Session,
@@ -67,9 +81,10 @@ fn do_session<R: Wait, G: Gate, O: Sink>(
 ) -> Result<u8, SinkRefusal>
     ensures { Performs (ASession session) (O.shown out.old) (O.shown out.new) result }
 {
+    let turns = turns_of(&session);
     let Session { names, input, .. } = session;
     let solver = Forward::new();
-    run(rt, alloc, &names, input, &solver, gate, out)
+    run(rt, alloc, &names, input, &solver, gate, turns, out)
 }
 
 /// Does the session of the generator's texts, and writes the counts of its journal. The status is that of the session.
@@ -97,8 +112,7 @@ fn count_session<R: Wait, G: Gate, O: Sink>(
     gate: &G,
     out: &mut O,
 ) -> Result<u8, SinkRefusal>
-    requires fresh { board.old ≡ nothing_done board.old.input }
-    requires replans { board.old.input.replans ≡ 0 }
+    requires { board.old ≡ nothing_done board.old.input }
     ensures { CountsSession board.old.input carts (O.shown out.old) (O.shown out.new) result }
 {
     let solver = Forward::new();

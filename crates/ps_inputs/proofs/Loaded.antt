@@ -194,27 +194,35 @@ answered_fault told request m budget replans (Unread file) is = is
 module _ (s : SessionRequest) (old new : FilesView) where
   -- what its texts give
   abbrev session_of : InputTexts → Reading Material
-  session_of input = gives [] (for_session s.budget input)
+  session_of input = gives [] (for_session s input)
 
   pub session_unread : (why : Failure Fault) → ReadsInput s.domain s.script s.members old new (Err why) → LoadsRequest (a_session s) old new (Err why)
   unfolding reading_of
   session_unread why h = then_ended (texts_in old.told s.domain s.script s.members) session_of old new why h
 
   module _ (u : Unjudged) (h : ReadsInput s.domain s.script s.members old new (Ok u)) where
-    session_read : (r : Result Work Fault) → ((input : InputTexts) → IsUnjudged (read_file old.told s.domain) input u → IsAnswered old.told (a_session s) (for_session s.budget input) r) → LoadsRequest (a_session s) old new (Ok r)
+    session_read : (r : Result Work Fault) → ((input : InputTexts) → IsUnjudged (read_file old.told s.domain) input u → IsAnswered old.told (a_session s) (for_session s input) r) → LoadsRequest (a_session s) old new (Ok r)
     unfolding reading_of
     session_read r f =
         then_read (texts_in old.told s.domain s.script s.members) (λ t input. session_of input) old new new u (Ok r) h
-        (λ input is. read_nothing new (for_session s.budget input) r (f input is))
+        (λ input is. read_nothing new (for_session s input) r (f input is))
 
-    pub session_good : (l : Loaded) (w : Session) → w.names ≡ l.names → w.input ≡ l.input → Judges u s.budget 0 (Ok l) → LoadsRequest (a_session s) old new (Ok (Ok (work.Session w)))
-    session_good l w names input judges =
+    pub session_good : (l : Loaded) (w : Session) → w.names ≡ l.names → w.input ≡ l.input → w.workers ≡ s.workers → w.ordered ≡ s.ordered → Judges u s.budget s.replans (Ok l) → LoadsRequest (a_session s) old new (Ok (Ok (work.Session w)))
+    session_good l w names input workers ordered judges =
         session_read (Ok (work.Session w))
-        (λ texts is. (tt, subst (λ (t : Table). IsInput s.budget 0 texts w.input t) (sym names) (subst (λ (i : Input). IsInput s.budget 0 texts i l.names) (sym input) (judges (read_file old.told s.domain) texts is).0)))
+        (λ texts is. (
+          tt,
+          (
+            subst (λ (t : Table). IsInput s.budget s.replans texts w.input t) (sym names)
+                (subst (λ (i : Input). IsInput s.budget s.replans texts i l.names) (sym input) (judges (read_file old.told s.domain) texts is).0),
+            workers,
+            ordered,
+          ),
+        ))
 
-    pub session_bad : (fault : Fault) → Judges u s.budget 0 (Err (Refused fault)) → LoadsRequest (a_session s) old new (Ok (Err fault))
+    pub session_bad : (fault : Fault) → Judges u s.budget s.replans (Err (Refused fault)) → LoadsRequest (a_session s) old new (Ok (Err fault))
     session_bad fault judges =
-        session_read (Err fault) (λ texts is. answered_fault old.told (a_session s) (for_session s.budget texts) s.budget 0 fault (judges (read_file old.told s.domain) texts is))
+        session_read (Err fault) (λ texts is. answered_fault old.told (a_session s) (for_session s texts) s.budget s.replans fault (judges (read_file old.told s.domain) texts is))
 
     -- memory runs out after all files are read
     pub session_starved : LoadsRequest (a_session s) old new (Err OutOfMemory)
@@ -334,22 +342,22 @@ module _ (carts : ℕ) (u : Unjudged) (is : IsGenerated carts u) where
   unfolding reading_of
   generation_read r f files = read_nothing files (for_generation carts) r (f files.told)
 
-  pub generation_good : (l : Loaded) (w : Generation) → w.carts ≡ carts → w.names ≡ l.names → w.input ≡ l.input → Judges u 20000 0 (Ok l) → Generates carts (Ok (Ok (work.Generation w)))
+  pub generation_good : (l : Loaded) (w : Generation) → w.carts ≡ carts → w.names ≡ l.names → w.input ≡ l.input → Judges u 20000 3 (Ok l) → Generates carts (Ok (Ok (work.Generation w)))
   generation_good l w count names input judges =
       generation_read (Ok (work.Generation w))
       (λ told. (
         count,
         (
-          subst (λ (t : Table). IsInput 20000 0 (generated carts) w.input t) (sym names)
-              (subst (λ (i : Input). IsInput 20000 0 (generated carts) i l.names) (sym input) (judges (domain_in told (a_generation carts)) (generated carts) is).0),
+          subst (λ (t : Table). IsInput 20000 3 (generated carts) w.input t) (sym names)
+              (subst (λ (i : Input). IsInput 20000 3 (generated carts) i l.names) (sym input) (judges (domain_in told (a_generation carts)) (generated carts) is).0),
           count,
         ),
       ))
 
-  pub generation_bad : (fault : Fault) → Judges u 20000 0 (Err (Refused fault)) → Generates carts (Ok (Err fault))
+  pub generation_bad : (fault : Fault) → Judges u 20000 3 (Err (Refused fault)) → Generates carts (Ok (Err fault))
   generation_bad fault judges =
       generation_read (Err fault)
-      (λ told. answered_fault told (a_generation carts) (for_generation carts) 20000 0 fault (judges (domain_in told (a_generation carts)) (generated carts) is))
+      (λ told. answered_fault told (a_generation carts) (for_generation carts) 20000 3 fault (judges (domain_in told (a_generation carts)) (generated carts) is))
 
 -- memory runs out
 pub generation_starved : (carts : ℕ) → Generates carts (Err OutOfMemory)

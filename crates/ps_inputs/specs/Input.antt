@@ -5,7 +5,7 @@ use Rattle.ps_world.specs.Lines.{same_text, line_end}
 use Rattle.ps_world.specs.declared.domains.Domain.{Domain}
 use Rattle.ps_machine.specs.declared.inputs.Input.{Input}
 use Rattle.ps_machine.specs.declared.inputs.Line.{Line}
-use Rattle.ps_words.specs.Words.{Request}
+use Rattle.ps_words.specs.Words.{Request, SessionRequest}
 use Rattle.ps_words.specs.Words.Request.{a_session, a_check, a_validation, a_replay, a_generation}
 use Rattle.ps_gen.specs.Texts as generator
 use Rattle.ps_pddl.specs.Reading.{IsRead}
@@ -30,11 +30,11 @@ pub record InputTexts : Type 0 where
   pub script : List Flattened
   pub members : List NamedText
 
--- What the files of a request hold: for a session its budget and its input's texts; for a check the domain's text; for a plan to be
+-- What the files of a request hold: for a session what is asked for and its input's texts; for a check the domain's text; for a plan to be
 -- validated an input's texts and the text of the plan; for a replay its budget and how often a plan may be made anew, an input's texts and
 -- the text of the journal; for a generation, which has no files, how many carts there are.
 pub data Material : Type 0 where
-  for_session : ℕ → InputTexts → Material
+  for_session : SessionRequest → InputTexts → Material
   for_check : List ℕ → Material
   for_validation : InputTexts → List ℕ → Material
   for_replay : ℕ → ℕ → InputTexts → List ℕ → Material
@@ -74,7 +74,7 @@ texts_in texts domain_file script_file member_files =
 unfoldable pub reading_of : Texts → Request → Reading Material
 reading_of texts (a_session s) =
     and_then (texts_in texts s.domain s.script s.members) (λ input.
-    gives [] (for_session s.budget input))
+    gives [] (for_session s input))
 reading_of texts (a_check file) =
     and_then (read_file texts file) (λ domain.
     gives [] (for_check domain))
@@ -98,7 +98,7 @@ domain_in texts (a_generation carts) = gives [] generator.domain_text
 
 -- the texts of the input; a check has that of the domain alone
 abbrev pub texts_of : Material → InputTexts
-texts_of (for_session budget input) = input
+texts_of (for_session asked input) = input
 texts_of (for_check domain) = record { domain = domain; script = []; members = [] }
 texts_of (for_validation input plan) = input
 texts_of (for_replay budget replans input journal) = input
@@ -136,15 +136,20 @@ pub record IsInput (budget replans : ℕ) (texts : InputTexts) (i : Input) (name
 abbrev pub usual_budget : ℕ
 usual_budget = 20000
 
--- the texts are read as this work
+-- how often a run's plan may be made anew where the words don't say
+abbrev pub usual_replans : ℕ
+usual_replans = 3
+
+-- the texts are read as this work; a session has so many workers as are asked for, and its turns are ordered where that is asked for
 abbrev pub IsWork : Material → Work → Type 0
-IsWork (for_session budget input) (Session s) = IsInput budget 0 input s.input s.names
+IsWork (for_session asked input) (Session s) =
+    IsInput asked.budget asked.replans input s.input s.names × (s.workers ≡ asked.workers) × (s.ordered ≡ asked.ordered)
 IsWork (for_check domain) (Check names d) = IsDomain domain d names
 IsWork (for_validation input plan) (Validation v) = IsInput 0 0 input v.input v.names × (v.plan.items ≡ plan)
 IsWork (for_replay budget replans input journal) (Replay r) =
     IsInput budget replans input r.input r.names × (r.journal.items ≡ journal)
 IsWork (for_generation carts) (Generation g) =
-    IsInput usual_budget 0 (generated carts) g.input g.names × (g.carts ≡ carts)
+    IsInput usual_budget usual_replans (generated carts) g.input g.names × (g.carts ≡ carts)
 IsWork m w = ⊥
 
 -- the work is of the kind that is asked for

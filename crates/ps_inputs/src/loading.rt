@@ -16,6 +16,9 @@ use std::alloc::Global;
 /// How many states a search may reach where the words don't say.
 const USUAL_BUDGET: u32 = 20_000;
 
+/// How often a run's plan may be made anew where the words don't say.
+const USUAL_REPLANS: u8 = 3;
+
 /// Reads the files of a session: the domain's, the script's with the files that it names, and the members'. Texts that are at fault are
 /// told after all files are read.
 fn load_session<'a, F: Files>(
@@ -29,8 +32,13 @@ fn load_session<'a, F: Files>(
 {
     let members = settings.members.as_slice();
     let read = read_input(alloc, settings.domain, settings.script, members, files)?;
-    match judge(alloc, read, settings.budget, 0) {
-        Ok(Loaded { names, input }) => Ok(Ok(Work::Session(Session { names, input }))),
+    match judge(alloc, read, settings.budget, settings.replans as u8) {
+        Ok(Loaded { names, input }) => Ok(Ok(Work::Session(Session {
+            names,
+            input,
+            workers: settings.workers as u8,
+            ordered: settings.ordered,
+        }))),
         Err(Failure::Refused(fault)) => Ok(Err(fault)),
         Err(Failure::OutOfMemory) => Err(Failure::OutOfMemory),
     }
@@ -103,7 +111,7 @@ fn load_generation(alloc: Global, carts: u32) -> Result<Result<Work, Fault>, Fai
     ensures { Generates carts result }
 {
     let read = generate(alloc, carts)?;
-    match judge(alloc, read, USUAL_BUDGET, 0) {
+    match judge(alloc, read, USUAL_BUDGET, USUAL_REPLANS) {
         Ok(Loaded { names, input }) => Ok(Ok(Work::Generation(Generation {
             carts,
             names,

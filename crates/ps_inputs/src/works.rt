@@ -1,5 +1,5 @@
 //! The work that words and files give.
-ghost use Rattle.std.specs.Prelude.{◌≡◌, ◌<◌, ◌^◌, length};
+ghost use Rattle.std.specs.Prelude.{◌<◌, ◌≤◌, ◌^◌, length};
 ghost use Rattle.ps_rules.specs.Sound.{IsSound};
 ghost use Rattle.ps_inputs.specs.Propositions.{sound_prop};
 
@@ -7,13 +7,18 @@ use ps_machine::Input;
 use ps_text::Names;
 use ps_world::Domain;
 
-/// A session that is within the limits, with the table of all of its names. It makes no plan anew.
+/// A session that is within the limits, with the table of all of its names.
 #[derive(Drop)]
 pub struct Session {
     pub names: Names,
     pub input: Input,
+    /// How many workers a run has: 1 to 16.
+    pub workers: u8,
+    /// Whether one worker does all, with the members' turns in a fixed order.
+    pub ordered: bool,
     ghost sound: { IsSound input } by { Prim.hlevel sound_prop },
-    ghost once: { input.replans ≡ 0 },
+    ghost some: { 1 ≤ workers },
+    ghost few: { workers ≤ 16 },
 }
 
 /// A plan that is to be validated after the edits of an input, with the table of the input's names. It isn't read yet.
@@ -37,7 +42,7 @@ pub struct Replay {
     ghost short: { length journal.items < 2 ^ 32 },
 }
 
-/// A session of the generator's texts, of which a summary is told, with the table of all of its names. It makes no plan anew.
+/// A session of the generator's texts, of which a summary is told, with the table of all of its names.
 #[derive(Drop)]
 pub struct Generation {
     /// How many carts there are.
@@ -45,7 +50,6 @@ pub struct Generation {
     pub names: Names,
     pub input: Input,
     ghost sound: { IsSound input } by { Prim.hlevel sound_prop },
-    ghost once: { input.replans ≡ 0 },
 }
 
 /// What a call is to do, with all that it is done on.

@@ -74,6 +74,14 @@ impl Monitor {
         }
     }
 
+    /// The number from which on no act is watched.
+    fn count(&self) -> u32
+        ensures few { result ≤ 256 }
+        ensures none { (act : ℕ) → act < 256 → result ≤ act → watched self.now act ≡ None }
+    {
+        self.watches.len().min(256) as u32
+    }
+
     /// The watched acts whose condition is false, in rising order. `changed` names what has changed since each of them was
     /// true. The answer is exact whatever it names, for each watched condition is judged: it is handed in so that a monitor may
     /// look only at those that read what changed. It takes no memory.
@@ -83,7 +91,7 @@ impl Monitor {
             ≡ is_false expert.now problem.now (watched self.now act) }
     {
         let mut all = Acts::none();
-        for act in 0..256 {
+        for act in 0..self.count() {
             if let Some(Some(over)) = self.watches.get(act as usize) {
                 if is_false(problem, expert, over, changed) {
                     all.add(act);
@@ -98,7 +106,7 @@ impl Monitor {
         ensures { (n : ℕ) → n ≤ 256 → marked result n ≡ others self.now these.now n }
     {
         let mut all = Acts::none();
-        for act in 0..256 {
+        for act in 0..self.count() {
             if let Some(Some(_)) = self.watches.get(act as usize) {
                 if !these.has(act) {
                     all.add(act);

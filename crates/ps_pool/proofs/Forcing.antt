@@ -22,21 +22,21 @@ use Rattle.ps_rules.proofs.Pushed.{read-push}
 use Rattle.ps_ends.proofs.Lists.{all_in, in_range}
 use Rattle.ps_ends.proofs.Picking.{by_test}
 
--- ---- what holds of each cancel holds of each forced one
+-- ---- what holds of each cancel with a hand holds of each forced one
 
-module _ (P : Entry → Type 0) (each : (hand : ℕ) (why : CancelWhy) (act : ℕ) → P (cancels hand why act)) where
-  each-cancel : (hand : ℕ) (why : CancelWhy) (acts : List ℕ) (more : List Entry) → AllByRecursion P more → AllByRecursion P (map (cancels hand why) acts ++ more)
-  each-cancel hand why [] more h = h
-  each-cancel hand why (act ∷ acts) more h = (each hand why act, each-cancel hand why acts more h)
+module _ (P : Entry → Type 0) (hand : ℕ) (each : (why : CancelWhy) (act : ℕ) → P (cancels hand why act)) where
+  each-cancel : (why : CancelWhy) (acts : List ℕ) (more : List Entry) → AllByRecursion P more → AllByRecursion P (map (cancels hand why) acts ++ more)
+  each-cancel why [] more h = h
+  each-cancel why (act ∷ acts) more h = (each why act, each-cancel why acts more h)
 
-  each-stop : (hand : ℕ) (b : Bool) (acts : List ℕ) → AllByRecursion P (if b then map (cancels hand cancel.Stop) acts else [])
-  each-stop hand true acts = subst (AllByRecursion P) (append-nil (map (cancels hand cancel.Stop) acts)) (each-cancel hand cancel.Stop acts [] tt)
-  each-stop hand false acts = tt
+  each-stop : (b : Bool) (acts : List ℕ) → AllByRecursion P (if b then map (cancels hand cancel.Stop) acts else [])
+  each-stop true acts = subst (AllByRecursion P) (append-nil (map (cancels hand cancel.Stop) acts)) (each-cancel cancel.Stop acts [] tt)
+  each-stop false acts = tt
 
-  pub each-forced : (i : Input) (es : List Entry) (hand : ℕ) (e : Event) → AllByRecursion P (forced_after i es hand e)
-  each-forced i es hand e =
-      each-cancel hand cancel.OverAll (broken i es) (if is_fail e || any_of (broken i es) then map (cancels hand cancel.Stop) (sound i es) else [])
-      (each-stop hand (is_fail e || any_of (broken i es)) (sound i es))
+  pub each-forced : (i : Input) (es : List Entry) (e : Event) → AllByRecursion P (forced_after i es hand e)
+  each-forced i es e =
+      each-cancel cancel.OverAll (broken i es) (if is_fail e || any_of (broken i es) then map (cancels hand cancel.Stop) (sound i es) else [])
+      (each-stop (is_fail e || any_of (broken i es)) (sound i es))
 
 -- ---- the end of a run forces none
 

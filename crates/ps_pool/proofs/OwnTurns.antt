@@ -157,7 +157,7 @@ grown-turn i hand es now (Some e) g own =
       since = g.since ++ entry ∷ forced i now entry;
       all = ap (λ t. t ++ entry ∷ forced i now entry) g.all ∙ append_assoc es g.since (entry ∷ forced i now entry);
       no_line = all-join (λ c. answers_line c.what ≡ false) g.since (entry ∷ forced i now entry) g.no_line
-          (own, each-forced (λ c. answers_line c.what ≡ false) (λ hand why act. refl) i (now ++ entry ∷ []) hand e);
+          (own, each-forced (λ c. answers_line c.what ≡ false) hand (λ why act. refl) i (now ++ entry ∷ []) e);
     }
 
 pub grown : (says : Says) (i : Input) (es : List Entry) (turns : ℕ) → GrowsInRun es (ordered says i es turns)

@@ -30,7 +30,7 @@ observer-within i k o at = slice_get_within (observers i) (observers_before i k)
 
 -- one turn more
 led : (i : Input) (k : ℕ) (m : Member) (old new : List Entry) → slice_get i.members k ≡ Some m
-    → ((says : Says) → new ≡ option_map_or (with_block i 1 old) (turn says i old (Some (actor_of m))) old) → LeadsTo i k old (k + 1) new
+    → ((says : Says) → new ≡ option_map_or (with_block i 1 old) (turn says i old (Some (actor_of m))) old) → (says : Says) → LeadsTo says i k old (k + 1) new
 led i k m old new at is says es t =
     let within = slice_get_within i.members k m at in
     record {
@@ -40,13 +40,13 @@ led i k m old new at is says es t =
     }
 
 pub performer-leads : (i : Input) (k : ℕ) (p : Performer) (old new : List Entry) → slice_get i.members k ≡ Some (member.Performer p)
-    → new ≡ after_performer i (performers_before i k) old → LeadsTo i k old (k + 1) new
+    → new ≡ after_performer i (performers_before i k) old → (says : Says) → LeadsTo says i k old (k + 1) new
 performer-leads i k p old new at is =
     led i k (member.Performer p) old new at (λ says.
     is ∙ ap (λ o. option_map_or (with_block i 1 old) (if is_running old then option_and_then (λ name. performer_turn i name old) o else None) old) (performer-at i k p at))
 
 pub observer-leads : (i : Input) (k : ℕ) (o : Observer) (old new : List Entry) → slice_get i.members k ≡ Some (member.Observer o)
-    → new ≡ after_observer i (observers_before i k) old → LeadsTo i k old (k + 1) new
+    → new ≡ after_observer i (observers_before i k) old → (says : Says) → LeadsTo says i k old (k + 1) new
 observer-leads i k o old new at is =
     led i k (member.Observer o) old new at (λ says.
     is ∙ ap (λ n. option_map_or (with_block i 1 old) (if is_running old then option_and_then (λ name. observer_turn i name old) n else None) old) (observer-at i k o at))
@@ -85,24 +85,24 @@ ran-observer i o old new is ran =
 -- ---- rounds
 
 -- the ticker's turn ends a round
-pub round-leads : (i j : Input) (old mid new : List Entry) → j ≡ i → i.replans ≡ 0 → LeadsTo i 0 old (length i.members) mid → new ≡ after_ticker j mid → LeadsTo i 0 old 0 new
-round-leads i j old mid new same none leads is says es t = ticker-leads i mid new none (is ∙ ap (λ k. after_ticker k mid) same) says es (leads says es t)
+pub round-leads : (says : Says) (i j : Input) (old mid new : List Entry) → j ≡ i → LeadsTo says i 0 old (length i.members) mid → new ≡ after_ticker says j mid → LeadsTo says i 0 old 0 new
+round-leads says i j old mid new same leads is es t = ticker-leads says i mid new (is ∙ ap (λ k. after_ticker says k mid) same) es (leads es t)
 
 -- rounds from the beginning of a run
-pub rounds-lead : (i j : Input) (old mid new : List Entry) → j ≡ i → LeadsTo i 0 old 0 mid → LeadsTo j 0 mid 0 new → LeadsTo i 0 old 0 new
-rounds-lead i j old mid new same leads on says es t = subst (λ k. LeadsTo k 0 mid 0 new) same on says es (leads says es t)
+pub rounds-lead : (says : Says) (i j : Input) (old mid new : List Entry) → j ≡ i → LeadsTo says i 0 old 0 mid → LeadsTo says j 0 mid 0 new → LeadsTo says i 0 old 0 new
+rounds-lead says i j old mid new same leads on es t = subst (λ k. LeadsTo says k 0 mid 0 new) same on es (leads es t)
 
-pub rounds-stop : (i j : Input) (old mid new : List Entry) → j ≡ i → LeadsTo i 0 old 0 mid → StopsFrom j 0 mid new → StopsFrom i 0 old new
-rounds-stop i j old mid new same leads stops says es t = subst (λ k. StopsFrom k 0 mid new) same stops says es (leads says es t)
+pub rounds-stop : (says : Says) (i j : Input) (old mid new : List Entry) → j ≡ i → LeadsTo says i 0 old 0 mid → StopsFrom says j 0 mid new → StopsFrom says i 0 old new
+rounds-stop says i j old mid new same leads stops es t = subst (λ k. StopsFrom says k 0 mid new) same stops es (leads es t)
 
 beginning : (says : Says) (i : Input) (es : List Entry) → IsTurnOf says i es 0 es
 beginning says i es = record { turns = 0; all = refl; next = zero-mod (length (actors i)) }
 
-pub reaches : (says : Says) (i : Input) (es new : List Entry) → LeadsTo i 0 es 0 new → ReachesBy says i es new
-reaches says i es new leads = let t = leads says es (beginning says i es) in record { turns = t.turns; all = t.all }
+pub reaches : (says : Says) (i : Input) (es new : List Entry) → LeadsTo says i 0 es 0 new → ReachesBy says i es new
+reaches says i es new leads = let t = leads es (beginning says i es) in record { turns = t.turns; all = t.all }
 
-pub stops : (says : Says) (i : Input) (es new : List Entry) → StopsFrom i 0 es new → ReachesBy says i es new
-stops says i es new stopped = stopped says es (beginning says i es)
+pub stops : (says : Says) (i : Input) (es new : List Entry) → StopsFrom says i 0 es new → ReachesBy says i es new
+stops says i es new stopped = stopped es (beginning says i es)
 
 pub ends : (says : Says) (i : Input) (es new : List Entry) → ReachesBy says i es new → is_running new ≡ false → EndsAs says i es new
 ends says i es new r over = record { turns = r.turns; all = r.all; over = over }
@@ -116,5 +116,5 @@ pub error-so : {A E P : Type 0} (r : Result A E) → P → OnErr r P
 error-so (Ok a) p = tt
 error-so (Err e) p = p
 
-pub stops-at : (i : Input) (k l : ℕ) (old mid new : List Entry) → LeadsTo i k old l mid → new ≡ mid → StopsFrom i k old new
-stops-at i k l old mid new leads same says es t = let u = leads says es t in record { turns = u.turns; all = same ∙ u.all }
+pub stops-at : (says : Says) (i : Input) (k l : ℕ) (old mid new : List Entry) → LeadsTo says i k old l mid → new ≡ mid → StopsFrom says i k old new
+stops-at says i k l old mid new leads same es t = let u = leads es t in record { turns = u.turns; all = same ∙ u.all }

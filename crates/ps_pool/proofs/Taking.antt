@@ -12,13 +12,12 @@ use Rattle.ps_rules.specs.Members.{performers}
 use Rattle.ps_rules.specs.Choices.{performed, performer_turn, with_block, work_of}
 use Rattle.ps_ends.specs.Working.{recorded}
 use Rattle.ps_ends.proofs.Picking.{not_some}
-use Rattle.ps_board.specs.Board.{grants_after, grants_without, handing, IsOut, is_free, number_of, performing, performing_answer, recording, with_done}
+use Rattle.ps_board.specs.Board.{grants_after, grants_without, handing, IsAtRest, IsOut, is_free, number_of, performing, performing_answer, recording, with_done}
 use Rattle.ps_board.specs.Grants.{grant_for, granted, granted_after, performer_names, turn_of}
 use Rattle.ps_board.specs.declared.board.Shown.{Shown}
 use Rattle.ps_board.specs.declared.works.Grant.{Grant}
 use Rattle.ps_board.specs.declared.works.Turn.{Turn}
 use Rattle.ps_board.specs.declared.works.Turn.TheVariants as turn
-use Rattle.ps_pool.specs.Ordered.{IsAtRest}
 use Rattle.ps_pool.specs.Rounds.{after_performer}
 use Rattle.ps_pool.proofs.Recorded.{work-recorded}
 

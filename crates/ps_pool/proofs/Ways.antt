@@ -46,7 +46,7 @@ step i past [] es e w =
       way = record {
         leads = l.2;
         history = subst (IsHistory i) (sym (append_assoc past (e ∷ []) (forced i past e))) (block past e h l.0 l.1);
-        cancels = each-forced (λ c. is_cancel c.what ≡ true) (λ hand why act. refl) i (past ++ e ∷ []) e.hand e.what;
+        cancels = each-forced (λ c. is_cancel c.what ≡ true) e.hand (λ why act. refl) i (past ++ e ∷ []) e.what;
       };
       is = inr (h, l.0, refl);
     }
@@ -80,7 +80,7 @@ abbrev pub is_over : Event → Bool
 is_over (event.Over how) = true
 is_over e = false
 
-over-so : (e : Event) → is_over e ≡ true → (how : Outcome) × (e ≡ event.Over how)
+pub over-so : (e : Event) → is_over e ≡ true → (how : Outcome) × (e ≡ event.Over how)
 over-so (event.Over how) h = (how, refl)
 over-so e h = absurd (true≢false (sym h))
 

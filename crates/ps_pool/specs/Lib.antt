@@ -1,3 +1,4 @@
 pub mod Courses
 pub mod Ordered
 pub mod Rounds
+pub mod Workers

@@ -1,11 +1,9 @@
 -- What turns in order make of a journal.
-use Rattle.std.specs.Prelude.{◌≡◌, ℕ, false, None, List}
+use Rattle.std.specs.Prelude.{◌≡◌, ℕ, false, List}
 use Rattle.ps_machine.specs.declared.inputs.Input.{Input}
 use Rattle.ps_machine.specs.declared.journal.Entry.{Entry}
 use Rattle.ps_rules.specs.Runs.{is_running}
 use Rattle.ps_rules.specs.Choices.{ordered, Says}
-use Rattle.ps_board.specs.Grants.{granted}
-use Rattle.ps_board.specs.declared.board.Shown.{Shown}
 
 -- These entries are those that so many turns in order make of the entries before.
 pub record ReachesBy (says : Says) (i : Input) (es new : List Entry) : Type 0 where
@@ -22,8 +20,3 @@ pub record EndsAs (says : Says) (i : Input) (es new : List Entry) : Type 0 where
 abbrev pub OneEnd : Type 0
 OneEnd =
     (says : Says) (i : Input) (es new other : List Entry) → EndsAs says i es new → EndsAs says i es other → new ≡ other
-
--- No run of a board was halted, and no grant is out.
-pub record IsAtRest (b : Shown) : Type 0 where
-  pub halted : b.halted ≡ false
-  pub all_in : (p : ℕ) → granted b.grants p ≡ None

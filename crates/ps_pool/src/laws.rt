@@ -9,9 +9,9 @@ pub fn one_end()
     ensures { OneEnd }
 {}
 
-/// In the journal of a board a plan that was good where it began goes well, where no line was answered since and no edit changed what
-/// is known: no act fails at its end, no over-all condition breaks, and the run isn't blocked; and where no act fails at all and the
-/// run is over, it has ended in success.
+/// In the journal of a board a plan that was good where it began goes well, where no line was answered since and no
+/// edit changed what is known: no act fails at its end, no over-all condition breaks, and the run isn't blocked; and
+/// where no act fails at all and the run is over, it has ended in success.
 pub fn a_good_plan_goes_well(board: &Board)
     ensures { GoodPlansGoWell board.now.input board.now.entries }
 {

@@ -1,10 +1,13 @@
-//! Runs by turns in order: each member takes a turn, then the ticker, again and again until the run ends.
+//! Runs until their end: by turns in order, where each member takes a turn, then the ticker, again and again; or by
+//! workers, each in a thread of its own.
 #![tactic(auto)]
 
 mod gate;
 mod laws;
 mod ordered;
+mod workers;
 
 pub use gate::{Gate, NoGate};
 pub use laws::{a_good_plan_goes_well, one_end};
 pub use ordered::{RunStop, go_on, run_ordered};
+pub use workers::run_workers;

@@ -1,15 +1,18 @@
 //! Runs whose members take turns in order.
 ghost use Rattle.std.specs.Prelude.{◌≡◌, ◌+◌, ◌<◌, true, false, length, slice_get, Some, IfErr, IfOk, OnErr, OnOk};
+ghost use Rattle.ps_action.specs.Search.{Fits};
+ghost use Rattle.ps_rules.specs.Choices.{Says};
 ghost use Rattle.ps_rules.specs.Members.{observers, performers};
 ghost use Rattle.ps_rules.specs.Runs.{has_run, is_running};
 ghost use Rattle.ps_rules.specs.Sound.{IsSound};
-ghost use Rattle.ps_board.specs.Board.{grants_without, IsOut, recording, with_done};
+ghost use Rattle.ps_board.specs.Board.{grants_without, IsAtRest, IsOut, recording, with_done};
 ghost use Rattle.ps_pool.specs.Courses.{GrowsInRun};
-ghost use Rattle.ps_pool.specs.Ordered.{EndsAs, IsAtRest, ReachesBy};
-ghost use Rattle.ps_pool.specs.Rounds.{after_observer, after_performer, after_ticker, LeadsTo, passed_before, StopsFrom};
+ghost use Rattle.ps_pool.specs.Ordered.{EndsAs, ReachesBy};
+ghost use Rattle.ps_pool.specs.Rounds.{after_answer, after_observer, after_performer, after_ticker, IsWanted, LeadsTo, passed_before, StopsFrom};
 
 use crate::gate::Gate;
-use ps_board::{Board, Grant, Ticked, Turn};
+use ps_action::Answer;
+use ps_board::{Board, Grant, Snapshot, Submitted, Ticked, Turn};
 use ps_machine::Member;
 use ps_plan::Solver;
 use std::alloc::AllocError;
@@ -37,8 +40,8 @@ fn hand_in(board: &mut Board, grant: Grant) -> Result<(), AllocError>
     }
 }
 
-/// Does the turn of a performer, by its number in the order of the members, and its unit of work with it. On an error no entry is
-/// appended, and a grant may be out.
+/// Does the turn of a performer, by its number in the order of the members, and its unit of work with it. On an error
+/// no entry is appended, and a grant may be out.
 fn take_performer<R: Wait, G: Gate>(
     rt: &R,
     board: &mut Board,
@@ -77,7 +80,7 @@ fn take_observer(board: &mut Board, o: u32) -> Result<(), AllocError>
 }
 
 /// The member at this place.
-fn member_at(board: &Board, k: usize) -> &Member
+pub(crate) fn member_at(board: &Board, k: usize) -> &Member
     requires { k < length board.now.input.members }
     ensures member { slice_get board.now.input.members k ≡ Some result.now }
     ensures sound { IsSound board.now.input }
@@ -87,13 +90,13 @@ fn member_at(board: &Board, k: usize) -> &Member
 
 /// How many performers and observers have had their turn.
 #[derive(Clone, Copy)]
-struct Passed {
-    performers: u32,
-    observers: u32,
+pub(crate) struct Passed {
+    pub(crate) performers: u32,
+    pub(crate) observers: u32,
 }
 
-/// Does the turn of the member at this place, before which so many have had theirs, and answers how many have then. On an error no
-/// entry is appended.
+/// Does the turn of the member at this place, before which so many have had theirs, and answers how many have then. On
+/// an error no entry is appended.
 fn take_member<R: Wait, G: Gate>(
     rt: &R,
     board: &mut Board,
@@ -106,8 +109,8 @@ fn take_member<R: Wait, G: Gate>(
     requires passed { passed ≡ passed_before board.old.input k }
     ensures rest { OnOk result (IsAtRest board.new) }
     ensures passed { IfOk result (λ now. now ≡ passed_before board.old.input (k + 1)) }
-    ensures ok { OnOk result
-        (LeadsTo board.old.input k board.old.entries (k + 1) board.new.entries) }
+    ensures ok { OnOk result ((says : Says)
+        → LeadsTo says board.old.input k board.old.entries (k + 1) board.new.entries) }
     ensures err { OnErr result (board.new.entries ≡ board.old.entries) }
     ensures ran { has_run board.old.entries ≡ true → has_run board.new.entries ≡ true }
     ensures input { board.new.input ≡ board.old.input }
@@ -134,10 +137,10 @@ fn take_member<R: Wait, G: Gate>(
 fn take_members<R: Wait, G: Gate>(rt: &R, board: &mut Board, gate: &G) -> Result<(), AllocError>
     requires rest { IsAtRest board.old }
     ensures rest { OnOk result (IsAtRest board.new) }
-    ensures ok { OnOk result (LeadsTo board.old.input 0 board.old.entries
+    ensures ok { OnOk result ((says : Says) → LeadsTo says board.old.input 0 board.old.entries
         (length board.old.input.members) board.new.entries) }
-    ensures err { OnErr result
-        (StopsFrom board.old.input 0 board.old.entries board.new.entries) }
+    ensures err { OnErr result ((says : Says)
+        → StopsFrom says board.old.input 0 board.old.entries board.new.entries) }
     ensures ran { has_run board.old.entries ≡ true → has_run board.new.entries ≡ true }
     ensures input { board.new.input ≡ board.old.input }
 {
@@ -151,46 +154,86 @@ fn take_members<R: Wait, G: Gate>(rt: &R, board: &mut Board, gate: &G) -> Result
     Ok(())
 }
 
-/// Does the turn of the ticker. Answers whether the run is over. On an error nothing changes.
-fn take_tick(board: &mut Board) -> Result<bool, AllocError>
+/// What the solver answers for what is known now, where it is asked. The only error is that memory ran out.
+fn ask<S: Solver>(board: &Board, solver: &S, snapshot: &Snapshot) -> Result<Answer, AllocError>
+    requires asked { IsWanted board.now.input board.now.entries snapshot.now }
+    ensures says { IfOk result (λ answer. answer
+        ≡ S.says solver.now board.now.input.domain snapshot.now.problem board.now.input.budget) }
+    ensures fits { IfOk result (λ answer. Fits board.now.input.domain snapshot.now.problem
+        board.now.input.budget answer) }
+{
+    let input = board.input();
+    let alloc = snapshot.problem.allocator();
+    solver.solve(alloc, board.expert(), &snapshot.problem, input.budget)
+}
+
+/// Does what follows the solver's answer, where it is asked for what is known now. On an error nothing changes.
+fn replan<S: Solver>(board: &mut Board, solver: &S, snapshot: Snapshot) -> Result<(), AllocError>
+    requires rest { IsAtRest board.old }
+    requires asked { IsWanted board.old.input board.old.entries snapshot }
+    ensures rest { IsAtRest board.new }
+    ensures ok { OnOk result (board.new.entries
+        ≡ after_answer (S.says solver.now) board.old.input board.old.entries) }
+    ensures err { OnErr result (board.new.entries ≡ board.old.entries) }
+    ensures input { board.new.input ≡ board.old.input }
+{
+    let answer = ask(board, solver, &snapshot)?;
+    match board.submit(1, snapshot, answer)? {
+        Submitted::Taken => Ok(()),
+        Submitted::Stale { at: _ } => unreachable!(),
+    }
+}
+
+/// Does the turn of the ticker, in which the solver answers at once. Answers whether the run was found to be over. On
+/// an error nothing changes.
+fn take_tick<S: Solver>(board: &mut Board, solver: &S) -> Result<bool, AllocError>
     requires rest { IsAtRest board.old }
     requires ran { has_run board.old.entries ≡ true }
-    requires replans { board.old.input.replans ≡ 0 }
     ensures rest { IsAtRest board.new }
     ensures over { IfOk result (λ over. over ≡ true → is_running board.new.entries ≡ false) }
-    ensures ok { OnOk result
-        (board.new.entries ≡ after_ticker board.old.input board.old.entries) }
+    ensures ok { OnOk result (board.new.entries
+        ≡ after_ticker (S.says solver.now) board.old.input board.old.entries) }
     ensures err { OnErr result (board.new.entries ≡ board.old.entries) }
     ensures input { board.new.input ≡ board.old.input }
 {
     match board.tick(1)? {
         Ticked::Over(_) => Ok(true),
-        Ticked::Did | Ticked::Nothing => Ok(false),
-        Ticked::Halted | Ticked::WantsPlan => unreachable!(),
+        Ticked::Did => Ok(false),
+        Ticked::Nothing => Ok(false),
+        Ticked::WantsPlan(snapshot) => {
+            replan(board, solver, snapshot)?;
+            Ok(false)
+        }
+        Ticked::Halted => unreachable!(),
     }
 }
 
 /// Does the turn of each member and then that of the ticker. Answers whether the run is over.
-fn take_round<R: Wait, G: Gate>(rt: &R, board: &mut Board, gate: &G) -> Result<bool, AllocError>
+fn take_round<R: Wait, S: Solver, G: Gate>(
+    rt: &R,
+    board: &mut Board,
+    solver: &S,
+    gate: &G,
+) -> Result<bool, AllocError>
     requires rest { IsAtRest board.old }
     requires ran { has_run board.old.entries ≡ true }
-    requires replans { board.old.input.replans ≡ 0 }
     ensures rest { OnOk result (IsAtRest board.new) }
     ensures over { IfOk result (λ over. over ≡ true → is_running board.new.entries ≡ false) }
-    ensures ok { OnOk result
-        (LeadsTo board.old.input 0 board.old.entries 0 board.new.entries) }
-    ensures err { OnErr result
-        (StopsFrom board.old.input 0 board.old.entries board.new.entries) }
+    ensures ok { OnOk result (LeadsTo (S.says solver.now) board.old.input 0 board.old.entries 0
+        board.new.entries) }
+    ensures err { OnErr result (StopsFrom (S.says solver.now) board.old.input 0 board.old.entries
+        board.new.entries) }
     ensures ran { OnOk result (has_run board.new.entries ≡ true) }
     ensures input { board.new.input ≡ board.old.input }
 {
     take_members(rt, board, gate)?;
-    take_tick(board)
+    take_tick(board, solver)
 }
 
-/// Goes on with the open run until it is over: each member takes its turn, in their order, and then the ticker, again and again, all
-/// with hand 1. A unit of work is done in its performer's turn, and the gate is called once for it. It promises no return. On an error
-/// the run is as far as it came, and the grant of a unit that couldn't be handed in may be out.
+/// Goes on with the open run until it is over: each member takes its turn, in their order, and then the ticker, again
+/// and again, all with hand 1. A unit of work is done in its performer's turn, and the gate is called once for it. It
+/// promises no return. On an error the run is as far as it came, and the grant of a unit that couldn't be handed in may
+/// be out.
 pub fn go_on<R: Wait, S: Solver, G: Gate>(
     rt: &R,
     board: &mut Board,
@@ -199,7 +242,6 @@ pub fn go_on<R: Wait, S: Solver, G: Gate>(
 ) -> Result<(), AllocError>
     requires opened { is_running board.old.entries ≡ true }
     requires rest { IsAtRest board.old }
-    requires replans { board.old.input.replans ≡ 0 }
     ensures ends { OnOk result (EndsAs (S.says solver.now) board.old.input board.old.entries
         board.new.entries) }
     ensures in_run { GrowsInRun board.old.entries board.new.entries }
@@ -209,7 +251,7 @@ pub fn go_on<R: Wait, S: Solver, G: Gate>(
     ensures input { board.new.input ≡ board.old.input }
 {
     for _ in rt.forever() {
-        match take_round(rt, board, gate) {
+        match take_round(rt, board, solver, gate) {
             Ok(true) => return Ok(()),
             Ok(false) => {}
             Err(AllocError) => return Err(AllocError),
@@ -227,7 +269,6 @@ pub fn run_ordered<R: Wait, S: Solver, G: Gate>(
 ) -> Result<Board, RunStop>
     requires opened { is_running board.entries ≡ true }
     requires rest { IsAtRest board }
-    requires replans { board.input.replans ≡ 0 }
     ensures ends { IfOk result
         (λ b. EndsAs (S.says solver.now) board.input board.entries b.entries) }
     ensures in_run { IfOk result (λ b. GrowsInRun board.entries b.entries) }

@@ -1,5 +1,5 @@
 -- What a call that answers a line makes of a board.
-use Rattle.std.proofs.Common.{◌≡◌, ◌≢◌, ℕ, zero, suc, ◌+◌, true, false, Option, Some, None, is_none, option_and_then, List, [], ◌∷◌, ◌++◌, append-nil, length, length-append, replicate, slice_index_or, refl, ap, sym, ◌∙◌, subst, arith}
+use Rattle.std.proofs.Common.{◌≡◌, ◌≢◌, ℕ, zero, suc, ◌+◌, true, false, Option, Some, None, is_none, option_and_then, Result, Ok, Err, IfOk, OnOk, List, [], ◌∷◌, ◌++◌, append-nil, length, length-append, replicate, slice_index_or, refl, ap, sym, ◌∙◌, subst, arith}
 use Rattle.std.specs.Option.{option_map_or}
 use Rattle.ps_machine.specs.declared.inputs.Input.{Input}
 use Rattle.ps_machine.specs.declared.inputs.Line.{Line}
@@ -14,10 +14,12 @@ use Rattle.ps_board.specs.Grants.{granted}
 use Rattle.ps_board.specs.declared.board.Shown.{Shown}
 use Rattle.ps_board.specs.declared.turns.Step.{Step}
 use Rattle.ps_board.specs.declared.turns.Step.TheVariants.{Said, Opened, End}
-use Rattle.ps_pool.specs.Courses.{GrowsInRun}
-use Rattle.ps_pool.specs.Ordered.{EndsAs, IsAtRest}
+use Rattle.ps_board.specs.Board.{IsAtRest}
 use Rattle.ps_session.specs.Lines.{Advances, IsAnswered, IsIdle}
-use Rattle.ps_session.proofs.Steps.{a-line, no-line, opened-event, run-answered, run-opened, said-answered, said-closed, said-event}
+use Rattle.ps_session.specs.declared.ways.Turns.{Turns}
+use Rattle.ps_pool.specs.Workers.{EndedBy}
+use Rattle.ps_session.specs.declared.ways.Turns.TheVariants.{Workers}
+use Rattle.ps_session.proofs.Steps.{a-line, ended-by-workers, HasEnded, no-line, opened-event, run-answered, run-opened, said-answered, said-closed, said-event}
 
 -- ---- idle boards
 
@@ -52,7 +54,7 @@ pub record Commanded (says : Says) (old new : Shown) (s : Step) : Type 0 where
   pub grants : new.grants ≡ old.grants
   pub halted : new.halted ≡ old.halted
 
-module _ (says : Says) (old new : Shown) (s : Step) (c : Commanded says old new s) (idle : IsIdle old.input old) where
+module _ (how : Turns) (says : Says) (old new : Shown) (s : Step) (c : Commanded says old new s) (idle : IsIdle old.input old) where
   abbrev i : Input
   i = old.input
 
@@ -84,7 +86,7 @@ module _ (says : Says) (old new : Shown) (s : Step) (c : Commanded says old new 
       let e = said-event (commanded says old) (sym c.answer ∙ is) in
       (answering e.0 e.1 (sym (ap is_end is) ∙ c.end), e.2)
 
-  longer : (from : ℕ) → from ≡ length old.entries → (final : List Entry) → IsAnswered says i old.entries final → from ≢ length final
+  longer : (from : ℕ) → from ≡ length old.entries → (final : List Entry) → IsAnswered how says i old.entries final → from ≢ length final
   longer from same final a equal = by-since a.since a.grown where
     by-since : (since : List Entry) → final ≡ old.entries ++ since → ⊥
     by-since [] grown =
@@ -94,8 +96,8 @@ module _ (says : Says) (old new : Shown) (s : Step) (c : Commanded says old new 
         let len : length final ≡ length old.entries + length (e ∷ es) = ap length grown ∙ length-append old.entries (e ∷ es) in
         omega (arith, len, same, equal)
 
-  goes-on : (from : ℕ) (final : Shown) → from ≡ length old.entries → IsIdle i final → IsAnswered says i old.entries final.entries
-      → Advances says i old final from
+  goes-on : (from : ℕ) (final : Shown) → from ≡ length old.entries → IsIdle i final → IsAnswered how says i old.entries final.entries
+      → Advances how says i old final from
   goes-on from final same still a = record {
     idle = still;
     place = same;
@@ -103,11 +105,12 @@ module _ (says : Says) (old new : Shown) (s : Step) (c : Commanded says old new 
     end = λ equal. absurd (longer from same final.entries a equal);
   }
 
-  pub advances-said : (from : ℕ) → from ≡ length old.entries → IsHistory i old.entries → s ≡ Said → Advances says i old new from
+  pub advances-said : (from : ℕ) → from ≡ length old.entries → IsHistory i old.entries → s ≡ Said → Advances how says i old new from
   advances-said from same history is =
       let a = saying is in
-      let now : IsAnswered says i old.entries new.entries =
-      subst (IsAnswered says i old.entries) (sym a.0.entries) (said-answered says i old.entries a.0.line history idle.closed a.0.next a.0.event a.0.made a.1) in
+      let now : IsAnswered how says i old.entries new.entries =
+      subst (IsAnswered how says i old.entries) (sym a.0.entries)
+      (said-answered says i old.entries a.0.line history idle.closed a.0.next how a.0.event a.0.made a.1) in
       let still : IsIdle i new = record {
         input = c.input;
         rest = rests;
@@ -126,20 +129,19 @@ module _ (says : Says) (old new : Shown) (s : Step) (c : Commanded says old new 
   now-running is = let a = opening is in ap is_running a.0.entries ∙ run-opened i old.entries a.0.event a.1
 
   pub advances-run : (from : ℕ) (final : Shown) → from ≡ length old.entries → IsHistory i old.entries → s ≡ Opened
-      → EndsAs says new.input new.entries final.entries → GrowsInRun new.entries final.entries → IsAtRest final → final.input ≡ new.input
-      → Advances says i old final from
-  advances-run from final same history is ends grows rest input =
+      → HasEnded how says new.input new.entries final.entries → IsAtRest final → final.input ≡ new.input
+      → Advances how says i old final from
+  advances-run from final same history is ends rest input =
       let a = opening is in
-      let ended : EndsAs says i (with_block i 0 old.entries a.0.event) final.entries =
-      subst (λ es. EndsAs says i es final.entries) a.0.entries (subst (λ j. EndsAs says j new.entries final.entries) c.input ends) in
-      let grown : GrowsInRun (with_block i 0 old.entries a.0.event) final.entries = subst (λ es. GrowsInRun es final.entries) a.0.entries grows in
+      let ended : HasEnded how says i (with_block i 0 old.entries a.0.event) final.entries =
+      subst (λ es. HasEnded how says i es final.entries) a.0.entries (subst (λ j. HasEnded how says j new.entries final.entries) c.input ends) in
       let still : IsIdle i final = record { input = input ∙ c.input; rest = rest; closed = ends.over } in
       goes-on from final same still
-      (run-answered says i old.entries a.0.line history idle.closed a.0.next a.0.event final.entries a.0.made a.1 ended grown)
+      (run-answered says i old.entries a.0.line history idle.closed a.0.next how a.0.event final.entries a.0.made a.1 ended)
 
   -- ---- no line
 
-  pub advances-end : (from : ℕ) → from ≡ length old.entries → s ≡ End → Advances says i old new from
+  pub advances-end : (from : ℕ) → from ≡ length old.entries → s ≡ End → Advances how says i old new from
   advances-end from same is =
       let none : next_line i old.entries ≡ None = no-line (next_line i old.entries) (sym (ap is_end is) ∙ c.end) in
       let undone : commanded says old ≡ None = ap (option_and_then (line_event says i old.entries)) none in
@@ -151,3 +153,29 @@ module _ (says : Says) (old new : Shown) (s : Step) (c : Commanded says old new 
         line = λ other. absurd (other (same ∙ ap length (sym entries)));
         end = λ equal. (none, all);
       }
+
+-- ---- calls
+
+-- a call that answered something
+pub commanded-so : {E : Type 0} → (says : Says) (old new : Shown) (r : Result Step E) (s : Step) → r ≡ Ok s → IfOk r (λ t. t ≡ step_of (commanded says old))
+    → IfOk r (λ t. is_end t ≡ is_none (next_line old.input old.entries)) → OnOk r (new.entries ≡ with_done old 0 (commanded says old)) → new.input ≡ old.input
+    → new.grants ≡ old.grants → new.halted ≡ old.halted → Commanded says old new s
+commanded-so says old new r s is answer end entries input grants halted = record {
+  answer = subst (λ x. IfOk x (λ t. t ≡ step_of (commanded says old))) is answer;
+  end = subst (λ x. IfOk x (λ t. is_end t ≡ is_none (next_line old.input old.entries))) is end;
+  entries = subst (λ x. OnOk x (new.entries ≡ with_done old 0 (commanded says old))) is entries;
+  input = input;
+  grants = grants;
+  halted = halted;
+}
+
+-- workers went on with the run that a line opened
+pub advances-worked : {E : Type 0} → (workers : ℕ) (says : Says) (old new : Shown) (s : Step) → Commanded says old new s → IsIdle old.input old → (r : Result ℕ E) (from : ℕ)
+    (final : Shown) → from ≡ length old.entries → IsHistory old.input old.entries → s ≡ Opened → IfOk r (λ place. place ≡ from)
+    → OnOk r (EndedBy workers new.input new.entries final.entries) → OnOk r (IsAtRest final) → final.input ≡ new.input
+    → IfOk r (Advances (Workers workers) says old.input old final)
+advances-worked workers says old new s c idle (Ok place) from final same history is at ended rest input =
+    subst (Advances (Workers workers) says old.input old final) (sym at)
+    (advances-run (Workers workers) says old new s c idle from final same history is
+    (ended-by-workers workers says new.input new.entries final.entries ended) rest input)
+advances-worked workers says old new s c idle (Err e) from final same history is at ended rest input = tt

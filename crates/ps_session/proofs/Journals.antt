@@ -14,20 +14,20 @@ use Rattle.ps_replies.specs.Plans.{GivesLeast}
 use Rattle.ps_session.specs.Laws.{OneJournal}
 use Rattle.ps_session.specs.Lines.{IsBegun}
 use Rattle.ps_session.specs.Session.{IsJournal, IsOrdered}
+use Rattle.ps_session.specs.declared.ways.Turns.{Turns}
 use Rattle.ps_session.proofs.Begun.{ordered-of, whole-of}
-use Rattle.ps_session.proofs.Hands.{few-hands}
 use Rattle.ps_session.proofs.Success.{histories_tell_success}
 
 -- what a session that is done comes to
-pub journal-of : (says : Says) (i : Input) (es : List Entry) → GivesLeast says → IsBegun says i es → IsHistory i es → next_line i es ≡ None → is_running es ≡ false → IsJournal i es
-journal-of says i es gives b history none closed =
-    let inOrder : IsOrdered i es = ordered-of says i es gives b none in record {
-      history = history;
-      whole = whole-of says i es b none closed;
-      hands = subst (All (λ e. e.hand ≤ 1)) (sym inOrder.all) (few-hands answer i inOrder.turns);
-      success = histories_tell_success i es history;
-      ordered = inOrder;
-    }
+pub journal-of : (how : Turns) (says : Says) (i : Input) (es : List Entry) → GivesLeast says → IsBegun how says i es → IsHistory i es → next_line i es ≡ None
+    → is_running es ≡ false → IsJournal how i es
+journal-of how says i es gives b history none closed = record {
+  history = history;
+  whole = whole-of how says i es b none closed;
+  hands = b.hands;
+  success = histories_tell_success i es history;
+  ordered = λ inOrder. ordered-of how says i es gives b (b.ordered inOrder) none;
+}
 
 module _ (says : Says) (i : Input) where
   -- nothing more is answered while a run is open
@@ -66,13 +66,15 @@ one_way m n = grind arith
 
 pub one_journal : OneJournal
 one_journal i es fs j k =
-    elim (one_way j.ordered.turns k.ordered.turns) [
+    let one : IsOrdered i es = j.ordered refl in
+    let other : IsOrdered i fs = k.ordered refl in
+    elim (one_way one.turns other.turns) [
       | inl l ↦
-          j.ordered.all
-          ∙ sym (enough answer i j.ordered.turns k.ordered.turns [] (due_lines i.lines) l (ap is_running (sym j.ordered.all) ∙ j.whole.closed))
-          ∙ sym k.ordered.all
+          one.all
+          ∙ sym (enough answer i one.turns other.turns [] (due_lines i.lines) l (ap is_running (sym one.all) ∙ j.whole.closed))
+          ∙ sym other.all
       | inr l ↦
-          j.ordered.all
-          ∙ enough answer i k.ordered.turns j.ordered.turns [] (due_lines i.lines) l (ap is_running (sym k.ordered.all) ∙ k.whole.closed)
-          ∙ sym k.ordered.all
+          one.all
+          ∙ enough answer i other.turns one.turns [] (due_lines i.lines) l (ap is_running (sym other.all) ∙ k.whole.closed)
+          ∙ sym other.all
     ]

@@ -1,8 +1,9 @@
 -- What answering a line does, and the run that it opens.
-use Rattle.std.proofs.Common.{◌≡◌, ℕ, ◌+◌, Bool, true, false, not, ◌&&◌, ◌||◌, if◌then◌else◌, Option, Some, None, is_none, IfSome, IsTrue, Ok, Err, List, [], ◌∷◌, ◌++◌, map, refl, ap, sym, ◌∙◌, subst, arith, append_assoc}
+use Rattle.std.proofs.Common.{◌≡◌, ℕ, ◌+◌, ◌≤◌, Bool, true, false, not, ◌&&◌, ◌||◌, if◌then◌else◌, Option, Some, None, is_none, IfSome, IsTrue, Ok, Err, List, [], ◌∷◌, ◌++◌, map, refl, ap, sym, ◌∙◌, subst, arith, append_assoc}
 use Rattle.std.specs.Option.{option_map_or, unwrap_or}
 use Rattle.std.proofs.lemmas.Bool.{true≢false}
 use Rattle.std.proofs.lemmas.Grind.{fold-append}
+use Rattle.std.proofs.lemmas.List.Elements.{All-append}
 use Rattle.ps_action.specs.declared.answers.Answer.{Answer}
 use Rattle.ps_action.specs.declared.answers.Answer.TheVariants as answer
 use Rattle.ps_machine.specs.declared.inputs.Command.TheVariants as command
@@ -31,9 +32,14 @@ use Rattle.ps_board.specs.Board.{step_of}
 use Rattle.ps_board.specs.declared.turns.Step.TheVariants.{Said, Opened}
 use Rattle.ps_pool.specs.Courses.{GrowsInRun}
 use Rattle.ps_pool.specs.Ordered.{EndsAs}
+use Rattle.ps_pool.specs.Workers.{EndedBy}
 use Rattle.ps_pool.proofs.Ending.{closed-turns}
 use Rattle.ps_session.specs.Answers.{AskAtEnd, is_ask}
-use Rattle.ps_session.specs.Lines.{IsAnswered}
+use Rattle.ps_session.specs.Lines.{HasHands, IsAnswered}
+use Rattle.ps_session.specs.Session.{hands_of}
+use Rattle.ps_session.specs.declared.ways.Turns.{Turns}
+use Rattle.ps_session.specs.declared.ways.Turns.TheVariants.{InOrder, Workers}
+use Rattle.ps_session.proofs.Hands.{block-below, ordered-below}
 
 -- ---- the block of an event
 
@@ -123,6 +129,34 @@ ask-at-end [] h = tt
 ask-at-end (e ∷ []) h = tt
 ask-at-end (e ∷ f ∷ es) h = (h.0, ask-at-end (f ∷ es) h.1)
 
+-- ---- runs
+
+-- A run that is open after the first entries has ended after these.
+pub record HasEnded (how : Turns) (says : Says) (i : Input) (mid new : List Entry) : Type 0 where
+  pub over : is_running new ≡ false
+  pub grown : GrowsInRun mid new
+  pub hands : HasHands how mid → HasHands how new
+  pub ordered : how ≡ InOrder → EndsAs says i mid new
+
+-- turns in order ended it
+pub ended-in-order : (says : Says) (i : Input) (mid new : List Entry) → EndsAs says i mid new → GrowsInRun mid new → HasEnded InOrder says i mid new
+ended-in-order says i mid new ends grown = record {
+  over = ends.over;
+  grown = grown;
+  hands = λ h. subst (HasHands InOrder) (sym ends.all) (ordered-below 1 (omega arith) says i mid ends.turns h);
+  ordered = λ inOrder. ends;
+}
+
+-- workers ended it
+pub ended-by-workers : (workers : ℕ) (says : Says) (i : Input) (mid new : List Entry) → EndedBy workers i mid new → HasEnded (Workers workers) says i mid new
+ended-by-workers workers says i mid new e =
+    let more = e.worked.by_hands in record {
+      over = e.closed;
+      grown = e.worked.in_run;
+      hands = λ h. subst (HasHands (Workers workers)) (sym more.1) (All-append (λ f. f.hand ≤ workers) mid more.0 h (λ k d lt. (more.2 k d lt).1));
+      ordered = λ inOrder. absurd (cc);
+    }
+
 -- ---- queries
 
 not-asked : (q : Query) (a : Answer) → run_by a ≡ Some (event.Ask q) → ⊥
@@ -178,16 +212,19 @@ module _ (says : Says) (i : Input) (es : List Entry) (line : Line) (h : IsHistor
       ∙ ap (λ o. ordered says i (option_map_or (with_block i 0 es) o es) n) made
 
   -- a line is answered that opens no run
-  pub said-answered : (e : Event) → line_event says i es line ≡ Some e → opens e ≡ false → IsAnswered says i es (with_block i 0 es e)
-  said-answered e made shut = record {
+  pub said-answered : (how : Turns) (e : Event) → line_event says i es line ≡ Some e → opens e ≡ false → IsAnswered how says i es (with_block i 0 es e)
+  said-answered how e made shut = record {
     line = line;
     next = next;
-    turns = 0;
-    all = λ n l. sym (closed-turns says i (with_block i 0 es e) 0 n (omega arith) (said-closed i es e shut closed)) ∙ sym (after-is e n made);
     counted = answered-block i es e (own e made);
     since = record { hand = 0; what = e } ∷ forced i es (record { hand = 0; what = e });
     grown = refl;
     asks = block-asks e (is_ask e) refl made;
+    hands = block-below (hands_of how) i 0 es e (omega arith);
+    ordered = λ inOrder. record {
+      turns = 0;
+      all = λ n l. sym (closed-turns says i (with_block i 0 es e) 0 n (omega arith) (said-closed i es e shut closed)) ∙ sym (after-is e n made);
+    };
   }
 
   opens-asks : (e : Event) → opens e ≡ true → is_ask e ≡ false
@@ -195,17 +232,22 @@ module _ (says : Says) (i : Input) (es : List Entry) (line : Line) (h : IsHistor
   opens-asks e h = absurd (true≢false (sym h))
 
   -- a line is answered that opens a run, and the run has ended
-  pub run-answered : (e : Event) (new : List Entry) → line_event says i es line ≡ Some e → opens e ≡ true
-      → EndsAs says i (with_block i 0 es e) new → GrowsInRun (with_block i 0 es e) new → IsAnswered says i es new
-  run-answered e new made opened ends grows =
+  pub run-answered : (how : Turns) (e : Event) (new : List Entry) → line_event says i es line ≡ Some e → opens e ≡ true
+      → HasEnded how says i (with_block i 0 es e) new → IsAnswered how says i es new
+  run-answered how e new made opened ended =
       let mid : List Entry = with_block i 0 es e in
       let entry : Entry = record { hand = 0; what = e } in
+      let grows = ended.grown in
       let first : List Entry = entry ∷ forced i es entry in record {
         line = line;
         next = next;
-        turns = ends.turns;
-        all = λ n l.
-            ends.all ∙ sym (closed-turns says i mid ends.turns n l (ap is_running (sym ends.all) ∙ ends.over)) ∙ sym (after-is e n made);
+        hands = λ h. ended.hands (block-below (hands_of how) i 0 es e (omega arith) h);
+        ordered = λ inOrder.
+            let ends : EndsAs says i mid new = ended.ordered inOrder in record {
+              turns = ends.turns;
+              all = λ n l.
+                  ends.all ∙ sym (closed-turns says i mid ends.turns n l (ap is_running (sym ends.all) ∙ ends.over)) ∙ sym (after-is e n made);
+            };
         counted = ap answered grows.all ∙ answered-more mid grows.since grows.no_line ∙ answered-block i es e (own e made);
         since = first ++ grows.since;
         grown = grows.all ∙ append_assoc es first grows.since;

@@ -1,5 +1,5 @@
 -- What calls that write a session come to.
-use Rattle.std.proofs.Common.{◌≡◌, ℕ, nat_lt, Bool, false, Result, Ok, Err, length, refl, ap, subst}
+use Rattle.std.proofs.Common.{◌≡◌, ℕ, nat_lt, Bool, false, IfOk, Result, Ok, Err, length, refl, ap, sym, subst}
 use Rattle.ps_world.specs.Names.{Table}
 use Rattle.ps_machine.specs.declared.inputs.Input.{Input}
 use Rattle.ps_rules.specs.Choices.{Says}
@@ -15,8 +15,9 @@ use Rattle.ps_journal.proofs.NameLines.{AreLines-names}
 use Rattle.ps_board.specs.Board.{nothing_done}
 use Rattle.ps_board.specs.declared.board.Shown.{Shown}
 use Rattle.ps_replies.specs.Plans.{GivesLeast}
-use Rattle.ps_session.specs.Lines.{Advances, IsIdle, IsWritten, PutsWork, text_from, WritesLine, WritesLines, WritesOn}
+use Rattle.ps_session.specs.Lines.{Advances, IsIdle, IsWritten, PutsMore, PutsWork, text_from, WritesLine, WritesLines, WritesOn}
 use Rattle.ps_session.specs.Session.{IsSession, Runs}
+use Rattle.ps_session.specs.declared.ways.Turns.{Turns}
 use Rattle.ps_session.proofs.Advancing.{idle-first}
 use Rattle.ps_session.proofs.Journals.{journal-of}
 use Rattle.ps_session.proofs.Writing.{counts-work, cut-between, cut-header, cut-nothing, cut-on, no-more, work-since, written-first, written-on}
@@ -24,10 +25,10 @@ use Rattle.ps_session.proofs.Writing.{counts-work, cut-between, cut-header, cut-
 -- ---- one line
 
 -- memory ran out before an entry of the line was written
-pub starved-line : (says : Says) (i : Input) (names : Table) (b new : Shown) (now : SinkView) → WritesLine says i names b new now now (Err sink.OutOfMemory)
-starved-line says i names b new now = λ start w. record { written = tt; more = tt; cut = cut-between says i names b start now w; counted = w.failures }
+pub starved-line : (how : Turns) (says : Says) (i : Input) (names : Table) (b new : Shown) (now : SinkView) → WritesLine how says i names b new now now (Err sink.OutOfMemory)
+starved-line how says i names b new now = λ start w. record { written = tt; more = tt; cut = cut-between how says i names b start now w; counted = w.failures }
 
-module _ (says : Says) (i : Input) (names : Table) (b new : Shown) (from : ℕ) (old now : SinkView) (went : Advances says i b new from) (history : IsHistory new.input new.entries) where
+module _ (how : Turns) (says : Says) (i : Input) (names : Table) (b new : Shown) (from : ℕ) (old now : SinkView) (went : Advances how says i b new from) (history : IsHistory new.input new.entries) where
   here : IsHistory i new.entries
   here = subst (λ j. IsHistory j new.entries) went.idle.input history
 
@@ -35,19 +36,30 @@ module _ (says : Says) (i : Input) (names : Table) (b new : Shown) (from : ℕ) 
   there r put = subst (λ j. PutsWork (text_from names j new.entries from) old now r) went.idle.input put
 
   -- a write of the line's entries was refused, or memory ran out
-  pub cut-line : (why : SinkRefusal) → PutsWork (text_from names new.input new.entries from) old now (Err why) → WritesLine says i names b new old now (Err why)
+  pub cut-line : (why : SinkRefusal) → PutsWork (text_from names new.input new.entries from) old now (Err why) → WritesLine how says i names b new old now (Err why)
   cut-line why put = λ start w. record {
     written = tt;
     more = tt;
-    cut = cut-on says i b new from went names start old now w here why (there (Err why) put);
+    cut = cut-on how says i b new from went names start old now w here why (there (Err why) put);
     counted = work-since (Unit {0}) Bool start old now why w.failures w.refusals put.counted;
   }
 
   -- the line's entries were written
-  pub written-line : PutsWork (text_from names new.input new.entries from) old now (Ok tt) → WritesLine says i names b new old now (Ok (nat_lt from (length new.entries)))
+  pub written-line : PutsWork (text_from names new.input new.entries from) old now (Ok tt) → WritesLine how says i names b new old now (Ok (nat_lt from (length new.entries)))
   written-line put = λ start w.
-      let done : IsWritten says i names new start now = written-on says i b new from went names start old now w here (there (Ok tt) put) in
-      record { written = done; more = no-more says i b new from went; cut = tt; counted = (done.failures, done.refusals) }
+      let done : IsWritten how says i names new start now = written-on how says i b new from went names start old now w here (there (Ok tt) put) in
+      record { written = done; more = no-more how says i b new from went; cut = tt; counted = (done.failures, done.refusals) }
+
+-- the line's entries were written or cut off
+pub line-written : (how : Turns) (says : Says) (i : Input) (names : Table) (b new : Shown) (from : ℕ) (old now : SinkView) → Advances how says i b new from
+    → IsHistory new.input new.entries → (r : Result Bool SinkRefusal) → PutsMore (text_from names new.input new.entries from) old now r
+    → IfOk r (λ more. more ≡ nat_lt from (length new.entries)) → WritesLine how says i names b new old now r
+line-written how says i names b new from old now went history (Ok more) put is =
+    subst (λ m. WritesLine how says i names b new old now (Ok m)) (sym is)
+    (written-line how says i names b new from old now went history (record { whole = put.whole; prefix = tt; counted = put.counted }))
+line-written how says i names b new from old now went history (Err why) put is =
+    cut-line how says i names b new from old now went history why
+    (record { whole = tt; prefix = put.prefix; counted = work-since Bool (Unit {0}) old old now why refl refl put.counted })
 
 -- ---- all lines
 
@@ -56,20 +68,20 @@ pub idle-now : (i : Input) (b : Shown) → IsIdle i b → IsIdle b.input b
 idle-now i b idle = record { input = refl; rest = idle.rest; closed = idle.closed }
 
 -- a line of the input that is the board's
-pub line-of : (says : Says) (i : Input) (names : Table) (b new : Shown) (start old now : SinkView) (r : Result Bool SinkRefusal) → IsWritten says i names b start old
-    → WritesLine says b.input names b new old now r → WritesOn says i names b new start now r
-line-of says i names b new start old now r w line = subst (λ j. WritesLine says j names b new old now r) w.idle.input line start w
+pub line-of : (how : Turns) (says : Says) (i : Input) (names : Table) (b new : Shown) (start old now : SinkView) (r : Result Bool SinkRefusal) → IsWritten how says i names b start old
+    → WritesLine how says b.input names b new old now r → WritesOn how says i names new start now r
+line-of how says i names b new start old now r w line = subst (λ j. WritesLine how says j names b new old now r) w.idle.input line start w
 
-module _ (i : Input) (names : Table) (b : Shown) (start now : SinkView) where
-  pub header-cut : (why : SinkRefusal) → Puts header start now (Err why) → WritesLines i names b start now (Err why)
+module _ (how : Turns) (i : Input) (names : Table) (b : Shown) (start now : SinkView) where
+  pub header-cut : (why : SinkRefusal) → Puts header start now (Err why) → WritesLines how i names b start now (Err why)
   header-cut why put = record { journal = tt; text = tt; cut = cut-header i names start now why put; counted = counts-work (Unit {0}) (Unit {0}) start now why put.counted }
 
-  pub line-cut : (says : Says) (old : Shown) (why : SinkRefusal) → WritesOn says i names old b start now (Err why) → WritesLines i names b start now (Err why)
-  line-cut says old why on = record { journal = tt; text = tt; cut = on.cut; counted = work-since Bool (Unit {0}) start start now why refl refl on.counted }
+  pub line-cut : (says : Says) (why : SinkRefusal) → WritesOn how says i names b start now (Err why) → WritesLines how i names b start now (Err why)
+  line-cut says why on = record { journal = tt; text = tt; cut = on.cut; counted = work-since Bool (Unit {0}) start start now why refl refl on.counted }
 
-  pub lines-done : (says : Says) (old : Shown) (more : Bool) → GivesLeast says → more ≡ false → WritesOn says i names old b start now (Ok more) → WritesLines i names b start now (Ok tt)
-  lines-done says old more gives done on = record {
-    journal = journal-of says i b.entries gives on.written.begun on.written.history (on.more done) on.written.idle.closed;
+  pub lines-done : (says : Says) (more : Bool) → GivesLeast says → more ≡ false → WritesOn how says i names b start now (Ok more) → WritesLines how i names b start now (Ok tt)
+  lines-done says more gives done on = record {
+    journal = journal-of how says i b.entries gives on.written.begun on.written.history (on.more done) on.written.idle.closed;
     text = on.written.text;
     cut = tt;
     counted = (on.written.failures, on.written.refusals);
@@ -77,12 +89,12 @@ module _ (i : Input) (names : Table) (b : Shown) (start now : SinkView) where
 
   -- ---- the session
 
-  pub session-cut : (why : SinkRefusal) → WritesLines i names b start now (Err why) → Runs i names start now (Err why)
+  pub session-cut : (why : SinkRefusal) → WritesLines how i names b start now (Err why) → Runs how i names start now (Err why)
   session-cut why w = record { done = tt; cut = w.cut; counted = work-since (Unit {0}) ℕ start start now why refl refl w.counted }
 
-  pub session-done : (status : ℕ) → AreNames names → IsSound i → status ≡ status_of b.entries → WritesLines i names b start now (Ok tt) → Runs i names start now (Ok status)
+  pub session-done : (status : ℕ) → AreNames names → IsSound i → status ≡ status_of b.entries → WritesLines how i names b start now (Ok tt) → Runs how i names start now (Ok status)
   session-done status table sound answer w =
-      let session : IsSession i names (journal_text names i b.entries) status = record {
+      let session : IsSession how i names (journal_text names i b.entries) status = record {
         journal = b.entries;
         entries = histories_are_read_back names i b.entries (AreLines-names names table) sound w.journal.history;
         text = refl;
@@ -92,9 +104,9 @@ module _ (i : Input) (names : Table) (b : Shown) (start now : SinkView) where
       record { done = (journal_text names i b.entries, w.text, session); cut = tt; counted = w.counted }
 
 -- the header was written of a session of which nothing was done
-pub lines-begun : (says : Says) (i : Input) (names : Table) (b : Shown) (start now : SinkView) → b ≡ nothing_done i → Puts header start now (Ok tt) → IsWritten says i names b start now
-lines-begun says i names b start now fresh put = written-first says i names b start now (idle-first i b fresh) (ap (λ (s : Shown). s.entries) fresh) put
+pub lines-begun : (how : Turns) (says : Says) (i : Input) (names : Table) (b : Shown) (start now : SinkView) → b ≡ nothing_done i → Puts header start now (Ok tt) → IsWritten how says i names b start now
+lines-begun how says i names b start now fresh put = written-first how says i names b start now (idle-first i b fresh) (ap (λ (s : Shown). s.entries) fresh) put
 
 -- memory ran out before anything was written
-pub unrun : (i : Input) (names : Table) (s : SinkView) → Runs i names s s (Err sink.OutOfMemory)
-unrun i names s = record { done = tt; cut = cut-nothing i names s; counted = refl }
+pub unrun : (how : Turns) (i : Input) (names : Table) (s : SinkView) → Runs how i names s s (Err sink.OutOfMemory)
+unrun how i names s = record { done = tt; cut = cut-nothing i names s; counted = refl }

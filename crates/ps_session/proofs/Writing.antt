@@ -20,6 +20,7 @@ use Rattle.ps_board.specs.declared.board.Shown.{Shown}
 use Rattle.ps_session.specs.Answers.{AskAtEnd}
 use Rattle.ps_session.specs.Lines.{Advances, IsBegun, IsIdle, IsWritten, PutsWork, text_from}
 use Rattle.ps_session.specs.Session.{IsCut}
+use Rattle.ps_session.specs.declared.ways.Turns.{Turns}
 use Rattle.ps_session.proofs.Begun.{begun-next, begun-start}
 use Rattle.ps_session.proofs.Taken.{AppendsPrefix-all, AppendsPrefix-append, AppendsPrefix-nil}
 use Rattle.ps_session.proofs.AddedTexts.{since-dropped, text-since}
@@ -53,7 +54,7 @@ decide m n = by-test (m == n) refl where
   by-test true e = inl (eqb-true m n e)
   by-test false e = inr (λ same. true≢false (sym (eq-eqb m n same) ∙ e))
 
-module _ (says : Says) (i : Input) (b new : Shown) (from : ℕ) (went : Advances says i b new from) where
+module _ (how : Turns) (says : Says) (i : Input) (b new : Shown) (from : ℕ) (went : Advances how says i b new from) where
   -- the entries that came since
   pub record Came : Type 0 where
     pub since : List Entry
@@ -73,11 +74,11 @@ module _ (says : Says) (i : Input) (b new : Shown) (from : ℕ) (went : Advances
       subst AskAtEnd (sym (ap (λ n. drop n new.entries) went.place ∙ since-dropped b.entries new.entries came.since came.grown)) came.asks
 
   -- it is begun
-  pub begun-on : IsBegun says i b.entries → IsBegun says i new.entries
+  pub begun-on : IsBegun how says i b.entries → IsBegun how says i new.entries
   begun-on begun =
       elim (decide from (length new.entries)) [
-        | inl same ↦ subst (IsBegun says i) (sym (ap (λ (s : Shown). s.entries) (went.end same).1)) begun
-        | inr other ↦ begun-next says i b.entries new.entries begun (went.line other)
+        | inl same ↦ subst (IsBegun how says i) (sym (ap (λ (s : Shown). s.entries) (went.end same).1)) begun
+        | inr other ↦ begun-next how says i b.entries new.entries begun (went.line other)
       ]
 
   -- where nothing came, no line is left
@@ -92,7 +93,7 @@ module _ (says : Says) (i : Input) (b new : Shown) (from : ℕ) (went : Advances
       let past : length new.entries ≤ from = grind (arith, nat_tests) in
       no-line-left (omega (arith, len, place, past))
 
-  module _ (names : Table) (start old now : SinkView) (w : IsWritten says i names b start old) (history : IsHistory i new.entries) where
+  module _ (names : Table) (start old now : SinkView) (w : IsWritten how says i names b start old) (history : IsHistory i new.entries) where
     -- the journal's text, as it has grown
     text-grown : journal_text names i new.entries ≡ journal_text names i b.entries ++ text_from names i new.entries from
     text-grown =
@@ -101,7 +102,7 @@ module _ (says : Says) (i : Input) (b new : Shown) (from : ℕ) (went : Advances
         (sym (ap (text_from names i new.entries) went.place ∙ text-since names i b.entries new.entries came.since came.grown))
 
     -- it is written
-    pub written-on : PutsWork (text_from names i new.entries from) old now (Ok tt) → IsWritten says i names new start now
+    pub written-on : PutsWork (text_from names i new.entries from) old now (Ok tt) → IsWritten how says i names new start now
     written-on put = record {
       idle = went.idle;
       begun = begun-on w.begun;
@@ -122,8 +123,9 @@ module _ (says : Says) (i : Input) (b new : Shown) (from : ℕ) (went : Advances
     }
 
 -- memory ran out between lines
-pub cut-between : (says : Says) (i : Input) (names : Table) (b : Shown) (start now : SinkView) → IsWritten says i names b start now → IsCut i names start.bytes now.bytes
-cut-between says i names b start now w = record {
+pub cut-between : (how : Turns) (says : Says) (i : Input) (names : Table) (b : Shown) (start now : SinkView) → IsWritten how says i names b start now
+    → IsCut i names start.bytes now.bytes
+cut-between how says i names b start now w = record {
   journal = b.entries;
   history = w.history;
   text = AppendsPrefix-all start.bytes now.bytes (journal_text names i b.entries) w.text;
@@ -132,10 +134,11 @@ cut-between says i names b start now w = record {
 -- ---- the beginning
 
 -- the header is written
-pub written-first : (says : Says) (i : Input) (names : Table) (b : Shown) (start now : SinkView) → IsIdle i b → b.entries ≡ [] → Puts header start now (Ok tt) → IsWritten says i names b start now
-written-first says i names b start now idle none put = record {
+pub written-first : (how : Turns) (says : Says) (i : Input) (names : Table) (b : Shown) (start now : SinkView) → IsIdle i b → b.entries ≡ []
+    → Puts header start now (Ok tt) → IsWritten how says i names b start now
+written-first how says i names b start now idle none put = record {
   idle = idle;
-  begun = subst (IsBegun says i) (sym none) (begun-start says i);
+  begun = subst (IsBegun how says i) (sym none) (begun-start how says i);
   history = subst (IsHistory i) (sym none) nothing;
   text = subst (λ es. Appends start.bytes now.bytes (journal_text names i es)) (sym none) put.whole;
   failures = put.counted.0;

@@ -1,5 +1,5 @@
 -- How a session goes on, line by line.
-use Rattle.std.specs.Prelude.{◌≡◌, ◌≢◌, ℕ, ◌+◌, ◌≤◌, Bool, true, false, None, Some, List, [], ◌++◌, Result, IfOk, OnOk, OnErr, drop, fold, length, slice_get, take}
+use Rattle.std.specs.Prelude.{◌≡◌, ◌≢◌, ℕ, ◌+◌, ◌≤◌, Bool, true, false, None, Some, List, [], ◌++◌, Result, IfOk, OnOk, OnErr, drop, fold, length, slice_get, take, All}
 use Rattle.std.specs.Option.{option_map_or}
 use Rattle.std.specs.Io.KnownBytes.{Appends}
 use Rattle.ps_world.specs.Names.{Table}
@@ -14,22 +14,34 @@ use Rattle.ps_machine.specs.declared.journal.Entry.{Entry}
 use Rattle.ps_text.specs.Outside.{AppendsPrefix, CountsWork, SinkView}
 use Rattle.ps_text.specs.declared.sinks.SinkRefusal.{SinkRefusal}
 use Rattle.ps_board.specs.declared.board.Shown.{Shown}
-use Rattle.ps_pool.specs.Ordered.{IsAtRest}
+use Rattle.ps_board.specs.Board.{IsAtRest}
 use Rattle.ps_session.specs.Answers.{AskAtEnd, is_ask}
-use Rattle.ps_session.specs.Session.{IsCut, IsJournal}
+use Rattle.ps_session.specs.Session.{hands_of, IsCut, IsJournal}
+use Rattle.ps_session.specs.declared.ways.Turns.{Turns}
+use Rattle.ps_session.specs.declared.ways.Turns.TheVariants.{InOrder}
 
 -- ---- one line
 
--- The next line was answered, and where it opened a run, that has ended: however many turns a run is allowed, if they are enough.
-pub record IsAnswered (says : Says) (i : Input) (old new : List Entry) : Type 0 where
-  pub line : Line
-  pub next : next_line i old ≡ Some line
+-- This line was answered, and where it opened a run, that has ended by turns in order: however many turns a run is allowed, if they are
+-- enough.
+pub record EndsInOrder (says : Says) (i : Input) (line : Line) (old new : List Entry) : Type 0 where
   pub turns : ℕ
   pub all : (n : ℕ) → turns ≤ n → new ≡ after_line says i n old line
+
+-- no hand is past that of the last worker
+abbrev pub HasHands : Turns → List Entry → Type 0
+HasHands how es = All (λ e. e.hand ≤ hands_of how) es
+
+-- The next line was answered, and where it opened a run, that has ended.
+pub record IsAnswered (how : Turns) (says : Says) (i : Input) (old new : List Entry) : Type 0 where
+  pub line : Line
+  pub next : next_line i old ≡ Some line
   pub counted : answered new ≡ answered old + 1
   pub since : List Entry
   pub grown : new ≡ old ++ since
   pub asks : AskAtEnd since
+  pub hands : HasHands how old → HasHands how new
+  pub ordered : how ≡ InOrder → EndsInOrder says i line old new
 
 -- A board on which no run is open and no grant is out.
 pub record IsIdle (i : Input) (b : Shown) : Type 0 where
@@ -38,24 +50,35 @@ pub record IsIdle (i : Input) (b : Shown) : Type 0 where
   pub closed : is_running b.entries ≡ false
 
 -- Going on by a line: the next one was answered, and the journal has grown from this place on, or none is left and nothing changed.
-pub record Advances (says : Says) (i : Input) (old new : Shown) (from : ℕ) : Type 0 where
+pub record Advances (how : Turns) (says : Says) (i : Input) (old new : Shown) (from : ℕ) : Type 0 where
   pub idle : IsIdle i new
   pub place : from ≡ length old.entries
-  pub line : from ≢ length new.entries → IsAnswered says i old.entries new.entries
+  pub line : from ≢ length new.entries → IsAnswered how says i old.entries new.entries
   pub end : from ≡ length new.entries → (next_line i old.entries ≡ None) × (new ≡ old)
 
 -- ---- many lines
 
--- These entries are those of the first lines of a session, as many as they answer, whose runs have ended.
-pub record IsBegun (says : Says) (i : Input) (es : List Entry) : Type 0 where
+-- The runs of the first lines of a session, as many as these entries answer, have ended by turns in order.
+pub record GoesInOrder (says : Says) (i : Input) (es : List Entry) : Type 0 where
   pub turns : ℕ
   pub all : (n : ℕ) → turns ≤ n → es ≡ fold (after_line says i n) [] (take (answered es) (due_lines i.lines))
+
+-- These entries are those of the first lines of a session, as many as they answer, whose runs have ended.
+pub record IsBegun (how : Turns) (says : Says) (i : Input) (es : List Entry) : Type 0 where
   pub few : answered es ≤ length (due_lines i.lines)
+  pub hands : HasHands how es
+  pub ordered : how ≡ InOrder → GoesInOrder says i es
 
 -- ---- text
 
 -- A sink takes a text, or, where a write was refused or memory ran out, a prefix of it.
 pub record PutsWork (text : List ℕ) (old new : SinkView) (r : Result (Unit {0}) SinkRefusal) : Type 0 where
+  pub whole : OnOk r (Appends old.bytes new.bytes text)
+  pub prefix : OnErr r (AppendsPrefix old.bytes new.bytes text)
+  pub counted : CountsWork old new r
+
+-- The same, and answering something then.
+pub record PutsMore (text : List ℕ) (old new : SinkView) (r : Result Bool SinkRefusal) : Type 0 where
   pub whole : OnOk r (Appends old.bytes new.bytes text)
   pub prefix : OnErr r (AppendsPrefix old.bytes new.bytes text)
   pub counted : CountsWork old new r
@@ -73,9 +96,9 @@ abbrev pub AsksLast : List Entry → ℕ → Type 0
 AsksLast es k = (e : Entry) → slice_get es k ≡ Some e → is_ask e.what ≡ true → length es ≡ k + 1
 
 -- A session was begun on this board, and a sink took the text of its journal; no write was refused.
-pub record IsWritten (says : Says) (i : Input) (names : Table) (b : Shown) (start now : SinkView) : Type 0 where
+pub record IsWritten (how : Turns) (says : Says) (i : Input) (names : Table) (b : Shown) (start now : SinkView) : Type 0 where
   pub idle : IsIdle i b
-  pub begun : IsBegun says i b.entries
+  pub begun : IsBegun how says i b.entries
   pub history : IsHistory i b.entries
   pub text : Appends start.bytes now.bytes (journal_text names i b.entries)
   pub failures : now.failed ≡ start.failed
@@ -83,20 +106,20 @@ pub record IsWritten (says : Says) (i : Input) (names : Table) (b : Shown) (star
 
 -- Going on by a line with a session that was written up to here: it is written up to there, and it is answered whether a line was
 -- left; or what was written since the start is cut off.
-pub record WritesOn (says : Says) (i : Input) (names : Table) (old new : Shown) (start now : SinkView) (r : Result Bool SinkRefusal) : Type 0 where
-  pub written : OnOk r (IsWritten says i names new start now)
+pub record WritesOn (how : Turns) (says : Says) (i : Input) (names : Table) (new : Shown) (start now : SinkView) (r : Result Bool SinkRefusal) : Type 0 where
+  pub written : OnOk r (IsWritten how says i names new start now)
   pub more : IfOk r (λ more. more ≡ false → next_line i new.entries ≡ None)
   pub cut : OnErr r (IsCut i names start.bytes now.bytes)
   pub counted : CountsWork start now r
 
 -- going on by a line with a session, wherever it was begun and written up to here
-abbrev pub WritesLine : Says → Input → Table → Shown → Shown → SinkView → SinkView → Result Bool SinkRefusal → Type 0
-WritesLine says i names old new before after r =
-    (start : SinkView) → IsWritten says i names old start before → WritesOn says i names old new start after r
+abbrev pub WritesLine : Turns → Says → Input → Table → Shown → Shown → SinkView → SinkView → Result Bool SinkRefusal → Type 0
+WritesLine how says i names old new before after r =
+    (start : SinkView) → IsWritten how says i names old start before → WritesOn how says i names new start after r
 
 -- Writing a session: the journal is whole, and so is its text; or its text is cut off.
-pub record WritesLines (i : Input) (names : Table) (b : Shown) (start now : SinkView) (r : Result (Unit {0}) SinkRefusal) : Type 0 where
-  pub journal : OnOk r (IsJournal i b.entries)
+pub record WritesLines (how : Turns) (i : Input) (names : Table) (b : Shown) (start now : SinkView) (r : Result (Unit {0}) SinkRefusal) : Type 0 where
+  pub journal : OnOk r (IsJournal how i b.entries)
   pub text : OnOk r (Appends start.bytes now.bytes (journal_text names i b.entries))
   pub cut : OnErr r (IsCut i names start.bytes now.bytes)
   pub counted : CountsWork start now r

@@ -16,8 +16,20 @@ use Rattle.ps_machine.specs.declared.journal.Event.TheVariants as event
 use Rattle.ps_machine.specs.declared.journal.Entry.{Entry}
 use Rattle.ps_text.specs.Outside.{AppendsPrefix, CountsWork, SinkView}
 use Rattle.ps_text.specs.declared.sinks.SinkRefusal.{SinkRefusal}
+use Rattle.ps_session.specs.declared.ways.Turns.{Turns}
+use Rattle.ps_session.specs.declared.ways.Turns.TheVariants.{InOrder, Workers}
 
 -- ---- the journal of a session
+
+-- there are 1 to 16 workers, where workers take the turns
+abbrev pub AreTurns : Turns → Type 0
+AreTurns InOrder = Unit {0}
+AreTurns (Workers count) = (1 ≤ count) × (count ≤ 16)
+
+-- how many hands a run has beside the terminal's
+abbrev pub hands_of : Turns → ℕ
+hands_of InOrder = 1
+hands_of (Workers count) = count
 
 -- The entries are those of the session whose members take turns in order, so many in each run, where the solver answers as it should.
 pub record IsOrdered (i : Input) (es : List Entry) : Type 0 where
@@ -35,28 +47,29 @@ TellSuccess i es =
     → Decides (is_reached i before (kind before)) (how ≡ outcome.Success)
 
 -- The entries are the journal of a session of this input: a legal history, in which each line of the terminal has its entry and no run is
--- left open. Each is by the terminal or by the one worker, the members' turns come in order, and success is told just where it is.
-pub record IsJournal (i : Input) (es : List Entry) : Type 0 where
+-- left open. Each is by the terminal or by one of the workers, and success is told just where it is. Where the members take turns in
+-- order, it is the one journal of that.
+pub record IsJournal (how : Turns) (i : Input) (es : List Entry) : Type 0 where
   pub history : IsHistory i es
   pub whole : IsWhole i es
-  pub hands : All (λ e. e.hand ≤ 1) es
+  pub hands : All (λ e. e.hand ≤ hands_of how) es
   pub success : TellSuccess i es
-  pub ordered : IsOrdered i es
+  pub ordered : how ≡ InOrder → IsOrdered i es
 
 -- ---- what is written
 
 -- The bytes are those of a session of this input, which ends with this status: their entries, read from the bytes line by line, are its
 -- journal, the bytes are just the text of that journal, and the status is a function of it.
-pub record IsSession (i : Input) (names : Table) (bytes : List ℕ) (status : ℕ) : Type 0 where
+pub record IsSession (how : Turns) (i : Input) (names : Table) (bytes : List ℕ) (status : ℕ) : Type 0 where
   pub journal : List Entry
   pub entries : AreEntriesIn names bytes journal
   pub text : journal_text names i journal ≡ bytes
-  pub is : IsJournal i journal
+  pub is : IsJournal how i journal
   pub answer : status ≡ status_of journal
 
 -- what a sink took is a whole session
-abbrev pub IsDone : Input → Table → Option (List ℕ) → Option (List ℕ) → ℕ → Type 0
-IsDone i names old new status = (bytes : List ℕ) × Appends old new bytes × IsSession i names bytes status
+abbrev pub IsDone : Turns → Input → Table → Option (List ℕ) → Option (List ℕ) → ℕ → Type 0
+IsDone how i names old new status = (bytes : List ℕ) × Appends old new bytes × IsSession how i names bytes status
 
 -- what a sink took is a prefix of the text of a history
 pub record IsCut (i : Input) (names : Table) (old new : Option (List ℕ)) : Type 0 where
@@ -66,7 +79,7 @@ pub record IsCut (i : Input) (names : Table) (old new : Option (List ℕ)) : Typ
 
 -- Doing a session: the sink took a whole one, which ends with the status that is answered, or, where a write was refused or memory
 -- ran out, a prefix of the text of a history.
-pub record Runs (i : Input) (names : Table) (old new : SinkView) (r : Result ℕ SinkRefusal) : Type 0 where
-  pub done : IfOk r (IsDone i names old.bytes new.bytes)
+pub record Runs (how : Turns) (i : Input) (names : Table) (old new : SinkView) (r : Result ℕ SinkRefusal) : Type 0 where
+  pub done : IfOk r (IsDone how i names old.bytes new.bytes)
   pub cut : OnErr r (IsCut i names old.bytes new.bytes)
   pub counted : CountsWork old new r

@@ -6,6 +6,8 @@ mod lines;
 mod replies;
 mod session;
 mod texts;
+mod ways;
 
 pub use laws::{histories_tell_success, one_journal};
 pub use session::{run, run_unwritten, status_of};
+pub use ways::Turns;

@@ -1,15 +1,23 @@
 //! One line of the terminal, with the run that it opens.
-ghost use Rattle.std.specs.Prelude.{◌≡◌, IfOk};
+ghost use Rattle.std.specs.Prelude.{◌≡◌, true, IfOk, OnOk};
+ghost use Rattle.ps_rules.specs.Runs.{is_running};
+ghost use Rattle.ps_board.specs.Board.{IsAtRest};
+ghost use Rattle.ps_pool.specs.Workers.{EndedBy};
 ghost use Rattle.ps_session.specs.Lines.{Advances, IsIdle};
+ghost use Rattle.ps_session.specs.Session.{AreTurns};
+ghost use Rattle.ps_session.specs.declared.ways.Turns.TheVariants.{InOrder, Workers};
 
+use super::ways::Turns;
 use ps_board::{Board, Step};
+use ps_domain::Expert;
 use ps_plan::Solver;
-use ps_pool::{Gate, go_on};
-use std::alloc::AllocError;
+use ps_pool::{Gate, RunStop, go_on, run_workers};
+use std::alloc::{AllocError, Global};
 use std::sync::Wait;
+use std::thread::Threads;
 
-/// Answers the next line, if one is left, and goes on with the run that it opens until that is over. Answers the place of the first entry
-/// that came: the end of the journal where no line was left. It promises no return. On an error the run may be open.
+/// Answers the next line, if one is left, and goes on by turns in order with the run that it opens until that is over. Answers the place of
+/// the first entry that came: the end of the journal where no line was left. It promises no return. On an error the run may be open.
 pub fn advance<R: Wait, S: Solver, G: Gate>(
     rt: &R,
     board: &mut Board,
@@ -17,8 +25,8 @@ pub fn advance<R: Wait, S: Solver, G: Gate>(
     gate: &G,
 ) -> Result<usize, AllocError>
     requires idle { IsIdle board.old.input board.old }
-    requires replans { board.old.input.replans ≡ 0 }
-    ensures { IfOk result (Advances (S.says solver.now) board.old.input board.old board.new) }
+    ensures { IfOk result
+        (Advances InOrder (S.says solver.now) board.old.input board.old board.new) }
 {
     let from = board.entries().len();
     match board.command(solver)? {
@@ -26,4 +34,99 @@ pub fn advance<R: Wait, S: Solver, G: Gate>(
         Step::Opened => go_on(rt, board, solver, gate)?,
     }
     Ok(from)
+}
+
+/// Answers the next line, as `advance` does, on a board that is handed on.
+fn advance_in_order<R: Wait, S: Solver, G: Gate>(
+    rt: &R,
+    mut board: Board,
+    solver: &S,
+    gate: &G,
+) -> (Board, Result<usize, AllocError>)
+    requires idle { IsIdle board.input board }
+    ensures { IfOk result.1 (Advances InOrder (S.says solver.now) board.input board result.0) }
+{
+    let from = advance(rt, &mut board, solver, gate);
+    (board, from)
+}
+
+/// Has workers go on with the open run until it is over. Answers the place that is given. On an error the run may be open.
+fn work_on<R: Threads + Wait + Sync, S: Solver + Sync, G: Gate + Sync>(
+    rt: &R,
+    alloc: Global,
+    board: Board,
+    expert: &Expert,
+    solver: &S,
+    gate: &G,
+    workers: u8,
+    from: usize,
+) -> (Board, Result<usize, AllocError>)
+    requires opened { is_running board.entries ≡ true }
+    requires rest { IsAtRest board }
+    requires expert { expert.now ≡ board.input.domain }
+    requires workers { AreTurns (Workers workers) }
+    ensures place { IfOk result.1 (λ place. place ≡ from) }
+    ensures ended { OnOk result.1
+        (EndedBy workers board.input board.entries result.0.entries) }
+    ensures rest { OnOk result.1 (IsAtRest result.0) }
+    ensures input { result.0.input ≡ board.input }
+{
+    match run_workers(rt, alloc, board, expert, solver, gate, workers) {
+        Ok(board) => (board, Ok(from)),
+        Err(RunStop { board }) => (board, Err(AllocError)),
+    }
+}
+
+/// Answers the next line, if one is left, and has workers go on with the run that it opens until that is over. Answers the place of the
+/// first entry that came: the end of the journal where no line was left. It promises no return. On an error the run may be open.
+fn advance_by_workers<R: Threads + Wait + Sync, S: Solver + Sync, G: Gate + Sync>(
+    rt: &R,
+    alloc: Global,
+    mut board: Board,
+    expert: &Expert,
+    solver: &S,
+    gate: &G,
+    workers: u8,
+) -> (Board, Result<usize, AllocError>)
+    requires idle { IsIdle board.input board }
+    requires expert { expert.now ≡ board.input.domain }
+    requires workers { AreTurns (Workers workers) }
+    ensures { IfOk result.1
+        (Advances (Workers workers) (S.says solver.now) board.input board result.0) }
+{
+    let from = board.entries().len();
+    let step = board.command(solver);
+    match step {
+        Ok(step) => match step {
+            Step::End => (board, Ok(from)),
+            Step::Said => (board, Ok(from)),
+            Step::Opened => work_on(rt, alloc, board, expert, solver, gate, workers, from),
+        },
+        Err(AllocError) => (board, Err(AllocError)),
+    }
+}
+
+/// Answers the next line, if one is left, and goes on with the run that it opens until that is over; the run's members take turns like this.
+/// Answers the place of the first entry that came: the end of the journal where no line was left. It promises no return. On an error the
+/// run may be open.
+pub fn advance_by<R: Threads + Wait + Sync, S: Solver + Sync, G: Gate + Sync>(
+    rt: &R,
+    alloc: Global,
+    board: Board,
+    expert: &Expert,
+    solver: &S,
+    gate: &G,
+    turns: Turns,
+) -> (Board, Result<usize, AllocError>)
+    requires idle { IsIdle board.input board }
+    requires expert { expert.now ≡ board.input.domain }
+    requires turns { AreTurns turns }
+    ensures { IfOk result.1 (Advances turns (S.says solver.now) board.input board result.0) }
+{
+    match turns {
+        Turns::InOrder => advance_in_order(rt, board, solver, gate),
+        Turns::Workers(workers) => {
+            advance_by_workers(rt, alloc, board, expert, solver, gate, workers)
+        }
+    }
 }

@@ -1,22 +1,28 @@
 //! Whole sessions.
-ghost use Rattle.std.specs.Prelude.{◌≡◌, OnOk};
+ghost use Rattle.std.specs.Prelude.{◌≡◌, ◌≤◌, drop, length, nat_lt, IfOk, OnOk};
 ghost use Rattle.ps_text.specs.Names.{AreNames};
-ghost use Rattle.ps_rules.specs.History.{is_mishap, status_of};
+ghost use Rattle.ps_rules.specs.History.{is_mishap, IsHistory, status_of};
 ghost use Rattle.ps_rules.specs.Sound.{IsSound};
 ghost use Rattle.ps_board.specs.Board.{nothing_done};
 ghost use Rattle.ps_replies.specs.Plans.{GivesLeast};
-ghost use Rattle.ps_session.specs.Lines.{IsIdle, WritesLine, WritesLines};
-ghost use Rattle.ps_session.specs.Session.{IsJournal, Runs};
+ghost use Rattle.ps_session.specs.Answers.{AskAtEnd};
+ghost use Rattle.ps_session.specs.Lines.{IsIdle, PutsMore, text_from, WritesLine, WritesLines};
+ghost use Rattle.ps_session.specs.Session.{AreTurns, IsJournal, Runs};
+ghost use Rattle.ps_session.specs.declared.ways.Turns.TheVariants.{InOrder};
 
-use super::lines::advance;
+use super::lines::{advance, advance_by};
 use super::texts::write_entries;
+use super::ways::Turns;
 use ps_board::Board;
+use ps_domain::Expert;
 use ps_machine::{By, Entry, Event, Input, Outcome};
 use ps_plan::Solver;
 use ps_pool::Gate;
 use ps_text::{Names, Sink, SinkRefusal, put};
+use ps_world::Duplicate;
 use std::alloc::{AllocError, Global};
 use std::sync::Wait;
+use std::thread::Threads;
 
 /// Whether an event refuses a line of the terminal, or ends a run without success.
 fn is_mishap(event: &Event) -> bool
@@ -43,98 +49,121 @@ pub fn status_of(entries: &[Entry]) -> u8
     u8::from(mishap)
 }
 
-/// Answers the next line, if one is left, with the run that it opens, and writes their entries by one `put`. Answers whether one was left.
-fn write_line<R: Wait, S: Solver, G: Gate, O: Sink>(
-    rt: &R,
+/// Writes the entries from a place on by one `put`. Answers whether there were some.
+fn write_more<S: Solver, O: Sink>(
     alloc: Global,
     names: &Names,
-    board: &mut Board,
+    board: &Board,
     solver: &S,
-    gate: &G,
+    from: usize,
     out: &mut O,
 ) -> Result<bool, SinkRefusal>
     requires solver { GivesLeast (S.says solver.now) }
-    requires idle { IsIdle board.old.input board.old }
-    requires replans { board.old.input.replans ≡ 0 }
-    ensures { WritesLine (S.says solver.now) board.old.input names.now board.old board.new
+    requires there { from ≤ length board.now.entries }
+    requires asks { AskAtEnd (drop from board.now.entries) }
+    ensures text { PutsMore (text_from names.now board.now.input board.now.entries from)
         (O.shown out.old) (O.shown out.new) result }
+    ensures more { IfOk result (λ more. more ≡ nat_lt from (length board.now.entries)) }
+    ensures history { IsHistory board.now.input board.now.entries }
 {
-    let from = advance(rt, board, solver, gate)?;
     write_entries(alloc, names, board, solver, from, out)?;
     Ok(from < board.entries().len())
 }
 
-/// Answers all lines, with the runs that they open, and writes the entries of each by one `put`.
-fn write_lines<R: Wait, S: Solver, G: Gate, O: Sink>(
+/// Answers the next line, if one is left, with the run that it opens, and writes their entries by one `put`. Answers whether one was left.
+fn write_line<R: Threads + Wait + Sync, S: Solver + Sync, G: Gate + Sync, O: Sink>(
     rt: &R,
     alloc: Global,
     names: &Names,
-    board: &mut Board,
+    board: Board,
+    expert: &Expert,
     solver: &S,
     gate: &G,
+    turns: Turns,
     out: &mut O,
-) -> Result<(), SinkRefusal>
+) -> (Board, Result<bool, SinkRefusal>)
     requires solver { GivesLeast (S.says solver.now) }
-    requires fresh { board.old ≡ nothing_done board.old.input }
-    requires replans { board.old.input.replans ≡ 0 }
-    ensures { WritesLines board.old.input names.now board.new (O.shown out.old) (O.shown out.new)
-        result }
+    requires idle { IsIdle board.input board }
+    requires expert { expert.now ≡ board.input.domain }
+    requires turns { AreTurns turns }
+    ensures { WritesLine turns (S.says solver.now) board.input names.now board result.0
+        (O.shown out.old) (O.shown out.new) result.1 }
 {
-    put(out, b"plansys-journal 1\n")?;
+    let (board, from) = advance_by(rt, alloc, board, expert, solver, gate, turns);
+    match from {
+        Ok(from) => {
+            let more = write_more(alloc, names, &board, solver, from, out);
+            (board, more)
+        }
+        Err(AllocError) => (board, Err(SinkRefusal::OutOfMemory)),
+    }
+}
+
+/// Answers all lines, with the runs that they open, and writes the entries of each by one `put`.
+fn write_lines<R: Threads + Wait + Sync, S: Solver + Sync, G: Gate + Sync, O: Sink>(
+    rt: &R,
+    alloc: Global,
+    names: &Names,
+    mut board: Board,
+    expert: &Expert,
+    solver: &S,
+    gate: &G,
+    turns: Turns,
+    out: &mut O,
+) -> (Board, Result<(), SinkRefusal>)
+    requires solver { GivesLeast (S.says solver.now) }
+    requires fresh { board ≡ nothing_done board.input }
+    requires expert { expert.now ≡ board.input.domain }
+    requires turns { AreTurns turns }
+    ensures { WritesLines turns board.input names.now result.0 (O.shown out.old) (O.shown out.new)
+        result.1 }
+{
+    match put(out, b"plansys-journal 1\n") {
+        Ok(()) => {}
+        Err(why) => return (board, Err(why)),
+    }
     for _ in rt.forever() {
-        if !write_line(rt, alloc, names, board, solver, gate, out)? {
-            return Ok(());
+        let (next, more) = write_line(rt, alloc, names, board, expert, solver, gate, turns, out);
+        board = next;
+        match more {
+            Ok(true) => {}
+            Ok(false) => return (board, Ok(())),
+            Err(why) => return (board, Err(why)),
         }
     }
     unreachable!()
 }
 
-/// Does the session of the input of a board on which nothing was done, and writes its journal. The status is 1 where a line was refused or
-/// a run failed, else 0.
-fn write_session<R: Wait, S: Solver, G: Gate, O: Sink>(
-    rt: &R,
-    alloc: Global,
-    names: &Names,
-    board: &mut Board,
-    solver: &S,
-    gate: &G,
-    out: &mut O,
-) -> Result<u8, SinkRefusal>
-    requires solver { GivesLeast (S.says solver.now) }
-    requires names { AreNames names.now }
-    requires sound { IsSound board.old.input }
-    requires fresh { board.old ≡ nothing_done board.old.input }
-    requires replans { board.old.input.replans ≡ 0 }
-    ensures { Runs board.old.input names.now (O.shown out.old) (O.shown out.new) result }
-{
-    write_lines(rt, alloc, names, board, solver, gate, out)?;
-    Ok(status_of(board.entries()))
-}
-
-/// Does the session of an input: each line up to the first `quit`, with the runs that they open, whose members take turns in order. It
+/// Does the session of an input: each line up to the first `quit`, with the runs that they open, whose members take turns like this. It
 /// writes the journal: the header, and for each line its entries, with those of its run, by one `put`. The gate is called once for each
 /// unit of work. The status is 1 where a line was refused or a run failed, else 0. It promises no return.
-pub fn run<R: Wait, S: Solver, G: Gate, O: Sink>(
+pub fn run<R: Threads + Wait + Sync, S: Solver + Sync, G: Gate + Sync, O: Sink>(
     rt: &R,
     alloc: Global,
     names: &Names,
     input: Input,
     solver: &S,
     gate: &G,
+    turns: Turns,
     out: &mut O,
 ) -> Result<u8, SinkRefusal>
     requires solver { GivesLeast (S.says solver.now) }
     requires names { AreNames names.now }
     requires sound { IsSound input }
-    requires replans { input.replans ≡ 0 }
-    ensures { Runs input names.now (O.shown out.old) (O.shown out.new) result }
+    requires turns { AreTurns turns }
+    ensures { Runs turns input names.now (O.shown out.old) (O.shown out.new) result }
 {
-    let mut board = Board::open(alloc, input)?;
-    write_session(rt, alloc, names, &mut board, solver, gate, out)
+    let expert = Expert::new(alloc, input.domain.copy(alloc)?)?;
+    let board = Board::open(alloc, input)?;
+    let (board, written) = write_lines(rt, alloc, names, board, &expert, solver, gate, turns, out);
+    match written {
+        Ok(()) => Ok(status_of(board.entries())),
+        Err(why) => Err(why),
+    }
 }
 
-/// Does the session of the input of a board on which nothing was done, as `run` does it, but writes nothing: the board has its journal. It
-/// promises no return. The only error is that memory ran out, and then the session may be done in part.
+/// Does the session of the input of a board on which nothing was done, as `run` does it by turns in order, but writes nothing: the board has
+/// its journal. It promises no return. The only error is that memory ran out, and then the session may be done in part.
 pub fn run_unwritten<R: Wait, S: Solver, G: Gate>(
     rt: &R,
     board: &mut Board,
@@ -143,8 +172,7 @@ pub fn run_unwritten<R: Wait, S: Solver, G: Gate>(
 ) -> Result<(), AllocError>
     requires solver { GivesLeast (S.says solver.now) }
     requires fresh { board.old ≡ nothing_done board.old.input }
-    requires replans { board.old.input.replans ≡ 0 }
-    ensures { OnOk result (IsJournal board.old.input board.new.entries) }
+    ensures { OnOk result (IsJournal InOrder board.old.input board.new.entries) }
 {
     for _ in rt.forever() {
         let from = advance(rt, board, solver, gate)?;

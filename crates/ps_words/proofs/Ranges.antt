@@ -4,7 +4,7 @@ use Rattle.std.specs.Option.{IfSome}
 use Rattle.std.proofs.lemmas.Bool.Decides.{nat_tests}
 use Rattle.clap.proofs.WalkLemmas.{both}
 use Rattle.clap.specs.Walk.{Row, Text, first_of}
-use Rattle.ps_words.specs.Words.{IsInRange, asked_in, budget_in, carts_in, check_app, check_of, gen_app, generation_of, journal_replans_in, number_of, number_or, replans_in, replay_app, replay_of, replay_with, rows_read, session_app, session_of, session_with, text_in, validate_app, validation_of, within, workers_in}
+use Rattle.ps_words.specs.Words.{IsInRange, asked_in, budget_in, carts_in, check_app, check_of, gen_app, generation_of, number_of, number_or, replans_in, replay_app, replay_of, replay_with, rows_read, session_app, session_of, session_with, text_in, validate_app, validation_of, within, workers_in}
 use Rattle.ps_words.specs.Words.Request.{a_generation}
 use Rattle.ps_words.specs.declared.commands.Mode.{Mode}
 use Rattle.ps_words.specs.declared.commands.Mode.TheVariants.{Session, Check, Validate, Replay, Gen}
@@ -35,16 +35,18 @@ option-range usual low high n (Some text) above below is = read-range low high n
 
 -- the numbers of a session, where each of them is in its range
 numbers-range : (rows : List Row) (w b r : Option ℕ) → ((n : ℕ) → w ≡ Some n → (1 ≤ n) × (n ≤ 16)) → ((n : ℕ) → b ≡ Some n → (1 ≤ n) × (n ≤ 200000))
-    → IfSome (option_and_then (λ workers. option_and_then (λ budget. option_map (λ replans. session_with rows workers budget) r) b) w) IsInRange
-numbers-range rows None b r few far = tt
-numbers-range rows (Some w) None r few far = tt
-numbers-range rows (Some w) (Some b) None few far = tt
-numbers-range rows (Some w) (Some b) (Some r) few far = let x = few w refl in let y = far b refl in (x.0, x.1, y.0, y.1)
+    → ((n : ℕ) → r ≡ Some n → (0 ≤ n) × (n ≤ 8))
+    → IfSome (option_and_then (λ workers. option_and_then (λ budget. option_map (λ replans. session_with rows workers budget replans) r) b) w) IsInRange
+numbers-range rows None b r few far anew = tt
+numbers-range rows (Some w) None r few far anew = tt
+numbers-range rows (Some w) (Some b) None few far anew = tt
+numbers-range rows (Some w) (Some b) (Some r) few far anew = let x = few w refl in let y = far b refl in (x.0, x.1, y.0, y.1, (anew r refl).1)
 
 session-range : (o : Option (List Row)) → IfSome (option_and_then session_of o) IsInRange
 session-range None = tt
 session-range (Some rows) = numbers-range rows (workers_in rows) (budget_in rows) (replans_in rows)
     (λ n is. option-range 2 1 16 n (first_of (codes "workers") rows) (omega arith) (omega arith) is) (λ n is. option-range 20000 1 200000 n (first_of (codes "budget") rows) (omega arith) (omega arith) is)
+    (λ n is. option-range 3 0 8 n (first_of (codes "replans") rows) (omega arith) (omega arith) is)
 
 -- the numbers of a replay, where each of them is in its range
 replay-numbers : (rows : List Row) (b r : Option ℕ) → ((n : ℕ) → b ≡ Some n → (1 ≤ n) × (n ≤ 200000)) → ((n : ℕ) → r ≡ Some n → (0 ≤ n) × (n ≤ 8))
@@ -55,7 +57,7 @@ replay-numbers rows (Some b) (Some r) far few = let x = far b refl in (x.0, x.1,
 
 replay-range : (o : Option (List Row)) → IfSome (option_and_then replay_of o) IsInRange
 replay-range None = tt
-replay-range (Some rows) = replay-numbers rows (budget_in rows) (journal_replans_in rows)
+replay-range (Some rows) = replay-numbers rows (budget_in rows) (replans_in rows)
     (λ n is. option-range 20000 1 200000 n (first_of (codes "budget") rows) (omega arith) (omega arith) is) (λ n is. option-range 3 0 8 n (first_of (codes "replans") rows) (omega arith) (omega arith) is)
 
 check-range : (o : Option (List Row)) → IfSome (option_map check_of o) IsInRange

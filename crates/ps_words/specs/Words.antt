@@ -23,13 +23,15 @@ word_texts words = map string_bytes words
 
 -- ---- what is asked for
 
--- what a session is to do: its files, those of its members last, how many workers there are, how many states a search may reach, and whether turns are ordered
+-- what a session is to do: its files, those of its members last, how many workers there are, how many states a search may reach, how often a
+-- run's plan may be made anew, and whether turns are ordered
 pub record SessionRequest : Type 0 where
   pub domain : Text
   pub script : Text
   pub members : List Text
   pub workers : ℕ
   pub budget : ℕ
+  pub replans : ℕ
   pub ordered : Bool
 
 -- what a replay is to judge, and by what: its files, those of its members last, how many states a search may reach, and how often a run's
@@ -68,7 +70,7 @@ most_carts = 100
 
 -- the numbers that are asked for are in their ranges
 abbrev pub IsInRange : Request → Type 0
-IsInRange (a_session s) = (1 ≤ s.workers) × (s.workers ≤ most_workers) × (1 ≤ s.budget) × (s.budget ≤ most_budget)
+IsInRange (a_session s) = (1 ≤ s.workers) × (s.workers ≤ most_workers) × (1 ≤ s.budget) × (s.budget ≤ most_budget) × (s.replans ≤ most_replans)
 IsInRange (a_check domain) = Unit {0}
 IsInRange (a_validation domain script plan) = Unit {0}
 IsInRange (a_replay r) = (1 ≤ r.budget) × (r.budget ≤ most_budget) × (r.replans ≤ most_replans)
@@ -82,6 +84,7 @@ settings_said s = record {
   members = map (λ t. t.now) s.members.items;
   workers = s.workers;
   budget = s.budget;
+  replans = s.replans;
   ordered = s.ordered;
 }
 
@@ -301,30 +304,27 @@ workers_in rows = number_or 2 1 most_workers (first_of (codes "workers") rows)
 abbrev pub budget_in : List Row → Option ℕ
 budget_in rows = number_or 20000 1 most_budget (first_of (codes "budget") rows)
 
--- how often a session may make a plan anew: there is no replanning yet, so the only number is 0
+-- how often a plan may be made anew in a run
 abbrev pub replans_in : List Row → Option ℕ
-replans_in rows = number_or 0 0 0 (first_of (codes "replans") rows)
-
--- how often a plan may be made anew in a run of a journal
-abbrev pub journal_replans_in : List Row → Option ℕ
-journal_replans_in rows = number_or 3 0 most_replans (first_of (codes "replans") rows)
+replans_in rows = number_or 3 0 most_replans (first_of (codes "replans") rows)
 
 -- ---- what the words ask for
 
 -- a session with these numbers
-abbrev pub session_with : List Row → ℕ → ℕ → Request
-session_with rows workers budget = a_session (record {
+abbrev pub session_with : List Row → ℕ → ℕ → ℕ → Request
+session_with rows workers budget replans = a_session (record {
   domain = text_in (codes "domain") rows;
   script = text_in (codes "script") rows;
   members = words_in (codes "members") rows;
   workers = workers;
   budget = budget;
+  replans = replans;
   ordered = is_set_in (codes "ordered") rows;
 })
 
 -- the session that is asked for, where each number has its form and its range
 abbrev pub session_of : List Row → Option Request
-session_of rows = option_and_then (λ workers. option_and_then (λ budget. option_map (λ replans. session_with rows workers budget)
+session_of rows = option_and_then (λ workers. option_and_then (λ budget. option_map (λ replans. session_with rows workers budget replans)
     (replans_in rows)) (budget_in rows)) (workers_in rows)
 
 -- the check that is asked for
@@ -349,7 +349,7 @@ replay_with rows budget replans = a_replay (record {
 -- the replay that is asked for, where each number has its form and its range
 abbrev pub replay_of : List Row → Option Request
 replay_of rows = option_and_then (λ budget. option_map (λ replans. replay_with rows budget replans)
-    (journal_replans_in rows)) (budget_in rows)
+    (replans_in rows)) (budget_in rows)
 
 -- how many carts a generated session has, if the word is a number in its range
 abbrev pub carts_in : List Row → Option ℕ

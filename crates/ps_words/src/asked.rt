@@ -23,7 +23,9 @@ pub struct Settings<'a> {
     pub workers: u32,
     /// How many states a search for a plan may reach before it gives up: 1 to 200,000, usually 20,000.
     pub budget: u32,
-    /// Whether the workers' turns come in a fixed order; usually not.
+    /// How often a plan may be made anew in a run: 0 to 8, usually 3.
+    pub replans: u32,
+    /// Whether one worker does all, with the members' turns in a fixed order; usually not.
     pub ordered: bool,
 }
 
@@ -80,13 +82,14 @@ fn session_with<'a>(matches: &ArgMatches<'a>, members: Vec<&'a str>) -> Option<A
 {
     let workers = number_or(value_of(matches, "workers"), 2, 1, 16)?;
     let budget = number_or(value_of(matches, "budget"), 20_000, 1, 200_000)?;
-    number_or(value_of(matches, "replans"), 0, 0, 0)?;
+    let replans = number_or(value_of(matches, "replans"), 3, 0, 8)?;
     Some(Asked::Session(Settings {
         domain: text_of(matches, "domain"),
         script: text_of(matches, "script"),
         members,
         workers,
         budget,
+        replans,
         ordered: is_set(matches, "ordered"),
     }))
 }

@@ -4,26 +4,27 @@ use ps_words::{Asked, ReplaySettings, Settings, read_words};
 use std::alloc::{AllocError, Global};
 use std::test::Fail;
 
-/// Command lines of sessions, and the domain, the script, the workers, the budget, whether turns are ordered, and the members.
+/// Command lines of sessions, and the domain, the script, the workers, the budget, how often a run may be planned anew, whether turns
+/// are ordered, and the members.
 const SESSIONS: &str = "\
-session --domain d --script s -> session d s 2 20000 false
-session --script=s --domain=d -> session d s 2 20000 false
-session --ordered --budget 7 --script s --workers=3 --replans 0 --domain d -> session d s 3 7 true
-session --domain d --ordered --script s -> session d s 2 20000 true
-session --domain=a=b --script c=d -> session a=b c=d 2 20000 false
-session --domain d=--x --script s- -> session d=--x s- 2 20000 false
-session --domain session --script check -> session session check 2 20000 false
+session --domain d --script s -> session d s 2 20000 3 false
+session --script=s --domain=d -> session d s 2 20000 3 false
+session --ordered --budget 7 --script s --workers=3 --replans 0 --domain d -> session d s 3 7 0 true
+session --domain d --ordered --script s -> session d s 2 20000 3 true
+session --domain=a=b --script c=d -> session a=b c=d 2 20000 3 false
+session --domain d=--x --script s- -> session d=--x s- 2 20000 3 false
+session --domain session --script check -> session session check 2 20000 3 false
 session --domain d --script s --workers 0 -> none
-session --domain d --script s --workers 1 -> session d s 1 20000 false
-session --domain d --script s --workers=16 -> session d s 16 20000 false
+session --domain d --script s --workers 1 -> session d s 1 20000 3 false
+session --domain d --script s --workers=16 -> session d s 16 20000 3 false
 session --domain d --script s --workers 17 -> none
 session --domain d --script s --workers two -> none
 session --domain d --script s --budget 0 -> none
-session --domain d --script s --budget 1 -> session d s 2 1 false
-session --domain d --script s --budget 200000 -> session d s 2 200000 false
+session --domain d --script s --budget 1 -> session d s 2 1 3 false
+session --domain d --script s --budget 200000 -> session d s 2 200000 3 false
 session --domain d --script s --budget 200001 -> none
-session --domain d --script s --budget 007 -> session d s 2 7 false
-session --domain d --script s --budget 000000007 -> session d s 2 7 false
+session --domain d --script s --budget 007 -> session d s 2 7 3 false
+session --domain d --script s --budget 000000007 -> session d s 2 7 3 false
 session --domain d --script s --budget 0000000007 -> none
 session --domain d --script s --budget 9999999999 -> none
 session --domain d --script s --budget +5 -> none
@@ -31,13 +32,14 @@ session --domain d --script s --budget 5x -> none
 session --domain d --script s --budget  -> none
 session --domain d --script s --budget= -> none
 session --domain d --script s --budget -> none
-session --domain d --script s --replans 0 -> session d s 2 20000 false
-session --domain d --script s --replans=000 -> session d s 2 20000 false
-session --domain d --script s --replans 1 -> none
+session --domain d --script s --replans 0 -> session d s 2 20000 0 false
+session --domain d --script s --replans=000 -> session d s 2 20000 0 false
+session --domain d --script s --replans 8 -> session d s 2 20000 8 false
+session --domain d --script s --replans 9 -> none
 session --domain d --script s --ordered=x -> none
 session --domain d --script s --ordered=true -> none
 session --domain d --script s --ordered --ordered -> none
-session --domain d --script s --ordered true -> session d s 2 20000 true true
+session --domain d --script s --ordered true -> session d s 2 20000 3 true true
 session --domain d --script s --domain d -> none
 session --domain d --script s --domain=d -> none
 session --domain=d --script s --domain=e -> none
@@ -55,9 +57,9 @@ session --domain d --script s --version -> none
 session --domain d --script s -h -> none
 session x --domain d --script s -> none
 session --domain d x --script s -> none
-session --domain d --script s x -> session d s 2 20000 false x
-session --domain d --script s --ordered x -> session d s 2 20000 true x
-session --domain d --script=s m=1 m m -> session d s 2 20000 false m=1 m m
+session --domain d --script s x -> session d s 2 20000 3 false x
+session --domain d --script s --ordered x -> session d s 2 20000 3 true x
+session --domain d --script=s m=1 m m -> session d s 2 20000 3 false m=1 m m
 session --ordered --domain d --script s --budget 7 session --script -> none
 session --domain d --script s x --ordered -> none
 session --domain d --script s x --ordered y -> none
@@ -198,9 +200,12 @@ fn told_of_session(alloc: Global, settings: Settings<'_>) -> Result<String, Allo
         members,
         workers,
         budget,
+        replans,
         ordered,
     } = settings;
-    let mut told = format!(in alloc; "session {domain} {script} {workers} {budget} {ordered}")?;
+    let mut told = format!(in alloc;
+        "session {domain} {script} {workers} {budget} {replans} {ordered}"
+    )?;
     for member in &members {
         write!(told, " {member}")?;
     }

@@ -19,22 +19,23 @@ returns-in_err-read g c =
 pub invariant_of-result : goal.invariant_of-result
 invariant_of-result g c =
     let s = settings_said c.args.settings.now in
-    let judges : Judges c.in_ok-read.read s.budget 0 (Ok c.in-Ok.field-0) = subst (Judges c.in_ok-read.read s.budget 0) c.in-Ok.is c.judge.ensures in
+    let judges : Judges c.in_ok-read.read s.budget s.replans (Ok c.in-Ok.field-0) = subst (Judges c.in_ok-read.read s.budget s.replans) c.in-Ok.is c.judge.ensures in
     let judged = judges (read_file (g.F.Files.shown c.args.files.now).told s.domain) c.in_ok-read.ensures.given.1 c.in_ok-read.ensures.given.4 in
     record {
-      sound = input_sound s.budget 0 c.in_ok-read.ensures.given.1 c.in-Ok.field-0.input c.in-Ok.field-0.names judged.0 judged.1 c.requires.2 c.requires.3 (omega arith);
-      once = judged.0.renewed;
+      sound = input_sound s.budget s.replans c.in_ok-read.ensures.given.1 c.in-Ok.field-0.input c.in-Ok.field-0.names judged.0 judged.1 c.requires.2 c.requires.3 c.requires.4;
+      some = c.requires.0;
+      few = c.requires.1;
     }
 
 pub returns-in-Ok : goal.returns-in-Ok
 returns-in-Ok g c =
     let s = settings_said c.args.settings.now in
     let h = subst (λ (ms : List (Bor (List ℕ))). ReadsInput s.domain s.script (map (λ m. m.now) ms) (g.F.Files.shown c.args.files.now) (g.F.Files.shown c.read_input.new.files) (Ok c.in_ok-read.read)) c.as_slice-members.ensures.value c.in_ok-read.ensures in
-    session_good s (g.F.Files.shown c.args.files.now) (g.F.Files.shown c.read_input.new.files) c.in_ok-read.read h c.in-Ok.field-0 _ refl refl (subst (Judges c.in_ok-read.read c.args.settings.now.budget 0) c.in-Ok.is c.judge.ensures)
+    session_good s (g.F.Files.shown c.args.files.now) (g.F.Files.shown c.read_input.new.files) c.in_ok-read.read h c.in-Ok.field-0 _ refl refl refl refl (subst (Judges c.in_ok-read.read s.budget s.replans) c.in-Ok.is c.judge.ensures)
 
 pub returns-in-Err-Refused : goal.returns-in-Err-Refused
 returns-in-Err-Refused g c =
     let s = settings_said c.args.settings.now in
     let l : c.judge.result ≡ Err (Refused c.in-Err-Refused.fault) = cc in
     let h = subst (λ (ms : List (Bor (List ℕ))). ReadsInput s.domain s.script (map (λ m. m.now) ms) (g.F.Files.shown c.args.files.now) (g.F.Files.shown c.read_input.new.files) (Ok c.in_ok-read.read)) c.as_slice-members.ensures.value c.in_ok-read.ensures in
-    session_bad s (g.F.Files.shown c.args.files.now) (g.F.Files.shown c.read_input.new.files) c.in_ok-read.read h c.in-Err-Refused.fault (subst (Judges c.in_ok-read.read c.args.settings.now.budget 0) l c.judge.ensures)
+    session_bad s (g.F.Files.shown c.args.files.now) (g.F.Files.shown c.read_input.new.files) c.in_ok-read.read h c.in-Err-Refused.fault (subst (Judges c.in_ok-read.read s.budget s.replans) l c.judge.ensures)

@@ -10,29 +10,29 @@ loop-init g c = record {
   rest = c.requires.rest;
   input = refl;
   ran = running-ran c.args.board.now.entries c.requires.opened;
-  leads = λ says es t. t;
+  leads = λ es t. t;
 }
 
 pub returns-in-Ok-true-clause-ends : goal.returns-in-Ok-true-clause-ends
 returns-in-Ok-true-clause-ends g c =
     ends (g.S.Solver.says c.args.solver.now) c.args.board.now.input c.args.board.now.entries c.take_round.new.board.entries
     (reaches (g.S.Solver.says c.args.solver.now) c.args.board.now.input c.args.board.now.entries c.take_round.new.board.entries
-    (rounds-lead c.args.board.now.input c.loop.board.input c.args.board.now.entries c.loop.board.entries c.take_round.new.board.entries c.loop.invariant.input c.loop.invariant.leads c.in-Ok-true.ensures.ok))
+    (rounds-lead (g.S.Solver.says c.args.solver.now) c.args.board.now.input c.loop.board.input c.args.board.now.entries c.loop.board.entries c.take_round.new.board.entries c.loop.invariant.input c.loop.invariant.leads c.in-Ok-true.ensures.ok))
     (c.in-Ok-true.ensures.over c.in-Ok-true.field-0-test)
 
 pub returns-in-Ok-true-clause-in_run : goal.returns-in-Ok-true-clause-in_run
 returns-in-Ok-true-clause-in_run g c =
     reached-in-run (g.S.Solver.says c.args.solver.now) c.args.board.now.input c.args.board.now.entries c.take_round.new.board.entries
     (reaches (g.S.Solver.says c.args.solver.now) c.args.board.now.input c.args.board.now.entries c.take_round.new.board.entries
-    (rounds-lead c.args.board.now.input c.loop.board.input c.args.board.now.entries c.loop.board.entries c.take_round.new.board.entries c.loop.invariant.input c.loop.invariant.leads c.in-Ok-true.ensures.ok))
+    (rounds-lead (g.S.Solver.says c.args.solver.now) c.args.board.now.input c.loop.board.input c.args.board.now.entries c.loop.board.entries c.take_round.new.board.entries c.loop.invariant.input c.loop.invariant.leads c.in-Ok-true.ensures.ok))
 
 pub returns-in-Err-clause-stops : goal.returns-in-Err-clause-stops
 returns-in-Err-clause-stops g c =
     stops (g.S.Solver.says c.args.solver.now) c.args.board.now.input c.args.board.now.entries c.take_round.new.board.entries
-    (rounds-stop c.args.board.now.input c.loop.board.input c.args.board.now.entries c.loop.board.entries c.take_round.new.board.entries c.loop.invariant.input c.loop.invariant.leads c.in-Err.ensures.err)
+    (rounds-stop (g.S.Solver.says c.args.solver.now) c.args.board.now.input c.loop.board.input c.args.board.now.entries c.loop.board.entries c.take_round.new.board.entries c.loop.invariant.input c.loop.invariant.leads c.in-Err.ensures.err)
 
 pub returns-in-Err-clause-in_run : goal.returns-in-Err-clause-in_run
 returns-in-Err-clause-in_run g c =
     reached-in-run (g.S.Solver.says c.args.solver.now) c.args.board.now.input c.args.board.now.entries c.take_round.new.board.entries
     (stops (g.S.Solver.says c.args.solver.now) c.args.board.now.input c.args.board.now.entries c.take_round.new.board.entries
-    (rounds-stop c.args.board.now.input c.loop.board.input c.args.board.now.entries c.loop.board.entries c.take_round.new.board.entries c.loop.invariant.input c.loop.invariant.leads c.in-Err.ensures.err))
+    (rounds-stop (g.S.Solver.says c.args.solver.now) c.args.board.now.input c.loop.board.input c.args.board.now.entries c.loop.board.entries c.take_round.new.board.entries c.loop.invariant.input c.loop.invariant.leads c.in-Err.ensures.err))

@@ -1,6 +1,6 @@
 use Rattle.std.proofs.Common.{◌≡◌, true}
 use Rattle.ps_rules.specs.Runs.{has_run}
-use Rattle.ps_pool.specs.Ordered.{IsAtRest}
+use Rattle.ps_board.specs.Board.{IsAtRest}
 use Rattle.ps_pool.specs.Rounds.{LeadsTo}
 use Rattle.ps_pool.proofs.ordered.go_on.Given as goal
 
@@ -11,5 +11,5 @@ invariant-loop g l = record {
   rest : IsAtRest l.board;
   input : l.board.input ≡ l.fn.board.input;
   ran : has_run l.board.entries ≡ true;
-  leads : LeadsTo l.fn.board.input 0 l.fn.board.entries 0 l.board.entries;
+  leads : LeadsTo (g.S.Solver.says l.fn.solver) l.fn.board.input 0 l.fn.board.entries 0 l.board.entries;
 }

@@ -1,5 +1,7 @@
 use Rattle.std.proofs.Common.{inl, inr, ap, length}
 use Rattle.ps_session.proofs.Advancing.{advances-end, advances-run, advances-said, Commanded, now-running}
+use Rattle.ps_session.specs.declared.ways.Turns.TheVariants.{InOrder}
+use Rattle.ps_session.proofs.Steps.{ended-in-order}
 use Rattle.ps_session.proofs.lines.advance.Goals as goal
 
 pub go_on-requires-clause-opened : goal.go_on-requires-clause-opened
@@ -8,7 +10,7 @@ go_on-requires-clause-opened g c =
     let says = g.S.Solver.says c.args.solver.now in
     let did : Commanded says c.args.board.now c.command.new.self c.in_ok-command.field-0 =
     record { answer = did.answer; end = did.end; entries = did.entries; input = did.input; grants = did.grants; halted = did.halted } in
-    now-running says c.args.board.now c.command.new.self c.in_ok-command.field-0 did c.requires.idle c.in-Opened.is
+    now-running InOrder says c.args.board.now c.command.new.self c.in_ok-command.field-0 did c.requires.idle c.in-Opened.is
 
 pub returns-in-End : goal.returns-in-End
 returns-in-End g c =
@@ -18,9 +20,9 @@ returns-in-End g c =
     record { answer = did.answer; end = did.end; entries = did.entries; input = did.input; grants = did.grants; halted = did.halted } in
     let place = ap length c.entries-from.ensures.entries in
     elim c.in-End.is [
-      | inl end ↦ advances-end says c.args.board.now c.command.new.self c.in_ok-command.field-0 did c.requires.idle (length c.entries-from.result.now) place end
+      | inl end ↦ advances-end InOrder says c.args.board.now c.command.new.self c.in_ok-command.field-0 did c.requires.idle (length c.entries-from.result.now) place end
       | inr said ↦
-          advances-said says c.args.board.now c.command.new.self c.in_ok-command.field-0 did c.requires.idle (length c.entries-from.result.now) place c.entries-from.ensures.history said
+          advances-said InOrder says c.args.board.now c.command.new.self c.in_ok-command.field-0 did c.requires.idle (length c.entries-from.result.now) place c.entries-from.ensures.history said
     ]
 
 pub returns-in_ok-go_on-in-Opened : goal.returns-in_ok-go_on-in-Opened
@@ -31,5 +33,6 @@ returns-in_ok-go_on-in-Opened g c =
     record { answer = did.answer; end = did.end; entries = did.entries; input = did.input; grants = did.grants; halted = did.halted } in
     let place = ap length c.entries-from.ensures.entries in
     let ran = c.in_ok-go_on-in-Opened.ensures in
-    advances-run says c.args.board.now c.command.new.self c.in_ok-command.field-0 did c.requires.idle (length c.entries-from.result.now) c.go_on.new.board
-    place c.entries-from.ensures.history c.in-Opened.is ran.ends ran.in_run ran.rest ran.input
+    advances-run InOrder says c.args.board.now c.command.new.self c.in_ok-command.field-0 did c.requires.idle (length c.entries-from.result.now) c.go_on.new.board
+    place c.entries-from.ensures.history c.in-Opened.is
+    (ended-in-order says c.command.new.self.input c.command.new.self.entries c.go_on.new.board.entries ran.ends ran.in_run) ran.rest ran.input

@@ -1,29 +1,37 @@
-use Rattle.std.proofs.Common.{◌≡◌, false, Ok, rules}
-use Rattle.std.proofs.lemmas.Result.{err_from_is_err_and}
-use Rattle.ps_session.proofs.Whole.{header-cut, line-of, lines-begun, lines-done}
+use Rattle.std.proofs.Common.{Ok, Err, false, subst}
+use Rattle.ps_session.specs.Lines.{WritesOn}
+use Rattle.ps_session.proofs.Whole.{line-cut, line-of, lines-begun, lines-done}
 use Rattle.ps_session.proofs.session.write_lines.Goals as goal
-
-pub returns-in_err-put : goal.returns-in_err-put
-returns-in_err-put g c =
-    let p = err_from_is_err_and c.from_residual.result c.from_residual.ensures.1 in
-    rw (p.1, p.2) (header-cut c.args.board.now.input c.args.names.now c.args.board.now (g.O.Sink.shown c.args.out.now) (g.O.Sink.shown c.put.new.sink) c.in_err-put.field-0.0 c.in_err-put.ensures)
 
 pub loop-init : goal.loop-init
 loop-init g c = record {
   next = tt;
   finite = tt;
-  written = lines-begun (g.S.Solver.says c.args.solver.now) c.args.board.now.input c.args.names.now c.args.board.now (g.O.Sink.shown c.args.out.now) (g.O.Sink.shown c.put.new.sink) c.requires.fresh c.in_ok-put.ensures;
+  written = lines-begun c.args.turns (g.S.Solver.says c.args.solver.now) c.args.board.input c.args.names.now c.args.board (g.O.Sink.shown c.args.out.now) (g.O.Sink.shown c.put.new.sink) c.requires.fresh c.in-Ok.ensures;
 }
 
-pub returns-then-not-branch : goal.returns-then-not-branch
-returns-then-not-branch g c =
-    let i = c.args.board.now.input in
+pub returns-in-Ok-false : goal.returns-in-Ok-false
+returns-in-Ok-false g c =
+    let i = c.args.board.input in
     let names = c.args.names.now in
     let says = g.S.Solver.says c.args.solver.now in
     let start = g.O.Sink.shown c.args.out.now in
-    let before = g.O.Sink.shown c.loop.out in
-    let now = g.O.Sink.shown c.write_line.new.out in
-    let more = c.in_ok-write_line.field-0 in
-    let done : more ≡ false = search rules in
-    lines-done i names c.write_line.new.board start now says c.loop.board more c.requires.solver done
-    (line-of says i names c.loop.board c.write_line.new.board start before now (Ok more) c.loop.invariant.written c.in_ok-write_line.ensures)
+    let now = g.O.Sink.shown c.write_line-next.new.out in
+    let new = c.write_line-next.result.0 in
+    let on : WritesOn c.args.turns says i names new start now c.write_line-next.result.1 =
+    line-of c.args.turns says i names c.loop.board new start (g.O.Sink.shown c.loop.out) now c.write_line-next.result.1 c.loop.invariant.written c.write_line-next.ensures in
+    lines-done c.args.turns i names new start now says c.in-Ok-false.field-0 c.requires.solver c.in-Ok-false.field-0-test
+    (subst (WritesOn c.args.turns says i names new start now) c.in-Ok-false.is on)
+
+pub returns-in-Err-more : goal.returns-in-Err-more
+returns-in-Err-more g c =
+    let i = c.args.board.input in
+    let names = c.args.names.now in
+    let says = g.S.Solver.says c.args.solver.now in
+    let start = g.O.Sink.shown c.args.out.now in
+    let now = g.O.Sink.shown c.write_line-next.new.out in
+    let new = c.write_line-next.result.0 in
+    let on : WritesOn c.args.turns says i names new start now c.write_line-next.result.1 =
+    line-of c.args.turns says i names c.loop.board new start (g.O.Sink.shown c.loop.out) now c.write_line-next.result.1 c.loop.invariant.written c.write_line-next.ensures in
+    line-cut c.args.turns i names new start now says c.in-Err-more.why
+    (subst (WritesOn c.args.turns says i names new start now) c.in-Err-more.is on)

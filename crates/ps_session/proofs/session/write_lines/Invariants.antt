@@ -5,5 +5,5 @@ abbrev pub invariant-loop : goal.invariant-loop
 invariant-loop g l = record {
   next : (goal.iterator-loop g).can_next l.iterator';
   finite : (goal.iterator-loop g).is_finite l.iterator';
-  written : IsWritten (g.S.Solver.says l.solver) l.fn.board.input l.names l.board (g.O.Sink.shown l.fn.out) (g.O.Sink.shown l.out);
+  written : IsWritten l.turns (g.S.Solver.says l.solver) l.fn.board.input l.names l.board (g.O.Sink.shown l.fn.out) (g.O.Sink.shown l.out);
 }

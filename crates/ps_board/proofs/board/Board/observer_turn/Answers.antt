@@ -7,7 +7,7 @@ use Rattle.ps_board.specs.declared.whole.Core.{Core}
 use Rattle.ps_board.specs.declared.works.Turn.TheVariants.{Did, Nothing}
 use Rattle.ps_board.specs.Board.{answer_of, observing, with_done}
 use Rattle.ps_board.specs.Core.{observed_by}
-use Rattle.ps_board.proofs.Keeping.{kept-result, observers-legal, observers-spare, on-ok}
+use Rattle.ps_board.proofs.Keeping.{kept-result, not-halted, observers-legal, observers-spare, on-ok}
 use Rattle.ps_board.proofs.Stuck.{observes}
 use Rattle.ps_board.proofs.board.Board.observer_turn.Goals as goal
 
@@ -17,9 +17,10 @@ invariant_of-self-then-not-self c =
     let grants = c.self.inside.grants.items in
     let name = c.observer_name-name.result in
     let live : is_running core.entries.items ≡ true = sym (c.is_running-running.ensures core.entries.items c.self.invariant.core.kept.told.run) ∙ c.if-running.true in
-    kept-result core c.observe-result.new.self c.show.new.self c.args.hand grants c.self.inside.heard.items (observed_by core name) c.observe-result.result c.self.invariant
+    kept-result core c.observe-result.new.self c.show.new.self c.args.hand grants c.self.inside.heard.items c.self.inside.halted (observed_by core name) c.observe-result.result c.self.invariant
     c.show.ensures.stands c.show.ensures.shown c.show.ensures.input c.show.ensures.entries c.observe-result.ensures.input c.observe-result.ensures.ok c.observe-result.ensures.err
     (on-ok c.observe-result.result (observers-legal core.input name core.entries.items live)) (observers-spare core.input grants name core.entries.items)
+    (not-halted c.self.inside.halted (observed_by core name) c.if-not-self.true)
 
 told-is : (o : Option Event) → (if is_some o then Did else Nothing) ≡ answer_of o
 told-is None = refl

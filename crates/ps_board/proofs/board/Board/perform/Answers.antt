@@ -1,4 +1,4 @@
-use Rattle.std.proofs.Common.{◌≡◌, None, Some, true, slice_get, slice_index_or, slice_set, ap, sym, subst, ◌∙◌}
+use Rattle.std.proofs.Common.{◌≡◌, None, Some, false, true, slice_get, slice_index_or, slice_set, ap, sym, subst, ◌∙◌}
 use Rattle.ps_choices.specs.Heard.{HasHeard}
 use Rattle.ps_choices.specs.Turns.{is_choice_of}
 use Rattle.ps_rules.specs.Choices.{performed}
@@ -7,8 +7,8 @@ use Rattle.ps_board.specs.declared.whole.Core.{Core}
 use Rattle.ps_board.specs.Grants.{granted, performer_names}
 use Rattle.ps_board.specs.Kept.{IsKept}
 use Rattle.ps_board.proofs.Granting.{Spares}
-use Rattle.ps_board.proofs.Handing.{free-none, kept-handed, out-is}
-use Rattle.ps_board.proofs.Keeping.{first-legal, kept-heard, kept-result, on-ok, performers-spare, place-below, some-weaker}
+use Rattle.ps_board.proofs.Handing.{free-goes, free-none, kept-handed, out-is}
+use Rattle.ps_board.proofs.Keeping.{first-legal, kept-heard, kept-result, not-halted, on-ok, performers-spare, place-below, some-weaker}
 use Rattle.ps_board.proofs.board.Board.perform.Goals as goal
 
 pub perform-result-requires-clause-heard : goal.perform-result-requires-clause-heard
@@ -25,21 +25,23 @@ invariant_of-self c =
     let core : Core = c.self.inside.core in
     let grants = c.self.inside.grants.items in
     let heard = slice_set c.self.inside.heard.items c.args.p c.heard_upto-upto.result in
+    let halted = c.self.inside.halted in
+    let goes : halted ≡ false = ap (λ v. v.halted) c.self.view_is ∙ free-goes c.args.self.now c.args.p c.requires.free in
     let name = c.performer_name-name.result in
     let at : slice_get (performer_names core.input) c.args.p ≡ Some name = ap (λ v. slice_get (performer_names v.input) c.args.p) c.self.view_is ∙ c.performer_name-name.ensures in
     let hears : HasHeard name c.heard_upto-upto.result core.entries.items =
     c.heard_upto-upto.ensures.heard core.input core.entries.items c.self.invariant.core.kept
     (subst (λ u. HasHeard name u core.entries.items) (sym (c.number_at.ensures ∙ ap (λ xs. slice_index_or xs c.args.p 0) c.deref.ensures.value))
     (c.self.invariant.heard.each c.args.p name at)) in
-    let told : IsKept core grants heard = kept-heard core grants c.self.inside.heard.items c.self.invariant c.args.p c.heard_upto-upto.result name at hears in
+    let told : IsKept core grants heard halted = kept-heard core grants c.self.inside.heard.items halted c.self.invariant c.args.p c.heard_upto-upto.result name at hears in
     let free : granted grants c.args.p ≡ None = ap (λ v. granted v.grants c.args.p) c.self.view_is ∙ free-none c.args.self.now c.args.p c.requires.free in
     let what = performed core.input name core.entries.items in
-    let kept : IsKept c.show.new.self grants heard =
-    kept-result core c.perform-result.new.self c.show.new.self c.args.hand grants heard what c.perform-result.result told c.show.ensures.stands c.show.ensures.shown c.show.ensures.input
+    let kept : IsKept c.show.new.self grants heard halted =
+    kept-result core c.perform-result.new.self c.show.new.self c.args.hand grants heard halted what c.perform-result.result told c.show.ensures.stands c.show.ensures.shown c.show.ensures.input
     c.show.ensures.entries c.perform-result.ensures.input c.perform-result.ensures.ok c.perform-result.ensures.err
     (on-ok c.perform-result.result (first-legal core.input core.entries.items _))
     (some-weaker (λ e. is_choice_of name e ≡ true) (Spares core.input grants) what (λ e its. performers-spare core.input c.self.invariant.core.sound grants c.args.p name at free e its)
-    c.perform-result.ensures.its) in
+    c.perform-result.ensures.its) (not-halted halted what goes) in
     kept
 
 pub invariant_of-self-2 : goal.invariant_of-self-2
@@ -47,23 +49,25 @@ invariant_of-self-2 c =
     let core : Core = c.self.inside.core in
     let grants = c.self.inside.grants.items in
     let heard = slice_set c.self.inside.heard.items c.args.p c.heard_upto-upto.result in
+    let halted = c.self.inside.halted in
+    let goes : halted ≡ false = ap (λ v. v.halted) c.self.view_is ∙ free-goes c.args.self.now c.args.p c.requires.free in
     let name = c.performer_name-name.result in
     let at : slice_get (performer_names core.input) c.args.p ≡ Some name = ap (λ v. slice_get (performer_names v.input) c.args.p) c.self.view_is ∙ c.performer_name-name.ensures in
     let hears : HasHeard name c.heard_upto-upto.result core.entries.items =
     c.heard_upto-upto.ensures.heard core.input core.entries.items c.self.invariant.core.kept
     (subst (λ u. HasHeard name u core.entries.items) (sym (c.number_at.ensures ∙ ap (λ xs. slice_index_or xs c.args.p 0) c.deref.ensures.value))
     (c.self.invariant.heard.each c.args.p name at)) in
-    let told : IsKept core grants heard = kept-heard core grants c.self.inside.heard.items c.self.invariant c.args.p c.heard_upto-upto.result name at hears in
+    let told : IsKept core grants heard halted = kept-heard core grants c.self.inside.heard.items halted c.self.invariant c.args.p c.heard_upto-upto.result name at hears in
     let free : granted grants c.args.p ≡ None = ap (λ v. granted v.grants c.args.p) c.self.view_is ∙ free-none c.args.self.now c.args.p c.requires.free in
     let what = performed core.input name core.entries.items in
-    let kept : IsKept c.show.new.self grants heard =
-    kept-result core c.perform-result.new.self c.show.new.self c.args.hand grants heard what c.perform-result.result told c.show.ensures.stands c.show.ensures.shown c.show.ensures.input
+    let kept : IsKept c.show.new.self grants heard halted =
+    kept-result core c.perform-result.new.self c.show.new.self c.args.hand grants heard halted what c.perform-result.result told c.show.ensures.stands c.show.ensures.shown c.show.ensures.input
     c.show.ensures.entries c.perform-result.ensures.input c.perform-result.ensures.ok c.perform-result.ensures.err
     (on-ok c.perform-result.result (first-legal core.input core.entries.items _))
     (some-weaker (λ e. is_choice_of name e ≡ true) (Spares core.input grants) what (λ e its. performers-spare core.input c.self.invariant.core.sound grants c.args.p name at free e its)
-    c.perform-result.ensures.its) in
-    subst (λ gs. IsKept c.show.new.self gs heard) (sym c.note_grant.ensures)
-    (kept-handed core c.show.new.self c.args.hand grants heard c.args.p name c.in_ok-turn.turn kept (c.show.ensures.input ∙ c.perform-result.ensures.input)
+    c.perform-result.ensures.its) (not-halted halted what goes) in
+    subst (λ gs. IsKept c.show.new.self gs heard halted) (sym c.note_grant.ensures)
+    (kept-handed core c.show.new.self c.args.hand grants heard halted c.args.p name c.in_ok-turn.turn kept (c.show.ensures.input ∙ c.perform-result.ensures.input)
     (c.show.ensures.entries ∙ c.in_ok-turn.ensures.ok) at c.in_ok-turn.ensures.answer)
 
 pub returns-clause-out : goal.returns-clause-out

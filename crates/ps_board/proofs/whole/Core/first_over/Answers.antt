@@ -1,16 +1,8 @@
-use Rattle.std.proofs.Common.{sym, ◌∙◌}
 use Rattle.ps_board.specs.declared.whole.Core.{Core}
-use Rattle.ps_board.proofs.Ticking.{over-none, over-some}
+use Rattle.ps_board.proofs.Skipping.{not-over}
 use Rattle.ps_board.proofs.whole.Core.first_over.Goals as goal
 
-pub returns-in-Some-clause-first : goal.returns-in-Some-clause-first
-returns-in-Some-clause-first c =
+pub returns-then-any_active-clause-first : goal.returns-then-any_active-clause-first
+returns-then-any_active-clause-first c =
     let core : Core = c.args.self.now in
-    c.event_if.ensures.event
-    ∙ over-some core c.in-Some.how c.is_settled.result c.requires.live (sym (c.verdict.ensures core.entries.items c.requires.stands.kept) ∙ c.in-Some.is)
-    (c.is_settled.ensures core.entries.items c.requires.stands.kept)
-
-pub returns-in-None-clause-first : goal.returns-in-None-clause-first
-returns-in-None-clause-first c =
-    let core : Core = c.args.self.now in
-    over-none core (sym (c.verdict.ensures core.entries.items c.requires.stands.kept) ∙ c.in-None.is)
+    not-over core (c.any_active.ensures c.if-any_active.true)

@@ -1,7 +1,7 @@
-use Rattle.std.proofs.Common.{Bool, ap, sym, ◌∙◌}
-use Rattle.ps_rules.specs.Choices.{wants_plan}
+use Rattle.std.proofs.Common.{Option, ap, sym, ◌∙◌}
 use Rattle.ps_rules.specs.Legal.{is_legal}
-use Rattle.ps_board.specs.Ticks.{ticked_answer}
+use Rattle.ps_board.specs.Ticks.{done_answer, snapshot_of, ticked_answer}
+use Rattle.ps_board.specs.declared.ticks.Snapshot.{Snapshot}
 use Rattle.ps_board.specs.declared.whole.Core.{Core}
 use Rattle.ps_choices.proofs.First.{passes}
 use Rattle.ps_board.proofs.Ticking.{plan-less, tick-hand}
@@ -24,5 +24,5 @@ put-requires-clause-by c =
 pub returns-in_ok-put-in-Some-clause-answer : goal.returns-in_ok-put-in-Some-clause-answer
 returns-in_ok-put-in-Some-clause-answer c =
     let core : Core = c.args.self.now in
-    let wants : Bool = wants_plan core.input core.entries.items in
-    c.answer_to-answer.ensures wants ∙ ap (ticked_answer wants) (sym c.in-Some.is ∙ c.next_tick.ensures.first)
+    let asked : Option Snapshot = snapshot_of core.input core.entries.items in
+    c.done_answer.ensures ∙ ap done_answer c.outcome_of-how.ensures ∙ ap (ticked_answer asked) (sym c.in-Some.is ∙ c.next_tick.ensures.first)

@@ -1,0 +1,49 @@
+use Rattle.std.proofs.Common.{length, refl, arith}
+use Rattle.ps_ledger.proofs.LegalEvents.{legal_events_speak_of_ledgers}
+use Rattle.ps_board.proofs.Forced.{block-long, broken-fit}
+use Rattle.ps_board.proofs.Quiet.{members-kept}
+use Rattle.ps_board.proofs.Due.{block-made, due-broken, due-stopped, due-watching, stands-after, told-made}
+use Rattle.ps_monitor.specs.Watched.{marked}
+use Rattle.ps_board.proofs.whole.Core.append_forcing.Goals as goal
+
+pub take-requires-clause-speaks : goal.take-requires-clause-speaks
+take-requires-clause-speaks c =
+    legal_events_speak_of_ledgers c.args.self.now.input c.args.self.now.entries.items c.args.what c.args.self.now.present.ledger c.requires.sound c.requires.history c.requires.short
+    c.requires.kept.members c.requires.kept.told c.requires.legal
+
+pub cancel_all-any-requires-clause-room : goal.cancel_all-any-requires-clause-room
+cancel_all-any-requires-clause-room c =
+    let told = c.take.ensures.told c.args.self.now.entries.items (record { hand = c.args.hand; what = c.args.what }) refl c.requires.kept.told in
+    let broke = due-broken c.args.self.now c.args.hand c.args.what c.take.new.self c.broken-broken.result c.requires told c.broken-broken.ensures.list in
+    let fit = broken-fit c.args.self.now.input c.args.self.now.entries.items c.args.hand c.args.what _ broke in
+    omega (arith, fit, c.push.ensures.len, c.push.ensures.capacity, c.requires.space)
+
+pub cancel_all-requires-clause-room : goal.cancel_all-requires-clause-room
+cancel_all-requires-clause-room c =
+    let told = c.take.ensures.told c.args.self.now.entries.items (record { hand = c.args.hand; what = c.args.what }) refl c.requires.kept.told in
+    let broke = due-broken c.args.self.now c.args.hand c.args.what c.take.new.self c.broken-broken.result c.requires told c.broken-broken.ensures.list in
+    let stopped = due-stopped c.args.self.now c.args.hand c.args.what c.take.new.self _ c.broken-broken.result c.others-others.result c.only_if-stopped.result c.is_fail-fails.result c.cancel_all-any.result c.requires told
+    c.broken-broken.ensures.each c.others-others.ensures c.only_if-stopped.ensures c.is_fail-fails.ensures c.cancel_all-any.ensures.any c.cancel_all-any.ensures.acts in
+    let long = block-long c.args.self.now.input c.args.self.now.entries.items c.args.hand c.args.what _ _ broke stopped in
+    omega (arith, long, c.push.ensures.len, c.push.ensures.capacity, c.cancel_all-any.ensures.len, c.cancel_all-any.ensures.capacity, c.requires.space)
+
+pub returns-clause-entries : goal.returns-clause-entries
+returns-clause-entries c =
+    let told = c.take.ensures.told c.args.self.now.entries.items (record { hand = c.args.hand; what = c.args.what }) refl c.requires.kept.told in
+    let broke = due-broken c.args.self.now c.args.hand c.args.what c.take.new.self c.broken-broken.result c.requires told c.broken-broken.ensures.list in
+    let stopped = due-stopped c.args.self.now c.args.hand c.args.what c.take.new.self _ c.broken-broken.result c.others-others.result c.only_if-stopped.result c.is_fail-fails.result c.cancel_all-any.result c.requires told
+    c.broken-broken.ensures.each c.others-others.ensures c.only_if-stopped.ensures c.is_fail-fails.ensures c.cancel_all-any.ensures.any c.cancel_all-any.ensures.acts in
+    block-made c.args.self.now c.args.hand c.args.what (marked c.broken-broken.result (length c.take.new.self.acts.states.items)) (marked c.only_if-stopped.result (length c.cancel_all-any.new.ledger.acts.states.items))
+    c.push.new.entries.items c.cancel_all-any.new.entries.items c.cancel_all.new.entries.items
+    c.push.ensures.items c.cancel_all-any.ensures.entries c.cancel_all.ensures.entries broke stopped
+
+pub returns-clause-stands : goal.returns-clause-stands
+returns-clause-stands c =
+    let told = c.take.ensures.told c.args.self.now.entries.items (record { hand = c.args.hand; what = c.args.what }) refl c.requires.kept.told in
+    stands-after c.args.self.now _ c.args.hand c.args.what c.requires refl refl (returns-clause-entries c)
+    (told-made c.args.self.now c.args.hand c.args.what (marked c.broken-broken.result (length c.take.new.self.acts.states.items)) (marked c.only_if-stopped.result (length c.cancel_all-any.new.ledger.acts.states.items))
+    c.push.new.entries.items c.cancel_all-any.new.entries.items c.cancel_all.new.entries.items c.take.new.self c.cancel_all-any.new.ledger c.cancel_all.new.ledger
+    c.push.ensures.items c.cancel_all-any.ensures.entries c.cancel_all.ensures.entries told c.cancel_all-any.ensures.told c.cancel_all.ensures.told)
+    (c.cancel_all.ensures.watching c.args.self.now.present.grounds.items (c.cancel_all-any.ensures.watching c.args.self.now.present.grounds.items (due-watching c.args.self.now c.args.hand c.args.what c.take.new.self c.requires told)))
+    (c.cancel_all.ensures.members c.args.self.now.input (c.cancel_all-any.ensures.members c.args.self.now.input
+    (members-kept c.args.self.now.input c.args.self.now.present.ledger c.take.new.self c.take.ensures.members c.requires.kept.members)))

@@ -1,0 +1,37 @@
+use Rattle.std.proofs.Common.{◌≡◌, ◌+◌, List, ◌∷◌, [], length, refl, ap, arith, sym, subst, length-append, ◌∙◌}
+use Rattle.ps_machine.specs.declared.journal.Entry.{Entry}
+use Rattle.ps_rules.specs.Choices.{with_block}
+use Rattle.ps_ledger.specs.Ledger.{TellsAll}
+use Rattle.ps_ledger.proofs.LegalEvents.{legal_events_speak_of_ledgers}
+use Rattle.ps_board.proofs.Quiet.{members-kept, quiet-block}
+use Rattle.ps_board.proofs.Due.{due-watching, stands-after}
+use Rattle.ps_board.proofs.whole.Core.append_quiet.Goals as goal
+
+pub take-requires-clause-speaks : goal.take-requires-clause-speaks
+take-requires-clause-speaks c =
+    legal_events_speak_of_ledgers c.args.self.now.input c.args.self.now.entries.items c.args.what c.args.self.now.present.ledger c.requires.due.sound c.requires.due.history
+    c.requires.due.short c.requires.due.kept.members c.requires.due.kept.told c.requires.due.legal
+
+pub take-requires-clause-room : goal.take-requires-clause-room
+take-requires-clause-room c = c.requires.due.room
+
+pub push-requires : goal.push-requires
+push-requires c =
+    let x : Entry = record { hand = c.args.hand; what = c.args.what } in
+    let es : List Entry = c.args.self.now.entries.items in
+    let long : length (with_block c.args.self.now.input c.args.hand es c.args.what) ≡ length es + 1 =
+    ap length (quiet-block c.args.self.now.input es c.args.hand c.args.what c.requires.due.history c.requires.quiet) ∙ length-append es (x ∷ []) in
+    let space = c.requires.due.space in
+    omega (arith, long, space)
+
+pub returns-clause-entries : goal.returns-clause-entries
+returns-clause-entries c =
+    c.push.ensures.items ∙ sym (quiet-block c.args.self.now.input c.args.self.now.entries.items c.args.hand c.args.what c.requires.due.history c.requires.quiet)
+
+pub returns-clause-stands : goal.returns-clause-stands
+returns-clause-stands c =
+    let told = c.take.ensures.told c.args.self.now.entries.items (record { hand = c.args.hand; what = c.args.what }) refl c.requires.due.kept.told in
+    stands-after c.args.self.now _ c.args.hand c.args.what c.requires.due refl refl (returns-clause-entries c)
+    (subst (λ es. TellsAll es c.take.new.self) (sym c.push.ensures.items) told)
+    (due-watching c.args.self.now c.args.hand c.args.what c.take.new.self c.requires.due told)
+    (members-kept c.args.self.now.input c.args.self.now.present.ledger c.take.new.self c.take.ensures.members c.requires.due.kept.members)

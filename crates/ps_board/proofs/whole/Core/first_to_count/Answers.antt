@@ -1,0 +1,34 @@
+use Rattle.std.proofs.Common.{◌≤◌, length, arith, sym, ◌∙◌}
+use Rattle.std.proofs.lemmas.Bool.{true≢false}
+use Rattle.ps_asked.proofs.Counted.{none_to_end, one_more}
+use Rattle.ps_asked.proofs.Walking.{only_edits_count}
+use Rattle.ps_board.specs.declared.whole.Core.{Core}
+use Rattle.ps_board.proofs.whole.Core.first_to_count.Goals as goal
+
+pub counts-requires-clause-may : goal.counts-requires-clause-may
+counts-requires-clause-may c = λ e at.
+    let core : Core = c.args.self.now in
+    only_edits_count core.input core.entries.items c.args.at c.loop-k.k e c.requires.stands.history c.requires.asked c.loop-k.invariant.after at c.loop-k.invariant.none
+
+pub loop-k-preserved : goal.loop-k-preserved
+loop-k-preserved c =
+    let core : Core = c.args.self.now in
+    let after = c.loop-k.invariant.after in
+    record {
+      after = omega (arith, after);
+      known = c.in_ok-counts.ensures.known;
+      none = one_more core.input core.entries.items c.args.at c.loop-k.k c.loop-k.invariant.none (λ x. true≢false (sym (c.in_ok-counts.ensures.counts.1 x) ∙ c.if-branch.false));
+    }
+
+pub returns-then-branch : goal.returns-then-branch
+returns-then-branch c = record {
+  after = c.loop-k.invariant.after;
+  counts = c.in_ok-counts.ensures.counts.0 c.if-branch.true;
+  none = c.loop-k.invariant.none;
+}
+
+pub returns : goal.returns
+returns c =
+    let core : Core = c.args.self.now in
+    let past : length core.entries.items ≤ c.loop-k.k = omega (arith, c.loop-k-test.false, c.len-k-end.ensures) in
+    none_to_end core.input core.entries.items c.args.at (λ j after lt. c.loop-k.invariant.none j after (omega (arith, lt, past)))

@@ -1,0 +1,32 @@
+use Rattle.std.proofs.Common.{◌≡◌, ◌&&◌, is_none, OnOk, subst, sym}
+use Rattle.ps_rules.specs.Runs.{is_running}
+use Rattle.ps_rules.specs.Settled.{is_settled, verdict}
+use Rattle.ps_rules.proofs.Kept.{both}
+use Rattle.ps_board.specs.declared.whole.Core.{Core}
+use Rattle.ps_board.specs.Core.{with_turn}
+use Rattle.ps_board.proofs.Submitting.{follows-legal, follows-may, taken-legal}
+use Rattle.ps_board.proofs.Ticking.{tick-hand}
+use Rattle.ps_board.proofs.whole.Core.follow.Goals as goal
+
+pub put-requires-clause-legal : goal.put-requires-clause-legal
+put-requires-clause-legal c =
+    let core : Core = c.args.self.now in
+    follows-legal core.input core.entries.items c.args.answer c.event_of-event.result c.requires.asked c.requires.fits c.event_of-event.ensures
+
+pub put-requires-clause-plan : goal.put-requires-clause-plan
+put-requires-clause-plan c = follows-may c.args.self.now c.args.answer c.event_of-event.result c.requires.stands c.requires.fits c.event_of-event.ensures
+
+pub put-requires-clause-by : goal.put-requires-clause-by
+put-requires-clause-by c =
+    let core : Core = c.args.self.now in
+    tick-hand core.input core.entries.items c.event_of-event.result c.args.hand
+    (both (is_running core.entries.items) (is_settled core.input core.entries.items && is_none (verdict core.input core.entries.items)) c.requires.asked).0
+    (follows-legal core.input core.entries.items c.args.answer c.event_of-event.result c.requires.asked c.requires.fits c.event_of-event.ensures) c.requires.hand
+
+pub returns-clause-ok : goal.returns-clause-ok
+returns-clause-ok c =
+    let core : Core = c.args.self.now in
+    subst (λ o. OnOk c.put.result (c.put.new.self.entries.items ≡ with_turn core c.args.hand o)) (sym c.event_of-event.ensures) c.put.ensures.ok
+
+pub returns-clause-legal : goal.returns-clause-legal
+returns-clause-legal c = taken-legal c.args.self.now c.args.answer c.requires.stands c.requires.asked c.requires.fits

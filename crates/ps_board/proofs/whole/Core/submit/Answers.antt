@@ -1,0 +1,21 @@
+use Rattle.std.proofs.Common.{subst, sym, ◌∙◌}
+use Rattle.ps_action.specs.Search.{Fits}
+use Rattle.ps_asked.specs.Asked.{IsStillAsked}
+use Rattle.ps_asked.proofs.Walking.{still_asked}
+use Rattle.ps_board.specs.declared.whole.Core.{Core}
+use Rattle.ps_board.specs.Submits.{IsFirstFrom}
+use Rattle.ps_board.proofs.whole.Core.submit.Goals as goal
+
+pub follow-requires-clause-asked : goal.follow-requires-clause-asked
+follow-requires-clause-asked c =
+    let core : Core = c.args.self.now in
+    (still_asked core.input core.entries.items c.args.snapshot.at c.requires.stands.history c.requires.asked
+    (subst (IsFirstFrom core.input core.entries.items c.args.snapshot.at) c.in-None.is c.in_ok-at.ensures)).asks
+
+pub follow-requires-clause-fits : goal.follow-requires-clause-fits
+follow-requires-clause-fits c =
+    let core : Core = c.args.self.now in
+    let still : IsStillAsked core.input core.entries.items c.args.snapshot.at =
+    still_asked core.input core.entries.items c.args.snapshot.at c.requires.stands.history c.requires.asked
+    (subst (IsFirstFrom core.input core.entries.items c.args.snapshot.at) c.in-None.is c.in_ok-at.ensures) in
+    subst (λ k. Fits core.input.domain k core.input.budget c.args.answer) (c.requires.known ∙ sym still.known) c.requires.fits

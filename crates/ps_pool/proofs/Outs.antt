@@ -1,0 +1,98 @@
+-- What one call of a board adds has the hand.
+use Rattle.std.proofs.Common.{◌≡◌, ℕ, ◌+◌, ◌==◌, true, false, Option, Some, None, Result, Ok, Err, OnOk, OnErr, List, ◌++◌, length, take, refl, arith, ap, sym, ◌∙◌, subst, inl, inr, ◌⊎◌}
+use Rattle.std.specs.Prelude.{IfOk}
+use Rattle.std.proofs.Math.Seq.{take-append_seam}
+use Rattle.std.proofs.lemmas.List.{length-append}
+use Rattle.std.proofs.lemmas.Bool.{true≢false}
+use Rattle.std.proofs.lemmas.Bool.Decides.{nat_tests}
+use Rattle.ps_action.specs.declared.answers.Answer.{Answer}
+use Rattle.ps_machine.specs.declared.inputs.Input.{Input}
+use Rattle.ps_machine.specs.declared.journal.Event.{Event}
+use Rattle.ps_machine.specs.declared.members.Unit.{Unit as Task}
+use Rattle.ps_machine.specs.declared.journal.Entry.{Entry}
+use Rattle.ps_rules.specs.Choices.{wants_plan}
+use Rattle.ps_rules.specs.Known.{know}
+use Rattle.ps_ends.specs.Working.{unit_due}
+use Rattle.ps_ends.proofs.Picking.{by_test, not_some, some_eq}
+use Rattle.ps_rows.specs.Same.{same_unit}
+use Rattle.ps_rows.proofs.Units.{same_unit-is, same_unit-itself}
+use Rattle.ps_board.specs.Board.{IsOut, number_of, recording, tick_answer, ticking, with_done}
+use Rattle.ps_board.specs.Submits.{taken_event}
+use Rattle.ps_board.specs.declared.submits.Submitted.{Submitted}
+use Rattle.ps_board.specs.declared.ticks.Snapshot.{Snapshot}
+use Rattle.ps_board.specs.declared.ticks.Ticked.{Ticked}
+use Rattle.ps_board.specs.declared.ticks.Ticked.TheVariants as tick
+use Rattle.ps_board.specs.Grants.{granted}
+use Rattle.ps_board.specs.declared.board.Shown.{Shown}
+use Rattle.ps_board.specs.declared.works.Grant.{Grant}
+use Rattle.ps_turn.specs.Hands.{GoesOnBy}
+use Rattle.ps_pool.specs.Rounds.{IsWanted}
+use Rattle.ps_pool.specs.Workers.{WasWanted}
+use Rattle.ps_pool.proofs.TickerTurns.{asked-calm, asked-wanted, wanted-asks, wanted-is}
+use Rattle.ps_pool.proofs.Working.{did-by, nothing-by}
+
+-- ---- turns
+
+pub call-by : {A E : Type 0} (r : Result A E) (b new : Shown) (hand : ℕ) (done : Option Event) → OnOk r (new.entries ≡ with_done b hand done) → OnErr r (new ≡ b)
+    → GoesOnBy hand b.entries new.entries
+call-by (Ok a) b new hand done did left = did-by b.input hand b.entries new.entries done did
+call-by (Err e) b new hand done did left = nothing-by hand b.entries new.entries (ap (λ (s : Shown). s.entries) left)
+
+pub tick-wanted : {E : Type 0} (r : Result Ticked E) (b : Shown) (hand : ℕ) (new : List Entry) → IfOk r (λ t. t ≡ tick_answer b) → OnOk r (new ≡ with_done b hand (ticking b))
+    → IfOk r (λ t. (s : Snapshot) → t ≡ tick.WantsPlan s → IsWanted b.input new s)
+tick-wanted (Ok t) b hand new is did = λ s asks. asked-wanted b (asked-calm b t s is asks) hand t s new is asks did
+tick-wanted (Err e) b hand new is did = tt
+
+-- ---- answers of the solver
+
+-- what was handed out stays so while entries come
+pub wanted-still : (i : Input) (seen es more : List Entry) (s : Snapshot) → IsWanted i seen s → es ≡ seen ++ more → WasWanted i es s
+wanted-still i seen es more s wanted is =
+    let now = wanted-is i seen s wanted in
+    let at : s.at ≡ length seen = sym (ap (λ (x : Snapshot). x.at) now) in
+    let front : take s.at es ≡ seen = ap (λ n. take n es) at ∙ ap (take (length seen)) is ∙ take-append_seam seen more in
+    let many : length es ≡ length seen + length more = ap (λ (l : List Entry). length l) is ∙ length-append seen more in
+    record {
+      asked = record { few = omega (arith, at, many); asks = ap (wants_plan i) front ∙ wanted-asks i seen s wanted };
+      known = sym (ap (λ (x : Snapshot). x.problem) now) ∙ ap (know i) (sym front);
+    }
+
+pub answer-by : {E : Type 0} (r : Result Submitted E) (b new : Shown) (hand : ℕ) (a : Answer) → IfOk r (λ t. new.entries ≡ with_done b hand (taken_event t a)) → OnErr r (new ≡ b)
+    → GoesOnBy hand b.entries new.entries
+answer-by (Ok t) b new hand a did left = did-by b.input hand b.entries new.entries (taken_event t a) did
+answer-by (Err e) b new hand a did left = nothing-by hand b.entries new.entries (ap (λ (s : Shown). s.entries) left)
+
+-- ---- grants
+
+same_number : (m n : ℕ) → (m == n) ≡ true → m ≡ n
+same_number m n t = grind (arith, nat_tests)
+
+same_number-itself : (m n : ℕ) → m ≡ n → (m == n) ≡ true
+same_number-itself m n e = grind (arith, nat_tests)
+
+-- a grant is out or it isn't
+out-or-not : (b : Shown) (g : Grant) → IsOut b g ⊎ (IsOut b g → ⊥)
+out-or-not b g = by_both (granted b.grants (number_of b g)) (unit_due b.input g.r g.by b.entries) refl refl
+  where
+    by_both : (r : Option ℕ) (u : Option Task) → granted b.grants (number_of b g) ≡ r → unit_due b.input g.r g.by b.entries ≡ u → IsOut b g ⊎ (IsOut b g → ⊥)
+    by_both None u er eu = inr (λ out. not_some g.r (sym er ∙ out.request))
+    by_both (Some r) None er eu = inr (λ out. not_some g.unit (sym eu ∙ out.unit))
+    by_both (Some r) (Some u) er eu =
+        by_test (r == g.r)
+        (λ same.
+        by_test (same_unit u g.unit)
+        (λ one. inl (record { request = er ∙ ap Some (same_number r g.r same); unit = eu ∙ ap Some (same_unit-is u g.unit one) }))
+        (λ other. inr (λ out. true≢false (sym (subst (λ v. same_unit u v ≡ true) (some_eq u g.unit (sym eu ∙ out.unit)) (same_unit-itself u)) ∙ other))))
+        (λ apart. inr (λ out. true≢false (sym (same_number-itself r g.r (some_eq r g.r (sym er ∙ out.request))) ∙ apart)))
+
+handed-by : (b new : Shown) (hand : ℕ) (g : Grant) → (IsOut b g → new.entries ≡ with_done b hand (recording b g)) → ((IsOut b g → ⊥) → new ≡ b) → GoesOnBy hand b.entries new.entries
+handed-by b new hand g did left =
+    elim (out-or-not b g) [
+      | inl out ↦ did-by b.input hand b.entries new.entries (recording b g) (did out)
+      | inr away ↦ nothing-by hand b.entries new.entries (ap (λ (s : Shown). s.entries) (left away))
+    ]
+
+pub unit-by : {A E : Type 0} (r : Result A E) (b new : Shown) (hand : ℕ) (g : Grant) → OnOk r (IsOut b g → new.entries ≡ with_done b hand (recording b g))
+    → ((IsOut b g → ⊥) → OnOk r (new ≡ b)) → OnErr r (new ≡ b) → GoesOnBy hand b.entries new.entries
+unit-by (Ok a) b new hand g did left same = handed-by b new hand g did left
+unit-by (Err e) b new hand g did left same = nothing-by hand b.entries new.entries (ap (λ (s : Shown). s.entries) same)

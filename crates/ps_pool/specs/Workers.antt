@@ -1,0 +1,72 @@
+-- What workers do, and what they make of a journal.
+use Rattle.std.specs.Prelude.{◌≡◌, ℕ, ◌<◌, ◌≤◌, nat_le, ◌&&◌, true, false, List, [], ◌∷◌, ◌++◌, length, take, IsTrue}
+use Rattle.std.specs.List.{All}
+use Rattle.ps_world.specs.declared.domains.Domain.{Domain}
+use Rattle.ps_machine.specs.declared.inputs.Input.{Input}
+use Rattle.ps_machine.specs.declared.journal.Outcome.{Outcome}
+use Rattle.ps_machine.specs.declared.journal.Event.TheVariants as event
+use Rattle.ps_machine.specs.declared.journal.Entry.{Entry}
+use Rattle.ps_rules.specs.History.{IsHistory}
+use Rattle.ps_rules.specs.Known.{know}
+use Rattle.ps_rules.specs.Members.{observers, performers}
+use Rattle.ps_rules.specs.Runs.{has_run, is_running}
+use Rattle.ps_asked.specs.Asked.{WasAsked}
+use Rattle.ps_board.specs.declared.ticks.Snapshot.{Snapshot}
+use Rattle.ps_turn.specs.Books.{Book, IsFree, Place}
+use Rattle.ps_turn.specs.Hands.{GoesOnByHands}
+use Rattle.ps_pool.specs.Courses.{GrowsInRun}
+use Rattle.ps_pool.specs.declared.workers.Who.{Who}
+use Rattle.ps_pool.specs.declared.workers.Who.TheVariants as who
+
+-- ---- a worker
+
+-- there is such a member
+abbrev pub IsThere : Input → Who → Type 0
+IsThere i (who.Performer p) = p < length (performers i)
+IsThere i (who.Observer o) = o < length (observers i)
+
+-- A worker may take the board with this seat: it is of the book and doesn't hold the turn, its hand is one of those for turns, and it has
+-- seen that a run was opened.
+pub record MayWork (book : Book) (seat : Place) : Type 0 where
+  pub free : IsFree book seat
+  pub hand : IsTrue (nat_le 1 seat.hand && nat_le seat.hand 16)
+  pub ran : has_run seat.seen ≡ true
+
+-- What the workers of a run know of its input: these members are all there, this is its domain, and this its budget; and so many they are.
+pub record IsCrew (i : Input) (members : List Who) (domain : Domain) (budget workers : ℕ) : Type 0 where
+  pub are_there : All (IsThere i) members
+  pub domain_is : domain ≡ i.domain
+  pub budget_is : budget ≡ i.budget
+  pub may_search : 1 ≤ budget
+  pub some : 1 ≤ workers
+
+-- The solver was asked after the first of these entries with this snapshot.
+pub record WasWanted (i : Input) (es : List Entry) (snapshot : Snapshot) : Type 0 where
+  pub asked : WasAsked i es snapshot.at
+  pub known : snapshot.problem ≡ know i (take snapshot.at es)
+
+-- the seat has the same hand, and a worker may take the board with it still
+abbrev pub HasStayed : Book → Place → Place → Type 0
+HasStayed book old new = MayWork book new × (new.hand ≡ old.hand)
+
+-- ---- a run
+
+-- the last of these entries is the end of a run
+pub record EndsWithOver (es : List Entry) : Type 0 where
+  pub before : List Entry
+  pub last : Entry
+  pub how : Outcome
+  pub all : es ≡ before ++ last ∷ []
+  pub is : last.what ≡ event.Over how
+
+-- So many workers went on with an open run: the entries they added have their hands and answer no line, and all is a history.
+pub record WorkedBy (workers : ℕ) (i : Input) (old new : List Entry) : Type 0 where
+  pub by_hands : GoesOnByHands workers old new
+  pub in_run : GrowsInRun old new
+  pub history : IsHistory i new
+
+-- So many workers went on with an open run until it ended, which is the last entry.
+pub record EndedBy (workers : ℕ) (i : Input) (old new : List Entry) : Type 0 where
+  pub worked : WorkedBy workers i old new
+  pub closed : is_running new ≡ false
+  pub over : EndsWithOver new

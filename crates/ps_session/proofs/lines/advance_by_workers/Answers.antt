@@ -1,0 +1,40 @@
+use Rattle.std.proofs.Common.{ap, length}
+use Rattle.ps_session.specs.declared.ways.Turns.TheVariants.{Workers}
+use Rattle.ps_session.proofs.Advancing.{advances-end, advances-said, advances-worked, commanded-so, Commanded, now-running}
+use Rattle.ps_session.proofs.lines.advance_by_workers.Goals as goal
+
+pub work_on-requires-clause-opened : goal.work_on-requires-clause-opened
+work_on-requires-clause-opened g c κs within =
+    let says = g.S.Solver.says c.args.solver.now in
+    let e = c.command-step.ensures in
+    let did : Commanded says c.args.board c.command-step.new.self c.in-Ok.step =
+    commanded-so says c.args.board c.command-step.new.self c.command-step.result c.in-Ok.step c.in-Ok.is e.answer e.end e.entries e.input e.grants e.halted in
+    now-running (Workers c.args.workers) says c.args.board c.command-step.new.self c.in-Ok.step did c.requires.idle c.in-Opened.is
+
+pub returns-in-End : goal.returns-in-End
+returns-in-End g c =
+    let says = g.S.Solver.says c.args.solver.now in
+    let e = c.command-step.ensures in
+    let did : Commanded says c.args.board c.command-step.new.self c.in-Ok.step =
+    commanded-so says c.args.board c.command-step.new.self c.command-step.result c.in-Ok.step c.in-Ok.is e.answer e.end e.entries e.input e.grants e.halted in
+    advances-end (Workers c.args.workers) says c.args.board c.command-step.new.self c.in-Ok.step did c.requires.idle (length c.entries-from.result.now)
+    (ap length c.entries-from.ensures.entries) c.in-End.is
+
+pub returns-in-Said : goal.returns-in-Said
+returns-in-Said g c =
+    let says = g.S.Solver.says c.args.solver.now in
+    let e = c.command-step.ensures in
+    let did : Commanded says c.args.board c.command-step.new.self c.in-Ok.step =
+    commanded-so says c.args.board c.command-step.new.self c.command-step.result c.in-Ok.step c.in-Ok.is e.answer e.end e.entries e.input e.grants e.halted in
+    advances-said (Workers c.args.workers) says c.args.board c.command-step.new.self c.in-Ok.step did c.requires.idle (length c.entries-from.result.now)
+    (ap length c.entries-from.ensures.entries) c.entries-from.ensures.history c.in-Said.is
+
+pub returns-in-Opened : goal.returns-in-Opened
+returns-in-Opened g c =
+    let says = g.S.Solver.says c.args.solver.now in
+    let e = c.command-step.ensures in
+    let did : Commanded says c.args.board c.command-step.new.self c.in-Ok.step =
+    commanded-so says c.args.board c.command-step.new.self c.command-step.result c.in-Ok.step c.in-Ok.is e.answer e.end e.entries e.input e.grants e.halted in
+    let w = c.work_on.ensures in
+    advances-worked c.args.workers says c.args.board c.command-step.new.self c.in-Ok.step did c.requires.idle c.work_on.result.1 (length c.entries-from.result.now) c.work_on.result.0
+    (ap length c.entries-from.ensures.entries) c.entries-from.ensures.history c.in-Opened.is w.place w.ended w.rest w.input

@@ -1,0 +1,13 @@
+//! Tests of sessions whose runs workers do, with threads: journals judged by replay, units of work and searches that go on at the same time.
+#![tactic(auto)]
+
+#[cfg(test)]
+mod at_random;
+#[cfg(test)]
+mod calls;
+#[cfg(test)]
+mod meeting;
+#[cfg(test)]
+mod searching;
+#[cfg(test)]
+mod texts;
