@@ -5,6 +5,13 @@ ghost use Rattle.ps_input_laws.specs.Laws.{
   ReadHistoriesAreOne,
   ReadHistoriesAreRead,
 };
+ghost use Rattle.ps_input_laws.specs.Readings.{
+  EveryInputIsRead,
+  EveryRequestIsRead,
+  EveryScriptIsRead,
+  EverySessionIsRead,
+  FlattenedScriptsAreCommands,
+};
 
 /// What stands in an input that is read can be said with the table after it.
 pub fn inputs_are_sayable()
@@ -24,4 +31,29 @@ pub fn read_histories_are_one()
 /// The text of a journal is found to be one thing at most.
 pub fn texts_are_found_to_be_one()
     ensures { TextsAreFoundToBeOne }
+{}
+
+/// Every script of command lines is read as lines.
+pub fn every_script_is_read()
+    ensures { EveryScriptIsRead }
+{}
+
+/// A script that is read from files consists of command lines, and of no more than a script may have.
+pub fn flattened_scripts_are_commands()
+    ensures { FlattenedScriptsAreCommands }
+{}
+
+/// Texts whose script consists of command lines are read as an input or have a fault.
+pub fn every_input_is_read()
+    ensures { EveryInputIsRead }
+{}
+
+/// What the files of a request hold is read as an input or has a fault.
+pub fn every_request_is_read()
+    ensures { EveryRequestIsRead }
+{}
+
+/// What the files of an input hold is read as an input within the limits of a session or has a fault.
+pub fn every_session_is_read()
+    ensures { EverySessionIsRead }
 {}

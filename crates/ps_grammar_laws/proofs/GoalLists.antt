@@ -1,0 +1,253 @@
+-- What is taken where a fact, a value or a condition of a goal is wanted is one, and each is taken there.
+use Rattle.std.proofs.Common.{◌≡◌, ℕ, zero, suc, ◌+◌, ◌≤◌, List, ◌∷◌, true, refl, ap, inl, inr, arith}
+use Rattle.ps_shape.specs.Marks.{is_goal_name, is_name}
+use Rattle.ps_shape.specs.Rules.{most_names}
+use Rattle.ps_shape.specs.Shape.{deepest}
+use Rattle.ps_shape.specs.Symbols.{level}
+use Rattle.ps_shape.specs.declared.marks.Mark.TheVariants as mark
+use Rattle.ps_shape.specs.declared.symbols.Symbol.{Symbol}
+use Rattle.ps_shape.specs.declared.symbols.Symbol.TheVariants.{The, AnyName, InGoal}
+use Rattle.ps_shape.specs.declared.symbols.GoalPart.TheVariants as goal
+use Rattle.ps_forms.specs.Grammar.{is_operator, is_relation}
+use Rattle.ps_forms.specs.Nested.{Nested, Nesteds, word, group, none, more}
+use Rattle.ps_forms.specs.Places.{count}
+use Rattle.ps_forms.specs.declared.lexemes.Lexeme.{Lexeme}
+use Rattle.ps_forms.proofs.JudgedForms.{only_close}
+use Rattle.ps_forms.proofs.OneWord as one
+use Rattle.ps_forms.proofs.OneWord.{no_word}
+use Rattle.ps_forms.proofs.Taking.{Takes, TakesAll}
+use Rattle.ps_grammar_laws.specs.Conditions.{AreArguments, AreConditionsOf, IsAtomOf, IsConditionOf, IsValueOf, goals}
+use Rattle.ps_grammar_laws.specs.Conditions.AreArguments.{no_argument, one_argument}
+use Rattle.ps_grammar_laws.specs.Conditions.AreConditionsOf.{no_condition, one_condition}
+use Rattle.ps_grammar_laws.specs.Conditions.IsAtomOf.{atom}
+use Rattle.ps_grammar_laws.specs.Conditions.IsConditionOf.{a_fact, all_of, comparison, not_so, same}
+use Rattle.ps_grammar_laws.specs.Conditions.IsValueOf.{a_number, an_argument, an_atom, negation, operation}
+use Rattle.ps_grammar_laws.proofs.GoalWords as here
+
+-- ---- names
+
+-- what is taken where so many names may stand is as many names at most
+names_of_taken : (ts : Nesteds) (most : ℕ) (st : List Symbol) (After : List Symbol → Type 0) → TakesAll ts After (InGoal (goal.Names most) ∷ st) → AreArguments goals ts × (count ts ≤ most) × After st
+names_of_taken none most st After h = (no_argument goals, omega arith, h)
+names_of_taken (more (word l) ts) zero st After h = absurd (no_word (InGoal (goal.Names 0)) refl st (TakesAll ts After) l.mark h)
+names_of_taken (more (word l) ts) (suc most) st After h =
+    let first = here.more_names_told st (TakesAll ts After) most l.mark h in
+    let later = names_of_taken ts most st After first.1 in
+    let few : count ts ≤ most = later.1 in
+    (one_argument goals l ts first.0 later.0, omega arith, later.2)
+names_of_taken (more (group us) ts) zero st After h = absurd h.1
+names_of_taken (more (group us) ts) (suc most) st After h = absurd h.1
+
+names_taken : (ts : Nesteds) (most : ℕ) → AreArguments goals ts → count ts ≤ most → (st : List Symbol) (After : List Symbol → Type 0) → After st → TakesAll ts After (InGoal (goal.Names most) ∷ st)
+names_taken _ most (no_argument _) few st After k = k
+names_taken _ zero (one_argument _ l ts is later) few st After k = absurd (omega (arith, few))
+names_taken _ (suc most) (one_argument _ l ts is later) few st After k =
+    here.more_names_fit st (TakesAll ts After) most l.mark is (names_taken ts most later (omega (arith, few)) st After k)
+
+-- ---- facts
+
+pub atom_of_taken : (t : Nested) (room : ℕ) (st : List Symbol) (After : List Symbol → Type 0) → room + level st ≡ deepest → Takes t After (InGoal goal.Atom ∷ st) → IsAtomOf goals room t × After st
+atom_of_taken (word l) room st After e h = absurd (no_word (InGoal goal.Atom) refl st After l.mark h)
+atom_of_taken (group ts) zero st After e h = absurd (omega (arith, h.0))
+atom_of_taken (group none) (suc room) st After e h = absurd h.1
+atom_of_taken (group (more (group us) ts)) (suc room) st After e h = absurd h.1.1
+atom_of_taken (group (more (word l) ts)) (suc room) st After e h =
+    let name = one.name_told (InGoal (goal.Names most_names) ∷ st) (TakesAll ts After) l.mark h.1 in
+    let later = names_of_taken ts most_names st After name.1 in
+    (atom goals room l ts name.0 later.0 later.1, later.2)
+
+pub atom_taken : (room : ℕ) (t : Nested) → IsAtomOf goals room t → (st : List Symbol) (After : List Symbol → Type 0) → room + level st ≡ deepest → After st → Takes t After (InGoal goal.Atom ∷ st)
+atom_taken _ _ (atom _ room l ts name all few) st After e k =
+    (omega arith, one.name_fits (InGoal (goal.Names most_names) ∷ st) (TakesAll ts After) l.mark name (names_taken ts most_names all few st After k))
+
+-- ---- values
+
+-- the last value is one with a parenthesis after it
+last_value : (t : Nested) (st : List Symbol) (After : List Symbol → Type 0) → Takes t After (InGoal goal.ValueOrEnd ∷ st) → Takes t After (InGoal goal.Value ∷ The mark.Close ∷ st)
+last_value (word l) st After h = here.last_number_told st After l.mark h
+last_value (group us) st After h = (omega (arith, h.0), h.1)
+
+taken_last : (t : Nested) (st : List Symbol) (After : List Symbol → Type 0) → Takes t After (InGoal goal.Value ∷ The mark.Close ∷ st) → Takes t After (InGoal goal.ValueOrEnd ∷ st)
+taken_last (word l) st After h = here.last_number_fits st After l.mark h
+taken_last (group us) st After h = (omega (arith, h.0), h.1)
+
+-- a name and names are a value
+function_of_taken : (l : Lexeme) (ts : Nesteds) (room : ℕ) (st : List Symbol) (After : List Symbol → Type 0) → is_name l.mark ≡ true → TakesAll ts After (InGoal (goal.Names most_names) ∷ st) → IsValueOf goals (suc room) (group (more (word l) ts)) × After st
+function_of_taken l ts room st After e h =
+    let all = names_of_taken ts most_names st After h in
+    (an_atom goals (suc room) (group (more (word l) ts)) (atom goals room l ts e all.0 all.1), all.2)
+
+-- what is taken where a value is wanted is one
+value_of_taken : (t : Nested) (room : ℕ) (st : List Symbol) (After : List Symbol → Type 0) → room + level st ≡ deepest → Takes t After (InGoal goal.Value ∷ st) → IsValueOf goals room t × After st
+value_of_taken (word l) room st After e h =
+    let number = here.number_told st After l.mark h in
+    (a_number goals room l number.0, number.1)
+value_of_taken (group ts) zero st After e h = absurd (omega (arith, h.0))
+value_of_taken (group none) (suc room) st After e h = absurd h.1
+value_of_taken (group (more (group us) ts)) (suc room) st After e h = absurd h.1.1
+value_of_taken (group (more (word l) none)) (suc room) st After e h =
+    elim (here.value_head_told st (TakesAll none After) l.mark h.1) [
+      | inl minus ↦ absurd minus.1
+      | inr (inl two) ↦ absurd two.1
+      | inr (inr name) ↦ function_of_taken l none room st After name.0 name.1
+    ]
+value_of_taken (group (more (word l) (more x none))) (suc room) st After e h =
+    elim (here.value_head_told st (TakesAll (more x none) After) l.mark h.1) [
+      | inl minus ↦
+          let first = value_of_taken x room (InGoal goal.ValueOrEnd ∷ st) (TakesAll none After) (omega arith) minus.1 in
+          (negation goals room l x minus.0 first.0, first.1)
+      | inr (inl two) ↦ absurd (value_of_taken x room (InGoal goal.Value ∷ The mark.Close ∷ st) (TakesAll none After) (omega arith) two.1).1
+      | inr (inr name) ↦ function_of_taken l (more x none) room st After name.0 name.1
+    ]
+value_of_taken (group (more (word l) (more x (more y ts)))) (suc room) st After e h =
+    elim (here.value_head_told st (TakesAll (more x (more y ts)) After) l.mark h.1) [
+      | inl minus ↦
+          let first = value_of_taken x room (InGoal goal.ValueOrEnd ∷ st) (TakesAll (more y ts) After) (omega arith) minus.1 in
+          let second = value_of_taken y room (The mark.Close ∷ st) (TakesAll ts After) (omega arith) (last_value y st (TakesAll ts After) first.1) in
+          let end = only_close ts st After second.1 in
+          (rw end.0 (operation goals room l x y (ap is_operator minus.0) first.0 second.0), end.1)
+      | inr (inl two) ↦
+          let first = value_of_taken x room (InGoal goal.Value ∷ The mark.Close ∷ st) (TakesAll (more y ts) After) (omega arith) two.1 in
+          let second = value_of_taken y room (The mark.Close ∷ st) (TakesAll ts After) (omega arith) first.1 in
+          let end = only_close ts st After second.1 in
+          (rw end.0 (operation goals room l x y two.0 first.0 second.0), end.1)
+      | inr (inr name) ↦ function_of_taken l (more x (more y ts)) room st After name.0 name.1
+    ]
+
+atom_taken_as_value : (room : ℕ) (t : Nested) → IsAtomOf goals room t → (st : List Symbol) (After : List Symbol → Type 0) → room + level st ≡ deepest → After st → Takes t After (InGoal goal.Value ∷ st)
+atom_taken_as_value _ _ (atom _ room l ts name all few) st After e k =
+    (omega arith, here.function_fits st (TakesAll ts After) l.mark name (names_taken ts most_names all few st After k))
+
+value_taken : (room : ℕ) (t : Nested) → IsValueOf goals room t → (st : List Symbol) (After : List Symbol → Type 0) → room + level st ≡ deepest → After st → Takes t After (InGoal goal.Value ∷ st)
+value_taken _ _ (a_number _ room l is) st After e k = one.at_mark st After (InGoal goal.Value) l.mark mark.Number is k
+value_taken _ _ (an_argument _ room l may is) st After e k = absurd (cc)
+value_taken _ _ (an_atom _ room t a) st After e k = atom_taken_as_value room t a st After e k
+value_taken _ _ (negation _ room l x is v) st After e k =
+    (omega arith, one.at_mark st (TakesAll (more x none) After) (InGoal goal.ValueHead) l.mark mark.Minus is (value_taken room x v (InGoal goal.ValueOrEnd ∷ st) (TakesAll none After) (omega arith) k))
+value_taken _ _ (operation _ room l x y is v w) st After e k =
+    let last : Takes y (TakesAll none After) (InGoal goal.Value ∷ The mark.Close ∷ st) = value_taken room y w (The mark.Close ∷ st) (TakesAll none After) (omega arith) k in (
+      omega arith,
+      here.operator_fits st (TakesAll (more x (more y none)) After) l.mark is (value_taken room x v (InGoal goal.ValueOrEnd ∷ st) (TakesAll (more y none) After) (omega arith) (taken_last y st (TakesAll none After) last)) (value_taken room x v (InGoal goal.Value ∷ The mark.Close ∷ st) (TakesAll (more y none) After) (omega arith) last),
+    )
+
+-- ---- comparisons
+
+-- two values after a relation are a comparison
+comparison_of_taken : (ts : Nesteds) (room : ℕ) (st : List Symbol) (After : List Symbol → Type 0) → suc room + level st ≡ deepest → TakesAll ts After (InGoal goal.Value ∷ InGoal goal.Value ∷ The mark.Close ∷ st) → ((l : Lexeme) → is_relation l.mark ≡ true → IsConditionOf goals (suc room) (group (more (word l) ts))) × After st
+comparison_of_taken none room st After e h = absurd h
+comparison_of_taken (more x none) room st After e h = absurd (value_of_taken x room (InGoal goal.Value ∷ The mark.Close ∷ st) (TakesAll none After) (omega arith) h).1
+comparison_of_taken (more x (more y ts)) room st After e h =
+    let first = value_of_taken x room (InGoal goal.Value ∷ The mark.Close ∷ st) (TakesAll (more y ts) After) (omega arith) h in
+    let second = value_of_taken y room (The mark.Close ∷ st) (TakesAll ts After) (omega arith) first.1 in
+    let end = only_close ts st After second.1 in
+    (λ l relation. rw end.0 (comparison goals room l x y relation first.0 second.0), end.1)
+
+-- one name more and a parenthesis after a name are two names that are compared
+name_of_taken : (l m : Lexeme) (ts : Nesteds) (room : ℕ) (st : List Symbol) (After : List Symbol → Type 0) → l.mark ≡ mark.Equal → is_name m.mark ≡ true → TakesAll ts After (AnyName ∷ The mark.Close ∷ st) → IsConditionOf goals (suc room) (group (more (word l) (more (word m) ts))) × After st
+name_of_taken l m none room st After equal is h = absurd h
+name_of_taken l m (more (group us) ts) room st After equal is h = absurd h.1
+name_of_taken l m (more (word n) ts) room st After equal is h =
+    let name = one.name_told (The mark.Close ∷ st) (TakesAll ts After) n.mark h in
+    let end = only_close ts st After name.1 in
+    (rw end.0 (same goals room l m n equal is name.0), end.1)
+
+-- a number or a list where operands are wanted is the first of two values
+first_number : (m : Lexeme) (ts : Nesteds) (st : List Symbol) (After : List Symbol → Type 0) → m.mark ≡ mark.Number → TakesAll ts After (InGoal goal.Value ∷ The mark.Close ∷ st) → TakesAll (more (word m) ts) After (InGoal goal.Value ∷ InGoal goal.Value ∷ The mark.Close ∷ st)
+first_number m ts st After is h = one.at_mark (InGoal goal.Value ∷ The mark.Close ∷ st) (TakesAll ts After) (InGoal goal.Value) m.mark mark.Number is h
+
+equality_of_taken : (l : Lexeme) (ts : Nesteds) (room : ℕ) (st : List Symbol) (After : List Symbol → Type 0) → l.mark ≡ mark.Equal → suc room + level st ≡ deepest → TakesAll ts After (InGoal goal.FirstOperand ∷ st) → IsConditionOf goals (suc room) (group (more (word l) ts)) × After st
+equality_of_taken l none room st After equal e h = absurd h
+equality_of_taken l (more (group us) ts) room st After equal e h =
+    let both = comparison_of_taken (more (group us) ts) room st After e (omega (arith, h.0), h.1) in
+    (both.0 l (ap is_relation equal), both.1)
+equality_of_taken l (more (word m) ts) room st After equal e h =
+    elim (here.operand_told st (TakesAll ts After) m.mark h) [
+      | inl number ↦
+          let both = comparison_of_taken (more (word m) ts) room st After e (first_number m ts st After number.0 number.1) in
+          (both.0 l (ap is_relation equal), both.1)
+      | inr name ↦ name_of_taken l m ts room st After equal name.0 name.1
+    ]
+
+-- two values are taken where operands are wanted
+operands_taken : (x y : Nested) (room : ℕ) → IsValueOf goals room x → (st : List Symbol) (After : List Symbol → Type 0) → TakesAll (more x (more y none)) After (InGoal goal.Value ∷ InGoal goal.Value ∷ The mark.Close ∷ st) → TakesAll (more x (more y none)) After (InGoal goal.FirstOperand ∷ st)
+operands_taken (word l) y room v st After h =
+    let number = here.number_told (InGoal goal.Value ∷ The mark.Close ∷ st) (TakesAll (more y none) After) l.mark h in
+    one.at_mark st (TakesAll (more y none) After) (InGoal goal.FirstOperand) l.mark mark.Number number.0 number.1
+operands_taken (group us) y room v st After h = (omega (arith, h.0), h.1)
+
+-- ---- conditions
+
+-- a condition of several is one
+as_condition : (t : Nested) (st : List Symbol) (After : List Symbol → Type 0) → Takes t After (InGoal goal.Conditions ∷ st) → Takes t After (InGoal goal.Condition ∷ InGoal goal.Conditions ∷ st)
+as_condition (word l) st After h = absurd (no_word (InGoal goal.Conditions) refl st After l.mark h)
+as_condition (group ts) st After h = (omega (arith, h.0), h.1)
+
+-- a condition is one of several
+taken_among : (t : Nested) (st : List Symbol) (After : List Symbol → Type 0) → Takes t After (InGoal goal.Condition ∷ InGoal goal.Conditions ∷ st) → Takes t After (InGoal goal.Conditions ∷ st)
+taken_among (word l) st After h = absurd (no_word (InGoal goal.Condition) refl (InGoal goal.Conditions ∷ st) After l.mark h)
+taken_among (group ts) st After h = (omega (arith, h.0), h.1)
+
+-- a name and names are a fact
+fact_of_taken : (l : Lexeme) (ts : Nesteds) (room : ℕ) (st : List Symbol) (After : List Symbol → Type 0) → is_goal_name l.mark ≡ true → TakesAll ts After (InGoal (goal.Names most_names) ∷ st) → IsConditionOf goals (suc room) (group (more (word l) ts)) × After st
+fact_of_taken l ts room st After e h =
+    let all = names_of_taken ts most_names st After h in
+    (a_fact goals room l ts e all.0 all.1, all.2)
+
+mutual
+  -- what is taken where a condition is wanted is one
+  pub condition_of_taken : (t : Nested) (room : ℕ) (st : List Symbol) (After : List Symbol → Type 0) → room + level st ≡ deepest → Takes t After (InGoal goal.Condition ∷ st) → IsConditionOf goals room t × After st
+  condition_of_taken (word l) room st After e h = absurd (no_word (InGoal goal.Condition) refl st After l.mark h)
+  condition_of_taken (group ts) zero st After e h = absurd (omega (arith, h.0))
+  condition_of_taken (group none) (suc room) st After e h = absurd h.1
+  condition_of_taken (group (more (group us) ts)) (suc room) st After e h = absurd h.1.1
+  condition_of_taken (group (more (word l) none)) (suc room) st After e h =
+      elim (here.goal_head_told st (TakesAll none After) l.mark h.1) [
+        | inl (inl all) ↦ (all_of goals room l none all.0 (no_condition goals room), all.1)
+        | inl (inr denied) ↦ absurd denied.1
+        | inr (inl equal) ↦ absurd equal.1
+        | inr (inr (inl two)) ↦ absurd two.1
+        | inr (inr (inr name)) ↦ fact_of_taken l none room st After name.0 name.1
+      ]
+  condition_of_taken (group (more (word l) (more c ts))) (suc room) st After e h =
+      elim (here.goal_head_told st (TakesAll (more c ts) After) l.mark h.1) [
+        | inl (inl all) ↦
+            let first = condition_of_taken c room (InGoal goal.Conditions ∷ st) (TakesAll ts After) (omega arith) (as_condition c st (TakesAll ts After) all.1) in
+            let later = conditions_of_taken ts room st After e first.1 in
+            (all_of goals room l (more c ts) all.0 (one_condition goals room c ts first.0 later.0), later.1)
+        | inl (inr denied) ↦
+            let first = condition_of_taken c room (The mark.Close ∷ st) (TakesAll ts After) (omega arith) denied.1 in
+            let end = only_close ts st After first.1 in
+            (rw end.0 (not_so goals room l c denied.0 first.0), end.1)
+        | inr (inl equal) ↦ equality_of_taken l (more c ts) room st After equal.0 e equal.1
+        | inr (inr (inl two)) ↦
+            let both = comparison_of_taken (more c ts) room st After e two.1 in
+            (both.0 l two.0, both.1)
+        | inr (inr (inr name)) ↦ fact_of_taken l (more c ts) room st After name.0 name.1
+      ]
+
+  conditions_of_taken : (ts : Nesteds) (room : ℕ) (st : List Symbol) (After : List Symbol → Type 0) → suc room + level st ≡ deepest → TakesAll ts After (InGoal goal.Conditions ∷ st) → AreConditionsOf goals room ts × After st
+  conditions_of_taken none room st After e h = (no_condition goals room, h)
+  conditions_of_taken (more c ts) room st After e h =
+      let first = condition_of_taken c room (InGoal goal.Conditions ∷ st) (TakesAll ts After) (omega arith) (as_condition c st (TakesAll ts After) h) in
+      let later = conditions_of_taken ts room st After e first.1 in
+      (one_condition goals room c ts first.0 later.0, later.1)
+
+mutual
+  -- each condition is taken where one is wanted
+  pub condition_taken : (room : ℕ) (t : Nested) → IsConditionOf goals room t → (st : List Symbol) (After : List Symbol → Type 0) → room + level st ≡ deepest → After st → Takes t After (InGoal goal.Condition ∷ st)
+  condition_taken _ _ (all_of _ room l ts is all) st After e k =
+      (omega arith, one.at_mark st (TakesAll ts After) (InGoal goal.Head) l.mark mark.And is (conditions_taken room ts all st After e k))
+  condition_taken _ _ (not_so _ room l c is other) st After e k =
+      (omega arith, one.at_mark st (TakesAll (more c none) After) (InGoal goal.Head) l.mark mark.Not is (condition_taken room c other (The mark.Close ∷ st) (TakesAll none After) (omega arith) k))
+  condition_taken _ _ (a_fact _ room l ts is all few) st After e k =
+      (omega arith, here.fact_fits st (TakesAll ts After) l.mark is (names_taken ts most_names all few st After k))
+  condition_taken _ _ (same _ room l m n is first second) st After e k =
+      (omega arith, one.at_mark st (TakesAll (more (word m) (more (word n) none)) After) (InGoal goal.Head) l.mark mark.Equal is (here.first_name_fits st (TakesAll (more (word n) none) After) m.mark first (one.name_fits (The mark.Close ∷ st) (TakesAll none After) n.mark second k)))
+  condition_taken _ _ (comparison _ room l x y is v w) st After e k =
+      let two : TakesAll (more x (more y none)) After (InGoal goal.Value ∷ InGoal goal.Value ∷ The mark.Close ∷ st) = value_taken room x v (InGoal goal.Value ∷ The mark.Close ∷ st) (TakesAll (more y none) After) (omega arith) (value_taken room y w (The mark.Close ∷ st) (TakesAll none After) (omega arith) k) in
+      (omega arith, here.relation_fits st (TakesAll (more x (more y none)) After) l.mark is (operands_taken x y room v st After two) two)
+
+  conditions_taken : (room : ℕ) (ts : Nesteds) → AreConditionsOf goals room ts → (st : List Symbol) (After : List Symbol → Type 0) → suc room + level st ≡ deepest → After st → TakesAll ts After (InGoal goal.Conditions ∷ st)
+  conditions_taken _ _ (no_condition _ room) st After e k = k
+  conditions_taken _ _ (one_condition _ room c cs first later) st After e k =
+      taken_among c st (TakesAll cs After) (condition_taken room c first (InGoal goal.Conditions ∷ st) (TakesAll cs After) (omega arith) (conditions_taken room cs later st After e k))

@@ -1,0 +1,6 @@
+pub mod DomainConditions
+pub mod GoalLists
+pub mod GoalWords
+pub mod LineForms
+pub mod LineTaking
+pub mod MemberLines

@@ -1,0 +1,16 @@
+pub mod Cases
+pub mod DomainReadings
+pub mod DomainTexts
+pub mod Judging
+pub mod LevelSymbols
+pub mod Levels
+pub mod Lexing
+pub mod LineDepths
+pub mod LineReadings
+pub mod MemberForms
+pub mod MemberReadings
+pub mod Nesting
+pub mod Phases
+pub mod Ways
+pub mod WritableDomains
+pub mod WritableParts

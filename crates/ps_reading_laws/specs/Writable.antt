@@ -1,0 +1,92 @@
+-- The domains that can be written with a table of names.
+use Rattle.std.specs.Prelude.{◌≡◌, ℕ, suc, ◌+◌, ◌≤◌, max, true, List, codes, length, All}
+use Rattle.ps_world.specs.Names.{Table, name_text}
+use Rattle.ps_world.specs.Trees.{CondTree, CondTrees, all_of, no, holds, same, compares, is_a, none, more}
+use Rattle.ps_world.specs.ExprViews.{expr_tree}
+use Rattle.ps_world.specs.declared.names.Name.{Name}
+use Rattle.ps_world.specs.declared.actions.Effect.{Effect}
+use Rattle.ps_world.specs.declared.actions.Effect.TheVariants.{Add, Delete, Number}
+use Rattle.ps_world.specs.declared.actions.ActionDef.{ActionDef}
+use Rattle.ps_world.specs.declared.domains.Param.{Param}
+use Rattle.ps_world.specs.declared.domains.Decl.{Decl}
+use Rattle.ps_world.specs.declared.domains.Domain.{Domain}
+use Rattle.ps_rules.specs.Sound.{cond_opens, expr_opens}
+use Rattle.ps_text.specs.declared.lexing.Class.TheVariants as class
+use Rattle.ps_shape.specs.Marks.{is_fact_name, is_predicate_name}
+use Rattle.ps_shape.specs.Shape.{deepest}
+use Rattle.ps_forms.specs.Lexemes.{mark_of}
+use Rattle.ps_print.specs.CanonicalWords.{IsDomainOf}
+
+-- ---- names
+
+-- a predicate may have this name: it is none of `and`, `not`, `or`, `imply`, `exists`, `forall`, `when`, `assign`, `increase`, `decrease`,
+-- `scale-up` and `scale-down`
+abbrev pub IsPredicateName : Table → Name → Type 0
+IsPredicateName names n = is_predicate_name (mark_of class.Name (name_text names n)) ≡ true
+
+-- a name may stand at the head of a fact in a condition: it is none of `and`, `not`, `or`, `imply`, `exists`, `forall`, `when` and
+-- `preference`
+abbrev pub IsFactHead : Table → Name → Type 0
+IsFactHead names n = is_fact_name (mark_of class.Name (name_text names n)) ≡ true
+
+-- parameters of which none is named `duration`
+abbrev pub AreParamNames : Table → List Param → Type 0
+AreParamNames names ps = All (λ p. name_text names p.name ≡ codes "duration" → ⊥) ps
+
+-- ---- conditions and effects
+
+abbrev mutual
+  -- a condition in which each fact has a head that may stand there
+  pub HasFactHeads : Table → CondTree → Type 0
+  HasFactHeads names (all_of cs) = HaveFactHeads names cs
+  HasFactHeads names (no c) = HasFactHeads names c
+  HasFactHeads names (holds l) = IsFactHead names l.head
+  HasFactHeads names (same s t) = Unit {0}
+  HasFactHeads names (compares rel x y) = Unit {0}
+  HasFactHeads names (is_a t kind) = Unit {0}
+
+  -- the same of several
+  pub HaveFactHeads : Table → CondTrees → Type 0
+  HaveFactHeads names none = Unit {0}
+  HaveFactHeads names (more c cs) = HasFactHeads names c × HaveFactHeads names cs
+
+-- how many parentheses the text of an effect has open at one place, at most
+abbrev pub effect_opens : Effect → ℕ
+effect_opens (Add l) = 1
+effect_opens (Delete l) = 2
+effect_opens (Number how l x) = suc (max 1 (expr_opens (expr_tree x)))
+
+-- a condition that an action can have: the heads of its facts may stand there, and with the 4 parentheses around it at most 64 are open at
+-- one place
+abbrev pub IsWritableCond : Table → CondTree → Type 0
+IsWritableCond names c = HasFactHeads names c × (4 + cond_opens c ≤ deepest)
+
+-- an effect that an action can have: with the 4 parentheses around it at most 64 are open at one place
+abbrev pub IsWritableEffect : Effect → Type 0
+IsWritableEffect e = 4 + effect_opens e ≤ deepest
+
+-- ---- domains
+
+-- a predicate that a domain can have: its name may be a predicate's, and none of its parameters is named `duration`
+pub record IsWritablePredicate (names : Table) (decl : Decl) : Type 0 where
+  pub name : IsPredicateName names decl.name
+  pub params : AreParamNames names decl.params
+
+-- an action that a domain can have: none of its parameters is named `duration`, its conditions and effects can be written, and with the 3
+-- parentheses around its duration at most 64 are open at one place
+pub record IsWritableAction (names : Table) (a : ActionDef) : Type 0 where
+  pub params : AreParamNames names a.params
+  pub duration : 3 + expr_opens (expr_tree a.duration) ≤ deepest
+  pub start : All (IsWritableCond names) a.conditions.at_start
+  pub over : All (IsWritableCond names) a.conditions.over_all
+  pub end : All (IsWritableCond names) a.conditions.at_end
+  pub at_start : All IsWritableEffect a.effects.at_start
+  pub at_end : All IsWritableEffect a.effects.at_end
+
+-- A domain that a text can write: its names stand in the table, its predicates and actions can be written, and no parameter of a function is
+-- named `duration`.
+pub record IsWritableDomain (names : Table) (d : Domain) : Type 0 where
+  pub known : IsDomainOf (length names) d
+  pub predicates : All (IsWritablePredicate names) d.predicates
+  pub functions : All (λ decl. AreParamNames names decl.params) d.functions
+  pub actions : All (IsWritableAction names) d.actions
