@@ -17,10 +17,10 @@ use crate::ordered::{Passed, RunStop, member_at};
 use ps_action::Answer;
 use ps_board::{Board, Grant, Snapshot, Ticked, Turn};
 use ps_domain::Expert;
-use ps_machine::Member;
+use ps_machine::{Grows, Member};
 use ps_plan::Solver;
 use ps_turn::{NotOpened, Seat, TurnBook};
-use std::alloc::{AllocError, Global};
+use std::alloc::{AllocError, AllocFailed, Global};
 use std::sync::Wait;
 use std::thread;
 use std::thread::Threads;
@@ -131,61 +131,73 @@ fn do_answer(
     }
 }
 
+/// A board in one box: what the workers hand on is one word.
+#[derive(Drop)]
+struct Held {
+    board: Box<Board>,
+}
+
+impl Grows for Held {
+    ghost history = { λ h. h.board.value.entries };
+
+    ghost input = { λ h. h.board.value.input };
+}
+
 /// Takes the turn of a member.
 fn take_turn<R: Wait>(
     rt: &R,
-    book: &TurnBook<Board>,
-    seat: &mut Seat<Board>,
+    book: &TurnBook<Held>,
+    seat: &mut Seat<Held>,
     who: Who,
 ) -> Result<Turn, AllocError>
     requires seat { MayWork book.now seat.old }
     requires there { IsThere book.now.input who }
     ensures { HasStayed book.now seat.old seat.new }
 {
-    let mut board = book.take(rt, seat);
-    let turn = do_turn(&mut board, seat.hand(), who);
-    book.give(seat, board);
+    let mut held = book.take(rt, seat);
+    let turn = do_turn(&mut held.board, seat.hand(), who);
+    book.give(seat, held);
     turn
 }
 
 /// Takes the turn of the ticker.
 fn take_tick<R: Wait>(
     rt: &R,
-    book: &TurnBook<Board>,
-    seat: &mut Seat<Board>,
+    book: &TurnBook<Held>,
+    seat: &mut Seat<Held>,
 ) -> Result<Ticked, AllocError>
     requires { MayWork book.now seat.old }
     ensures wanted { IfOk result (λ t. (s : SnapshotView) → t ≡ Wanted s
         → IsWanted book.now.input seat.new.seen s) }
     ensures seat { HasStayed book.now seat.old seat.new }
 {
-    let mut board = book.take(rt, seat);
-    let ticked = do_tick(&mut board, seat.hand());
-    book.give(seat, board);
+    let mut held = book.take(rt, seat);
+    let ticked = do_tick(&mut held.board, seat.hand());
+    book.give(seat, held);
     ticked
 }
 
 /// Takes the turn to hand in a grant.
 fn hand_in<R: Wait>(
     rt: &R,
-    book: &TurnBook<Board>,
-    seat: &mut Seat<Board>,
+    book: &TurnBook<Held>,
+    seat: &mut Seat<Held>,
     grant: Grant,
 ) -> Result<(), AllocError>
     requires { MayWork book.now seat.old }
     ensures { HasStayed book.now seat.old seat.new }
 {
-    let mut board = book.take(rt, seat);
-    let handed = do_unit(&mut board, seat.hand(), grant);
-    book.give(seat, board);
+    let mut held = book.take(rt, seat);
+    let handed = do_unit(&mut held.board, seat.hand(), grant);
+    book.give(seat, held);
     handed
 }
 
 /// Takes the turn to hand in the solver's answer.
 fn answer<R: Wait>(
     rt: &R,
-    book: &TurnBook<Board>,
-    seat: &mut Seat<Board>,
+    book: &TurnBook<Held>,
+    seat: &mut Seat<Held>,
     snapshot: Snapshot,
     answer: Answer,
 ) -> Result<(), AllocError>
@@ -194,20 +206,20 @@ fn answer<R: Wait>(
     requires fits { Fits book.now.input.domain snapshot.problem book.now.input.budget answer }
     ensures { HasStayed book.now seat.old seat.new }
 {
-    let mut board = book.take(rt, seat);
-    let answered = do_answer(&mut board, seat.hand(), snapshot, answer);
-    book.give(seat, board);
+    let mut held = book.take(rt, seat);
+    let answered = do_answer(&mut held.board, seat.hand(), snapshot, answer);
+    book.give(seat, held);
     answered
 }
 
 /// Takes the turn to halt the run, if one is open.
-fn halt<R: Wait>(rt: &R, book: &TurnBook<Board>, seat: &mut Seat<Board>)
+fn halt<R: Wait>(rt: &R, book: &TurnBook<Held>, seat: &mut Seat<Held>)
     requires { MayWork book.now seat.old }
     ensures { HasStayed book.now seat.old seat.new }
 {
-    let mut board = book.take(rt, seat);
-    board.halt();
-    book.give(seat, board);
+    let mut held = book.take(rt, seat);
+    held.board.halt();
+    book.give(seat, held);
 }
 
 /// What a worker's round came to.
@@ -246,8 +258,8 @@ impl<'a, S: Solver, G: Gate> Crew<'a, S, G> {
     fn do_member<R: Wait>(
         &self,
         rt: &R,
-        book: &TurnBook<Board>,
-        seat: &mut Seat<Board>,
+        book: &TurnBook<Held>,
+        seat: &mut Seat<Held>,
         who: Who,
     ) -> Result<bool, AllocError>
         requires seat { MayWork book.now seat.old }
@@ -270,8 +282,8 @@ impl<'a, S: Solver, G: Gate> Crew<'a, S, G> {
     fn do_place<R: Wait>(
         &self,
         rt: &R,
-        book: &TurnBook<Board>,
-        seat: &mut Seat<Board>,
+        book: &TurnBook<Held>,
+        seat: &mut Seat<Held>,
         place: usize,
         home: bool,
     ) -> Result<bool, AllocError>
@@ -293,8 +305,8 @@ impl<'a, S: Solver, G: Gate> Crew<'a, S, G> {
     fn do_members<R: Wait>(
         &self,
         rt: &R,
-        book: &TurnBook<Board>,
-        seat: &mut Seat<Board>,
+        book: &TurnBook<Held>,
+        seat: &mut Seat<Held>,
         home: bool,
     ) -> Result<bool, AllocError>
         requires seat { MayWork book.now seat.old }
@@ -313,8 +325,8 @@ impl<'a, S: Solver, G: Gate> Crew<'a, S, G> {
     fn answer_wanted<R: Wait>(
         &self,
         rt: &R,
-        book: &TurnBook<Board>,
-        seat: &mut Seat<Board>,
+        book: &TurnBook<Held>,
+        seat: &mut Seat<Held>,
         snapshot: Snapshot,
     ) -> Result<(), AllocError>
         requires seat { MayWork book.now seat.old }
@@ -334,8 +346,8 @@ impl<'a, S: Solver, G: Gate> Crew<'a, S, G> {
     fn tick<R: Wait>(
         &self,
         rt: &R,
-        book: &TurnBook<Board>,
-        seat: &mut Seat<Board>,
+        book: &TurnBook<Held>,
+        seat: &mut Seat<Held>,
     ) -> Result<Round, AllocError>
         requires seat { MayWork book.now seat.old }
         requires crew { IsCrew book.now.input self.now.members.now self.now.expert.now
@@ -358,8 +370,8 @@ impl<'a, S: Solver, G: Gate> Crew<'a, S, G> {
     fn do_round<R: Wait>(
         &self,
         rt: &R,
-        book: &TurnBook<Board>,
-        seat: &mut Seat<Board>,
+        book: &TurnBook<Held>,
+        seat: &mut Seat<Held>,
     ) -> Result<Round, AllocError>
         requires seat { MayWork book.now seat.old }
         requires crew { IsCrew book.now.input self.now.members.now self.now.expert.now
@@ -379,7 +391,7 @@ impl<'a, S: Solver, G: Gate> Crew<'a, S, G> {
     }
 
     /// Does rounds until the run is over or halted. Where memory runs out it halts the run, which the next round sees.
-    fn work<R: Wait>(&self, rt: &R, book: &TurnBook<Board>, seat: &mut Seat<Board>)
+    fn work<R: Wait>(&self, rt: &R, book: &TurnBook<Held>, seat: &mut Seat<Held>)
         requires seat { MayWork book.now seat.old }
         requires crew { IsCrew book.now.input self.now.members.now self.now.expert.now
             self.now.budget self.now.workers }
@@ -405,7 +417,7 @@ trait Works {
     ghost suits: { Self → InputView → Type 0 };
 
     /// Takes turns until the run is over or halted.
-    fn take_turns<R: Wait>(&self, rt: &R, book: &TurnBook<Board>, seat: &mut Seat<Board>)
+    fn take_turns<R: Wait>(&self, rt: &R, book: &TurnBook<Held>, seat: &mut Seat<Held>)
         requires seat { MayWork book.now seat.old }
         requires suits { suits self.now book.now.input }
         ensures { HasStayed book.now seat.old seat.new };
@@ -416,7 +428,7 @@ impl<'a, S: Solver, G: Gate> Works for Crew<'a, S, G> {
 
     ghost suits = { λ crew i. IsCrew i crew.members.now crew.expert.now crew.budget crew.workers };
 
-    fn take_turns<R: Wait>(&self, rt: &R, book: &TurnBook<Board>, seat: &mut Seat<Board>) {
+    fn take_turns<R: Wait>(&self, rt: &R, book: &TurnBook<Held>, seat: &mut Seat<Held>) {
         self.work(rt, book, seat)
     }
 }
@@ -425,8 +437,8 @@ impl<'a, S: Solver, G: Gate> Works for Crew<'a, S, G> {
 fn work_all<R: Threads + Wait + Sync, C: Works + Sync>(
     rt: &R,
     crew: &C,
-    book: &TurnBook<Board>,
-    seats: &mut [Seat<Board>],
+    book: &TurnBook<Held>,
+    seats: &mut [Seat<Held>],
 )
     requires seats { All (MayWork book.now) seats.old }
     requires crew { C.suits crew.now book.now.input }
@@ -437,7 +449,7 @@ fn work_all<R: Threads + Wait + Sync, C: Works + Sync>(
         rt,
         seats,
         16,
-        &|_, seat: &mut Seat<Board>|
+        &|_, seat: &mut Seat<Held>|
             requires { MayWork book.now seat.now × C.suits crew.now book.now.input }
             ensures { HasStayed book.entry.now seat.entry.now seat.exit.now }
         { crew.take_turns(rt, book, seat) },
@@ -448,8 +460,8 @@ fn work_all<R: Threads + Wait + Sync, C: Works + Sync>(
 fn work_book<R: Threads + Wait + Sync, C: Works + Sync>(
     rt: &R,
     crew: &C,
-    book: TurnBook<Board>,
-    mut seats: Vec<Seat<Board>>,
+    book: TurnBook<Held>,
+    mut seats: Vec<Seat<Held>>,
 ) -> Board
     requires opened { has_run book.opened ≡ true }
     requires few { book.seats ≤ 16 }
@@ -459,7 +471,8 @@ fn work_book<R: Threads + Wait + Sync, C: Works + Sync>(
     ensures input { result.input ≡ book.input }
 {
     work_all(rt, crew, &book, seats.as_mut_slice());
-    book.close(seats)
+    let Held { board } = book.close(seats);
+    Box::into_inner(board)
 }
 
 /// The board as its workers left it: the run has ended, or it was stopped.
@@ -478,12 +491,29 @@ fn settle(board: Board) -> Result<Board, RunStop>
     }
 }
 
+/// The board in a box. On an error, since there was no memory for one, the run stops as it is.
+fn hold(alloc: Global, board: Board) -> Result<Held, RunStop>
+    ensures held { IfOk result (λ h. h.board.value ≡ board) }
+    ensures stopped { IfErr result (λ stop. stop.board ≡ board) }
+{
+    match Box::new(alloc, board) {
+        Ok(board) => Ok(Held { board }),
+        Err(refused) => {
+            let AllocFailed { value } = refused;
+            Err(RunStop { board: value })
+        }
+    }
+}
+
 /// A run that stops as it is, since there was no memory for a book.
-fn stopped(refused: NotOpened<Board>) -> RunStop
-    ensures { result.board ≡ refused.value }
+fn stopped(refused: NotOpened<Held>) -> RunStop
+    ensures { result.board ≡ refused.value.board.value }
 {
     let NotOpened { value } = refused;
-    RunStop { board: value }
+    let Held { board } = value;
+    RunStop {
+        board: Box::into_inner(board),
+    }
 }
 
 /// Goes on with the open run by these workers until it is over or stopped.
@@ -505,7 +535,8 @@ fn run_crew<R: Threads + Wait + Sync, C: Works + Sync>(
     ensures stopped_input { IfErr result (λ stop. stop.board.input ≡ board.input) }
 {
     let _history = board.entries();
-    match TurnBook::open(alloc, board, workers) {
+    let held = hold(alloc, board)?;
+    match TurnBook::open(alloc, held, workers) {
         Ok((book, seats)) => settle(work_book(rt, crew, book, seats)),
         Err(refused) => Err(stopped(refused)),
     }
