@@ -1,5 +1,5 @@
 -- The moves by ground actions that are gathered one after another.
-use Rattle.std.proofs.Common.{◌≡◌, ℕ, ◌+◌, List, [], ◌∷◌, ◌++◌, Bool, false, Option, Some, None, option_map, option_to_list, Result, Ok, Err, filter_map, flat_map, fold, drop, zero, suc, ◌||◌, refl, ap, sym, ◌∙◌}
+use Rattle.std.proofs.Common.{◌≡◌, ℕ, ◌+◌, List, [], ◌∷◌, ◌++◌, false, Option, Some, None, option_map, option_to_list, Result, Ok, Err, filter_map, flat_map, fold, drop, zero, suc, ◌||◌, refl, ap, sym, ◌∙◌}
 use Rattle.std.specs.BTreeSet.{insert_key}
 use Rattle.std.specs.List.{cons_option, list_any}
 use Rattle.std.specs.Result.{result_ok}

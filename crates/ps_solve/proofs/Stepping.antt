@@ -1,5 +1,5 @@
 -- Steps from state to state are those of what is known in them.
-use Rattle.std.proofs.Common.{◌≡◌, ℕ, ◌+◌, Bool, true, false, filter_map, Option, Some, None, option_map, option_and_then, Result, Ok, Err, List, [], ◌∷◌, ◌++◌, refl, ap, ◌∙◌}
+use Rattle.std.proofs.Common.{◌≡◌, ℕ, ◌+◌, Bool, true, false, Option, Some, None, option_map, option_and_then, Result, Ok, Err, List, [], ◌∷◌, ◌++◌, refl, ap, ◌∙◌}
 use Rattle.std.specs.Result.{result_ok}
 use Rattle.ps_world.specs.declared.numbers.Num.{Num}
 use Rattle.ps_world.specs.declared.facts.Fact.{Fact}

@@ -1,7 +1,5 @@
-use Rattle.std.proofs.Common.{◌++◌, List, Result, option_to_list, ap, sym, ◌∙◌, subst}
-use Rattle.std.specs.Result.{result_ok}
+use Rattle.std.proofs.Common.{◌++◌, List, Result, ap, sym, ◌∙◌}
 use Rattle.std.proofs.lemmas.List.{append-nil}
-use Rattle.ps_world.specs.declared.facts.Fact.{Fact}
 use Rattle.ps_world.specs.declared.names.Name.{Name}
 use Rattle.ps_action.specs.Grounding.{ground_act}
 use Rattle.ps_action.specs.declared.acts.GroundAction.{GroundAction}

@@ -1,4 +1,4 @@
-use Rattle.std.proofs.Common.{◌≡◌, ◌++◌, ◌∷◌, [], List, map, ap, sym, ◌∙◌, subst}
+use Rattle.std.proofs.Common.{◌++◌, ◌∷◌, [], List, map, ap, sym, ◌∙◌, subst}
 use Rattle.std.proofs.lemmas.List.{map-append}
 use Rattle.ps_action.specs.declared.acts.Act.{Act}
 use Rattle.ps_solve.specs.Leads.{Lead, plain_lead}

@@ -3,7 +3,6 @@ use Rattle.std.specs.BTreeSet.{insert_key}
 use Rattle.std.proofs.lemmas.List.{drop_more}
 use Rattle.ps_world.specs.Facts.{fact_cmp}
 use Rattle.ps_world.specs.declared.actions.Effect.{Effect}
-use Rattle.ps_world.specs.declared.facts.Fact.{Fact}
 use Rattle.ps_action.specs.Effects.{added_by}
 use Rattle.ps_solve.specs.Rows.{facts_of}
 use Rattle.ps_solve.proofs.Preparing.{added_more, adds_split}

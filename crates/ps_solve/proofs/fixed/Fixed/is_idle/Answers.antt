@@ -1,6 +1,5 @@
-use Rattle.std.proofs.Common.{◌≡◌, Option, Some, ap, sym, ◌∙◌, subst}
+use Rattle.std.proofs.Common.{◌≡◌, Some, ap, sym, ◌∙◌, subst}
 use Rattle.ps_world.specs.Knowledge.{action_of}
-use Rattle.ps_world.specs.declared.actions.ActionDef.{ActionDef}
 use Rattle.ps_action.specs.Grounding.{grounded}
 use Rattle.ps_action.specs.declared.acts.GroundAction.{GroundAction}
 use Rattle.ps_solve.specs.Rows.{AreAtoms, adds}

@@ -1,4 +1,4 @@
-use Rattle.std.proofs.Common.{List, not, filter, ap, ◌∙◌, subst, sym}
+use Rattle.std.proofs.Common.{List, not, filter, ap, ◌∙◌, subst}
 use Rattle.std.specs.List.{list_any}
 use Rattle.ps_world.specs.Names.{same_name}
 use Rattle.ps_world.specs.declared.facts.Fact.{Fact}

@@ -1,4 +1,4 @@
-use Rattle.std.proofs.Common.{◌≡◌, ◌∷◌, [], true, false, cond, List, Some, None, option_map, length, refl, ap, sym, ◌∙◌}
+use Rattle.std.proofs.Common.{◌≡◌, ◌∷◌, [], true, cond, List, Some, None, option_map, length, refl, ap, sym, ◌∙◌}
 use Rattle.ps_action.specs.declared.acts.Act.{Act}
 use Rattle.ps_action.specs.declared.answers.Answer.TheVariants.{Plan}
 use Rattle.ps_solve.specs.Leads.{Lead, is_good}

@@ -1,8 +1,7 @@
-use Rattle.std.proofs.Common.{◌≡◌, ◌<◌, ◌-◌, ◌+◌, ◌∷◌, [], ℕ, List, Option, Some, None, option_map, unwrap_or, cond, find, flat_map, length, map, refl, ap, sym, ◌∙◌, subst, arith, inl}
+use Rattle.std.proofs.Common.{◌≡◌, ◌<◌, ◌-◌, ◌+◌, ◌∷◌, [], ℕ, List, Option, Some, None, option_map, unwrap_or, cond, flat_map, length, map, refl, ap, sym, ◌∙◌, subst, arith, inl}
 use Rattle.std.proofs.lemmas.List.{length-map}
 use Rattle.ps_action.specs.Plans.{most_acts}
 use Rattle.ps_action.specs.Search.{answer_from}
-use Rattle.ps_action.specs.declared.acts.Act.{Act}
 use Rattle.ps_action.specs.declared.answers.Answer.{Answer}
 use Rattle.ps_action.specs.declared.answers.Answer.TheVariants.{Plan, Spent}
 use Rattle.ps_solve.specs.Endings.{ending, unfinished}

@@ -1,7 +1,7 @@
 use Rattle.std.proofs.Common.{◌≡◌, ◌++◌, [], true, map, ap, sym, ◌∙◌}
 use Rattle.std.proofs.lemmas.List.{append-nil}
 use Rattle.ps_solve.specs.Independence.{is_pruned}
-use Rattle.ps_solve.specs.Leads.{Lead, good_path, is_good, plain_lead}
+use Rattle.ps_solve.specs.Leads.{good_path, is_good, plain_lead}
 use Rattle.ps_solve.specs.Rows.{plain_node, plain_state}
 use Rattle.ps_solve.specs.States.{State}
 use Rattle.ps_solve.proofs.Leading.{skip_leads, skip_met}

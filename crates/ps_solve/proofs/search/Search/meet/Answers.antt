@@ -1,9 +1,8 @@
-use Rattle.std.proofs.Common.{◌≡◌, ◌++◌, ◌∷◌, [], true, false, List, Some, length, map, ap, sym, ◌∙◌}
-use Rattle.std.specs.List.{list_any}
+use Rattle.std.proofs.Common.{◌≡◌, ◌++◌, ◌∷◌, [], true, false, List, Some, map, ap, sym, ◌∙◌}
 use Rattle.ps_action.specs.declared.acts.Act.{Act}
 use Rattle.ps_solve.specs.Leads.{Lead, is_good, plain_lead}
 use Rattle.ps_solve.specs.Nodes.{is_met}
-use Rattle.ps_solve.specs.Rows.{plain_state, same_row}
+use Rattle.ps_solve.specs.Rows.{plain_state}
 use Rattle.ps_solve.proofs.Reaching.{new_leads, new_met, new_path, old_leads, old_met, old_path}
 use Rattle.ps_solve.proofs.SameRows.{met_rows}
 use Rattle.ps_solve.proofs.search.Search.meet.Goals as goal
