@@ -12,6 +12,9 @@ module _ {V W : Type 0} (f : V → W) (p : W → Bool) where
   position_or_len-map [] = refl
   position_or_len-map (v ∷ vs) = ap (λ n. cond (not (p (f v))) (1 + n) 0) (position_or_len-map vs)
 
+  pub position-map : (vs : List V) → position (λ v. p (f v)) vs ≡ position p (map f vs)
+  position-map vs = rw (position_or_len-map vs, length-map vs f)
+
   pub list_any-map : (vs : List V) → list_any (λ v. p (f v)) vs ≡ list_any p (map f vs)
   list_any-map [] = refl
   list_any-map (v ∷ vs) = rw (list_any-map vs)

@@ -1,3 +1,4 @@
+pub mod Classes
 pub mod Counts
 pub mod Cuts
 pub mod Digits

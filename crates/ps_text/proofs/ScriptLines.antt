@@ -1,10 +1,10 @@
 -- The lines of a script, one after another.
-use Rattle.std.proofs.Common.{◌≡◌, ◌≢◌, ℕ, zero, suc, ◌+◌, ◌-◌, ◌<◌, ◌≤◌, ◌==◌, ◌&&◌, Bool, true, false, List, [], ◌∷◌, if◌then◌else◌, length, take, drop, slice_range, get_or, refl, sym, ap, ◌∙◌, inl, inr, arith}
+use Rattle.std.proofs.Common.{◌≡◌, ◌≢◌, ℕ, zero, suc, ◌+◌, ◌-◌, ◌<◌, ◌≤◌, ◌==◌, true, false, List, [], ◌∷◌, if◌then◌else◌, length, take, drop, slice_range, get_or, refl, sym, ap, ◌∙◌, inl, inr, arith}
 use Rattle.std.proofs.lemmas.Bool.{cases_Bool, cases_lt, eqb-true, true≢false}
 use Rattle.std.proofs.lemmas.List.{length-drop, drop-drop, drop_all, get_or-drop, take_all}
 use Rattle.std.specs.List.{position_or_len}
 use Rattle.ps_world.specs.Lines.{lines_of, lengthened}
-use Rattle.ps_text.specs.ScriptLines.{HasReturn, ends_at_once, script_lines, without_returns}
+use Rattle.ps_text.specs.ScriptLines.{HasReturn, script_lines, without_returns}
 use Rattle.ps_text.proofs.Pieces.{first-le, first-no, first-yes, is_lf, lines_of-first, lines_of-lf, lines_of-more}
 
 -- a line without a CR at its end

@@ -1,16 +1,18 @@
 -- Tables of names: what putting a text into one keeps.
-use Rattle.std.proofs.Common.{◌≡◌, ℕ, zero, suc, ◌+◌, ◌<◌, ◌≤◌, true, false, cond, List, [], ◌∷◌, ◌++◌, length, map, take, Some, slice_get, get_or, codes, refl, sym, ap, ◌∙◌, inl, inr, arith}
+use Rattle.std.proofs.Common.{◌≡◌, ℕ, zero, suc, ◌+◌, ◌<◌, ◌≤◌, true, false, cond, List, [], ◌∷◌, ◌++◌, length, map, take, Some, slice_get, get_or, codes, position, refl, sym, ap, subst, ◌∙◌, inl, inr, arith}
 use Rattle.std.proofs.lemmas.List.{length_push, length-take, map_push, get_or_append_left, get_or_push, get_or-take}
 use Rattle.std.proofs.lemmas.List.Elements.{All-push, All-take}
 use Rattle.std.proofs.lemmas.List.Folds.{list_any_at}
+use Rattle.std.proofs.lemmas.List.Quantifiers.{position-Some}
+use Rattle.std.proofs.lemmas.List.Sums.{position_or_len_is}
 use Rattle.std.proofs.lemmas.Option.{slice_get_within}
 use Rattle.std.proofs.lemmas.Bool.{cases_Bool, cases_lt, false≢true, or_parts}
 use Rattle.std.specs.Cmp.Lexicographic.{bytes_decides}
 use Rattle.std.specs.List.{list_any, position_or_len}
 use Rattle.ps_world.specs.Names.{Table}
 use Rattle.ps_world.specs.Lines.{same_text}
-use Rattle.ps_text.specs.Names.{place_of, interned, IsNameText, AreNames}
-use Rattle.ps_text.proofs.Folds.{position_or_len-map, list_any-map}
+use Rattle.ps_text.specs.Names.{folded, place_of, interned, IsNameText, AreNames}
+use Rattle.ps_text.proofs.Folds.{position_or_len-map, position-map, list_any-map}
 
 pub same_text-refl : (text : List ℕ) → same_text text text ≡ true
 same_text-refl text = (bytes_decides text text).1 refl
@@ -94,6 +96,28 @@ place_of-interned t text =
 
 pub place_of-within : (t : Table) (text : List ℕ) → place_of t text < length (interned t text)
 place_of-within t text = slice_get_within (interned t text) (place_of t text) text (place_of-interned t text)
+
+-- ---- a text that is found in a table of names is in lower case
+
+module _ (t : Table) (text : List ℕ) (place : ℕ) (names : AreNames t) (found : position (same_text text) t ≡ Some place) where
+  at : (place < length t) × (same_text text (get_or t place []) ≡ true) × ((k : ℕ) → k < place → same_text text (get_or t k []) ≡ false)
+  at = position-Some (same_text text) t place [] found
+
+  same : folded text ≡ text
+  same = subst (λ x. folded x ≡ x) (sym (same_text-same text (get_or t place []) at.1)) (names.texts place [] at.0).lower_case
+
+  place_of-found : place ≡ place_of t (folded text)
+  place_of-found = sym (ap (place_of t) same ∙ position_or_len_is (same_text text) t place [] (omega (arith, at.0)) at.2 (λ h. at.1))
+
+  interned-found : t ≡ interned t (folded text)
+  interned-found = sym (ap (interned t) same ∙ interned-there t text (list_any_at (same_text text) t place [] at.0 at.1))
+
+module _ {V : Type 0} (items : V → List ℕ) (vs : List V) (text : List ℕ) (place : ℕ) (names : AreNames (map items vs)) (found : position (λ y. same_text text (items y)) vs ≡ Some place) where
+  pub place_of-seen : place ≡ place_of (map items vs) (folded text)
+  place_of-seen = place_of-found (map items vs) text place names (sym (position-map items (same_text text) vs) ∙ found)
+
+  pub interned-seen : map items vs ≡ interned (map items vs) (folded text)
+  interned-seen = interned-found (map items vs) text place names (sym (position-map items (same_text text) vs) ∙ found)
 
 -- ---- a table of names stays one
 

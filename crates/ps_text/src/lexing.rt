@@ -1,11 +1,11 @@
 //! The tokens of a text.
 ghost use Rattle.std.specs.Prelude.{◌≡◌, IfOk, IfSome};
 ghost use Rattle.ps_world.specs.Failures.{refusal_of};
-ghost use Rattle.ps_text.specs.Tokens.{AreTokens, RefusesText, begins_digit, begins_number, class_at, class_of, fault_of_word, is_marked, is_sign, is_sign_byte};
+ghost use Rattle.ps_text.specs.Tokens.{AreTokens, RefusesText, begins_digit, begins_number, class_at, class_of, fault_of_word, is_sign, is_sign_byte};
 
 use super::decimals::read_number;
 use super::table::is_name;
-use super::word_spans::next_word;
+use super::word_spans::{next_word, usual_count};
 use ps_world::Failure;
 use std::alloc::Global;
 
@@ -60,16 +60,6 @@ fn is_sign(word: &[u8]) -> bool
     }
 }
 
-/// Whether a word is this byte and then a name.
-fn is_marked(mark: u8, word: &[u8]) -> bool
-    ensures { result ≡ is_marked mark word.now }
-{
-    match word {
-        [first, rest @ ..] => *first == mark && is_name(rest),
-        [] => false,
-    }
-}
-
 fn begins_digit(text: &[u8]) -> bool
     ensures { result ≡ begins_digit text.now }
 {
@@ -91,28 +81,23 @@ fn begins_number(word: &[u8]) -> bool
 fn class_of(word: &[u8]) -> Option<Class>
     ensures { result ≡ class_of word.now }
 {
-    if word == b"(".as_slice() {
-        return Some(Class::LeftParen);
+    match word {
+        [b'('] => Some(Class::LeftParen),
+        [b')'] => Some(Class::RightParen),
+        [b'?', name @ ..] => is_name(name).then_some(Class::Variable),
+        [b':', name @ ..] => is_name(name).then_some(Class::Keyword),
+        [b'#', b't'] => Some(Class::Continuous),
+        _ => {
+            // No two of these classes have a word in common. Most words are names.
+            if is_name(word) {
+                Some(Class::Name)
+            } else if begins_number(word) {
+                read_number(word).is_ok().then_some(Class::Number)
+            } else {
+                is_sign(word).then_some(Class::Sign)
+            }
+        }
     }
-    if word == b")".as_slice() {
-        return Some(Class::RightParen);
-    }
-    if is_sign(word) {
-        return Some(Class::Sign);
-    }
-    if is_marked(b'?', word) {
-        return Some(Class::Variable);
-    }
-    if is_marked(b':', word) {
-        return Some(Class::Keyword);
-    }
-    if begins_number(word) {
-        return read_number(word).is_ok().then_some(Class::Number);
-    }
-    if word == b"#t".as_slice() {
-        return Some(Class::Continuous);
-    }
-    is_name(word).then_some(Class::Name)
 }
 
 /// The fault of a word without a class.
@@ -129,17 +114,21 @@ fn fault_of_word(at: usize, word: &[u8]) -> LexRefusal
 fn class_at(at: usize, word: &[u8]) -> Result<Class, LexRefusal>
     ensures { result ≡ class_at at word.now }
 {
-    class_of(word).ok_or(fault_of_word(at, word))
+    match class_of(word) {
+        Some(class) => Ok(class),
+        None => Err(fault_of_word(at, word)),
+    }
 }
 
 /// The words of a text, in order, each with its class. Blanks and comments give none.
 ///
-/// The first word without a class is refused: as `Number` where it begins as a number, and as `Bad` otherwise. Memory may run out at any word.
+/// The first word without a class is refused: as `Number` where it begins as a number, and as `Bad` otherwise. Memory may run out
+/// at the start, or at any word.
 pub fn tokens(alloc: Global, bytes: &[u8]) -> Result<Vec<Token>, Failure<LexRefusal>>
     ensures ok { IfOk result (λ v. AreTokens bytes.now v.items) }
     ensures refused { IfSome (refusal_of result) (λ r. RefusesText r bytes.now) }
 {
-    let mut tokens = Vec::new(alloc);
+    let mut tokens = Vec::with_capacity(alloc, usual_count(bytes))?;
     let mut from = 0;
     while let Some(span) = next_word(bytes, from) {
         let class = match class_at(span.from, &bytes[span.from..span.to]) {

@@ -25,7 +25,8 @@ pub enum NameRefusal {
 fn is_name_byte(b: u8) -> bool
     ensures { result ≡ is_name_byte b }
 {
-    b.is_ascii_alphanumeric() || b == b'-' || b == b'_'
+    // Small letters first, which most bytes of names are.
+    b.is_ascii_lowercase() || b.is_ascii_alphanumeric() || b == b'-' || b == b'_'
 }
 
 fn first_other_byte(text: &[u8]) -> Option<usize>
@@ -113,6 +114,10 @@ impl Names {
         ensures within { IfOk result (λ n. n.0 < length self.new) }
         ensures err { OnErr result (self.new ≡ self.old) }
     {
+        // The texts here are in lower case, so that a text that is found needs no folding.
+        if let Some(place) = self.texts.get_index_of(text) {
+            return Ok(Name(place as u64));
+        }
         let folded = lower_case(*self.texts.allocator(), text)?;
         let (place, _) = self.texts.insert_full(folded)?;
         Ok(Name(place as u64))

@@ -82,6 +82,8 @@ fn word_start(bytes: &[u8], mut from: usize) -> usize
 }
 
 /// The span of the next word from a place on, or None where there is no word.
+// In line in the two loops over words, which call it for each.
+#[inline(always)]
 pub(crate) fn next_word(bytes: &[u8], from: usize) -> Option<Span>
     requires { from ≤ length bytes.now }
     ensures { MatchOption result
@@ -95,6 +97,11 @@ pub(crate) fn next_word(bytes: &[u8], from: usize) -> Option<Span>
         from,
         to: word_end(bytes, from),
     })
+}
+
+/// How many words a text of this length seldom has more than, for which a vector of them has room at first.
+pub(crate) fn usual_count(bytes: &[u8]) -> usize {
+    bytes.len() / 4 + 1
 }
 
 /// The words of a text, which contracts see as their list.
@@ -122,7 +129,7 @@ impl<'a> Words<'a> {
     pub fn of(alloc: Global, bytes: &'a [u8]) -> Result<Words<'a>, AllocError>
         ensures { IfOk result (λ w. w ≡ words bytes.now) }
     {
-        let mut spans = Vec::new(alloc);
+        let mut spans = Vec::with_capacity(alloc, usual_count(bytes))?;
         let mut from = 0;
         while let Some(span) = next_word(bytes, from) {
             spans.push(span)?;

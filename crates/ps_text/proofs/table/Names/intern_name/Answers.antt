@@ -1,8 +1,21 @@
-use Rattle.std.proofs.Common.{◌∙◌, [], ap, map, rules}
-use Rattle.ps_text.specs.Names.{folded, interned, place_of}
+use Rattle.std.proofs.Common.{◌≡◌, ◌∙◌, [], ap, map, rules, subst, sym}
+use Rattle.ps_text.specs.Names.{AreNames, folded, interned, place_of}
 use Rattle.ps_text.proofs.Folds.{IsNameText-folded}
-use Rattle.ps_text.proofs.Tables.{AreNames-interned, interned-view, place_of-view}
+use Rattle.ps_text.proofs.Tables.{AreNames-interned, interned-seen, interned-view, place_of-seen, place_of-view}
 use Rattle.ps_text.proofs.table.Names.intern_name.Goals as goal
+
+pub returns-in-Some-clause-ok : goal.returns-in-Some-clause-ok
+returns-in-Some-clause-ok c =
+    let names = subst (λ s. AreNames (map (λ v. v.items) s.keys)) (sym c.deref.ensures) c.self.invariant in
+    place_of-seen (λ v. v.items) c.deref.result.now.keys c.args.text.now c.in-Some.place names (sym c.in-Some.ensures.index)
+    ∙ ap (λ s. place_of (map (λ v. v.items) s.keys) (folded c.args.text.now)) c.deref.ensures
+    ∙ ap (λ t. place_of t (folded c.args.text.now)) c.self.view_is
+
+pub returns-in-Some-clause-table : goal.returns-in-Some-clause-table
+returns-in-Some-clause-table c =
+    let names = subst (λ s. AreNames (map (λ v. v.items) s.keys)) (sym c.deref.ensures) c.self.invariant in
+    let same = interned-seen (λ v. v.items) c.deref.result.now.keys c.args.text.now c.in-Some.place names (sym c.in-Some.ensures.index) in
+    subst (λ t. t ≡ interned t (folded c.args.text.now)) (ap (λ s. map (λ v. v.items) s.keys) c.deref.ensures ∙ c.self.view_is) same
 
 pub returns-clause-ok : goal.returns-clause-ok
 returns-clause-ok c =
