@@ -1,4 +1,5 @@
 pub mod Balance
+pub mod ClassNumbers
 pub mod Grammatical
 pub mod GrammaticalForms
 pub mod Judged

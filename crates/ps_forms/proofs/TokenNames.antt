@@ -12,7 +12,7 @@ use Rattle.ps_text.specs.declared.lexing.Token.{Token}
 use Rattle.ps_forms.specs.Lexemes.{IsTokenOf}
 
 -- the first class that fits, by what is tested
-abbrev first_class : (left right sign variable keyword begins number continuous name : Bool) → Option Class
+abbrev pub first_class : (left right sign variable keyword begins number continuous name : Bool) → Option Class
 first_class left right sign variable keyword begins number continuous name =
     if left then Some class.LeftParen
     else (if right then Some class.RightParen

@@ -1,5 +1,5 @@
 //! The words of a domain's text, each by what the grammar and the meaning need of it.
-ghost use Rattle.std.specs.Prelude.{◌≡◌, Some, drop, IfOk, OnErr, OnOk};
+ghost use Rattle.std.specs.Prelude.{◌≡◌, Some, slice_get, IfOk, OnErr, OnOk};
 ghost use Rattle.ps_text.specs.Names.{folded};
 ghost use Rattle.ps_text.specs.Tokens.{AreTokens, class_of};
 ghost use Rattle.ps_text.specs.Words.{reads_as};
@@ -104,66 +104,46 @@ fn mark_of_keyword(word: &[u8]) -> Mark
     }
 }
 
+/// The mark of a name. Only the fixed names with its first letter are compared.
 fn mark_of_name(word: &[u8]) -> Mark
     ensures { result ≡ mark_in fixed_names mark.Name (folded word.now) }
 {
-    if reads_as(word, b"define") {
-        Mark::Define
-    } else if reads_as(word, b"domain") {
-        Mark::Domain
-    } else if reads_as(word, b"problem") {
-        Mark::Problem
-    } else if reads_as(word, b"at") {
-        Mark::At
-    } else if reads_as(word, b"over") {
-        Mark::Over
-    } else if reads_as(word, b"start") {
-        Mark::Start
-    } else if reads_as(word, b"end") {
-        Mark::End
-    } else if reads_as(word, b"all") {
-        Mark::All
-    } else if reads_as(word, b"and") {
-        Mark::And
-    } else if reads_as(word, b"not") {
-        Mark::Not
-    } else if reads_as(word, b"or") {
-        Mark::Or
-    } else if reads_as(word, b"imply") {
-        Mark::Imply
-    } else if reads_as(word, b"exists") {
-        Mark::Exists
-    } else if reads_as(word, b"forall") {
-        Mark::Forall
-    } else if reads_as(word, b"when") {
-        Mark::When
-    } else {
-        mark_of_later_name(word)
+    match word {
+        [first, ..] => mark_of_name_with(first.to_ascii_lowercase(), word),
+        [] => Mark::Name,
     }
 }
 
-/// The mark of a name that is none of the first of the fixed names.
-fn mark_of_later_name(word: &[u8]) -> Mark
-    ensures { result ≡ mark_in (drop 15 fixed_names) mark.Name (folded word.now) }
+/// The mark of a name that begins with this letter.
+fn mark_of_name_with(letter: u8, word: &[u8]) -> Mark
+    requires { slice_get (folded word.now) 0 ≡ Some letter }
+    ensures { result ≡ mark_in fixed_names mark.Name (folded word.now) }
 {
-    if reads_as(word, b"preference") {
-        Mark::Preference
-    } else if reads_as(word, b"assign") {
-        Mark::Assign
-    } else if reads_as(word, b"increase") {
-        Mark::Increase
-    } else if reads_as(word, b"decrease") {
-        Mark::Decrease
-    } else if reads_as(word, b"scale-up") {
-        Mark::ScaleUp
-    } else if reads_as(word, b"scale-down") {
-        Mark::ScaleDown
-    } else if reads_as(word, b"either") {
-        Mark::Either
-    } else if reads_as(word, b"number") {
-        Mark::NumberWord
-    } else {
-        Mark::Name
+    match letter {
+        b'a' if reads_as(word, b"at") => Mark::At,
+        b'a' if reads_as(word, b"all") => Mark::All,
+        b'a' if reads_as(word, b"and") => Mark::And,
+        b'a' if reads_as(word, b"assign") => Mark::Assign,
+        b'd' if reads_as(word, b"define") => Mark::Define,
+        b'd' if reads_as(word, b"domain") => Mark::Domain,
+        b'd' if reads_as(word, b"decrease") => Mark::Decrease,
+        b'e' if reads_as(word, b"end") => Mark::End,
+        b'e' if reads_as(word, b"exists") => Mark::Exists,
+        b'e' if reads_as(word, b"either") => Mark::Either,
+        b'f' if reads_as(word, b"forall") => Mark::Forall,
+        b'i' if reads_as(word, b"imply") => Mark::Imply,
+        b'i' if reads_as(word, b"increase") => Mark::Increase,
+        b'n' if reads_as(word, b"not") => Mark::Not,
+        b'n' if reads_as(word, b"number") => Mark::NumberWord,
+        b'o' if reads_as(word, b"over") => Mark::Over,
+        b'o' if reads_as(word, b"or") => Mark::Or,
+        b'p' if reads_as(word, b"problem") => Mark::Problem,
+        b'p' if reads_as(word, b"preference") => Mark::Preference,
+        b's' if reads_as(word, b"start") => Mark::Start,
+        b's' if reads_as(word, b"scale-up") => Mark::ScaleUp,
+        b's' if reads_as(word, b"scale-down") => Mark::ScaleDown,
+        b'w' if reads_as(word, b"when") => Mark::When,
+        _ => Mark::Name,
     }
 }
 
@@ -201,11 +181,15 @@ fn name_within(names: &mut Names, class: Class, word: &[u8]) -> Result<Name, All
     }
 }
 
-/// The number that a text is, or zero.
-fn number_or_zero(text: &[u8]) -> Num
-    ensures { result ≡ number_or_zero text.now }
+/// The number that a word is, or zero. A word of a class other than `Number` is none, and isn't read.
+fn number_within(class: Class, word: &[u8]) -> Num
+    requires { class_of word.now ≡ Some class }
+    ensures { result ≡ number_or_zero word.now }
 {
-    read_number(text).unwrap_or(Num::ZERO)
+    match class {
+        Class::Number => read_number(word).unwrap_or(Num::ZERO),
+        _ => Num::ZERO,
+    }
 }
 
 /// A token as a word of the domain's text. Its name is put into the table. Where memory runs out nothing changes.
@@ -220,7 +204,7 @@ fn lexeme_of(names: &mut Names, bytes: &[u8], token: Token) -> Result<Lexeme, Al
     Ok(Lexeme {
         mark: mark_of(token.class, word),
         name,
-        number: number_or_zero(word),
+        number: number_within(token.class, word),
         at: token.from,
     })
 }
@@ -237,9 +221,9 @@ pub fn lexemes_of(
         ≡ (v.items, names.new)) }
     ensures kept { Keeps names.old names.new }
 {
-    let mut lexemes = Vec::new(alloc);
+    let mut lexemes = Vec::with_capacity(alloc, tokens.len())?;
     for token in tokens {
-        lexemes.push(lexeme_of(names, bytes, *token)?)?;
+        lexemes.push_reserved(lexeme_of(names, bytes, *token)?);
     }
     Ok(lexemes)
 }
