@@ -52,6 +52,10 @@ over_of_deep start ms at st m fits here deep = (cc, subst (λ (x : List Symbol).
 deep_of_over : (start : List Symbol) (ms : List Mark) (at : ℕ) (st : List Symbol) (m : Mark) → run start (take at ms) ≡ Some st → slice_get ms at ≡ Some m → IsOver st m → IsTooDeepFrom start ms at
 deep_of_over start ms at st m fits here over = (cc, subst (λ (x : List Symbol). deepest ≤ level x) (sym (wanted_is start (take at ms) st fits)) over.1)
 
+-- what was wanted before the marks may be named otherwise
+pub reached_from : (start other : List Symbol) (ms : List Mark) (at : ℕ) (st : List Symbol) → other ≡ start → run other (take at ms) ≡ Some st → ((k : ℕ) → k < at → IsTooDeepFrom other ms k → ⊥) → Reached start ms at st
+reached_from start other ms at st same fits flat = subst (λ (x : List Symbol). Reached x ms at st) same (record { fits = fits; flat = flat })
+
 -- nothing is read yet
 pub reached_start : (start : List Symbol) (ms : List Mark) → Reached start ms 0 start
 reached_start start ms = record { fits = refl; flat = λ k h _. absurd (omega (arith, h)) }
@@ -91,7 +95,7 @@ shallow_more : (start : List Symbol) (ms : List Mark) (at : ℕ) (st : List Symb
 shallow_more start ms at st m r here flat = shallow start ms (at + 1) (flat_more start ms at st m r here flat)
 
 -- the fault at a mark is the first fault of the text
-refuses : (r : ShapeFault) (ms : List Mark) (at : ℕ) (st : List Symbol) (m : Mark) → Reached text_start ms at st → slice_get ms at ≡ Some m → Fails st m (slice_get ms (at + 1)) at r → Refuses r ms
+pub refuses : (r : ShapeFault) (ms : List Mark) (at : ℕ) (st : List Symbol) (m : Mark) → Reached text_start ms at st → slice_get ms at ≡ Some m → Fails st m (slice_get ms (at + 1)) at r → Refuses r ms
 refuses (Unsupported place what) ms at st m r here fails = (
   at,
   fails.0,

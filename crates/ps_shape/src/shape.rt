@@ -18,8 +18,10 @@ pub fn judge(alloc: Global, marks: &[Mark]) -> Result<(), Failure<ShapeFault>>
     ensures fault { IfSome (refusal_of result) (λ fault. Refuses fault marks.now) }
 {
     let mut wanted = Wanted::whole(alloc)?;
-    for (at, mark) in marks.iter().enumerate() {
-        wanted.take(at, *mark, mark_at(marks, at + 1))?;
+    let at = wanted.taken(marks)?;
+    if at < marks.len() {
+        let fault = wanted.fault(at, marks[at], mark_at(marks, at + 1));
+        return Err(Failure::Refused(fault));
     }
     if wanted.is_empty() {
         Ok(())
@@ -42,10 +44,9 @@ pub fn first_fault(
         (λ at. IsFirstFaultFrom start.now marks.now at)) }
 {
     let mut wanted = Wanted::these(alloc, start)?;
-    for (at, mark) in marks.iter().enumerate() {
-        if !wanted.takes(*mark)? {
-            return Ok(Some(at));
-        }
+    let at = wanted.taken(marks)?;
+    if at < marks.len() {
+        return Ok(Some(at));
     }
     if wanted.is_empty() {
         Ok(None)

@@ -1,10 +1,9 @@
 //! The symbols that are still wanted, and what one mark more makes of them.
-ghost use Rattle.std.specs.Prelude.{◌≡◌, ◌≤◌, ◌<◌, ◌+◌, ◌^◌, ◌↔◌, [], ◌∷◌, ◌++◌, drop, length, true, false, Ok, None, Some, IfOk, OnOk, IfSome, IsTrue, MatchOption, slice_get};
-ghost use Rattle.ps_world.specs.Failures.{refusal_of};
+ghost use Rattle.std.specs.Prelude.{◌≡◌, ℕ, take, ◌≤◌, ◌<◌, ◌+◌, ◌^◌, ◌↔◌, [], ◌∷◌, ◌++◌, drop, length, true, false, Ok, None, Some, IfOk, IfSome, IsTrue, MatchOption, slice_get};
 ghost use Rattle.ps_shape.specs.declared.symbols.Symbol.TheVariants.{InText};
 ghost use Rattle.ps_shape.specs.declared.symbols.TextPart.TheVariants.{Whole};
 ghost use Rattle.ps_shape.specs.Symbols.{level, symbols};
-ghost use Rattle.ps_shape.specs.Shape.{next_wanted, deepest};
+ghost use Rattle.ps_shape.specs.Shape.{next_wanted, run, IsTooDeepFrom, deepest};
 ghost use Rattle.ps_shape.specs.Steps.{IsOver, Passes, Stops, Fails, form_of};
 ghost use Rattle.ps_shape.specs.Forms.{told_at};
 
@@ -12,7 +11,6 @@ use super::faults::{Form, ShapeFault, unsupported};
 use super::marks::Mark;
 use super::rules::step;
 use super::symbols::{Symbol, TextPart, Then};
-use ps_world::Failure;
 use std::alloc::{AllocError, Global};
 use std::marker::Model;
 
@@ -24,20 +22,22 @@ pub const DEEPEST: usize = 64;
 pub struct Wanted {
     /// The first one wanted stands last.
     items: Vec<Symbol>,
-    /// How many levels of parentheses stand open.
-    depth: usize,
+    /// For so many marks more no parenthesis can open a level too many, as each opens one at most. So the levels needn't be counted at
+    /// each mark.
+    left: usize,
 }
 
 impl Model for Wanted {
-    ghost use Rattle.std.specs.Prelude.{◌≡◌, List, reverse};
+    ghost use Rattle.std.specs.Prelude.{◌≤◌, ◌-◌, List, reverse};
     ghost use Rattle.ps_shape.specs.Symbols.{level};
+    ghost use Rattle.ps_shape.specs.Shape.{deepest};
     ghost use Rattle.ps_shape.specs.declared.symbols.Symbol.{Symbol};
 
     ghost Value = { List Symbol };
 
     ghost view = { λ w. reverse w.items.items };
 
-    ghost invariant = { λ w. w.depth ≡ level (reverse w.items.items) };
+    ghost invariant = { λ w. w.left ≤ deepest - level (reverse w.items.items) };
 }
 
 impl Wanted {
@@ -47,7 +47,7 @@ impl Wanted {
     {
         let mut wanted = Wanted {
             items: Vec::new(alloc),
-            depth: 0,
+            left: 0,
         };
         wanted.push(Symbol::InText(TextPart::Whole))?;
         Ok(wanted)
@@ -61,7 +61,7 @@ impl Wanted {
     {
         let mut wanted = Wanted {
             items: Vec::new(alloc),
-            depth: 0,
+            left: 0,
         };
         for at in (0..symbols.len()).rev() {
             wanted.push(symbols[at])?;
@@ -84,54 +84,89 @@ impl Wanted {
     }
 
     /// Whether the mark opens a level too many.
-    pub fn is_over(&self, mark: Mark) -> bool
-        ensures { IsTrue result ↔ IsOver self.now mark }
+    pub fn is_over(&mut self, mark: Mark) -> bool
+        requires { level self.old < 2 ^ 64 }
+        ensures over { IsTrue result ↔ IsOver self.old mark }
+        ensures kept { self.new ≡ self.old }
     {
         match mark {
-            Mark::Open => self.depth >= DEEPEST,
+            Mark::Open => self.left == 0 && self.is_deepest(),
             _ => false,
         }
     }
 
+    /// Whether no level more may be opened, by counting them.
+    fn is_deepest(&mut self) -> bool
+        requires { level self.old < 2 ^ 64 }
+        ensures deepest { IsTrue result ↔ (deepest ≤ level self.old) }
+        ensures kept { self.new ≡ self.old }
+    {
+        let levels = self.levels();
+        self.left = DEEPEST.saturating_sub(levels);
+        levels >= DEEPEST
+    }
+
+    /// How many levels of parentheses stand open.
+    #[tactic(auto, using(crate::proofs::Levels::level_last))]
+    fn levels(&self) -> usize
+        requires { level self.now < 2 ^ 64 }
+        ensures { result ≡ level self.now }
+    {
+        let mut levels = 0;
+        for at in (0..self.items.len()).rev() {
+            levels += self.items[at].weight();
+        }
+        levels
+    }
+
     /// Puts the symbol before the others.
     pub fn push(&mut self, symbol: Symbol) -> Result<(), AllocError>
-        requires { level self.old + 2 < 2 ^ 64 }
-        ensures put { IfOk result (λ _. self.new ≡ symbol ∷ self.old) }
-        ensures rises { level self.new ≤ level self.old + 2 }
+        ensures { IfOk result (λ _. self.new ≡ symbol ∷ self.old) }
     {
+        self.left = 0;
         self.items.push(symbol)?;
-        self.depth += symbol.weight();
         Ok(())
     }
 
-    /// Takes the first symbol away.
-    pub fn pop(&mut self) -> Option<Symbol>
-        ensures { MatchOption result ((self.old ≡ []) × (self.new ≡ []))
-            (λ s. self.old ≡ s ∷ self.new) }
+    /// Puts the symbol in place of the first one.
+    fn replace_by(&mut self, symbol: Symbol)
+        requires { 0 < length self.old }
+        ensures { self.new ≡ symbol ∷ drop 1 self.old }
     {
-        let symbol = self.items.pop()?;
-        self.depth -= symbol.weight();
-        Some(symbol)
+        self.left = 0;
+        let first = self.items.len() - 1;
+        self.items[first] = symbol;
     }
 
-    /// Puts the symbols before the others.
-    pub fn put(&mut self, next: Then) -> Result<(), AllocError>
-        requires { level self.old + 6 < 2 ^ 64 }
-        ensures { IfOk result (λ _. self.new ≡ symbols next ++ self.old) }
+    /// Takes the first symbol away.
+    fn pop(&mut self)
+        ensures { self.new ≡ drop 1 self.old }
     {
+        self.left = 0;
+        let _ = self.items.pop();
+    }
+
+    /// Puts what a mark leads to in place of the first symbol.
+    pub fn replace(&mut self, next: Then) -> Result<(), AllocError>
+        requires some { 0 < length self.old }
+        requires few { level (symbols next ++ drop 1 self.old) ≤ level self.old + 1 }
+        ensures { IfOk result (λ _. self.new ≡ symbols next ++ drop 1 self.old) }
+    {
+        let left = self.left.saturating_sub(1);
         match next {
-            Then::Nothing => {}
-            Then::One(a) => self.push(a)?,
+            Then::Nothing => self.pop(),
+            Then::One(a) => self.replace_by(a),
             Then::Two(a, b) => {
-                self.push(b)?;
+                self.replace_by(b);
                 self.push(a)?;
             }
             Then::Three(a, b, c) => {
-                self.push(c)?;
+                self.replace_by(c);
                 self.push(b)?;
                 self.push(a)?;
             }
         }
+        self.left = left;
         Ok(())
     }
 
@@ -162,36 +197,27 @@ impl Wanted {
         }
     }
 
-    /// Takes the mark at place `at`, if it fits; `after` is the mark after it. The refusal is the mark's fault.
-    pub fn take(
-        &mut self,
-        at: usize,
-        mark: Mark,
-        after: Option<Mark>,
-    ) -> Result<(), Failure<ShapeFault>>
-        requires room { level self.old + 6 < 2 ^ 64 }
+    /// What is wrong with a mark that doesn't fit or opens a level too many; `after` is the mark after it.
+    pub fn fault(&mut self, at: usize, mark: Mark, after: Option<Mark>) -> ShapeFault
+        requires room { level self.old < 2 ^ 64 }
         requires place { at + 1 < 2 ^ 64 }
-        ensures passes { OnOk result (Passes self.old mark self.new) }
-        ensures rises { OnOk result (level self.new ≤ level self.old + 1) }
-        ensures fails { IfSome (refusal_of result) (λ fault. Fails self.old mark after at fault) }
+        requires stops { Stops self.old mark }
+        ensures { Fails self.old mark after at result }
     {
         if self.is_over(mark) {
-            return Err(Failure::Refused(ShapeFault::Depth { at }));
+            ShapeFault::Depth { at }
+        } else {
+            self.misfit(at, mark, after)
         }
-        let Some(next) = self.fitting(mark) else {
-            return Err(Failure::Refused(self.misfit(at, mark, after)));
-        };
-        let _ = self.pop();
-        self.put(next)?;
-        Ok(())
     }
 
     /// Takes the mark if it fits and opens no level too many, and says whether it did.
-    pub fn takes(&mut self, mark: Mark) -> Result<bool, AllocError>
+    fn takes(&mut self, mark: Mark) -> Result<bool, AllocError>
         requires { level self.old + 6 < 2 ^ 64 }
         ensures passes { result ≡ Ok true → Passes self.old mark self.new }
         ensures rises { result ≡ Ok true → level self.new ≤ level self.old + 1 }
         ensures stops { result ≡ Ok false → Stops self.old mark }
+        ensures kept { result ≡ Ok false → self.new ≡ self.old }
     {
         if self.is_over(mark) {
             return Ok(false);
@@ -199,8 +225,26 @@ impl Wanted {
         let Some(next) = self.fitting(mark) else {
             return Ok(false);
         };
-        let _ = self.pop();
-        self.put(next)?;
+        self.replace(next)?;
         Ok(true)
+    }
+
+    /// Takes marks as long as they fit and open no level too many, and says how many it took.
+    pub fn taken(&mut self, marks: &[Mark]) -> Result<usize, AllocError>
+        requires { level self.old ≤ 16 }
+        ensures within { IfOk result (λ at. at ≤ length marks.now) }
+        ensures fits { IfOk result (λ at. run self.old (take at marks.now) ≡ Some self.new) }
+        ensures flat { IfOk result
+            (λ at. (k : ℕ) → k < at → IsTooDeepFrom self.old marks.now k → ⊥) }
+        ensures low { IfOk result (λ at. level self.new ≤ at + 16) }
+        ensures stops { IfOk result
+            (λ at. IfSome (slice_get marks.now at) (λ m. Stops self.new m)) }
+    {
+        for (at, mark) in marks.iter().enumerate() {
+            if !self.takes(*mark)? {
+                return Ok(at);
+            }
+        }
+        Ok(marks.len())
     }
 }

@@ -1,8 +1,0 @@
-use Rattle.std.proofs.Common.{◌≤◌}
-use Rattle.ps_shape.specs.Shape.{text_start}
-use Rattle.ps_shape.specs.Symbols.{level}
-use Rattle.ps_shape.proofs.FirstFaults.{Reached}
-use Rattle.ps_shape.proofs.shape.judge.Given as goal
-
-abbrev pub invariant-loop-at : goal.invariant-loop-at
-invariant-loop-at l = record { reached : Reached text_start l.marks l.at l.wanted; low : level l.wanted ≤ l.at }
