@@ -6,6 +6,7 @@ pub mod MemberTexts
 pub mod OneScript
 pub mod PlanNames
 pub mod Pushed
+pub mod QuitLines
 pub mod ReadParts
 pub mod SoundInput
 pub mod Soundness

@@ -3,3 +3,4 @@ pub mod FileNames
 pub mod LineReads
 pub mod Lists
 pub mod OneAnswer
+pub mod TokenWords

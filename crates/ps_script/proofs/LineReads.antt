@@ -1,5 +1,5 @@
 -- What a line is read as, by what was found out of it.
-use Rattle.std.proofs.Common.{◌≡◌, ℕ, true, false, List, [], ◌∷◌, length, take, Option, None, Some, IfSome, Result, Ok, Err, OnErr, refl, sym, ◌∙◌, ap, subst}
+use Rattle.std.proofs.Common.{◌≡◌, ℕ, true, false, List, [], ◌∷◌, length, take, Option, None, Some, IfSome, Result, Err, refl, sym, ◌∙◌, ap, subst}
 use Rattle.ps_world.specs.Failures.{refusal_of}
 use Rattle.ps_world.specs.Names.{Table}
 use Rattle.ps_world.specs.declared.failures.Failure.{Failure}
@@ -8,6 +8,8 @@ use Rattle.ps_machine.specs.declared.inputs.Command.{Command}
 use Rattle.ps_machine.specs.declared.inputs.LineCause.{LineCause}
 use Rattle.ps_machine.specs.declared.inputs.LineCause.TheVariants as cause
 use Rattle.ps_machine.specs.declared.inputs.Line.TheVariants.{Good}
+use Rattle.ps_text.specs.Names.{Keeps}
+use Rattle.ps_text.proofs.Kept.{kept_front}
 use Rattle.ps_text.specs.Tokens.{AreTokens, RefusesText}
 use Rattle.ps_text.specs.Words.{words}
 use Rattle.ps_text.specs.declared.lexing.LexRefusal.{LexRefusal}
@@ -15,7 +17,6 @@ use Rattle.ps_text.specs.declared.lexing.LexRefusal.TheVariants as lexing
 use Rattle.ps_text.specs.declared.lexing.Token.{Token}
 use Rattle.ps_shape.specs.Shape.{Derives, IsFirstFaultFrom, IsShallowFrom}
 use Rattle.ps_shape.specs.declared.marks.Mark.{Mark}
-use Rattle.ps_text.specs.Names.{Keeps}
 use Rattle.ps_forms.specs.Lexemes.{lexeme_of, lexemes_of, marks, table_after}
 use Rattle.ps_forms.specs.Nested.{Nesteds}
 use Rattle.ps_forms.specs.Spelling.{SpellAll, is_balanced}
@@ -35,23 +36,46 @@ pub marks_same : (bytes : List ℕ) (table : Table) (tokens : List Token) → ma
 marks_same bytes table [] = refl
 marks_same bytes table (t ∷ ts) = ap (λ ms. (lexeme_of bytes table t).mark ∷ ms) (marks_same bytes (table_after bytes table t) ts)
 
+-- and so are the marks that were taken from the words
+word_marks : (table after : Table) (bytes : List ℕ) (tokens : List Token) (ls same : List Lexeme) (items : List Mark) → lexemes_of bytes table tokens ≡ (ls, after) → same ≡ ls → items ≡ marks same → items ≡ marks_of bytes tokens
+word_marks table after bytes tokens ls same items words e n =
+    n ∙ ap marks e ∙ ap (λ x. marks x.0) (sym words) ∙ marks_same bytes table tokens
+
+pub fits_form : (bytes : List ℕ) (form : Form) (tokens : List Token) (ms items : List Mark) → IsPlain bytes → AreTokens bytes tokens → form_of (words bytes) ≡ Some form → ms ≡ items → items ≡ marks_of bytes tokens → Derives (start_of form) ms × IsShallowFrom (start_of form) ms → IsOfForm bytes form tokens
+fits_form bytes form tokens ms items plain are is m n fits = record {
+  plain = plain;
+  are_tokens = are;
+  form_is = is;
+  derived = subst (Derives (start_of form)) (m ∙ n) fits.0;
+  shallow = subst (λ (x : List Mark). IsShallowFrom (start_of form) x) (m ∙ n) fits.1;
+}
+
+-- a line whose words fit its form is of that form
+pub words_fit : (table after : Table) (bytes : List ℕ) (form : Form) (tokens : List Token) (ls same : List Lexeme) (ms items : List Mark) → IsPlain bytes → AreTokens bytes tokens → form_of (words bytes) ≡ Some form → lexemes_of bytes table tokens ≡ (ls, after) → same ≡ ls → ms ≡ items → items ≡ marks same → Derives (start_of form) ms × IsShallowFrom (start_of form) ms → IsOfForm bytes form tokens
+words_fit table after bytes form tokens ls same ms items plain are is words e m n fits =
+    fits_form bytes form tokens ms items plain are is m (word_marks table after bytes tokens ls same items words e n) fits
+
 -- the words of a line that fits its form are balanced
 pub good_balance : (table : Table) (bytes : List ℕ) (form : Form) (tokens : List Token) (ls same : List Lexeme) (after : Table) → IsOfForm bytes form tokens → lexemes_of bytes table tokens ≡ (ls, after) → same ≡ ls → is_balanced 0 (marks same) ≡ true
 good_balance table bytes form tokens ls same after is words e =
-    let m : marks same ≡ marks_of bytes tokens = ap marks e ∙ ap (λ x. marks x.0) (sym words) ∙ marks_same bytes table tokens in
-    subst (λ (ms : List Mark). is_balanced 0 ms ≡ true) (sym m) (balanced_line form _ is.derived)
+    subst (λ (ms : List Mark). is_balanced 0 ms ≡ true) (sym (word_marks table after bytes tokens ls same (marks same) words e refl)) (balanced_line form _ is.derived)
 
-pub good_read : (table : Table) (bytes : List ℕ) (form : Form) (tokens : List Token) (ls same : List Lexeme) (after : Table) (ts us : Nesteds) (command : Command) → IsOfForm bytes form tokens → lexemes_of bytes table tokens ≡ (ls, after) → same ≡ ls → SpellAll ts same → us ≡ ts → command ≡ command_of form us → IsRead table bytes (Line (Good command)) after
-good_read table bytes form tokens ls same after ts us command is words e spelt u f =
-    good form tokens ls after ts command is words (subst (SpellAll ts) e spelt) (ap (command_of form) (sym u) ∙ sym f)
+-- a line that fits its form is the command of its words
+pub good_read : (table : Table) (bytes : List ℕ) (form : Form) (tokens : List Token) (ls same : List Lexeme) (after : Table) (command : Command) → IsOfForm bytes form tokens → lexemes_of bytes table tokens ≡ (ls, after) → same ≡ ls → (ts : Nesteds) × SpellAll ts same × (command ≡ command_of form ts) → IsRead table bytes (Line (Good command)) after
+good_read table bytes form tokens ls same after command is words e found =
+    good form tokens ls after found.0 command is words (subst (SpellAll found.0) e found.1) (sym found.2)
 
-pub misfit_read : (table : Table) (bytes : List ℕ) (form : Form) (tokens : List Token) (ms items : List Mark) (i at : ℕ) (found : Option ℕ) (r : Read) → IsPlain bytes → AreTokens bytes tokens → form_of (words bytes) ≡ Some form → ms ≡ items → items ≡ marks_of bytes tokens → found ≡ Some i → IfSome found (λ at. IsFirstFaultFrom (start_of form) ms at) → at ≡ place bytes tokens i → r ≡ bad (cause.Shape at) → IsRead table bytes r table
-misfit_read table bytes form tokens ms items i at found r plain are is m n f fault p e =
+-- a line that doesn't fit its form puts no name into the table
+pub misfit_read : (table now after : Table) (before : ℕ) (bytes : List ℕ) (form : Form) (tokens : List Token) (ls same : List Lexeme) (ms items : List Mark) (i at : ℕ) (found : Option ℕ) (r : Read) → before ≡ length table → Keeps table now → after ≡ take before now → IsPlain bytes → AreTokens bytes tokens → form_of (words bytes) ≡ Some form → lexemes_of bytes table tokens ≡ (ls, now) → same ≡ ls → ms ≡ items → items ≡ marks same → found ≡ Some i → IfSome found (λ at. IsFirstFaultFrom (start_of form) ms at) → at ≡ place bytes tokens i → r ≡ bad (cause.Shape at) → IsRead table bytes r after
+misfit_read table now after before bytes form tokens ls same ms items i at found r count kept cut plain are is words e m n f fault p b =
     let here : IsFirstFaultFrom (start_of form) ms i = subst (λ (o : Option ℕ). IfSome o (λ at. IsFirstFaultFrom (start_of form) ms at)) f fault in
-    subst (λ (x : Read). IsRead table bytes x table) (sym (e ∙ ap (λ k. bad (cause.Shape k)) p)) (without_shape form tokens i plain are is (subst (λ (x : List Mark). IsFirstFaultFrom (start_of form) x i) (m ∙ n) here))
+    let to : ms ≡ marks_of bytes tokens = m ∙ word_marks table now bytes tokens ls same items words e n in
+    let back : after ≡ table = cut ∙ ap (λ k. take k now) count ∙ kept_front table now kept in
+    let bare : IsRead table bytes (bad (cause.Shape (place bytes tokens i))) table = without_shape form tokens i plain are is (subst (λ (x : List Mark). IsFirstFaultFrom (start_of form) x i) to here) in
+    subst (λ (x : Table). IsRead table bytes r x) (sym back) (subst (λ (x : Read). IsRead table bytes x table) (sym (b ∙ ap (λ k. bad (cause.Shape k)) p)) bare)
 
-pub formless_read : (table : Table) (bytes : List ℕ) (tokens : List Token) (ws : List (List ℕ)) (found : Option Form) (r : Read) → IsPlain bytes → AreTokens bytes tokens → ws ≡ words bytes → found ≡ form_of ws → found ≡ None → r ≡ bad cause.Command → IsRead table bytes r table
-formless_read table bytes tokens ws found r plain are w f n e = subst (λ (x : Read). IsRead table bytes x table) (sym e) (without_form tokens plain are (ap form_of (sym w) ∙ sym f ∙ n))
+pub formless_read : (table : Table) (bytes : List ℕ) (tokens : List Token) (found : Option Form) (r : Read) → IsPlain bytes → AreTokens bytes tokens → found ≡ form_of (words bytes) → found ≡ None → r ≡ bad cause.Command → IsRead table bytes r table
+formless_read table bytes tokens found r plain are f n e = subst (λ (x : Read). IsRead table bytes x table) (sym e) (without_form tokens plain are (sym f ∙ n))
 
 classless_read : (table : Table) (bytes : List ℕ) (fault : LexRefusal) → IsPlain bytes → RefusesText fault bytes → IsRead table bytes (bad (cause_of fault)) table
 classless_read table bytes (lexing.Bad at) plain fault = without_class at plain fault
@@ -75,12 +99,3 @@ plan_read table after bytes text rest found file some other is t u f s e =
 pub plan_nothing_read : (table : Table) (bytes text rest : List ℕ) (found : Option (List ℕ)) (r : Read) → is_nothing bytes ≡ false → is_source bytes ≡ false → is_run_plan bytes ≡ true → text ≡ after_run bytes → rest ≡ after_run text → found ≡ file_in rest → found ≡ None → r ≡ bad (cause.Shape (length bytes)) → IsRead table bytes r table
 plan_nothing_read table bytes text rest found r some other is t u f s e =
     subst (λ (x : Read). IsRead table bytes x table) (sym e) (run_nothing some other is (ap file_in (ap after_run (sym t) ∙ sym u) ∙ sym f ∙ s))
-
-pub fits_form : (bytes : List ℕ) (form : Form) (tokens : List Token) (ms items : List Mark) → IsPlain bytes → AreTokens bytes tokens → form_of (words bytes) ≡ Some form → ms ≡ items → items ≡ marks_of bytes tokens → Derives (start_of form) ms × IsShallowFrom (start_of form) ms → IsOfForm bytes form tokens
-fits_form bytes form tokens ms items plain are is m n fits = record {
-  plain = plain;
-  are_tokens = are;
-  form_is = is;
-  derived = subst (Derives (start_of form)) (m ∙ n) fits.0;
-  shallow = subst (λ (x : List Mark). IsShallowFrom (start_of form) x) (m ∙ n) fits.1;
-}

@@ -1,5 +1,7 @@
 -- Values, conditions and names by how many words and lists there are.
-use Rattle.std.proofs.Common.{◌≡◌, ◌≤◌, ◌<◌, ℕ, true, false, List, [], ◌∷◌, ◌++◌, length, map, drop, slice_index_or, refl, ap, arith, suc, if◌then◌else◌}
+use Rattle.std.proofs.Common.{◌≡◌, ◌≤◌, ◌<◌, ◌+◌, ℕ, true, false, List, [], ◌∷◌, ◌++◌, length, map, min, drop, take, slice_index_or, slice_set, refl, sym, ◌∙◌, ap, arith, suc, if◌then◌else◌}
+use Rattle.std.proofs.lemmas.List.{map_more, take-map, take_min, take_more_set}
+use Rattle.ps_world.specs.declared.names.Name.{Name}
 use Rattle.ps_world.specs.Trees.{CondTree}
 use Rattle.ps_world.specs.ExprViews.{expr_tree}
 use Rattle.ps_world.specs.CondViews.{cond_tree}
@@ -13,12 +15,30 @@ use Rattle.ps_forms.specs.Places.{head, word_of}
 use Rattle.ps_forms.specs.declared.trees.Tree.{Tree}
 use Rattle.ps_forms.specs.declared.trees.Tree.TheVariants.{Group}
 use Rattle.ps_forms.proofs.NestedLists.{from-item}
-use Rattle.ps_script.specs.Goals.{condition, conditions, form, lifted_of, names_of, operated, operation, operator_of, plain_condition, value}
+use Rattle.ps_script.specs.Goals.{args_of, condition, conditions, form, lifted_of, names_of, operated, operation, operator_of, plain_condition, value}
 
 -- the names of words, one by one
 pub names_map : (ts : List Tree) → map (λ t. (word_of (nested t)).name) ts ≡ names_of (nesteds (map nested ts))
 names_map [] = refl
 names_map (t ∷ ts) = ap (λ ns. (word_of (nested t)).name ∷ ns) (names_map ts)
+
+-- one name more is filled
+pub name_more : (ts : List Tree) (i : ℕ) (t : Tree) (ns : List Name) (n : Name) → i < length ts → i < length ns → t ≡ slice_index_or ts i t → n ≡ (word_of (nested t)).name → take i ns ≡ map (λ t. (word_of (nested t)).name) (take i ts) → take (i + 1) (slice_set ns i n) ≡ map (λ t. (word_of (nested t)).name) (take (i + 1) ts)
+name_more ts i t ns n lt room is named filled =
+    take_more_set ns i n room
+    ∙ ap (λ l. l ++ n ∷ []) filled
+    ∙ ap (λ x. map (λ t. (word_of (nested t)).name) (take i ts) ++ x ∷ []) (named ∙ ap (λ u. (word_of (nested u)).name) is)
+    ∙ sym (map_more (λ t. (word_of (nested t)).name) ts i t lt)
+
+-- all names that count are filled
+pub first_names : (ts : List Tree) (count : ℕ) (args ns : List Name) → count ≡ min (length ts) 6 → args ≡ take count ns → take count ns ≡ map (λ t. (word_of (nested t)).name) (take count ts) → args ≡ args_of (nesteds (map nested ts))
+first_names ts count args ns few is filled =
+    let all : count ≡ min 6 (length ts) = omega (arith, few) in
+    is ∙ filled
+    ∙ ap (λ n. map (λ t. (word_of (nested t)).name) (take n ts)) all
+    ∙ ap (map (λ t. (word_of (nested t)).name)) (take_min 6 ts)
+    ∙ sym (take-map (λ t. (word_of (nested t)).name) 6 ts)
+    ∙ ap (take 6) (names_map ts)
 
 pub alone : (us : List Tree) → length us ≡ 1 → operation (nesteds (map nested us)) ≡ Fun (lifted_of (nesteds (map nested us)))
 alone [] h = absurd (omega (arith, h))

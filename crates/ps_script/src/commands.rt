@@ -27,30 +27,30 @@ fn fourth_name(trees: &[Tree]) -> Name
 }
 
 /// The fact after the two fixed words.
-fn stated(alloc: Global, trees: &[Tree]) -> Result<Fact, AllocError>
-    ensures { IfOk result (λ f. f ≡ stated (nesteds (map nested trees.now))) }
+fn stated(trees: &[Tree]) -> Fact
+    ensures { result ≡ stated (nesteds (map nested trees.now)) }
 {
-    fact_of(alloc, items_at(after_two(trees)))
+    fact_of(items_at(after_two(trees)))
 }
 
 /// The act after the two fixed words.
-fn acted(alloc: Global, trees: &[Tree]) -> Result<Act, AllocError>
-    ensures { IfOk result (λ a. a ≡ acted (nesteds (map nested trees.now))) }
+fn acted(trees: &[Tree]) -> Act
+    ensures { result ≡ acted (nesteds (map nested trees.now)) }
 {
-    let fact = stated(alloc, trees)?;
-    Ok(Act {
+    let fact = stated(trees);
+    Act {
         action: fact.head,
         args: fact.args,
-    })
+    }
 }
 
 /// `(= (NAME NAME*) NUMBER)`, by what stands between its parentheses.
-fn valued(alloc: Global, trees: &[Tree]) -> Result<Command, AllocError>
-    ensures { IfOk result (λ c. c ≡ valued (nesteds (map nested trees.now))) }
+fn valued(trees: &[Tree]) -> Command
+    ensures { result ≡ valued (nesteds (map nested trees.now)) }
 {
-    let fact = fact_of(alloc, items_at(rest(trees)))?;
+    let fact = fact_of(items_at(rest(trees)));
     let number = head(rest(rest(trees))).number;
-    Ok(Command::Edit(Edit::SetValue(fact, number)))
+    Command::Edit(Edit::SetValue(fact, number))
 }
 
 /// The command that a line is, by its form and its nested lists.
@@ -62,12 +62,12 @@ pub fn command_of(alloc: Global, form: Form, trees: &[Tree]) -> Result<Command, 
             let name = head(after_two(trees)).name;
             Command::Edit(Edit::AddInstance(name, fourth_name(trees)))
         }
-        Form::SetPredicate => Command::Edit(Edit::AddFact(stated(alloc, trees)?)),
-        Form::SetFunction => valued(alloc, items_at(after_two(trees)))?,
+        Form::SetPredicate => Command::Edit(Edit::AddFact(stated(trees))),
+        Form::SetFunction => valued(items_at(after_two(trees))),
         Form::SetGoal => { Command::Edit(Edit::SetGoal(first_condition(alloc, after_two(trees))?)) }
         Form::RemoveInstance => Command::Edit(Edit::RemoveInstance(head(after_two(trees)).name)),
-        Form::RemovePredicate => Command::Edit(Edit::RemoveFact(stated(alloc, trees)?)),
-        Form::RemoveFunction => Command::Edit(Edit::RemoveValue(stated(alloc, trees)?)),
+        Form::RemovePredicate => Command::Edit(Edit::RemoveFact(stated(trees))),
+        Form::RemoveFunction => Command::Edit(Edit::RemoveValue(stated(trees))),
         Form::RemoveGoal => Command::Edit(Edit::RemoveGoal),
         Form::ModelTypes => Command::Ask(Query::ModelTypes),
         Form::ModelPredicates => Command::Ask(Query::ModelPredicates),
@@ -83,7 +83,7 @@ pub fn command_of(alloc: Global, form: Form, trees: &[Tree]) -> Result<Command, 
         Form::Plan => Command::Ask(Query::Plan),
         Form::Tree => Command::Ask(Query::Tree),
         Form::Run => Command::Run,
-        Form::RunAction => Command::RunAction(acted(alloc, trees)?),
+        Form::RunAction => Command::RunAction(acted(trees)),
         Form::Quit => Command::Quit,
     })
 }

@@ -1,8 +1,10 @@
 //! The forms of a line.
-ghost use Rattle.std.specs.Prelude.{◌≡◌, ◌∷◌, [], Ok, drop, IfOk, IfSome};
+ghost use Rattle.std.specs.Prelude.{◌≡◌, ◌∷◌, [], Ok, Some, codes, IfOk, IfSome};
+ghost use Rattle.ps_text.specs.Words.{word_at};
 ghost use Rattle.ps_shape.specs.Shape.{Derives, IsFirstFaultFrom, IsShallowFrom};
-ghost use Rattle.ps_script.specs.Forms.{begins, form_in, form_of, one_word, start_of, three_words, two_words};
+ghost use Rattle.ps_script.specs.Forms.{form_of, start_of};
 
+use super::files::reads_as;
 use ps_shape::{GoalPart, Mark, Symbol, first_fault};
 use ps_text::Words;
 use std::alloc::{AllocError, Global};
@@ -60,129 +62,139 @@ pub enum Form {
     RunAction,
 }
 
-/// Whether words begin with these two.
-fn begin_with_two(words: &Words, first: &[u8], second: &[u8]) -> bool
-    ensures { result ≡ begins words.now 0 (first.now ∷ second.now ∷ []) }
+/// The form of a line that begins with `set` and this word.
+fn form_of_set(second: &[u8]) -> Option<Form>
+    ensures { result ≡ form_of (codes "set" ∷ second.now ∷ []) }
 {
-    words.reads(0, first) && words.reads(1, second)
-}
-
-/// Whether words begin with these three.
-fn begin_with_three(words: &Words, first: &[u8], second: &[u8], third: &[u8]) -> bool
-    ensures { result ≡ begins words.now 0 (first.now ∷ second.now ∷ third.now ∷ []) }
-{
-    words.reads(0, first) && words.reads(1, second) && words.reads(2, third)
-}
-
-/// The form of three words that these words begin with.
-fn form_of_three(words: &Words) -> Option<Form>
-    ensures { result ≡ form_in three_words words.now }
-{
-    if begin_with_three(words, b"get", b"model", b"types") {
-        Some(Form::ModelTypes)
-    } else if begin_with_three(words, b"get", b"model", b"predicates") {
-        Some(Form::ModelPredicates)
-    } else if begin_with_three(words, b"get", b"model", b"functions") {
-        Some(Form::ModelFunctions)
-    } else if begin_with_three(words, b"get", b"model", b"actions") {
-        Some(Form::ModelActions)
-    } else if begin_with_three(words, b"get", b"model", b"predicate") {
-        Some(Form::ModelPredicate)
-    } else if begin_with_three(words, b"get", b"model", b"action") {
-        Some(Form::ModelAction)
+    if reads_as(second, b"instance") {
+        Some(Form::SetInstance)
+    } else if reads_as(second, b"predicate") {
+        Some(Form::SetPredicate)
+    } else if reads_as(second, b"function") {
+        Some(Form::SetFunction)
+    } else if reads_as(second, b"goal") {
+        Some(Form::SetGoal)
     } else {
-        form_of_problem(words)
+        None
     }
 }
 
-/// The form of three words that begin with `get problem`.
-fn form_of_problem(words: &Words) -> Option<Form>
-    ensures { result ≡ form_in (drop 6 three_words) words.now }
+/// The form of a line that begins with `remove` and this word.
+fn form_of_remove(second: &[u8]) -> Option<Form>
+    ensures { result ≡ form_of (codes "remove" ∷ second.now ∷ []) }
 {
-    if begin_with_three(words, b"get", b"problem", b"instances") {
+    if reads_as(second, b"instance") {
+        Some(Form::RemoveInstance)
+    } else if reads_as(second, b"predicate") {
+        Some(Form::RemovePredicate)
+    } else if reads_as(second, b"function") {
+        Some(Form::RemoveFunction)
+    } else if reads_as(second, b"goal") {
+        Some(Form::RemoveGoal)
+    } else {
+        None
+    }
+}
+
+/// The form of a line that begins with `run` and this word.
+fn form_of_run(second: &[u8]) -> Form
+    ensures { Some result ≡ form_of (codes "run" ∷ second.now ∷ []) }
+{
+    if reads_as(second, b"action") {
+        Form::RunAction
+    } else {
+        Form::Run
+    }
+}
+
+/// The form of a line that begins with `get model` and this word.
+fn form_of_model(third: &[u8]) -> Option<Form>
+    ensures { result ≡ form_of (codes "get" ∷ codes "model" ∷ third.now ∷ []) }
+{
+    if reads_as(third, b"types") {
+        Some(Form::ModelTypes)
+    } else if reads_as(third, b"predicates") {
+        Some(Form::ModelPredicates)
+    } else if reads_as(third, b"functions") {
+        Some(Form::ModelFunctions)
+    } else if reads_as(third, b"actions") {
+        Some(Form::ModelActions)
+    } else if reads_as(third, b"predicate") {
+        Some(Form::ModelPredicate)
+    } else if reads_as(third, b"action") {
+        Some(Form::ModelAction)
+    } else {
+        None
+    }
+}
+
+/// The form of a line that begins with `get problem` and this word.
+fn form_of_problem(third: &[u8]) -> Option<Form>
+    ensures { result ≡ form_of (codes "get" ∷ codes "problem" ∷ third.now ∷ []) }
+{
+    if reads_as(third, b"instances") {
         Some(Form::ProblemInstances)
-    } else if begin_with_three(words, b"get", b"problem", b"predicates") {
+    } else if reads_as(third, b"predicates") {
         Some(Form::ProblemPredicates)
-    } else if begin_with_three(words, b"get", b"problem", b"functions") {
+    } else if reads_as(third, b"functions") {
         Some(Form::ProblemFunctions)
-    } else if begin_with_three(words, b"get", b"problem", b"goal") {
+    } else if reads_as(third, b"goal") {
         Some(Form::ProblemGoal)
     } else {
         None
     }
 }
 
-/// The form of two words that these words begin with.
-fn form_of_two(words: &Words) -> Option<Form>
-    ensures { result ≡ form_in two_words words.now }
+/// The form of a line that begins with `get` and these words.
+fn form_of_get(second: &[u8], third: &[u8]) -> Option<Form>
+    ensures { result ≡ form_of (codes "get" ∷ second.now ∷ third.now ∷ []) }
 {
-    if begin_with_two(words, b"set", b"instance") {
-        Some(Form::SetInstance)
-    } else if begin_with_two(words, b"set", b"predicate") {
-        Some(Form::SetPredicate)
-    } else if begin_with_two(words, b"set", b"function") {
-        Some(Form::SetFunction)
-    } else if begin_with_two(words, b"set", b"goal") {
-        Some(Form::SetGoal)
-    } else {
-        form_of_later_two(words)
-    }
-}
-
-/// The form of two words that don't begin with `set`.
-fn form_of_later_two(words: &Words) -> Option<Form>
-    ensures { result ≡ form_in (drop 4 two_words) words.now }
-{
-    if begin_with_two(words, b"remove", b"instance") {
-        Some(Form::RemoveInstance)
-    } else if begin_with_two(words, b"remove", b"predicate") {
-        Some(Form::RemovePredicate)
-    } else if begin_with_two(words, b"remove", b"function") {
-        Some(Form::RemoveFunction)
-    } else if begin_with_two(words, b"remove", b"goal") {
-        Some(Form::RemoveGoal)
-    } else {
-        form_of_last_two(words)
-    }
-}
-
-/// The form of two words that begin with neither `set` nor `remove`.
-fn form_of_last_two(words: &Words) -> Option<Form>
-    ensures { result ≡ form_in (drop 8 two_words) words.now }
-{
-    if begin_with_two(words, b"get", b"domain") {
+    if reads_as(second, b"model") {
+        form_of_model(third)
+    } else if reads_as(second, b"problem") {
+        form_of_problem(third)
+    } else if reads_as(second, b"domain") {
         Some(Form::Domain)
-    } else if begin_with_two(words, b"get", b"plan") {
+    } else if reads_as(second, b"plan") {
         Some(Form::Plan)
-    } else if begin_with_two(words, b"get", b"tree") {
+    } else if reads_as(second, b"tree") {
         Some(Form::Tree)
-    } else if begin_with_two(words, b"run", b"action") {
-        Some(Form::RunAction)
     } else {
         None
     }
 }
 
-/// The form of one word that these words begin with.
-fn form_of_one(words: &Words) -> Option<Form>
-    ensures { result ≡ form_in one_word words.now }
+/// The form of a line by its first three words, each of which is empty where there are fewer.
+pub(crate) fn form_of_leading(first: &[u8], second: &[u8], third: &[u8]) -> Option<Form>
+    ensures { result ≡ form_of (first.now ∷ second.now ∷ third.now ∷ []) }
 {
-    if words.reads(0, b"quit") {
+    if reads_as(first, b"set") {
+        form_of_set(second)
+    } else if reads_as(first, b"remove") {
+        form_of_remove(second)
+    } else if reads_as(first, b"get") {
+        form_of_get(second, third)
+    } else if reads_as(first, b"run") {
+        Some(form_of_run(second))
+    } else if reads_as(first, b"quit") {
         Some(Form::Quit)
-    } else if words.reads(0, b"run") {
-        Some(Form::Run)
     } else {
         None
     }
+}
+
+/// The word at a place, or an empty one past the end.
+fn word_at<'a>(words: &'a Words, i: usize) -> &'a [u8]
+    ensures { result.now ≡ word_at words.now i }
+{
+    if i < words.len() { words.word(i) } else { &[] }
 }
 
 /// The longest form that words begin with.
 pub fn form_of(words: &Words) -> Option<Form>
     ensures { result ≡ form_of words.now }
 {
-    form_of_three(words)
-        .or(form_of_two(words))
-        .or(form_of_one(words))
+    form_of_leading(word_at(words, 0), word_at(words, 1), word_at(words, 2))
 }
 
 impl Form {

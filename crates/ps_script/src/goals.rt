@@ -55,12 +55,16 @@ fn constants(alloc: Global, names: &[Name]) -> Result<Vec<Term>, AllocError>
 }
 
 /// The arguments of a fact, of which there are 6 at most.
-fn args_of(alloc: Global, trees: &[Tree]) -> Result<Args, AllocError>
-    ensures { IfOk result (λ a. a ≡ args_of (nesteds (map nested trees.now))) }
+fn args_of(trees: &[Tree]) -> Args
+    ensures { result ≡ args_of (nesteds (map nested trees.now)) }
 {
-    let names = names_of(alloc, trees)?;
-    match Args::of(first_six(&names)) {
-        Some(args) => Ok(args),
+    let count = trees.len().min(MOST_ARGUMENTS);
+    let mut names = [Name::OBJECT; MOST_ARGUMENTS];
+    for i in 0..count {
+        names[i] = word_of(&trees[i]).name;
+    }
+    match Args::of(&names[..count]) {
+        Some(args) => args,
         None => unreachable!(),
     }
 }
@@ -78,14 +82,13 @@ fn terms_of(alloc: Global, trees: &[Tree]) -> Result<Terms, AllocError>
 }
 
 /// `(NAME NAME*)`, by what stands between its parentheses, as a fact.
-pub fn fact_of(alloc: Global, trees: &[Tree]) -> Result<Fact, AllocError>
-    ensures { IfOk result (λ f. f ≡ fact_of (nesteds (map nested trees.now))) }
+pub fn fact_of(trees: &[Tree]) -> Fact
+    ensures { result ≡ fact_of (nesteds (map nested trees.now)) }
 {
-    let args = args_of(alloc, rest(trees))?;
-    Ok(Fact {
+    Fact {
         head: head(trees).name,
-        args,
-    })
+        args: args_of(rest(trees)),
+    }
 }
 
 /// The same in a condition, where each argument is a constant.

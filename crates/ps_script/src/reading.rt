@@ -2,20 +2,23 @@
 ghost use Rattle.std.specs.Prelude.{◌≡◌, Some, false, slice_range, true, IfOk, OnErr, OnOk};
 ghost use Rattle.ps_world.specs.Names.{Table};
 ghost use Rattle.ps_text.specs.Tokens.{AreTokens};
-ghost use Rattle.ps_text.specs.Words.{words};
+ghost use Rattle.ps_text.specs.Words.{word_at, words};
 ghost use Rattle.ps_text.specs.Names.{Keeps};
-ghost use Rattle.ps_forms.specs.Lexemes.{IsTokenOf, mark_of};
+ghost use Rattle.ps_forms.specs.Lexemes.{IsTokenOf, mark_of, marks};
+ghost use Rattle.ps_forms.specs.Nested.{Nesteds};
+ghost use Rattle.ps_forms.specs.Spelling.{SpellAll, is_balanced};
+ghost use Rattle.ps_script.specs.Commands.{command_of};
 ghost use Rattle.ps_script.specs.Files.{after_run, file_in, is_run_plan, is_source};
 ghost use Rattle.ps_script.specs.Forms.{form_of};
-ghost use Rattle.ps_script.specs.Lines.{IsOfForm, IsPlain, IsRead, bad, begins_nothing, cause_of, is_nothing, marks_of, place, with_run_plan};
+ghost use Rattle.ps_script.specs.Lines.{IsPlain, IsRead, bad, begins_nothing, cause_of, is_nothing, marks_of, place, with_run_plan};
 
 use super::commands::command_of;
 use super::files::{FileName, after_run, file_in, is_run_plan, is_source, trimmed};
-use super::forms::{Form, form_of};
-use ps_forms::{lexemes_of, mark_of, trees_of};
-use ps_machine::{Line, LineCause};
+use super::forms::{Form, form_of_leading};
+use ps_forms::{Lexeme, lexemes_of, mark_of, trees_of};
+use ps_machine::{Command, Line, LineCause};
 use ps_shape::Mark;
-use ps_text::{LexRefusal, Names, Token, Words, tokens};
+use ps_text::{LexRefusal, Names, Token, tokens};
 use ps_world::Failure;
 use std::alloc::{AllocError, Global};
 
@@ -82,7 +85,7 @@ pub fn marks_of(alloc: Global, bytes: &[u8], tokens: &[Token]) -> Result<Vec<Mar
     requires { AreTokens bytes.now tokens.now }
     ensures { IfOk result (λ v. v.items ≡ marks_of bytes.now tokens.now) }
 {
-    let mut marks = Vec::new(alloc);
+    let mut marks = Vec::with_capacity(alloc, tokens.len())?;
     for token in tokens {
         marks.push(mark_of_token(bytes, *token))?;
     }
@@ -97,6 +100,29 @@ pub fn place(bytes: &[u8], tokens: &[Token], i: usize) -> usize
         Some(token) => token.from,
         None => bytes.len(),
     }
+}
+
+/// The word that the token at a place is, or an empty one past the last.
+fn word_of<'a>(bytes: &'a [u8], tokens: &[Token], i: usize) -> &'a [u8]
+    requires { AreTokens bytes.now tokens.now }
+    ensures { result.now ≡ word_at (words bytes.now) i }
+{
+    match tokens.get(i) {
+        Some(token) => &bytes[token.from..token.to],
+        None => &[],
+    }
+}
+
+/// The longest form that a line begins with.
+fn form_of_tokens(bytes: &[u8], tokens: &[Token]) -> Option<Form>
+    requires { AreTokens bytes.now tokens.now }
+    ensures { result ≡ form_of (words bytes.now) }
+{
+    form_of_leading(
+        word_of(bytes, tokens, 0),
+        word_of(bytes, tokens, 1),
+        word_of(bytes, tokens, 2),
+    )
 }
 
 /// Reads a line of `source`.
@@ -128,25 +154,30 @@ fn read_run_plan(alloc: Global, names: &mut Names, bytes: &[u8]) -> Result<Read,
     }
 }
 
-/// Reads a line that fits its form. Its names are put into the table.
-fn read_good(
-    alloc: Global,
-    names: &mut Names,
-    bytes: &[u8],
-    form: Form,
-    tokens: &[Token],
-) -> Result<Read, AllocError>
-    requires fits { IsOfForm bytes.now form tokens.now }
-    ensures read { IfOk result (λ r. IsRead names.old bytes.now r names.new) }
-    ensures err { OnErr result (Keeps names.old names.new) }
+/// What each word is to the grammar.
+fn marks_of_words(alloc: Global, words: &[Lexeme]) -> Result<Vec<Mark>, AllocError>
+    ensures { IfOk result (λ v. v.items ≡ marks words.now) }
 {
-    let words = lexemes_of(alloc, names, bytes, tokens)?;
-    let trees = trees_of(alloc, &words)?;
-    let command = command_of(alloc, form, trees.as_slice())?;
-    Ok(Read::Line(Line::Good(command)))
+    let mut marks = Vec::with_capacity(alloc, words.len())?;
+    for word in words {
+        marks.push(word.mark)?;
+    }
+    Ok(marks)
+}
+
+/// The command that the words of a line are, where they fit its form.
+fn command_in(alloc: Global, form: Form, words: &[Lexeme]) -> Result<Command, AllocError>
+    requires { is_balanced 0 (marks words.now) ≡ true }
+    ensures { IfOk result (λ c. (ts : Nesteds) × SpellAll ts words.now × (c ≡ command_of form ts)) }
+{
+    let trees = trees_of(alloc, words)?;
+    command_of(alloc, form, trees.as_slice())
 }
 
 /// Reads a line whose leading words are those of a form.
+///
+/// What the words are to the grammar is found once, as they are made. So their names are in the table before it is known whether the line
+/// fits, and are taken back where it doesn't.
 fn read_form(
     alloc: Global,
     names: &mut Names,
@@ -160,13 +191,17 @@ fn read_form(
     ensures read { IfOk result (λ r. IsRead names.old bytes.now r names.new) }
     ensures err { OnErr result (Keeps names.old names.new) }
 {
-    let marks = marks_of(alloc, bytes, tokens)?;
+    let before = names.len();
+    let words = lexemes_of(alloc, names, bytes, tokens)?;
+    let marks = marks_of_words(alloc, &words)?;
     if let Some(i) = form.first_misfit(alloc, &marks)? {
+        names.cut_back(before);
         return Ok(bad(LineCause::Shape {
             at: place(bytes, tokens, i),
         }));
     }
-    read_good(alloc, names, bytes, form, tokens)
+    let command = command_in(alloc, form, &words)?;
+    Ok(Read::Line(Line::Good(command)))
 }
 
 /// Reads a line that names no file.
@@ -176,13 +211,10 @@ fn read_plain(alloc: Global, names: &mut Names, bytes: &[u8]) -> Result<Read, Al
     ensures err { OnErr result (Keeps names.old names.new) }
 {
     match tokens(alloc, bytes) {
-        Ok(tokens) => {
-            let words = Words::of(alloc, bytes)?;
-            match form_of(&words) {
-                Some(form) => read_form(alloc, names, bytes, form, &tokens),
-                None => Ok(bad(LineCause::Command)),
-            }
-        }
+        Ok(tokens) => match form_of_tokens(bytes, &tokens) {
+            Some(form) => read_form(alloc, names, bytes, form, &tokens),
+            None => Ok(bad(LineCause::Command)),
+        },
         Err(Failure::Refused(refusal)) => Ok(bad(cause_of(refusal))),
         Err(Failure::OutOfMemory) => Err(AllocError),
     }

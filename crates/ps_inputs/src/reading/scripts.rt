@@ -14,7 +14,7 @@ use crate::faults::Fault;
 use ps_action::{PlanStep, PlanTextRefusal};
 use ps_machine::{Command, Line, LineCause};
 use ps_plan::read_plan;
-use ps_script::{Read, read_line};
+use ps_script::{Read, read_line, trimmed};
 use ps_text::{Files, Names, Words};
 use ps_world::{Failure, Seq};
 use std::alloc::{AllocError, Global};
@@ -39,10 +39,23 @@ fn check_room(lines: &[Line]) -> Result<(), Failure<Fault>>
     Ok(())
 }
 
+/// Whether a line may be the word `quit` alone, by its first byte after blanks. A word may follow a comment that begins there.
+fn may_be_quit(line: &[u8]) -> bool
+    ensures { result ≡ false → is_quit line.now ≡ false }
+{
+    match trimmed(line) {
+        [] => false,
+        [first, ..] => first.to_ascii_lowercase() == b'q' || *first == b';',
+    }
+}
+
 /// Whether a line is the word `quit` alone.
 fn is_quit(alloc: Global, line: &[u8]) -> Result<bool, AllocError>
     ensures { IfOk result (λ b. b ≡ is_quit line.now) }
 {
+    if !may_be_quit(line) {
+        return Ok(false);
+    }
     let words = Words::of(alloc, line)?;
     Ok(words.len() == 1 && words.reads(0, b"quit"))
 }

@@ -3,7 +3,7 @@ use Rattle.ps_script.proofs.reading.read_plain.Goals as goal
 
 pub returns-in-Ok-clause-read : goal.returns-in-Ok-clause-read
 returns-in-Ok-clause-read c =
-    formless_read c.args.names.now c.args.bytes.now _ _ _ _ c.requires c.in-Ok.ensures.ok c.in_ok-words-in-Ok.ensures c.form_of.ensures c.in-None.is c.bad.ensures
+    formless_read c.args.names.now c.args.bytes.now _ _ _ c.requires c.in-Ok.ensures.ok c.form_of_tokens.ensures c.in-None.is c.bad.ensures
 
 pub returns-in-Err-Refused-clause-read : goal.returns-in-Err-Refused-clause-read
 returns-in-Err-Refused-clause-read c =
