@@ -6,6 +6,7 @@ pub mod FewParams
 pub mod Fits
 pub mod FittingForms
 pub mod FormsMean
+pub mod Kept
 pub mod Listings
 pub mod MeanActions
 pub mod MeanConditions

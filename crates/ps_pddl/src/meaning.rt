@@ -10,6 +10,7 @@ mod declarations;
 mod effects;
 mod lists;
 mod parts;
+mod rooms;
 mod terms;
 mod types;
 mod values;

@@ -11,15 +11,14 @@ ghost use Rattle.ps_pddl.specs.Forms.{forms};
 use super::changes::timed as timed_effect;
 use super::lists::{Listing, fault_of_new, listed};
 use super::parts::timed as timed_condition;
+use super::rooms::{room_for_conditions, room_for_effects};
 use super::terms::MOST_PARAMS;
 use super::values::value;
 use crate::refusals::{Cap, DomainRefusal};
 use ps_domain::Declared;
 use ps_forms::{Tree, after, at, head, items, items_at, rest};
 use ps_shape::Mark;
-use ps_world::{
-    ActionDef, Conditions, Conds, Effects, Expr, Failure, Name, Num, Param, Params, Seq,
-};
+use ps_world::{ActionDef, Conditions, Effects, Expr, Failure, Name, Num, Param, Params, Seq};
 use std::alloc::Global;
 
 /// How many actions a domain has at most.
@@ -51,17 +50,13 @@ fn parts(
     requires { length params.now ≤ MOST_PARAMS }
     ensures { Gives (λ p. p) result (parts d.now params.now (condition_in (forms trees.now))) }
 {
-    let mut all = Conditions {
-        at_start: Conds::new(alloc),
-        over_all: Conds::new(alloc),
-        at_end: Conds::new(alloc),
-    };
     match at(after(Mark::ConditionKey, trees), 0) {
         Some(tree) => {
+            let mut all = room_for_conditions(alloc, rest(items(tree)))?;
             timed_condition(alloc, d, params, tree, &mut all)?;
             Ok(all)
         }
-        None => Ok(all),
+        None => Ok(room_for_conditions(alloc, &[])?),
     }
 }
 
@@ -75,16 +70,13 @@ fn changes(
     requires { length params.now ≤ MOST_PARAMS }
     ensures { Gives (λ c. c) result (changes d.now params.now (effect_in (forms trees.now))) }
 {
-    let mut all = Effects {
-        at_start: Seq::new(alloc),
-        at_end: Seq::new(alloc),
-    };
     match at(after(Mark::EffectKey, trees), 0) {
         Some(tree) => {
+            let mut all = room_for_effects(alloc, rest(items(tree)))?;
             timed_effect(alloc, d, params, tree, &mut all)?;
             Ok(all)
         }
-        None => Ok(all),
+        None => Ok(room_for_effects(alloc, &[])?),
     }
 }
 

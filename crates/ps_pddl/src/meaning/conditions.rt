@@ -1,11 +1,15 @@
 //! What a condition means.
-ghost use Rattle.std.specs.Prelude.{◌≡◌, ◌≤◌, [], IfOk, length};
+ghost use Rattle.std.specs.Prelude.{◌≡◌, ◌≤◌, not, ◌&&◌, is_none, [], IfOk, IsTrue, List, length};
 ghost use Rattle.ps_world.specs.Failures.{Gives};
 ghost use Rattle.ps_world.specs.CondViews.{cond_tree};
 ghost use Rattle.ps_world.specs.declared.conditions.Cond.TheVariants.{Not as Negated};
 ghost use Rattle.ps_shape.specs.Marks.{is};
 ghost use Rattle.ps_shape.specs.declared.marks.Mark.TheVariants.{And, Not, Number};
+ghost use Rattle.ps_world.specs.declared.domains.Domain.{Domain};
+ghost use Rattle.ps_world.specs.declared.domains.Param.{Param};
+ghost use Rattle.ps_forms.specs.Nested.{more, none};
 ghost use Rattle.ps_forms.specs.NestedViews.{nested};
+ghost use Rattle.ps_forms.specs.Places.{head as first_of, items as items_of, rest as rest_of};
 ghost use Rattle.ps_pddl.specs.Conditions.{comparison, condition, conditions, equality, form, plain_condition, rel_of, same_as, stated};
 ghost use Rattle.ps_pddl.specs.Forms.{forms};
 
@@ -13,7 +17,7 @@ use super::terms::{MOST_PARAMS, fact, resolved};
 use super::values::value;
 use crate::refusals::DomainRefusal;
 use ps_domain::Declared;
-use ps_forms::{Lexeme, Tree, head, rest};
+use ps_forms::{Lexeme, Tree, head, items, rest};
 use ps_shape::Mark;
 use ps_world::{BoxedCond, Cond, Conds, Failure, Param, Rel, Term};
 use std::alloc::{AllocError, Global};
@@ -119,7 +123,6 @@ fn equality(
 
 /// That a fact is known.
 fn stated(
-    alloc: Global,
     d: &Declared,
     params: &[Param],
     word: Lexeme,
@@ -128,7 +131,10 @@ fn stated(
     requires { length params.now ≤ MOST_PARAMS }
     ensures { Gives (λ c. c) result (stated d.now params.now word (forms trees.now)) }
 {
-    Ok(Cond::Holds(fact(alloc, d, params, word, trees)?))
+    match fact(d, params, word, trees) {
+        Ok(fact) => Ok(Cond::Holds(fact)),
+        Err(fault) => Err(Failure::Refused(fault)),
+    }
 }
 
 /// A comparison, two terms that are the same, or a fact.
@@ -143,10 +149,10 @@ fn plain_condition(
     ensures { Gives (λ c. c) result (plain_condition d.now params.now word (forms trees.now)) }
 {
     match trees {
-        [] => stated(alloc, d, params, word, trees),
-        [_] => stated(alloc, d, params, word, trees),
+        [] => stated(d, params, word, trees),
+        [_] => stated(d, params, word, trees),
         [left, right, ..] => match rel_of(word.mark) {
-            None => stated(alloc, d, params, word, trees),
+            None => stated(d, params, word, trees),
             Some(Rel::Eq) => equality(alloc, d, params, left, right),
             Some(rel) => comparison(alloc, d, params, rel, left, right),
         },
@@ -212,7 +218,7 @@ fn form(
 
 /// What a condition means.
 #[cycle(condition)]
-pub fn condition(
+fn condition(
     alloc: Global,
     d: &Declared,
     params: &[Param],
@@ -224,5 +230,69 @@ pub fn condition(
     match tree {
         Tree::Word(_) => Ok(Cond::And(Conds::new(alloc))),
         Tree::Group(trees) => form(alloc, d, params, trees.as_slice()),
+    }
+}
+
+/// Whether a form with this word at its head states a fact.
+fn states_fact(mark: Mark) -> bool
+    ensures { result ≡ (not (is And mark) && (not (is Not mark) && is_none (rel_of mark))) }
+{
+    match mark {
+        Mark::And | Mark::Not => false,
+        _ => rel_of(mark).is_none(),
+    }
+}
+
+/// Whether a condition is known by its head to state a fact.
+fn is_fact(tree: &Tree) -> bool
+    ensures { IsTrue result → (d : Domain) (ps : List Param) → condition d ps (nested tree.now)
+        ≡ stated d ps (first_of (items_of (nested tree.now))) (rest_of (items_of (nested tree.now))) }
+{
+    let inside = items(tree);
+    match inside {
+        [] => false,
+        _ => states_fact(head(inside).mark),
+    }
+}
+
+/// Puts what a condition of any form means at the end.
+fn add_form(
+    alloc: Global,
+    d: &Declared,
+    params: &[Param],
+    tree: &Tree,
+    all: &mut Conds,
+) -> Result<(), Failure<DomainRefusal>>
+    requires { length params.now ≤ MOST_PARAMS }
+    ensures { Gives (λ _. all.new) result
+        (conditions d.now params.now (more (nested tree.now) none) all.old) }
+{
+    let cond = condition(alloc, d, params, tree)?;
+    all.push(cond)?;
+    Ok(())
+}
+
+/// Puts what a condition means at the end. A fact, as most are, is put there without being moved on the way.
+pub fn add_condition(
+    alloc: Global,
+    d: &Declared,
+    params: &[Param],
+    tree: &Tree,
+    all: &mut Conds,
+) -> Result<(), Failure<DomainRefusal>>
+    requires { length params.now ≤ MOST_PARAMS }
+    ensures { Gives (λ _. all.new) result
+        (conditions d.now params.now (more (nested tree.now) none) all.old) }
+{
+    if !is_fact(tree) {
+        return add_form(alloc, d, params, tree, all);
+    }
+    let inside = items(tree);
+    match fact(d, params, head(inside), rest(inside)) {
+        Ok(fact) => {
+            all.push(Cond::Holds(fact))?;
+            Ok(())
+        }
+        Err(fault) => Err(Failure::Refused(fault)),
     }
 }

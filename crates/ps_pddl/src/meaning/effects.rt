@@ -41,7 +41,7 @@ fn added(
     requires { length params.now ≤ MOST_PARAMS }
     ensures { Gives (λ _. all.new) result (added d.now params.now word (forms trees.now) all.old) }
 {
-    let fact = fact(alloc, d, params, word, trees)?;
+    let fact = fact(d, params, word, trees).map_err(Failure::Refused)?;
     all.push(Effect::Add(fact))?;
     Ok(())
 }
@@ -58,7 +58,7 @@ fn deleted(
     ensures { Gives (λ _. all.new) result (deleted d.now params.now (nested tree.now) all.old) }
 {
     let inside = items(tree);
-    let fact = fact(alloc, d, params, head(inside), rest(inside))?;
+    let fact = fact(d, params, head(inside), rest(inside)).map_err(Failure::Refused)?;
     all.push(Effect::Delete(fact))?;
     Ok(())
 }
@@ -78,7 +78,7 @@ fn changed(
         (changed d.now params.now how (nested term.now) (nested by.now) all.old) }
 {
     let inside = items(term);
-    let function = value_of(alloc, d, params, head(inside), rest(inside))?;
+    let function = value_of(d, params, head(inside), rest(inside)).map_err(Failure::Refused)?;
     let amount = value(alloc, d, params, by)?;
     all.push(Effect::Number(how, function, amount))?;
     Ok(())

@@ -1,34 +1,53 @@
 //! The parts of an action's condition, by the time at which they have to hold.
-ghost use Rattle.std.specs.Prelude.{◌≡◌, ◌≤◌, OnOk, length};
+ghost use Rattle.std.specs.Prelude.{◌≤◌, length};
 ghost use Rattle.ps_world.specs.Failures.{Gives};
 ghost use Rattle.ps_forms.specs.NestedViews.{nested};
-ghost use Rattle.ps_pddl.specs.Conditions.{all_timed, at_time, over_all, timed, timed_form, timed_list, timed_part};
+ghost use Rattle.ps_pddl.specs.Conditions.{all_timed, timed, timed_form, timed_list, timed_part};
+ghost use Rattle.ps_shape.specs.declared.marks.Mark.TheVariants.{At, Over};
 ghost use Rattle.ps_pddl.specs.Forms.{forms};
 
-use super::conditions::{condition, is_and};
+use super::conditions::{add_condition, is_and};
 use super::terms::MOST_PARAMS;
 use crate::refusals::DomainRefusal;
 use ps_domain::Declared;
 use ps_forms::{Lexeme, Tree, head, rest, word_of};
 use ps_shape::Mark;
-use ps_world::{Cond, Conditions, Failure, Param};
-use std::alloc::{AllocError, Global};
+use ps_world::{Conditions, Failure, Param};
+use std::alloc::Global;
 
 /// Puts a part with the word after its `at`.
-fn add_at(all: &mut Conditions, time: Mark, cond: Cond) -> Result<(), AllocError>
-    ensures { OnOk result (all.new ≡ at_time time cond all.old) }
+fn add_at(
+    alloc: Global,
+    d: &Declared,
+    params: &[Param],
+    time: Mark,
+    tree: &Tree,
+    all: &mut Conditions,
+) -> Result<(), Failure<DomainRefusal>>
+    requires { length params.now ≤ MOST_PARAMS }
+    ensures { Gives (λ _. all.new) result
+        (timed_part d.now params.now At time (nested tree.now) all.old) }
 {
     match time {
-        Mark::Start => all.at_start.push(cond),
-        _ => all.at_end.push(cond),
+        Mark::Start => add_condition(alloc, d, params, tree, &mut all.at_start),
+        _ => add_condition(alloc, d, params, tree, &mut all.at_end),
     }
 }
 
 /// Puts a part that has to hold over all.
-fn add_over(all: &mut Conditions, cond: Cond) -> Result<(), AllocError>
-    ensures { OnOk result (all.new ≡ over_all cond all.old) }
+fn add_over(
+    alloc: Global,
+    d: &Declared,
+    params: &[Param],
+    time: Mark,
+    tree: &Tree,
+    all: &mut Conditions,
+) -> Result<(), Failure<DomainRefusal>>
+    requires { length params.now ≤ MOST_PARAMS }
+    ensures { Gives (λ _. all.new) result
+        (timed_part d.now params.now Over time (nested tree.now) all.old) }
 {
-    all.over_all.push(cond)
+    add_condition(alloc, d, params, tree, &mut all.over_all)
 }
 
 /// Puts a part, by its first word and what follows it.
@@ -46,16 +65,8 @@ fn timed_part(
         (timed_part d.now params.now word time (nested tree.now) all.old) }
 {
     match word {
-        Mark::At => {
-            let cond = condition(alloc, d, params, tree)?;
-            add_at(all, time, cond)?;
-            Ok(())
-        }
-        Mark::Over => {
-            let cond = condition(alloc, d, params, tree)?;
-            add_over(all, cond)?;
-            Ok(())
-        }
+        Mark::At => add_at(alloc, d, params, time, tree, all),
+        Mark::Over => add_over(alloc, d, params, time, tree, all),
         _ => Ok(()),
     }
 }

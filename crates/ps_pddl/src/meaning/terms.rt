@@ -1,8 +1,7 @@
 //! What names and variables stand for in an action, and what a head with arguments means.
-ghost use Rattle.std.specs.Prelude.{◌≡◌, ◌≤◌, [], Some, length, position};
-ghost use Rattle.ps_world.specs.Failures.{Gives};
+ghost use Rattle.std.specs.Prelude.{◌≡◌, ◌+◌, ◌≤◌, Some, [], ◌∷◌, ◌++◌, length, position, take};
 ghost use Rattle.ps_world.specs.Names.{same_name};
-ghost use Rattle.ps_pddl.specs.Terms.{applied, argument, arguments, fact, lifted, resolved, term_of, value_of, variable_of};
+ghost use Rattle.ps_pddl.specs.Terms.{applied, argument, fact, lifted, resolved, term_of, value_of, variable_of};
 ghost use Rattle.ps_pddl.specs.Forms.{forms};
 ghost use Rattle.ps_pddl.specs.declared.refusals.DomainRefusal.TheVariants.{Unknown};
 
@@ -10,8 +9,7 @@ use crate::refusals::DomainRefusal;
 use ps_domain::Declared;
 use ps_forms::{Lexeme, Tree, count, word_of};
 use ps_shape::Mark;
-use ps_world::{Decl, Failure, Lifted, Name, Param, Term, Terms};
-use std::alloc::Global;
+use ps_world::{Decl, Lifted, MOST_ARGUMENTS, Name, Param, Term, Terms};
 
 /// The most parameters of an action, a predicate or a function.
 pub const MOST_PARAMS: usize = 6;
@@ -87,34 +85,23 @@ fn argument(d: &Declared, params: &[Param], want: Name, word: Lexeme) -> Result<
     requires { length params.now ≤ MOST_PARAMS }
     ensures { result ≡ argument d.now params.now want word }
 {
-    let at = word.at;
-    let Typed { term, kind } = resolved(d, params, word)?;
+    let Some(Typed { term, kind }) = term_of(d, params, word.mark, word.name) else {
+        return Err(unknown(word));
+    };
     if d.is_below(kind, want) {
         Ok(term)
     } else {
-        Err(DomainRefusal::Kind { at })
+        Err(DomainRefusal::Kind { at: word.at })
     }
 }
 
-/// The arguments, one for each parameter of what is declared.
-fn arguments(
-    alloc: Global,
-    d: &Declared,
-    params: &[Param],
-    wants: &[Param],
-    trees: &[Tree],
-) -> Result<Vec<Term>, Failure<DomainRefusal>>
-    requires few { length params.now ≤ MOST_PARAMS }
-    requires enough { length wants.now ≤ length trees.now }
-    ensures { Gives (λ v. v.items) result
-        (arguments d.now params.now wants.now (forms trees.now) []) }
+/// Keeps a term at this place, if it is among the first 6.
+fn keep(terms: &mut [Term; MOST_ARGUMENTS], place: usize, term: Term)
+    ensures { take (place + 1) terms.new ≡ take MOST_ARGUMENTS (take place terms.old ++ term ∷ []) }
 {
-    let mut terms = Vec::new(alloc);
-    for (i, want) in wants.iter().enumerate() {
-        let term = argument(d, params, want.kind, word_of(&trees[i])).map_err(Failure::Refused)?;
-        terms.push(term)?;
+    if place < MOST_ARGUMENTS {
+        terms[place] = term;
     }
-    Ok(terms)
 }
 
 /// A head with its arguments, of which there are 6 at most.
@@ -130,56 +117,62 @@ fn lifted(head: Lexeme, terms: &[Term]) -> Result<Lifted, DomainRefusal>
     }
 }
 
-/// A head that is declared so, with arguments that suit it: `Arity` comes before what is at fault with an argument.
+/// A head that is declared so, with arguments that suit it: `Arity` comes before what is at fault with an argument, and again after
+/// it where there are more than 6. It takes no memory.
 fn applied(
-    alloc: Global,
     d: &Declared,
     params: &[Param],
     decl: &Decl,
     head: Lexeme,
     trees: &[Tree],
-) -> Result<Lifted, Failure<DomainRefusal>>
+) -> Result<Lifted, DomainRefusal>
     requires { length params.now ≤ MOST_PARAMS }
-    ensures { Gives (λ l. l) result
-        (applied d.now params.now (Some decl.now) head (forms trees.now)) }
+    ensures { result ≡ applied d.now params.now (Some decl.now) head (forms trees.now) }
 {
-    if decl.params.len() != count(trees) {
-        return Err(Failure::Refused(DomainRefusal::Arity { at: head.at }));
+    let at = head.at;
+    let wants = decl.params.as_slice();
+    if wants.len() != count(trees) {
+        return Err(DomainRefusal::Arity { at });
     }
-    let terms = arguments(alloc, d, params, decl.params.as_slice(), trees)?;
-    lifted(head, terms.as_slice()).map_err(Failure::Refused)
+    let mut terms = [Term::Var(0); MOST_ARGUMENTS];
+    for (i, want) in wants.iter().enumerate() {
+        let term = argument(d, params, want.kind, word_of(&trees[i]))?;
+        keep(&mut terms, i, term);
+    }
+    match terms.get(..wants.len()) {
+        Some(terms) => lifted(head, terms),
+        None => Err(DomainRefusal::Arity { at }),
+    }
 }
 
 /// A fact: a declared predicate with arguments that suit it. `Unknown` at the head comes before `Arity`.
 pub fn fact(
-    alloc: Global,
     d: &Declared,
     params: &[Param],
     head: Lexeme,
     trees: &[Tree],
-) -> Result<Lifted, Failure<DomainRefusal>>
+) -> Result<Lifted, DomainRefusal>
     requires { length params.now ≤ MOST_PARAMS }
-    ensures { Gives (λ l. l) result (fact d.now params.now head (forms trees.now)) }
+    ensures { result ≡ fact d.now params.now head (forms trees.now) }
 {
     match d.predicate(head.name) {
-        Some(decl) => applied(alloc, d, params, decl, head, trees),
-        None => Err(Failure::Refused(unknown(head))),
+        Some(decl) => applied(d, params, decl, head, trees),
+        None => Err(unknown(head)),
     }
 }
 
 /// The value of a declared function at arguments that suit it. `Unknown` at the head comes before `Arity`.
 pub fn value_of(
-    alloc: Global,
     d: &Declared,
     params: &[Param],
     head: Lexeme,
     trees: &[Tree],
-) -> Result<Lifted, Failure<DomainRefusal>>
+) -> Result<Lifted, DomainRefusal>
     requires { length params.now ≤ MOST_PARAMS }
-    ensures { Gives (λ l. l) result (value_of d.now params.now head (forms trees.now)) }
+    ensures { result ≡ value_of d.now params.now head (forms trees.now) }
 {
     match d.function(head.name) {
-        Some(decl) => applied(alloc, d, params, decl, head, trees),
-        None => Err(Failure::Refused(unknown(head))),
+        Some(decl) => applied(d, params, decl, head, trees),
+        None => Err(unknown(head)),
     }
 }

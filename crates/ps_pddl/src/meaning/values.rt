@@ -71,7 +71,6 @@ fn operated(alloc: Global, op: Op, left: Expr, right: Expr) -> Result<Expr, Allo
 
 /// The value of a function.
 fn function_value(
-    alloc: Global,
     d: &Declared,
     params: &[Param],
     head: Lexeme,
@@ -80,7 +79,10 @@ fn function_value(
     requires { length params.now ≤ MOST_PARAMS }
     ensures { Gives (λ e. e) result (function_value d.now params.now head (forms trees.now)) }
 {
-    Ok(Expr::Fun(value_of(alloc, d, params, head, trees)?))
+    match value_of(d, params, head, trees) {
+        Ok(function) => Ok(Expr::Fun(function)),
+        Err(fault) => Err(Failure::Refused(fault)),
+    }
 }
 
 /// What a head and its operands mean: an operation, whose first operand is judged first, or the value of a function.
@@ -97,13 +99,13 @@ fn operation(
     let word = head(trees);
     match trees {
         [] => Ok(Expr::Num(Num::ZERO)),
-        [_] => function_value(alloc, d, params, word, rest(trees)),
+        [_] => function_value(d, params, word, rest(trees)),
         [_, one] => {
             if is_minus(word.mark) {
                 let inner = value(alloc, d, params, one)?;
                 Ok(negated(alloc, inner)?)
             } else {
-                function_value(alloc, d, params, word, rest(trees))
+                function_value(d, params, word, rest(trees))
             }
         }
         [_, left, right, ..] => match operator_of(word.mark) {
@@ -112,7 +114,7 @@ fn operation(
                 let right = value(alloc, d, params, right)?;
                 Ok(operated(alloc, op, left, right)?)
             }
-            None => function_value(alloc, d, params, word, rest(trees)),
+            None => function_value(d, params, word, rest(trees)),
         },
     }
 }

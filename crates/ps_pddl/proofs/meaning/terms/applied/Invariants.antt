@@ -1,0 +1,16 @@
+use Rattle.std.proofs.Common.{◌≡◌, List, [], length, take, drop, map}
+use Rattle.ps_world.specs.declared.schemas.Term.{Term}
+use Rattle.ps_forms.specs.Nested.{nesteds}
+use Rattle.ps_forms.specs.NestedViews.{nested}
+use Rattle.ps_pddl.specs.Terms.{arguments}
+use Rattle.ps_pddl.proofs.meaning.terms.applied.Given as goal
+
+-- the arguments that are left, after those before, are all of them; of those before the first 6 are kept
+abbrev pub invariant-loop-i : goal.invariant-loop-i
+invariant-loop-i l = record {
+  before : List Term;
+  as_many : length before ≡ l.i;
+  rest : arguments l.d l.params (drop l.i l.wants) (nesteds (map nested (drop l.i l.trees))) before
+      ≡ arguments l.d l.params l.wants (nesteds (map nested l.trees)) [];
+  kept : take l.i l.terms ≡ take 6 before;
+}
