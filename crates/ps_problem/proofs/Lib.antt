@@ -6,6 +6,7 @@ pub mod Filters
 pub mod Gathered
 pub mod Goals
 pub mod Keys
+pub mod KindLists
 pub mod Namings
 pub mod Opening
 pub mod PutFacts

@@ -1,5 +1,5 @@
 -- What is noted of facts, and how it is found.
-use Rattle.std.proofs.Common.{◌≡◌, ◌≢◌, ℕ, ◌<◌, zero, suc, Bool, true, false, not, List, [], ◌∷◌, ◌++◌, filter, get_or, inl, inr, refl, ap, sym, ◌∙◌, subst, length, All, arith}
+use Rattle.std.proofs.Common.{BTreeSet, ◌≡◌, ◌≢◌, ℕ, ◌<◌, zero, suc, Bool, true, false, not, List, [], ◌∷◌, ◌++◌, Option, Some, None, IfSome, filter, get_or, inl, inr, refl, ap, sym, ◌∙◌, subst, length, All, arith}
 use Rattle.std.specs.List.{Contains, list_any}
 use Rattle.std.specs.Cmp.{IsTotalOrder}
 use Rattle.std.specs.Cmp.Lexicographic.{slice_cmp}
@@ -8,6 +8,7 @@ use Rattle.std.specs.declared.cmp.Ordering.{Ordering}
 use Rattle.std.specs.declared.cmp.Ordering.TheVariants.{Less, Equal, Greater}
 use Rattle.std.proofs.Math.ListN.{get_or-map}
 use Rattle.std.proofs.lemmas.List.{length-map}
+use Rattle.std.proofs.lemmas.List.Elements.{Contains-push_cases}
 use Rattle.std.specs.Map.{keys_of}
 use Rattle.std.specs.BTreeMap.{is_at}
 use Rattle.std.specs.BTreeSet.{insert_key}
@@ -136,6 +137,11 @@ fewer_named facts new namings f e named = record {
   whole = λ g c. named.whole g ((fact_in_filter (λ h. not (same_fact f h)) facts g).0 (subst (λ l. Contains l g) e c)).0;
 }
 
+-- the same where notes are taken
+pub fewer_named_where_taken : (facts new : List Fact) (taken : Option (BTreeSet Naming)) (f : Fact) → new ≡ filter (λ g. not (same_fact f g)) facts → IfSome taken (λ s. AreNamed facts s.keys) → IfSome taken (λ s. AreNamed new s.keys)
+fewer_named_where_taken facts new (Some s) f e named = fewer_named facts new s.keys f e named
+fewer_named_where_taken facts new None f e named = named
+
 -- one more fact is named once its arguments are noted
 pub more_named : (facts new : List Fact) (old namings : List Naming) (f : Fact) → new ≡ insert_key fact_cmp facts f → AreNamed facts old → ((x : Naming) → Contains old x → Contains namings x) → (All IsNaming old → All IsNaming namings) → Covers namings f → AreNamed new namings
 more_named facts new old namings f e named kept sound noted = record {
@@ -143,6 +149,16 @@ more_named facts new old namings f e named kept sound noted = record {
   whole = λ g c. elim ((contains-insert_key facts_total exact_facts facts f g).0 (subst (λ l. Contains l g) e c)) [
     | inl was ↦ λ n t. kept (record { name = n; fact = g }) (named.whole g was n t)
     | inr same ↦ subst (λ h. Covers namings h) (sym same) noted
+  ];
+}
+
+-- the next fact of a list is named once its arguments are noted
+pub next_named : (facts : List Fact) (old namings : List Naming) (f : Fact) → AreNamed facts old → ((x : Naming) → Contains old x → Contains namings x) → (All IsNaming old → All IsNaming namings) → Covers namings f → AreNamed (facts ++ f ∷ []) namings
+next_named facts old namings f named kept sound noted = record {
+  sound = sound named.sound;
+  whole = λ g c. elim (Contains-push_cases facts f g c) [
+    | inl was ↦ λ n t. kept (record { name = n; fact = g }) (named.whole g was n t)
+    | inr same ↦ subst (λ h. Covers namings h) same noted
   ];
 }
 

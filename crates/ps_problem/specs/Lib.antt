@@ -1,4 +1,5 @@
 pub mod Changes
+pub mod KindLists
 pub mod Namings
 pub mod Puts
 pub mod WellKnown

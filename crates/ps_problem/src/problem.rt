@@ -6,6 +6,7 @@ ghost use Rattle.ps_world.specs.Edits.{Edits};
 mod edits;
 mod facts;
 mod faults;
+mod instances;
 mod known;
 mod namings;
 mod puts;
@@ -13,18 +14,18 @@ mod removal;
 mod values;
 
 use self::facts::Facts;
+use self::instances::Instances;
 use self::values::Values;
 use ps_domain::Expert;
 use ps_world::{Cond, Duplicate, Edit, EditRefusal, Failure, Name};
 use std::alloc::{AllocError, Global};
-use std::collections::BTreeMap;
 use std::marker::Model;
 
 /// The problem expert, which holds what a session knows. Contracts see it as that knowledge.
 #[derive(Drop)]
 pub struct Problem {
     alloc: Global,
-    instances: BTreeMap<Name, Name>,
+    instances: Instances,
     facts: Facts,
     values: Values,
     goal: Option<Cond>,
@@ -39,7 +40,7 @@ impl Model for Problem {
     ghost coded = { the_row.coded };
 
     ghost view = { λ p. record {
-      instances = p.instances.entries;
+      instances = p.instances;
       facts = p.facts;
       values = p.values;
       goal = p.goal;
@@ -51,7 +52,7 @@ impl Problem {
     pub fn new(alloc: Global, expert: &Expert) -> Result<Problem, AllocError>
         ensures { IfOk result (λ p. p ≡ opening expert.now) }
     {
-        let mut instances = BTreeMap::new(alloc);
+        let mut instances = Instances::new(alloc);
         for constant in expert.domain().constants.as_slice() {
             instances.insert(constant.name, constant.kind)?;
         }
@@ -75,7 +76,7 @@ impl Problem {
     {
         Ok(Problem {
             alloc: self.alloc,
-            instances: self.instances.clone()?,
+            instances: self.instances.copy()?,
             facts: self.facts.copy()?,
             values: self.values.copy()?,
             goal: self.copied_goal()?,

@@ -11,7 +11,7 @@ ghost use Rattle.ps_action.specs.Effects.{added_by};
 ghost use Rattle.ps_problem.specs.Namings.{AreNamed};
 ghost use Rattle.ps_problem.specs.Puts.{deleted_by, fresh_in, lost_in, without_one};
 
-use super::namings::{Naming, note, take_naming};
+use super::namings::{Naming, note, note_where_taken, take_naming};
 use ps_world::{Effect, Fact, Name};
 use std::alloc::{AllocError, Global};
 use std::collections::BTreeSet;
@@ -21,11 +21,12 @@ use std::marker::Model;
 #[derive(Drop)]
 pub struct Facts {
     all: BTreeSet<Fact>,
-    namings: BTreeSet<Naming>,
+    /// None until a name is left out: most sessions leave none out, and then no notes are needed.
+    namings: Option<BTreeSet<Naming>>,
 }
 
 impl Model for Facts {
-    ghost use Rattle.std.specs.Prelude.{List};
+    ghost use Rattle.std.specs.Prelude.{List, IfSome};
     ghost use Rattle.ps_world.specs.declared.facts.Fact.{Fact};
     ghost use Rattle.ps_problem.specs.Namings.{AreNamed};
 
@@ -33,7 +34,7 @@ impl Model for Facts {
 
     ghost view = { λ a. a.all.keys };
 
-    ghost invariant = { λ a. AreNamed a.all.keys a.namings.keys };
+    ghost invariant = { λ a. IfSome a.namings (λ s. AreNamed a.all.keys s.keys) };
 }
 
 impl Facts {
@@ -43,7 +44,7 @@ impl Facts {
     {
         Facts {
             all: BTreeSet::new(alloc),
-            namings: BTreeSet::new(alloc),
+            namings: None,
         }
     }
 
@@ -60,7 +61,7 @@ impl Facts {
     {
         Ok(Facts {
             all: self.all.clone()?,
-            namings: self.namings.clone()?,
+            namings: None,
         })
     }
 
@@ -72,7 +73,7 @@ impl Facts {
         ensures grew { IfOk result (λ added. added ≡ true → self.new ≢ self.old) }
         ensures err { OnErr result (self.new ≡ self.old) }
     {
-        note(&mut self.namings, &fact)?;
+        note_where_taken(&mut self.namings, &fact)?;
         let added = self.all.insert(fact)?;
         Ok(added)
     }
@@ -90,10 +91,17 @@ impl Facts {
     }
 
     /// Takes out every fact that names this.
-    pub fn leave_out(&mut self, name: Name)
+    pub fn leave_out(&mut self, alloc: Global, name: Name)
         ensures { self.new ≡ filter (λ f. not (is_among name f.args)) self.old }
     {
-        leave_out_named(&mut self.all, &mut self.namings, name);
+        if self.namings.is_none() {
+            self.namings = notes_of(alloc, &self.all).ok();
+        }
+        match &mut self.namings {
+            Some(namings) => leave_out_named(&mut self.all, namings, name),
+            // There is no memory for notes.
+            None => leave_out_each(&mut self.all, name),
+        }
     }
 
     /// Puts these facts in. Where memory runs out some of the first may be there.
@@ -220,6 +228,24 @@ fn all_added(alloc: Global, effects: &[Effect]) -> Result<BTreeSet<Fact>, AllocE
         }
     }
     Ok(all)
+}
+
+/// The notes of these facts. The only error is out of memory.
+fn notes_of(alloc: Global, facts: &BTreeSet<Fact>) -> Result<BTreeSet<Naming>, AllocError>
+    ensures { IfOk result (λ s. AreNamed facts.now.keys s.keys) }
+{
+    let mut namings = BTreeSet::new(alloc);
+    for fact in facts {
+        note(&mut namings, fact)?;
+    }
+    Ok(namings)
+}
+
+/// Takes out every fact that names this, without notes. It takes no memory.
+fn leave_out_each(all: &mut BTreeSet<Fact>, name: Name)
+    ensures { all.new.keys ≡ filter (λ f. not (is_among name f.args)) all.old.keys }
+{
+    all.retain(|fact| !fact.args.contains(name));
 }
 
 /// Takes out every fact that names this, and each note of the name.

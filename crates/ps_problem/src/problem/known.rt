@@ -34,7 +34,7 @@ impl Problem {
     pub fn kind_of(&self, name: Name) -> Option<Name>
         ensures { result ≡ kind_of self.now name }
     {
-        self.instances.get(&name).copied()
+        self.instances.get(name)
     }
 
     /// The instance at a place in the order of their names, with its type. None exactly where there are no more instances than that.
@@ -42,10 +42,7 @@ impl Problem {
     pub fn instance_at(&self, i: u32) -> Option<(Name, Name)>
         ensures { result ≡ slice_get self.now.instances i }
     {
-        match self.instances.iter().nth(i as usize) {
-            Some((name, kind)) => Some((*name, *kind)),
-            None => None,
-        }
+        self.instances.nth(i as usize)
     }
 
     /// The goal. None exactly where there is none.
@@ -59,11 +56,7 @@ impl Problem {
     pub fn instances(&self) -> Result<Vec<(Name, Name)>, AllocError>
         ensures { IfOk result (λ v. v.items ≡ self.now.instances) }
     {
-        let mut all = Vec::with_capacity(self.alloc, self.instances.len())?;
-        for (name, kind) in &self.instances {
-            all.push((*name, *kind))?;
-        }
-        Ok(all)
+        self.instances.list(self.alloc)
     }
 
     /// The facts in their order, each once. The only error is out of memory.
@@ -87,13 +80,7 @@ impl Problem {
         ensures { IfOk result (λ v. v.items
             ≡ map (λ i. i.0) (filter (λ i. is_below expert.now i.1 kind) self.now.instances)) }
     {
-        let mut found = Vec::new(self.alloc);
-        for (name, there) in &self.instances {
-            if expert.is_subtype(*there, kind) {
-                found.push(*name)?;
-            }
-        }
-        Ok(found)
+        self.instances.list_below(self.alloc, expert, kind)
     }
 
     /// The facts of this predicate, in their order.

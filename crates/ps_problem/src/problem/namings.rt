@@ -1,8 +1,10 @@
 //! Which facts name which names.
-ghost use Rattle.std.specs.Prelude.{◌≡◌, ◌≢◌, ◌<◌, length, All, IfSome, IfNone, OnOk};
+ghost use Rattle.std.specs.Prelude.{◌≡◌, ◌≢◌, ◌<◌, List, length, All, IfSome, IfNone, OnOk};
 ghost use Rattle.std.specs.List.{Contains};
+ghost use Rattle.std.specs.BTreeSet.{insert_key};
+ghost use Rattle.ps_world.specs.Facts.{fact_cmp};
 ghost use Rattle.ps_world.specs.declared.facts.Fact.{Fact};
-ghost use Rattle.ps_problem.specs.Namings.{IsNaming, IsNoted, Covers, lowest_fact as least};
+ghost use Rattle.ps_problem.specs.Namings.{IsNaming, IsNoted, Covers, AreNamed, lowest_fact as least};
 ghost use Rattle.ps_problem.specs.declared.problem.namings.Naming.{Naming};
 
 use ps_world::{Args, Fact, Name};
@@ -29,6 +31,21 @@ pub fn note(namings: &mut BTreeSet<Naming>, fact: &Fact) -> Result<(), AllocErro
         })?;
     }
     Ok(())
+}
+
+/// Notes one more fact where notes are taken. Where memory runs out some of its arguments may be noted.
+pub fn note_where_taken(taken: &mut Option<BTreeSet<Naming>>, fact: &Fact) -> Result<(), AllocError>
+    ensures more { OnOk result ((facts : List Fact)
+        → IfSome taken.old (λ s. AreNamed facts s.keys)
+        → IfSome taken.new (λ s. AreNamed (insert_key fact_cmp facts fact.now) s.keys)) }
+    ensures same { (facts : List Fact)
+        → IfSome taken.old (λ s. AreNamed facts s.keys)
+        → IfSome taken.new (λ s. AreNamed facts s.keys) }
+{
+    match taken {
+        None => Ok(()),
+        Some(namings) => note(namings, fact),
+    }
 }
 
 /// Takes out a note of this name, and answers its fact. None exactly where the name is noted with no fact.

@@ -22,9 +22,7 @@ impl Problem {
           instances = filter (λ i. not (same_name name i.0)) self.old.instances;
         } }
     {
-        // A map says of its length that its keys rise, so that the name stands in it once.
-        let _count = self.instances.len();
-        self.instances.remove(&name);
+        self.instances.remove(name);
     }
 
     fn leave_out_facts(&mut self, name: Name)
@@ -32,7 +30,7 @@ impl Problem {
           facts = filter (λ f. not (is_among name f.args)) self.old.facts;
         } }
     {
-        self.facts.leave_out(name);
+        self.facts.leave_out(self.alloc, name);
     }
 
     fn leave_out_values(&mut self, name: Name)
@@ -40,7 +38,7 @@ impl Problem {
           values = filter (λ v. not (is_among name v.0.args)) self.old.values;
         } }
     {
-        self.values.leave_out(name);
+        self.values.leave_out(self.alloc, name);
     }
 
     fn leave_out_goal(&mut self, name: Name)

@@ -9,7 +9,7 @@ ghost use Rattle.ps_action.specs.Effects.{with_value};
 ghost use Rattle.ps_problem.specs.Namings.{AreNamed};
 ghost use Rattle.ps_problem.specs.Puts.{held_in, put_back, with_held};
 
-use super::namings::{Naming, note, take_naming};
+use super::namings::{Naming, note, note_where_taken, take_naming};
 use ps_world::{Fact, Name, Num};
 use std::alloc::{AllocError, Global};
 use std::collections::{BTreeMap, BTreeSet};
@@ -20,11 +20,12 @@ use std::marker::Model;
 #[derive(Drop)]
 pub struct Values {
     all: BTreeMap<Fact, Num>,
-    namings: BTreeSet<Naming>,
+    /// None until a name is left out: most sessions leave none out, and then no notes are needed.
+    namings: Option<BTreeSet<Naming>>,
 }
 
 impl Model for Values {
-    ghost use Rattle.std.specs.Prelude.{List};
+    ghost use Rattle.std.specs.Prelude.{List, IfSome};
     ghost use Rattle.std.specs.Map.{keys_of};
     ghost use Rattle.ps_world.specs.declared.facts.Fact.{Fact};
     ghost use Rattle.ps_world.specs.declared.numbers.Num.{Num};
@@ -34,7 +35,7 @@ impl Model for Values {
 
     ghost view = { λ a. a.all.entries };
 
-    ghost invariant = { λ a. AreNamed (keys_of a.all.entries) a.namings.keys };
+    ghost invariant = { λ a. IfSome a.namings (λ s. AreNamed (keys_of a.all.entries) s.keys) };
 }
 
 impl Values {
@@ -44,7 +45,7 @@ impl Values {
     {
         Values {
             all: BTreeMap::new(alloc),
-            namings: BTreeSet::new(alloc),
+            namings: None,
         }
     }
 
@@ -54,7 +55,7 @@ impl Values {
     {
         Ok(Values {
             all: self.all.clone()?,
-            namings: self.namings.clone()?,
+            namings: None,
         })
     }
 
@@ -72,7 +73,7 @@ impl Values {
         ensures rose { OnOk result (IsStrictlySortedBy fact_cmp (keys_of self.old)) }
         ensures err { OnErr result (self.new ≡ self.old) }
     {
-        note(&mut self.namings, &fact)?;
+        note_where_taken(&mut self.namings, &fact)?;
         let held = self.all.insert(fact, number)?;
         Ok(held)
     }
@@ -90,10 +91,17 @@ impl Values {
     }
 
     /// Takes out every value of a function that names this.
-    pub fn leave_out(&mut self, name: Name)
+    pub fn leave_out(&mut self, alloc: Global, name: Name)
         ensures { self.new ≡ filter (λ v. not (is_among name v.0.args)) self.old }
     {
-        leave_out_named(&mut self.all, &mut self.namings, name);
+        if self.namings.is_none() {
+            self.namings = notes_of(alloc, &self.all).ok();
+        }
+        match &mut self.namings {
+            Some(namings) => leave_out_named(&mut self.all, namings, name),
+            // There is no memory for notes.
+            None => leave_out_each(&mut self.all, name),
+        }
     }
 
     /// Sets these values one after another. Where memory runs out some of the first may be set.
@@ -189,6 +197,24 @@ fn is_same(a: Option<Num>, b: Option<Num>) -> bool
         (None, None) => true,
         _ => false,
     }
+}
+
+/// The notes of the functions that have these values. The only error is out of memory.
+fn notes_of(alloc: Global, values: &BTreeMap<Fact, Num>) -> Result<BTreeSet<Naming>, AllocError>
+    ensures { IfOk result (λ s. AreNamed (keys_of values.now.entries) s.keys) }
+{
+    let mut namings = BTreeSet::new(alloc);
+    for (fact, _) in values {
+        note(&mut namings, fact)?;
+    }
+    Ok(namings)
+}
+
+/// Takes out every value of a function that names this, without notes. It takes no memory.
+fn leave_out_each(all: &mut BTreeMap<Fact, Num>, name: Name)
+    ensures { all.new.entries ≡ filter (λ v. not (is_among name v.0.args)) all.old.entries }
+{
+    all.retain(|fact, _| !fact.args.contains(name));
 }
 
 /// Takes out every value of a function that names this, and each note of the name.

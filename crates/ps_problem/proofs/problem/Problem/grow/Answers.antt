@@ -15,4 +15,4 @@ returns-in_err-insert_all-2-clause-err c =
     let e = c.in_err-insert_all-2.ensures.err in
     let facts : c.insert_all.new.self ≡ fold (insert_key fact_cmp) c.self.inside.facts (take (length fresh) fresh) =
     c.in_ok-insert_all.ensures.ok ∙ ap (fold (insert_key fact_cmp) c.self.inside.facts) (c.deref.ensures.value ∙ sym (take-length fresh)) in
-    whatever c.from_residual-in_err-insert_all-2.result (length fresh, e.0, rw (← c.self.view_is) (λ i. record { instances = c.self.inside.instances.entries; facts = facts i; values = e.1 i; goal = c.self.inside.goal }))
+    whatever c.from_residual-in_err-insert_all-2.result (length fresh, e.0, rw (← c.self.view_is) (λ i. record { instances = c.self.inside.instances; facts = facts i; values = e.1 i; goal = c.self.inside.goal }))

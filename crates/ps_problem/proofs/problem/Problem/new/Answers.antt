@@ -10,5 +10,5 @@ loop-constant-preserved c =
     let none : Param = record { name = record { 0 = 0 }; kind = record { 0 = 0 } } in
     let constants = c.as_slice-constant-items.result.now in
     let i = c.loop-constant.constant-index in
-    c.in_ok-insert.ensures.entries ∙ ap (λ (es : List (Name × Name)). with_constant es (get_or constants i none)) c.loop-constant.invariant
+    c.in_ok-insert.ensures.ok ∙ ap (λ (es : List (Name × Name)). with_constant es (get_or constants i none)) c.loop-constant.invariant
     ∙ sym (fold_more with_constant [] constants i none (omega arith))

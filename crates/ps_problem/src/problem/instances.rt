@@ -1,0 +1,166 @@
+//! The instances that are known.
+ghost use Rattle.std.specs.Prelude.{◌≡◌, [], List, not, filter, map, length, slice_get, IfOk, OnOk, OnErr};
+ghost use Rattle.std.specs.Map.{lookup};
+ghost use Rattle.std.specs.BTreeMap.{insert_entry};
+ghost use Rattle.ps_world.specs.Names.{name_cmp, same_name};
+ghost use Rattle.ps_world.specs.Knowledge.{is_below};
+ghost use Rattle.ps_world.specs.declared.names.Name.{Name};
+ghost use Rattle.ps_problem.specs.KindLists.{AreKinds, AreAfter};
+
+use ps_domain::Expert;
+use ps_world::Name;
+use std::alloc::{AllocError, Global};
+use std::collections::BTreeMap;
+use std::marker::Model;
+
+/// The most names whose types stand in a list by their numbers.
+const MOST_KINDS: u64 = 4_096;
+
+/// The instances with their types, in the order of their names. Contracts see their list.
+#[derive(Drop)]
+pub struct Instances {
+    all: BTreeMap<Name, Name>,
+    /// The types of the names with the lowest numbers, so that an argument's type is found without a search.
+    kinds: Vec<Option<Name>>,
+}
+
+impl Model for Instances {
+    ghost use Rattle.std.specs.Prelude.{List};
+    ghost use Rattle.ps_world.specs.declared.names.Name.{Name};
+    ghost use Rattle.ps_problem.specs.KindLists.{AreKinds};
+
+    ghost Value = { List (Name × Name) };
+
+    ghost view = { λ a. a.all.entries };
+
+    ghost invariant = { λ a. AreKinds a.kinds.items a.all.entries };
+}
+
+impl Instances {
+    /// No instances.
+    pub fn new(alloc: Global) -> Instances
+        ensures { result ≡ [] }
+    {
+        Instances {
+            all: BTreeMap::new(alloc),
+            kinds: Vec::new(alloc),
+        }
+    }
+
+    /// Equal instances.
+    pub fn copy(&self) -> Result<Instances, AllocError>
+        ensures { IfOk result (λ instances. instances ≡ self.now) }
+    {
+        Ok(Instances {
+            all: self.all.clone()?,
+            kinds: self.kinds.clone()?,
+        })
+    }
+
+    /// How many instances.
+    pub fn len(&self) -> usize
+        ensures { result ≡ length self.now }
+    {
+        self.all.len()
+    }
+
+    /// The type of an instance. None exactly where the name is no instance.
+    pub fn get(&self, name: Name) -> Option<Name>
+        ensures { result ≡ lookup (same_name name) self.now }
+    {
+        match self.kinds.get(name.0 as usize) {
+            Some(kind) => *kind,
+            None => self.all.get(&name).copied(),
+        }
+    }
+
+    /// Gives a name this type. Where memory runs out nothing changes.
+    pub fn insert(&mut self, name: Name, kind: Name) -> Result<(), AllocError>
+        ensures ok { OnOk result (self.new ≡ insert_entry name_cmp self.old name kind) }
+        ensures err { OnErr result (self.new ≡ self.old) }
+    {
+        list_kinds(&self.all, &mut self.kinds, name)?;
+        self.all.insert(name, kind)?;
+        write_kind(&mut self.kinds, name, Some(kind));
+        Ok(())
+    }
+
+    /// Takes an instance out.
+    pub fn remove(&mut self, name: Name)
+        ensures { self.new ≡ filter (λ i. not (same_name name i.0)) self.old }
+    {
+        // A map says of its length that its keys rise, so that the name stands in it once.
+        let _count = self.all.len();
+        self.all.remove(&name);
+        write_kind(&mut self.kinds, name, None);
+    }
+
+    /// The instance at a place, with its type. None exactly where there are no more instances than that.
+    pub fn nth(&self, i: usize) -> Option<(Name, Name)>
+        ensures { result ≡ slice_get self.now i }
+    {
+        match self.all.iter().nth(i) {
+            Some((name, kind)) => Some((*name, *kind)),
+            None => None,
+        }
+    }
+
+    /// The instances with their types, in order. The only error is out of memory.
+    pub fn list(&self, alloc: Global) -> Result<Vec<(Name, Name)>, AllocError>
+        ensures { IfOk result (λ v. v.items ≡ self.now) }
+    {
+        let mut all = Vec::with_capacity(alloc, self.all.len())?;
+        for (name, kind) in &self.all {
+            all.push((*name, *kind))?;
+        }
+        Ok(all)
+    }
+
+    /// The instances whose type is this one or below it, in order. The only error is out of memory.
+    pub fn list_below(
+        &self,
+        alloc: Global,
+        expert: &Expert,
+        kind: Name,
+    ) -> Result<Vec<Name>, AllocError>
+        ensures { IfOk result (λ v. v.items
+            ≡ map (λ i. i.0) (filter (λ i. is_below expert.now i.1 kind) self.now)) }
+    {
+        let mut found = Vec::new(alloc);
+        for (name, there) in &self.all {
+            if expert.is_subtype(*there, kind) {
+                found.push(*name)?;
+            }
+        }
+        Ok(found)
+    }
+}
+
+/// Lists the types up to this name's, if its number is one of the lowest. Where memory runs out some may be listed.
+fn list_kinds(
+    all: &BTreeMap<Name, Name>,
+    kinds: &mut Vec<Option<Name>>,
+    name: Name,
+) -> Result<(), AllocError>
+    requires { AreKinds kinds.old.items all.now.entries }
+    ensures { AreKinds kinds.new.items all.now.entries }
+{
+    if name.0 >= MOST_KINDS {
+        return Ok(());
+    }
+    for at in kinds.len()..name.0 as usize + 1 {
+        kinds.push(all.get(&Name(at as u64)).copied())?;
+    }
+    Ok(())
+}
+
+/// Writes the type that a name has now, if types are listed up to it.
+fn write_kind(kinds: &mut Vec<Option<Name>>, name: Name, kind: Option<Name>)
+    ensures { (old new : List (Name × Name)) → AreKinds kinds.old.items old
+        → AreAfter name kind old new → AreKinds kinds.new.items new }
+{
+    let at = name.0 as usize;
+    if at < kinds.len() {
+        kinds[at] = kind;
+    }
+}
