@@ -25,7 +25,7 @@ pub fn finding_line(alloc: Global, finding: Finding) -> Result<Vec<u8>, AllocErr
         Finding::Legal => text.extend_from_slice(b"legal\n")?,
         Finding::Illegal { line } => {
             text.extend_from_slice(b"illegal line ")?;
-            push_number(alloc, line as u64, &mut text)?;
+            push_number(line as u64, &mut text)?;
             text.extend_from_slice(b"\n")?;
         }
     }

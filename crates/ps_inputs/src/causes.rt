@@ -51,7 +51,7 @@ fn at_place(alloc: Global, word: &[u8], at: usize) -> Result<Vec<u8>, AllocError
 {
     let mut text = Vec::from_slice(alloc, word)?;
     text.push(b' ')?;
-    push_number(alloc, at as u64, &mut text)?;
+    push_number(at as u64, &mut text)?;
     Ok(text)
 }
 

@@ -30,7 +30,7 @@ impl Printed for LineCause {
 fn push_arity(want: usize, got: usize, names: &Names, out: &mut Vec<u8>) -> Result<(), AllocError>
     ensures { OnOk result (out.new.items ≡ out.old.items ++ edit_refusal_text [] (Arity want got)) }
 {
-    push_both(b"Arity ", &want, b" ", &got, names, out)
+    push_both(b"Arity ", &want, &got, names, out)
 }
 
 impl Printed for EditRefusal {

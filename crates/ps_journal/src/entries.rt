@@ -3,7 +3,7 @@ ghost use Rattle.std.specs.Prelude.{◌≡◌, ◌++◌, codes, IfOk, OnOk};
 ghost use Rattle.std.specs.Fmt.{decimal};
 ghost use Rattle.ps_machine.specs.Texts.{query_text, by_text, kind_text, pass_text, fail_text, cancel_text, outcome_text, finish_text, on_request, event_text, entry_line};
 
-use super::printed::{Printed, push_after, push_all, push_both};
+use super::printed::{LINE_BYTES, Printed, push_after, push_all, push_both, push_spaced};
 use ps_machine::{By, CancelWhy, Entry, Event, FailWhy, Outcome, PassWhy, Query, RunKind};
 use ps_text::Names;
 use ps_world::Name;
@@ -122,7 +122,7 @@ fn push_on_request(
 ) -> Result<(), AllocError>
     ensures { OnOk result (out.new.items ≡ out.old.items ++ on_request names.now word.now r by) }
 {
-    push_both(word, &r, b" ", &by, names, out)
+    push_both(word, &r, &by, names, out)
 }
 
 /// Adds a word, the place of an act, and words after a space.
@@ -155,7 +155,7 @@ fn push_feedback(
         ++ (codes " " ++ (decimal percent ++ (codes " " ++ note.now))))) }
 {
     push_on_request(b"feedback ", r, by, names, out)?;
-    push_after(b" ", &percent, names, out)?;
+    push_spaced(&percent, names, out)?;
     out.push(b' ')?;
     out.extend_from_slice(note)
 }
@@ -165,8 +165,8 @@ impl Printed for Event {
 
     fn print(&self, names: &Names, out: &mut Vec<u8>) -> Result<(), AllocError> {
         match self {
-            Event::Edit { by, edit } => push_both(b"edit ", by, b" ", edit, names, out),
-            Event::Refused { by, why } => push_both(b"refused ", by, b" ", why, names, out),
+            Event::Edit { by, edit } => push_both(b"edit ", by, edit, names, out),
+            Event::Refused { by, why } => push_both(b"refused ", by, why, names, out),
             Event::Ask(query) => push_after(b"ask ", query, names, out),
             Event::Run { kind, acts } => {
                 out.extend_from_slice(b"run ")?;
@@ -175,7 +175,7 @@ impl Printed for Event {
             }
             Event::Quit => out.extend_from_slice(b"quit"),
             Event::Start(act) => push_after(b"start ", act, names, out),
-            Event::Request { r, act } => push_both(b"request ", r, b" ", act, names, out),
+            Event::Request { r, act } => push_both(b"request ", r, act, names, out),
             Event::Offer { r, by } => push_on_request(b"offer ", *r, *by, names, out),
             Event::Pass { r, by, why } => {
                 push_on_request(b"pass ", *r, *by, names, out)?;
@@ -217,8 +217,9 @@ impl Printed for Entry {
     ghost text = { entry_line };
 
     fn print(&self, names: &Names, out: &mut Vec<u8>) -> Result<(), AllocError> {
+        out.reserve(LINE_BYTES)?;
         self.hand.print(names, out)?;
-        push_after(b" ", &self.what, names, out)
+        push_spaced(&self.what, names, out)
     }
 }
 

@@ -5,7 +5,7 @@ ghost use Rattle.ps_world.specs.Texts.{args_text, fact_text, value_text, goal_te
 ghost use Rattle.ps_action.specs.Texts.{step_line};
 ghost use Rattle.ps_machine.specs.Texts.{act_text};
 
-use super::printed::{Printed, push_after, push_both};
+use super::printed::{Printed, push_after, push_both, push_spaced};
 use ps_action::{Act, PlanStep};
 use ps_print::push_condition;
 use ps_text::{NUMBER_BYTES, Names, print_number};
@@ -27,7 +27,7 @@ fn push_args(args: &[Name], names: &Names, out: &mut Vec<u8>) -> Result<(), Allo
     ensures { OnOk result (out.new.items ≡ out.old.items ++ args_text names.now args.now) }
 {
     for name in args {
-        push_after(b" ", name, names, out)?;
+        push_spaced(name, names, out)?;
     }
     Ok(())
 }
@@ -36,9 +36,11 @@ impl Printed for Fact {
     ghost text = { fact_text };
 
     fn print(&self, names: &Names, out: &mut Vec<u8>) -> Result<(), AllocError> {
-        push_after(b"(", &self.head, names, out)?;
+        out.push(b'(')?;
+        self.head.print(names, out)?;
         push_args(self.args.as_slice(), names, out)?;
-        out.extend_from_slice(b")")
+        out.push(b')')?;
+        Ok(())
     }
 }
 
@@ -54,8 +56,9 @@ fn push_value_after(
         ++ (words.now ++ value_text names.now fact.now number.now)) }
 {
     out.extend_from_slice(words)?;
-    push_both(b"(= ", fact, b" ", number, names, out)?;
-    out.extend_from_slice(b")")
+    push_both(b"(= ", fact, number, names, out)?;
+    out.push(b')')?;
+    Ok(())
 }
 
 /// The text of the value of a function at its arguments.
@@ -83,7 +86,8 @@ impl Printed for Act {
     fn print(&self, names: &Names, out: &mut Vec<u8>) -> Result<(), AllocError> {
         push_after(b" (", &self.action, names, out)?;
         push_args(self.args.as_slice(), names, out)?;
-        out.extend_from_slice(b")")
+        out.push(b')')?;
+        Ok(())
     }
 }
 
@@ -94,7 +98,8 @@ impl Printed for PlanStep {
         self.time.print(names, out)?;
         push_after(b":", &self.act, names, out)?;
         push_after(b" [", &self.duration, names, out)?;
-        out.extend_from_slice(b"]")
+        out.push(b']')?;
+        Ok(())
     }
 }
 
@@ -104,9 +109,7 @@ impl Printed for Edit {
 
     fn print(&self, names: &Names, out: &mut Vec<u8>) -> Result<(), AllocError> {
         match self {
-            Edit::AddInstance(name, kind) => {
-                push_both(b"set instance ", name, b" ", kind, names, out)
-            }
+            Edit::AddInstance(name, kind) => { push_both(b"set instance ", name, kind, names, out) }
             Edit::RemoveInstance(name) => push_after(b"remove instance ", name, names, out),
             Edit::AddFact(fact) => push_after(b"set predicate ", fact, names, out),
             Edit::RemoveFact(fact) => push_after(b"remove predicate ", fact, names, out),

@@ -3,12 +3,11 @@ ghost use Rattle.std.specs.Prelude.{◌≡◌, ◌∷◌, [], ◌++◌, map, IfO
 ghost use Rattle.std.specs.Option.{option_copied};
 ghost use Rattle.ps_rules.specs.Journal.{in_order, instance_text, goal_line, reply_text};
 
-use super::printed::{Printed, push_after};
+use super::printed::{LINE_BYTES, Printed, push_after};
 use super::replies::push_reply;
 use ps_text::Names;
 use ps_world::{Cond, Name, Seq};
 use std::alloc::{AllocError, Global};
-use std::collections::BTreeSet;
 
 /// The text of an instance with its type.
 impl Printed for (Name, Name) {
@@ -20,26 +19,34 @@ impl Printed for (Name, Name) {
     }
 }
 
-/// The texts of values, in the order of their bytes.
-fn lines_in_order<T: Printed>(
+/// The texts of values.
+fn texts_of<T: Printed>(
     alloc: Global,
     values: &[T],
     names: &Names,
-) -> Result<BTreeSet<Seq<u8>>, AllocError>
-    ensures { IfOk result (λ lines. lines.keys ≡ in_order (map (T.text names.now) values.now)) }
+) -> Result<Vec<Seq<u8>>, AllocError>
+    ensures { IfOk result (λ lines. lines.items ≡ map (T.text names.now) values.now) }
 {
-    let mut lines = BTreeSet::new(alloc);
+    let mut lines = Vec::with_capacity(alloc, values.len())?;
     for value in values {
-        let mut line = Vec::new(alloc);
+        let mut line = Vec::with_capacity(alloc, LINE_BYTES)?;
         value.print(names, &mut line)?;
-        lines.insert(Seq::of(line))?;
+        lines.push(Seq::of(line))?;
     }
     Ok(lines)
 }
 
-/// Adds lines in the order of their bytes, each as a reply.
-fn push_lines(lines: &BTreeSet<Seq<u8>>, out: &mut Vec<u8>) -> Result<(), AllocError>
-    ensures { OnOk result (out.new.items ≡ out.old.items ++ reply_text lines.now.keys) }
+/// Puts lines in the order of their bytes, each once.
+fn put_in_order(lines: &mut Vec<Seq<u8>>)
+    ensures { lines.new.items ≡ in_order lines.old.items }
+{
+    lines.sort_unstable();
+    lines.dedup();
+}
+
+/// Adds lines, each as a reply.
+fn push_lines(lines: &[Seq<u8>], out: &mut Vec<u8>) -> Result<(), AllocError>
+    ensures { OnOk result (out.new.items ≡ out.old.items ++ reply_text lines.now) }
 {
     for line in lines {
         push_reply(line.as_slice(), out)?;
@@ -57,8 +64,9 @@ pub fn push_in_order<T: Printed>(
     ensures { OnOk result (out.new.items ≡ out.old.items
         ++ reply_text (in_order (map (T.text names.now) values.now))) }
 {
-    let lines = lines_in_order(alloc, values, names)?;
-    push_lines(&lines, out)
+    let mut lines = texts_of(alloc, values, names)?;
+    put_in_order(&mut lines);
+    push_lines(lines.as_slice(), out)
 }
 
 /// Adds the reply that tells the goal, or that there is none.

@@ -1,12 +1,16 @@
 //! What has a text, and the texts of numbers and names.
-ghost use Rattle.std.specs.Prelude.{◌≡◌, ◌++◌, OnOk};
+ghost use Rattle.std.specs.Prelude.{◌≡◌, ◌++◌, codes, OnOk};
 ghost use Rattle.std.specs.Fmt.{decimal};
 ghost use Rattle.std.specs.List.{flat_map};
 ghost use Rattle.ps_world.specs.Names.{name_text};
 
+use itoa::Buffer;
 use ps_text::Names;
 use ps_world::Name;
-use std::alloc::{AllocError, Global};
+use std::alloc::AllocError;
+
+/// Room for most lines, so that their texts need not grow.
+pub const LINE_BYTES: usize = 64;
 
 /// A value that has a text, with a table of names. A name that the table hasn't is written as nothing.
 pub trait Printed {
@@ -35,20 +39,32 @@ pub fn push_after<T: Printed>(
     value.print(names, out)
 }
 
-/// Adds words, a value's text, what stands between, and another value's text.
+/// Adds a space, and a value's text after it.
+pub fn push_spaced<T: Printed>(
+    value: &T,
+    names: &Names,
+    out: &mut Vec<u8>,
+) -> Result<(), AllocError>
+    ensures { OnOk result (out.new.items ≡ out.old.items
+        ++ (codes " " ++ T.text names.now value.now)) }
+{
+    out.push(b' ')?;
+    value.print(names, out)
+}
+
+/// Adds words, a value's text, a space, and another value's text.
 pub fn push_both<T: Printed, U: Printed>(
     words: &[u8],
     first: &T,
-    between: &[u8],
     second: &U,
     names: &Names,
     out: &mut Vec<u8>,
 ) -> Result<(), AllocError>
     ensures { OnOk result (out.new.items ≡ out.old.items ++ (words.now
-        ++ (T.text names.now first.now ++ (between.now ++ U.text names.now second.now)))) }
+        ++ (T.text names.now first.now ++ (codes " " ++ U.text names.now second.now)))) }
 {
     push_after(words, first, names, out)?;
-    push_after(between, second, names, out)
+    push_spaced(second, names, out)
 }
 
 /// Adds the texts of values, one after the other.
@@ -67,19 +83,18 @@ pub fn push_all<T: Printed>(
 }
 
 /// Adds a number in decimal digits.
-pub fn push_number(alloc: Global, number: u64, text: &mut Vec<u8>) -> Result<(), AllocError>
+pub fn push_number(number: u64, text: &mut Vec<u8>) -> Result<(), AllocError>
     ensures { OnOk result (text.new.items ≡ text.old.items ++ decimal number) }
 {
-    let digits = number.to_string(alloc)?;
-    text.extend_from_slice(digits.as_bytes())
+    let mut digits = Buffer::new();
+    text.extend_from_slice(digits.format(number).as_bytes())
 }
 
 impl Printed for u64 {
     ghost text = { λ names n. decimal n };
 
     fn print(&self, _names: &Names, out: &mut Vec<u8>) -> Result<(), AllocError> {
-        let alloc = *out.allocator();
-        push_number(alloc, *self, out)
+        push_number(*self, out)
     }
 }
 

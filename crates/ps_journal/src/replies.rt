@@ -107,7 +107,8 @@ pub fn push_reply(line: &[u8], out: &mut Vec<u8>) -> Result<(), AllocError>
 {
     out.extend_from_slice(b"  ")?;
     out.extend_from_slice(line)?;
-    out.extend_from_slice(b"\n")
+    out.push(b'\n')?;
+    Ok(())
 }
 
 /// Adds a value's text as a reply.
@@ -116,7 +117,8 @@ fn push_reply_of<T: Printed>(value: &T, names: &Names, out: &mut Vec<u8>) -> Res
         ++ (reply_mark ++ (T.text names.now value.now ++ line_end))) }
 {
     push_after(b"  ", value, names, out)?;
-    out.extend_from_slice(b"\n")
+    out.push(b'\n')?;
+    Ok(())
 }
 
 /// Adds the texts of values, each as a reply.
