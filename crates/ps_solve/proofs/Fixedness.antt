@@ -59,7 +59,8 @@ all_put_in : (args : List Name) (ts : List Term) → map (name_in []) (map (put_
 all_put_in args [] = refl
 all_put_in args (t ∷ ts) = λ i. put_in args t i ∷ all_put_in args ts i
 
-fact_put_in : (args : List Name) (l : Lifted) → ground_in [] (put_lifted args l) ≡ ground_in args l
+-- so is a fact
+pub fact_put_in : (args : List Name) (l : Lifted) → ground_in [] (put_lifted args l) ≡ ground_in args l
 fact_put_in args l = λ i. record { head = l.head; args = all_put_in args l.terms i }
 
 module _ (d : Domain) (k : Knowledge) (s : State) (args : List Name) where

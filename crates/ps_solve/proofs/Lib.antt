@@ -2,8 +2,10 @@ pub mod Answered
 pub mod Bits
 pub mod Courses
 pub mod Depths
+pub mod Distinct
 pub mod Expanding
 pub mod Firsts
+pub mod Fitted
 pub mod Fixedness
 pub mod FlagRows
 pub mod Gathering
@@ -17,6 +19,7 @@ pub mod NoneLaw
 pub mod Places
 pub mod Preparing
 pub mod Pruning
+pub mod PuttingIn
 pub mod Reaching
 pub mod Removed
 pub mod Rising

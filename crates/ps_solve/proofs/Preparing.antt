@@ -1,12 +1,11 @@
 -- What is prepared leads to the same, and conditions that hold in no state over the atoms lead nowhere.
-use Rattle.std.proofs.Common.{◌≡◌, ℕ, zero, suc, ◌+◌, Bool, true, false, not, cond, ◌&&◌, ◌||◌, List, [], ◌∷◌, ◌++◌, Option, Some, None, option_map, option_and_then, option_to_list, drop, filter, filter_map, flat_map, fold, map, refl, ap, sym, ◌∙◌, subst}
+use Rattle.std.proofs.Common.{◌≡◌, ℕ, zero, suc, ◌+◌, Bool, true, false, not, cond, ◌&&◌, ◌||◌, List, [], ◌∷◌, ◌++◌, Option, Some, None, option_map, option_and_then, option_to_list, drop, filter, filter_map, fold, map, refl, ap, sym, ◌∙◌, subst}
 use Rattle.std.specs.Prelude.{MatchOption, slice_get}
 use Rattle.std.specs.List.{cons_option, list_all, list_any}
 use Rattle.std.specs.Option.{option_map_or}
 use Rattle.std.specs.BTreeSet.{insert_key}
 use Rattle.std.specs.Result.{result_ok}
 use Rattle.std.proofs.lemmas.Cmp.{eq_by_cmp_equiv}
-use Rattle.std.proofs.lemmas.List.{append_assoc}
 use Rattle.std.proofs.lemmas.List.Elements.{filter_map-append}
 use Rattle.ps_world.specs.Facts.{fact_cmp}
 use Rattle.ps_world.specs.Knowledge.{same_fact}
@@ -18,22 +17,23 @@ use Rattle.ps_world.specs.declared.conditions.Cond.{Cond}
 use Rattle.ps_world.specs.declared.domains.Domain.{Domain}
 use Rattle.ps_world.specs.declared.facts.Fact.{Fact}
 use Rattle.ps_world.specs.declared.known.Knowledge.{Knowledge}
+use Rattle.ps_world.specs.declared.names.Name.{Name}
 use Rattle.ps_world.specs.declared.numbers.Num.{Num}
 use Rattle.ps_action.specs.Effects.{added_by, deletes, fault_of_effects, faults_from, made, unless, value_set, values_set}
+use Rattle.ps_action.specs.Grounding.{put_cond}
 use Rattle.ps_action.specs.Truth.{all_true, is_true}
 use Rattle.ps_action.specs.declared.acts.GroundAction.{GroundAction}
 use Rattle.ps_action.specs.declared.refusals.EffectRefusal.{EffectRefusal}
 use Rattle.ps_action.proofs.Keys.{any-insert_key}
 use Rattle.ps_solve.specs.Orders.{facts_total}
 use Rattle.ps_solve.specs.States.{State, at, changed, ended, state_of, stepped, where_so}
-use Rattle.ps_solve.specs.Nodes.{Node, move, moves}
+use Rattle.ps_solve.specs.Nodes.{Node, moves}
 use Rattle.ps_solve.specs.Independence.{HaveFootprints, HasFootprint}
 use Rattle.ps_solve.specs.Prepared.{AreSound, IsBareTest, IsSound, is_number, known_at, landed, successor_node, successor_nodes, successor, passes, turned, with_at, without_at}
 use Rattle.ps_solve.specs.Rows.{AddAtoms, AreAtoms, IsOver, adds, plain_state}
 use Rattle.ps_solve.specs.declared.prepared.Prepared.{Prepared}
 use Rattle.ps_solve.specs.declared.prepared.Test.{Test}
 use Rattle.ps_solve.specs.declared.rows.Row.{Row}
-use Rattle.ps_solve.proofs.Expanding.{one_given}
 use Rattle.ps_solve.proofs.FlagRows.{none_filtered, none_known}
 use Rattle.ps_solve.proofs.Removed.{filter_either, fold_option}
 use Rattle.ps_solve.proofs.Settled.{both_true}
@@ -41,22 +41,6 @@ use Rattle.ps_solve.proofs.Settled.{both_true}
 -- a row is over the atoms
 pub row_over : (atoms : List Fact) (r : Row) → IsOver atoms (plain_state atoms r)
 row_over atoms r f e = none_known (same_fact f) atoms r.flags.items e
-
--- ---- conditions
-
-and_false : (a b : Bool) → b ≡ false → (a && b) ≡ false
-and_false true b e = e
-and_false false b e = refl
-
-module _ (d : Domain) (l : Knowledge) where
-  -- one that doesn't hold
-  pub one_false : (i : ℕ) (cs rest : List Cond) (c : Cond) → drop i cs ≡ c ∷ rest → is_true d l (cond_tree c) ≡ false → all_true d l (map cond_tree cs) ≡ false
-  one_false zero [] rest c e f = absurd (cc)
-  one_false zero (x ∷ cs) rest c e f =
-      let same : x ≡ c = cc in
-      ap (λ y. is_true d l (cond_tree y) && all_true d l (map cond_tree cs)) same ∙ rw f refl
-  one_false (suc i) [] rest c e f = absurd (cc)
-  one_false (suc i) (x ∷ cs) rest c e f = and_false (is_true d l (cond_tree x)) (all_true d l (map cond_tree cs)) (one_false i cs rest c e f)
 
 -- ---- changes
 
@@ -126,12 +110,6 @@ first_atoms atoms g a = (atoms_of_both atoms (filter_map added_by g.effects.at_s
 pub last_atoms : (atoms : List Fact) (g : GroundAction) → AreAtoms atoms (adds g) → AddAtoms atoms g.effects.at_end
 last_atoms atoms g a = (atoms_of_both atoms (filter_map added_by g.effects.at_start) (filter_map added_by g.effects.at_end) a).1
 
--- the first of some ground actions, and the others, add atoms alone where all do
-pub actions_split : (atoms : List Fact) (g : GroundAction) (gs : List GroundAction) (i : ℕ) → drop i gs ≡ g ∷ drop (i + 1) gs → AreAtoms atoms (flat_map adds (drop i gs)) → AreAtoms atoms (adds g) × AreAtoms atoms (flat_map adds (drop (i + 1) gs))
-actions_split atoms g gs i split a =
-    let P : List GroundAction → Type 0 = λ l. AreAtoms atoms (flat_map adds l) in
-    atoms_of_both atoms (adds g) (flat_map adds (drop (i + 1) gs)) (subst P split a)
-
 -- the first of some facts, and the others, are atoms where all are
 pub facts_split : (atoms : List Fact) (f : Fact) (fs : List Fact) (i : ℕ) → drop i fs ≡ f ∷ drop (i + 1) fs → AreAtoms atoms (drop i fs) → AreAtoms atoms (f ∷ []) × AreAtoms atoms (drop (i + 1) fs)
 facts_split atoms f fs i split a =
@@ -143,17 +121,6 @@ pub no_place : {A : Type 0} (f : Fact) (atoms : List Fact) → list_any (same_fa
 no_place f atoms gone a =
     let other = (both (same_fact f f) false (a f gone)).0 in
     absurd (cc (other, (eq_by_cmp_equiv facts_total).refl f))
-
-none_was : (f : Fact) (xs fs : List Fact) → list_any (same_fact f) (fold (insert_key fact_cmp) fs xs) ≡ false → (list_any (same_fact f) fs ≡ false) × (list_any (same_fact f) xs ≡ false)
-none_was f [] fs e = (e, refl)
-none_was f (g ∷ xs) fs e =
-    let w = none_was f xs (insert_key fact_cmp fs g) e in
-    let v = both (same_fact f g) (list_any (same_fact f) fs) (sym (any-insert_key facts_total f g fs) ∙ w.0) in
-    (v.1, neither (same_fact f g) (list_any (same_fact f) xs) v.0 w.1)
-
--- what is put among atoms is one of them
-pub are_put : (xs atoms : List Fact) → atoms ≡ fold (insert_key fact_cmp) [] xs → AreAtoms atoms xs
-are_put xs atoms e f gone = (none_was f xs [] (ap (λ (l : List Fact). list_any (same_fact f) l) (sym e) ∙ gone)).1
 
 module _ (d : Domain) (k : Knowledge) (atoms : List Fact) where
   made_over : (s t : State) (es : List Effect) (ready : List (Fact × Num)) (fault : Option EffectRefusal) → IsOver atoms s → AddAtoms atoms es → option_map state_of (result_ok (unless fault (made (at k s) es ready))) ≡ Some t → IsOver atoms t
@@ -233,11 +200,12 @@ module _ (d : Domain) (k : Knowledge) (atoms : List Fact) (s : State) where
       e ∙ (λ i. (list_all (known_at atoms s) (bare.wanted i) && all_true d (at k s) (bare.others i)) && b)
 
   -- what is left is tested after what was taken in
-  pub tested_more : (cs : List Cond) (i : ℕ) (c : Cond) (old new : Test) → drop i cs ≡ c ∷ drop (i + 1) cs → passes d k atoms new s ≡ (passes d k atoms old s && is_true d (at k s) (cond_tree c)) → (passes d k atoms new s && all_true d (at k s) (map cond_tree (drop (i + 1) cs))) ≡ (passes d k atoms old s && all_true d (at k s) (map cond_tree (drop i cs)))
-  tested_more cs i c old new split e =
-      ap (λ b. b && all_true d (at k s) (map cond_tree (drop (i + 1) cs))) e
-      ∙ sym (and_last (passes d k atoms old s) (is_true d (at k s) (cond_tree c)) (all_true d (at k s) (map cond_tree (drop (i + 1) cs))))
-      ∙ ap (λ (l : List Cond). passes d k atoms old s && all_true d (at k s) (map cond_tree l)) (sym split)
+  pub tested_more : (args : List Name) (cs : List Cond) (i : ℕ) (c : Cond) (old new : Test) → drop i cs ≡ c ∷ drop (i + 1) cs → passes d k atoms new s ≡ (passes d k atoms old s && is_true d (at k s) (put_cond args (cond_tree c))) → (passes d k atoms new s && all_true d (at k s) (map (put_cond args) (map cond_tree (drop (i + 1) cs)))) ≡ (passes d k atoms old s && all_true d (at k s) (map (put_cond args) (map cond_tree (drop i cs))))
+  tested_more args cs i c old new split e =
+      let rest = map (put_cond args) (map cond_tree (drop (i + 1) cs)) in
+      ap (λ b. b && all_true d (at k s) rest) e
+      ∙ sym (and_last (passes d k atoms old s) (is_true d (at k s) (put_cond args (cond_tree c))) (all_true d (at k s) rest))
+      ∙ ap (λ (l : List Cond). passes d k atoms old s && all_true d (at k s) (map (put_cond args) (map cond_tree l))) (sym split)
 
 -- ---- changes by places
 
@@ -302,21 +270,17 @@ module _ (d : Domain) (k : Knowledge) (s : State) (es : List Effect) (none : lis
 -- ---- prepared ground actions, one after another
 
 module _ (d : Domain) (k : Knowledge) (atoms : List Fact) (n : Node) where
-  successor_by : (p : Prepared) (g : GroundAction) → p.act ≡ g.act → successor d k atoms n.state p ≡ stepped d k n.state g → successor_node d k atoms n p ≡ move d k n g
-  successor_by p g act e = λ i. option_map (λ s. let m : Node = record { state = s; path = n.path ++ act i ∷ [] } in m) (e i)
+  -- a prepared ground action leads to the node that it is prepared for
+  pub successor_by : (p : Prepared) (g : GroundAction) → p.act ≡ g.act → successor d k atoms n.state p ≡ stepped d k n.state g → successor_nodes d k atoms (p ∷ []) n ≡ moves d k (g ∷ []) n
+  successor_by p g act e = λ i. cons_option (option_map (λ s. let m : Node = record { state = s; path = n.path ++ act i ∷ [] } in m) (e i)) []
+
+  -- one that leads nowhere has no node
+  pub nowhere_by : (g : GroundAction) → stepped d k n.state g ≡ None → [] ≡ moves d k (g ∷ []) n
+  nowhere_by g e = ap (λ (o : Option State). cons_option (option_map (λ s. let m : Node = record { state = s; path = n.path ++ g.act ∷ [] } in m) o) []) (sym e)
 
   -- one more that is prepared
-  pub prepared_more : (all : List GroundAction) (i : ℕ) (a : GroundAction) (found : List Prepared) (p : Prepared) → drop i all ≡ a ∷ drop (i + 1) all → p.act ≡ a.act → successor d k atoms n.state p ≡ stepped d k n.state a → successor_nodes d k atoms (found ++ p ∷ []) n ++ moves d k (drop (i + 1) all) n ≡ successor_nodes d k atoms found n ++ moves d k (drop i all) n
-  prepared_more all i a found p split act e =
-      ap (λ l. l ++ moves d k (drop (i + 1) all) n) (filter_map-append (successor_node d k atoms n) found (p ∷ []))
-      ∙ append_assoc (successor_nodes d k atoms found n) (cons_option (successor_node d k atoms n p) []) (moves d k (drop (i + 1) all) n)
-      ∙ ap (λ l. successor_nodes d k atoms found n ++ l) (one_given (successor_node d k atoms n p) (moves d k (drop (i + 1) all) n) ∙ ap (λ o. cons_option o (moves d k (drop (i + 1) all) n)) (successor_by p a act e) ∙ ap (λ l. moves d k l n) (sym split))
-
-  -- one that leads nowhere
-  pub idle_more : (all : List GroundAction) (i : ℕ) (a : GroundAction) (found : List Prepared) → drop i all ≡ a ∷ drop (i + 1) all → stepped d k n.state a ≡ None → successor_nodes d k atoms found n ++ moves d k (drop (i + 1) all) n ≡ successor_nodes d k atoms found n ++ moves d k (drop i all) n
-  idle_more all i a found split e =
-      ap (λ (o : Option State). successor_nodes d k atoms found n ++ cons_option (option_map (λ s. let m : Node = record { state = s; path = n.path ++ a.act ∷ [] } in m) o) (moves d k (drop (i + 1) all) n)) (sym e)
-      ∙ ap (λ l. successor_nodes d k atoms found n ++ moves d k l n) (sym split)
+  pub prepared_more : (found : List Prepared) (p : Prepared) → successor_nodes d k atoms (found ++ p ∷ []) n ≡ successor_nodes d k atoms found n ++ successor_nodes d k atoms (p ∷ []) n
+  prepared_more found p = filter_map-append (successor_node d k atoms n) found (p ∷ [])
 
 -- one more that adds atoms alone
 pub sound_more : (atoms : List Fact) (ps : List Prepared) (p : Prepared) → AreSound atoms ps → IsSound atoms p → AreSound atoms (ps ++ p ∷ [])

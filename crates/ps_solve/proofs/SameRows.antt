@@ -1,5 +1,5 @@
 -- Rows with a flag for each atom are the same where their states are.
-use Rattle.std.proofs.Common.{◌≡◌, true, false, cond, ◌&&◌, ◌||◌, List, [], ◌∷◌, ◌++◌, length, map, refl, ap, sym, ◌∙◌}
+use Rattle.std.proofs.Common.{◌≡◌, Bool, true, false, not, cond, ◌&&◌, ◌||◌, List, [], ◌∷◌, ◌++◌, length, map, refl, ap, sym, ◌∙◌}
 use Rattle.std.specs.Cmp.{both_ways, first_so, second_so}
 use Rattle.std.specs.Cmp.Lexicographic.{pointwise}
 use Rattle.std.specs.List.{list_any}
@@ -27,6 +27,15 @@ alike r s flags values = (λ i. pointwise beq r.flags.items (sym flags i) && eq_
 found_alike : (r c : Row) (rows : List Row) → c.flags.items ≡ r.flags.items → c.values ≡ r.values → list_any (same_row c) rows ≡ list_any (same_row r) rows
 found_alike r c rows flags values = λ i. list_any (λ s. pointwise beq (flags i) s.flags.items && eq_by_cmp values_cmp (values i) s.values) rows
 
+-- rows that are the same have as many flags
+pub wide_of_same : (r s : Row) → same_row r s ≡ true → length r.flags.items ≡ length s.flags.items
+wide_of_same r s e = ap length (same_flags r.flags.items s.flags.items (first_so (pointwise beq r.flags.items s.flags.items) (eq_by_cmp values_cmp r.values s.values) e))
+
+-- what isn't new was there
+pub was_there : (b : Bool) → not b ≡ false → b ≡ true
+was_there true e = refl
+was_there false e = absurd (cc)
+
 -- a new row goes last
 pub goes_last : (r c : Row) (rows : List Row) → c.flags.items ≡ r.flags.items → c.values ≡ r.values → list_any (same_row r) rows ≡ false → insert_key same_row rows c ≡ rows ++ c ∷ []
 goes_last r c rows flags values new = ap (λ b. cond b rows (rows ++ c ∷ [])) (found_alike r c rows flags values ∙ new)
@@ -35,6 +44,12 @@ module _ (atoms : List Fact) where
   -- the state is told by flags and values
   pub same_plain : (r s : Row) → r.flags.items ≡ s.flags.items → r.values ≡ s.values → plain_state atoms r ≡ plain_state atoms s
   same_plain r s flags values = λ i. record { facts = facts_of atoms (flags i); values = values i }
+
+  -- so it is told by what makes rows the same
+  pub plain_of_same : (r s : Row) → same_row r s ≡ true → plain_state atoms r ≡ plain_state atoms s
+  plain_of_same r s e =
+      same_plain r s (same_flags r.flags.items s.flags.items (first_so (pointwise beq r.flags.items s.flags.items) (eq_by_cmp values_cmp r.values s.values) e))
+      (tells_apart exact_values r.values s.values (second_so (pointwise beq r.flags.items s.flags.items) (eq_by_cmp values_cmp r.values s.values) e))
 
   pub wide_more : (rows : List Row) (c : Row) → AreWide atoms rows → length c.flags.items ≡ length atoms → AreWide atoms (rows ++ c ∷ [])
   wide_more [] c w h = (h, tt)

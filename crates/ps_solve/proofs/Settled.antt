@@ -5,7 +5,7 @@ use Rattle.ps_world.specs.declared.domains.Domain.{Domain}
 use Rattle.ps_world.specs.declared.known.Knowledge.{Knowledge}
 use Rattle.ps_action.specs.declared.acts.GroundAction.{GroundAction}
 use Rattle.ps_action.specs.Truth.{all_true, is_true}
-use Rattle.ps_solve.specs.States.{State, at, changed, where_so}
+use Rattle.ps_solve.specs.States.{State, at, changed, stepped, where_so}
 use Rattle.ps_solve.specs.Nodes.{Node, move}
 
 and_assoc : (a b c : Bool) → ((a && b) && c) ≡ (a && (b && c))
@@ -26,8 +26,12 @@ module _ (d : Domain) (k : Knowledge) where
   abbrev pub AlikeConds : List CondTree → List CondTree → Type 0
   AlikeConds xs ys = (s : State) → all_true d (at k s) xs ≡ all_true d (at k s) ys
 
-  -- ground actions whose conditions hold in the same states lead to the same nodes
-  pub alike_moves : (g h : GroundAction) → g.act ≡ h.act → AlikeConds g.conditions.at_start h.conditions.at_start → AlikeConds g.conditions.over_all h.conditions.over_all → AlikeConds g.conditions.at_end h.conditions.at_end → g.effects.at_start ≡ h.effects.at_start → g.effects.at_end ≡ h.effects.at_end → (n : Node) → move d k n g ≡ move d k n h
-  alike_moves g h act start over end at_start at_end n =
-      λ i. option_map (λ s. record { state = s; path = n.path ++ act i ∷ [] })
-      (option_and_then (λ s. where_so (over s i) (where_so (end s i) (changed d k s (at_end i)))) (where_so (start n.state i) (changed d k n.state (at_start i))))
+  module _ (g h : GroundAction) (start : AlikeConds g.conditions.at_start h.conditions.at_start) (over : AlikeConds g.conditions.over_all h.conditions.over_all) (end : AlikeConds g.conditions.at_end h.conditions.at_end) (at_start : g.effects.at_start ≡ h.effects.at_start) (at_end : g.effects.at_end ≡ h.effects.at_end) where
+    -- ground actions whose conditions hold in the same states lead to the same states
+    pub alike_steps : (s : State) → stepped d k s g ≡ stepped d k s h
+    alike_steps s =
+        λ i. option_and_then (λ s. where_so (over s i) (where_so (end s i) (changed d k s (at_end i)))) (where_so (start s i) (changed d k s (at_start i)))
+
+    -- and to the same nodes, where they are of the same act
+    pub alike_moves : g.act ≡ h.act → (n : Node) → move d k n g ≡ move d k n h
+    alike_moves act n = λ i. option_map (λ s. record { state = s; path = n.path ++ act i ∷ [] }) (alike_steps n.state i)

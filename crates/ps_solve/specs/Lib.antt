@@ -1,5 +1,6 @@
 pub mod Acts
 pub mod Endings
+pub mod Fitting
 pub mod Fixed
 pub mod Independence
 pub mod Laws

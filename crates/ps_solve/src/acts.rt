@@ -128,6 +128,7 @@ fn push_counted(
     if count == 0 {
         return Ok(());
     }
+    all.reserve(count)?;
     let mut first = Vec::with_capacity(alloc, choices.len())?;
     push_picks(action, &mut first, choices, all)
 }

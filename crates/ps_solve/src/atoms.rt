@@ -1,17 +1,20 @@
 //! The atoms of a search: the facts that its states may have.
-ghost use Rattle.std.specs.Prelude.{◌≡◌, ◌++◌, None, Some, [], false, filter_map, flat_map, fold, length, option_to_list, slice_get, IfOk, MatchOption, OnOk};
+ghost use Rattle.std.specs.Prelude.{◌≡◌, ◌++◌, None, Some, false, true, filter_map, flat_map, length, map, slice_get, IfOk, MatchOption, OnOk};
 ghost use Rattle.std.specs.List.{list_any};
 ghost use Rattle.std.specs.List.Sorted.{IsStrictlySortedBy};
-ghost use Rattle.std.specs.BTreeSet.{insert_key};
 ghost use Rattle.ps_world.specs.Facts.{fact_cmp};
 ghost use Rattle.ps_world.specs.Knowledge.{same_fact};
+ghost use Rattle.ps_world.specs.declared.facts.Fact.{Fact as FactView};
+ghost use Rattle.ps_world.specs.declared.known.Knowledge.{Knowledge as KnowledgeView};
 ghost use Rattle.ps_action.specs.Effects.{added_by};
+ghost use Rattle.ps_action.specs.Grounding.{grounded, put_effect};
+ghost use Rattle.ps_solve.specs.Fitting.{AreFit, grounds_of};
 ghost use Rattle.ps_solve.specs.Rows.{adds};
 
-use ps_action::GroundAction;
-use ps_world::{Effect, Fact};
+use ps_action::Act;
+use ps_domain::Expert;
+use ps_world::{ActionDef, Effect, Fact, Name};
 use std::alloc::{AllocError, Global};
-use std::collections::BTreeSet;
 use std::marker::Model;
 
 /// Facts in their order, each once. Contracts see their list.
@@ -34,27 +37,16 @@ impl Model for Atoms {
 }
 
 impl Atoms {
-    /// The atoms of a search: the facts that are known at first, and those that a ground action adds. The only error is want of
-    /// memory.
-    pub fn of(alloc: Global, first: &[Fact], actions: &[GroundAction]) -> Result<Atoms, AllocError>
-        ensures { IfOk result (λ atoms. atoms
-            ≡ fold (insert_key fact_cmp) [] (first.now ++ flat_map adds actions.now)) }
+    /// The atoms of these facts and those. The only error is want of memory.
+    pub fn of(alloc: Global, first: &[Fact], more: &[Fact]) -> Result<Atoms, AllocError>
+        ensures { IfOk result (λ atoms. (f : FactView) → list_any (same_fact f) atoms
+            ≡ list_any (same_fact f) (first.now ++ more.now)) }
     {
-        let mut facts = BTreeSet::new(alloc);
-        for fact in first {
-            facts.insert(*fact)?;
-        }
-        add_each(&mut facts, actions)?;
-        Atoms::of_set(alloc, &facts)
-    }
-
-    /// The atoms of a set.
-    fn of_set(alloc: Global, set: &BTreeSet<Fact>) -> Result<Atoms, AllocError>
-        ensures { IfOk result (λ atoms. atoms ≡ set.now.keys) }
-    {
-        // A set says of its length that its items rise.
-        let _count = set.len();
-        let facts: Vec<Fact> = set.iter().copied().collect(alloc)?;
+        let mut facts = Vec::from_slice(alloc, first)?;
+        facts.extend_from_slice(more)?;
+        // Mostly both rise already, and then this is one merge.
+        facts.sort()?;
+        facts.dedup();
         Ok(Atoms { facts })
     }
 
@@ -64,6 +56,31 @@ impl Atoms {
         ensures rise { IsStrictlySortedBy fact_cmp self.now }
     {
         self.facts.as_slice()
+    }
+
+    /// Whether a fact is the atom at a place.
+    fn is_at(&self, place: usize, fact: &Fact) -> bool
+        ensures { result ≡ true → slice_get self.now place ≡ Some fact.now }
+    {
+        match self.as_slice().get(place) {
+            Some(there) => there == fact,
+            None => false,
+        }
+    }
+
+    /// The place of a fact, as `place_of` gives it. It is found fast where it is that place, or a little after it.
+    pub fn place_near(&self, near: usize, fact: &Fact) -> Option<usize>
+        ensures place { MatchOption result (list_any (same_fact fact.now) self.now
+            ≡ false) (λ i. slice_get self.now i ≡ Some fact.now) }
+        ensures rise { IsStrictlySortedBy fact_cmp self.now }
+    {
+        let _atoms = self.as_slice();
+        for place in near..near.saturating_add(4) {
+            if self.is_at(place, fact) {
+                return Some(place);
+            }
+        }
+        self.place_of(fact)
     }
 
     /// The place of a fact, counted from 0. None exactly where it is no atom.
@@ -79,37 +96,50 @@ impl Atoms {
     }
 }
 
-/// Puts in the facts that each of these ground actions adds. Where memory runs out some of the first may be
-/// there.
-fn add_each(facts: &mut BTreeSet<Fact>, actions: &[GroundAction]) -> Result<(), AllocError>
-    ensures { OnOk result (facts.new.keys
-        ≡ fold (insert_key fact_cmp) facts.old.keys (flat_map adds actions.now)) }
+/// The fact that an effect adds, with arguments in place of variables, if it adds one.
+fn fact_added(args: &[Name], effect: &Effect) -> Option<Fact>
+    ensures { result ≡ added_by (put_effect args.now effect.now) }
 {
-    for action in actions {
-        add_all(facts, action.effects.at_start.as_slice())?;
-        add_all(facts, action.effects.at_end.as_slice())?;
+    match effect {
+        Effect::Add(lifted) => Some(lifted.ground_in(args)),
+        Effect::Delete(_) => None,
+        Effect::Number(..) => None,
     }
-    Ok(())
 }
 
-/// Puts in every fact that one of these effects adds. Where memory runs out some of the first may be there.
-fn add_all(facts: &mut BTreeSet<Fact>, effects: &[Effect]) -> Result<(), AllocError>
-    ensures { OnOk result (facts.new.keys
-        ≡ fold (insert_key fact_cmp) facts.old.keys (filter_map added_by effects.now)) }
+/// Puts every fact that one of these effects adds at the end, with arguments in place of variables.
+fn push_added(args: &[Name], effects: &[Effect], facts: &mut Vec<Fact>) -> Result<(), AllocError>
+    ensures { OnOk result (facts.new.items ≡ facts.old.items
+        ++ filter_map added_by (map (put_effect args.now) effects.now)) }
 {
     for effect in effects {
-        add(facts, effect)?;
+        if let Some(fact) = fact_added(args, effect) {
+            facts.push(fact)?;
+        }
     }
     Ok(())
 }
 
-/// Puts in the fact that an effect adds, if it adds one.
-fn add(facts: &mut BTreeSet<Fact>, effect: &Effect) -> Result<(), AllocError>
-    ensures { OnOk result (facts.new.keys
-        ≡ fold (insert_key fact_cmp) facts.old.keys (option_to_list (added_by effect.now))) }
+/// Puts every fact that an act of this action adds at the end.
+fn push_adds(action: &ActionDef, act: &Act, facts: &mut Vec<Fact>) -> Result<(), AllocError>
+    ensures { OnOk result (facts.new.items ≡ facts.old.items
+        ++ adds (grounded action.now act.now)) }
 {
-    if let Effect::Add(lifted) = effect {
-        facts.insert(lifted.ground())?;
+    let args = act.args.as_slice();
+    push_added(args, action.effects.at_start.as_slice(), facts)?;
+    push_added(args, action.effects.at_end.as_slice(), facts)
+}
+
+/// The facts that the ground actions of these acts add, in order.
+pub fn facts_added(alloc: Global, expert: &Expert, acts: &[Act]) -> Result<Vec<Fact>, AllocError>
+    ensures { IfOk result (λ facts. (k : KnowledgeView) → AreFit expert.now k acts.now
+        → facts.items ≡ flat_map adds (grounds_of expert.now k acts.now)) }
+{
+    let mut facts = Vec::with_capacity(alloc, acts.len())?;
+    for act in acts {
+        if let Some(action) = expert.action(act.action) {
+            push_adds(action, act, &mut facts)?;
+        }
     }
-    Ok(())
+    Ok(facts)
 }

@@ -104,7 +104,7 @@ fn is_vain(fixed: &Fixed, args: &[Name], cond: &Cond) -> bool
         → is_true d (at k s) (put_cond args.now (cond_tree cond.now)) ≡ false }
 {
     match cond {
-        Cond::Holds(lifted) => fixed.is_never(&lifted.ground_in(args)),
+        Cond::Holds(lifted) => fixed.is_tied(lifted.head) && fixed.lacks(&lifted.ground_in(args)),
         _ => false,
     }
 }
@@ -136,13 +136,18 @@ impl Fixed {
         Ok(Fixed { heads, facts })
     }
 
-    /// Whether a fact never is known: its predicate is one that no action adds, and it isn't known at first.
-    fn is_never(&self, fact: &Fact) -> bool
-        ensures head { result ≡ true
-            → list_any (same_name fact.now.head) self.now.heads.keys ≡ false }
-        ensures fact { result ≡ true → list_any (same_fact fact.now) self.now.facts ≡ false }
+    /// Whether no action adds facts of a predicate.
+    fn is_tied(&self, head: Name) -> bool
+        ensures { result ≡ true → list_any (same_name head) self.now.heads.keys ≡ false }
     {
-        !self.heads.contains(&fact.head) && self.facts.place_of(fact).is_none()
+        !self.heads.contains(&head)
+    }
+
+    /// Whether a fact isn't known at first. Where its predicate is tied, it never is.
+    fn lacks(&self, fact: &Fact) -> bool
+        ensures { result ≡ true → list_any (same_fact fact.now) self.now.facts ≡ false }
+    {
+        self.facts.place_of(fact).is_none()
     }
 
     /// Whether a condition of an act of this action holds in no state, since it says that a fact is known which never is.
@@ -153,10 +158,11 @@ impl Fixed {
             → stepped d k s (grounded action.now act.now) ≡ None }
     {
         let args = act.args.as_slice();
-        if has_vain(self, args, &action.conditions.at_start) {
+        // What no action changes mostly has to hold over all.
+        if has_vain(self, args, &action.conditions.over_all) {
             return true;
         }
-        if has_vain(self, args, &action.conditions.over_all) {
+        if has_vain(self, args, &action.conditions.at_start) {
             return true;
         }
         has_vain(self, args, &action.conditions.at_end)

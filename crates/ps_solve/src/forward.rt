@@ -1,13 +1,12 @@
 //! The solver that looks forward.
-ghost use Rattle.std.specs.Prelude.{◌≡◌, ◌++◌, List, Some, [], false, filter_map, flat_map, fold, length, map, option_to_list, IfOk, OnOk};
+ghost use Rattle.std.specs.Prelude.{◌≡◌, ◌++◌, List, Some, false, flat_map, length, option_to_list, IfOk, OnOk};
 ghost use Rattle.std.specs.List.{list_any};
 ghost use Rattle.std.specs.Result.{result_ok};
-ghost use Rattle.std.specs.BTreeSet.{insert_key};
-ghost use Rattle.ps_world.specs.Facts.{fact_cmp};
 ghost use Rattle.ps_world.specs.Knowledge.{same_fact};
 ghost use Rattle.ps_world.specs.declared.facts.Fact.{Fact as FactView};
 ghost use Rattle.ps_action.specs.Grounding.{ground_act};
 ghost use Rattle.ps_action.specs.Search.{answer, possible_acts};
+ghost use Rattle.ps_solve.specs.Fitting.{AreFit, grounds_of};
 ghost use Rattle.ps_solve.specs.Fixed.{AreFixed, possible_facts};
 ghost use Rattle.ps_solve.specs.Independence.{HaveFootprints};
 ghost use Rattle.ps_solve.specs.Endings.{searched};
@@ -18,17 +17,17 @@ ghost use Rattle.ps_solve.specs.Rows.{AreAtoms, IsOver, adds, plain_node, plain_
 ghost use Rattle.ps_solve.specs.declared.nodes.Reached.{Reached as ReachedView};
 
 use super::acts::all_acts;
-use super::atoms::Atoms;
+use super::atoms::{Atoms, facts_added};
+use super::fits::is_fit;
 use super::fixed::Fixed;
-use super::light::lighten;
 use super::prepared::{Prepared, prepare_all};
 use super::rows::Row;
 use super::search::Search;
-use ps_action::{Act, Answer, GroundAction};
+use ps_action::{Act, Answer};
 use ps_domain::Expert;
 use ps_plan::Solver;
 use ps_problem::Problem;
-use ps_world::{Cond, Failure, Name};
+use ps_world::{Cond, Name};
 use std::alloc::{AllocError, Global};
 
 /// A solver that looks at all that one step leads to, then at all that two steps lead to, and so on, in the order of the acts, and at
@@ -43,95 +42,69 @@ impl Forward {
     }
 }
 
-/// Puts the ground action of an act at the end, unless the act can't be grounded, and without the conditions that hold in every
-/// state.
-fn push_ground(
-    alloc: Global,
-    expert: &Expert,
-    problem: &Problem,
-    instances: &[(Name, Name)],
-    act: &Act,
-    found: &mut Vec<GroundAction>,
-) -> Result<(), AllocError>
-    ensures moves { OnOk result ((n : Node) → moves expert.now problem.now found.new.items n
-        ≡ moves expert.now problem.now found.old.items n
-        ++ moves expert.now problem.now
-        (option_to_list (result_ok (ground_act expert.now instances.now act.now))) n) }
-    ensures adds { OnOk result (flat_map adds found.new.items
-        ≡ flat_map adds found.old.items
-        ++ flat_map adds (option_to_list (result_ok (ground_act expert.now instances.now act.now)))) }
-{
-    match expert.ground(instances, act) {
-        Ok(mut action) => {
-            lighten(alloc, problem, expert, &mut action)?;
-            found.push(action)?;
-            Ok(())
-        }
-        Err(Failure::Refused(_)) => Ok(()),
-        Err(Failure::OutOfMemory) => Err(AllocError),
-    }
-}
-
-/// Puts the ground action of an act at the end, unless the act can't be grounded or leads nowhere, since a fact that it needs never
-/// is known.
+/// Puts an act at the end, unless it can't be grounded or leads nowhere, since a fact that it needs never is known.
 fn push_useful(
-    alloc: Global,
     expert: &Expert,
     problem: &Problem,
     fixed: &Fixed,
-    instances: &[(Name, Name)],
     act: &Act,
-    found: &mut Vec<GroundAction>,
+    useful: &mut Vec<Act>,
 ) -> Result<(), AllocError>
-    requires { instances.now ≡ problem.now.instances }
+    requires { AreFit expert.now problem.now useful.old.items }
     ensures moves { OnOk result ((facts : List FactView) (n : Node)
         → AreFixed fixed.now.heads.keys fixed.now.facts facts
         → AreAtoms facts (flat_map adds
-        (option_to_list (result_ok (ground_act expert.now instances.now act.now))))
-        → IsOver facts n.state → moves expert.now problem.now found.new.items n
-        ≡ moves expert.now problem.now found.old.items n
+        (option_to_list (result_ok (ground_act expert.now problem.now.instances act.now))))
+        → IsOver facts n.state
+        → moves expert.now problem.now (grounds_of expert.now problem.now useful.new.items) n
+        ≡ moves expert.now problem.now (grounds_of expert.now problem.now useful.old.items) n
         ++ moves expert.now problem.now
-        (option_to_list (result_ok (ground_act expert.now instances.now act.now))) n) }
+        (option_to_list (result_ok (ground_act expert.now problem.now.instances act.now))) n) }
     ensures adds { OnOk result ((f : FactView)
-        → list_any (same_fact f) (flat_map adds found.old.items) ≡ false
+        → list_any (same_fact f)
+        (flat_map adds (grounds_of expert.now problem.now useful.old.items)) ≡ false
         → list_any (same_fact f) (flat_map adds
-        (option_to_list (result_ok (ground_act expert.now instances.now act.now)))) ≡ false
-        → list_any (same_fact f) (flat_map adds found.new.items) ≡ false) }
+        (option_to_list (result_ok (ground_act expert.now problem.now.instances act.now))))
+        ≡ false
+        → list_any (same_fact f)
+        (flat_map adds (grounds_of expert.now problem.now useful.new.items)) ≡ false) }
+    ensures fit { OnOk result (AreFit expert.now problem.now useful.new.items) }
 {
     if fixed.is_idle(expert, act) {
         return Ok(());
     }
-    push_ground(alloc, expert, problem, instances, act, found)?;
+    if !is_fit(expert, problem, act) {
+        return Ok(());
+    }
+    useful.push(*act)?;
     Ok(())
 }
 
-/// Ground actions that lead to the same nodes as those of these acts, but of the acts that can't be grounded or lead nowhere: an act
-/// says its action by its name alone, so that of two actions with one name it means the first.
-fn grounds(
+/// Acts whose ground actions lead to the same nodes as those of these acts, without those that can't be grounded or lead nowhere: an
+/// act says its action by its name alone, so that of two actions with one name it means the first.
+fn useful_of(
     alloc: Global,
     expert: &Expert,
     problem: &Problem,
     fixed: &Fixed,
-    instances: &[(Name, Name)],
     acts: &[Act],
-) -> Result<Vec<GroundAction>, AllocError>
-    requires { instances.now ≡ problem.now.instances }
+) -> Result<Vec<Act>, AllocError>
     ensures moves { IfOk result (λ v. (facts : List FactView) (n : Node)
         → AreFixed fixed.now.heads.keys fixed.now.facts facts
-        → AreAtoms facts (flat_map adds
-        (filter_map (λ act. result_ok (ground_act expert.now instances.now act)) acts.now))
-        → IsOver facts n.state → moves expert.now problem.now v.items n
-        ≡ moves expert.now problem.now
-        (filter_map (λ act. result_ok (ground_act expert.now instances.now act)) acts.now) n) }
-    ensures adds { IfOk result (λ v. AreAtoms (flat_map adds
-        (filter_map (λ act. result_ok (ground_act expert.now instances.now act)) acts.now))
-        (flat_map adds v.items)) }
+        → AreAtoms facts (flat_map adds (grounds_of expert.now problem.now acts.now))
+        → IsOver facts n.state
+        → moves expert.now problem.now (grounds_of expert.now problem.now v.items) n
+        ≡ moves expert.now problem.now (grounds_of expert.now problem.now acts.now) n) }
+    ensures adds { IfOk result (λ v. AreAtoms
+        (flat_map adds (grounds_of expert.now problem.now acts.now))
+        (flat_map adds (grounds_of expert.now problem.now v.items))) }
+    ensures fit { IfOk result (λ v. AreFit expert.now problem.now v.items) }
 {
-    let mut found = Vec::new(alloc);
+    let mut useful = Vec::new(alloc);
     for act in acts {
-        push_useful(alloc, expert, problem, fixed, instances, act, &mut found)?;
+        push_useful(expert, problem, fixed, act, &mut useful)?;
     }
-    Ok(found)
+    Ok(useful)
 }
 
 /// The row of what is known. The only error is out of memory.
@@ -182,48 +155,61 @@ impl<'a> Question<'a> {
             self.now.budget) }
     {
         let fixed = Fixed::of(alloc, self.expert, self.problem)?;
-        let light = grounds(alloc, self.expert, self.problem, &fixed, instances, acts)?;
-        self.answer_over(alloc, &light)
+        let useful = useful_of(alloc, self.expert, self.problem, &fixed, acts)?;
+        self.answer_over(alloc, instances, &useful)
     }
 
-    /// The answer, from ground actions that lead to the same nodes as all of them.
-    fn answer_over(&self, alloc: Global, light: &[GroundAction]) -> Result<Answer, AllocError>
+    /// The answer, from acts whose ground actions lead to the same nodes as all of them.
+    fn answer_over(
+        &self,
+        alloc: Global,
+        instances: &[(Name, Name)],
+        acts: &[Act],
+    ) -> Result<Answer, AllocError>
         requires goal { self.now.problem.now.goal ≡ Some self.now.goal.now }
+        requires instances { instances.now ≡ self.now.problem.now.instances }
         requires moves { (n : Node)
             → IsOver (possible_facts self.now.expert.now self.now.problem.now) n.state
-            → moves self.now.expert.now self.now.problem.now light.now n
+            → moves self.now.expert.now self.now.problem.now
+            (grounds_of self.now.expert.now self.now.problem.now acts.now) n
             ≡ moves self.now.expert.now self.now.problem.now
             (grounds self.now.expert.now self.now.problem.now) n }
         requires adds { AreAtoms (possible_facts self.now.expert.now self.now.problem.now)
-            (flat_map adds light.now) }
+            (flat_map adds (grounds_of self.now.expert.now self.now.problem.now acts.now)) }
+        requires fit { AreFit self.now.expert.now self.now.problem.now acts.now }
         ensures { IfOk result (λ a. a ≡ searched self.now.expert.now self.now.problem.now
             self.now.budget) }
     {
-        let atoms = atoms_of(alloc, self.problem, light)?;
-        self.answer_with(alloc, &atoms, light)
+        let atoms = atoms_of(alloc, self.expert, self.problem, acts)?;
+        self.answer_with(alloc, instances, &atoms, acts)
     }
 
-    /// The answer, from these atoms and ground actions.
+    /// The answer, from these atoms and acts.
     fn answer_with(
         &self,
         alloc: Global,
+        instances: &[(Name, Name)],
         atoms: &Atoms,
-        light: &[GroundAction],
+        acts: &[Act],
     ) -> Result<Answer, AllocError>
         requires goal { self.now.problem.now.goal ≡ Some self.now.goal.now }
+        requires instances { instances.now ≡ self.now.problem.now.instances }
         requires moves { (n : Node)
             → IsOver (possible_facts self.now.expert.now self.now.problem.now) n.state
-            → moves self.now.expert.now self.now.problem.now light.now n
+            → moves self.now.expert.now self.now.problem.now
+            (grounds_of self.now.expert.now self.now.problem.now acts.now) n
             ≡ moves self.now.expert.now self.now.problem.now
             (grounds self.now.expert.now self.now.problem.now) n }
         requires possible { AreAtoms (possible_facts self.now.expert.now self.now.problem.now)
             atoms.now }
         requires first { AreAtoms atoms.now self.now.problem.now.facts }
-        requires atoms { AreAtoms atoms.now (flat_map adds light.now) }
+        requires atoms { AreAtoms atoms.now
+            (flat_map adds (grounds_of self.now.expert.now self.now.problem.now acts.now)) }
+        requires fit { AreFit self.now.expert.now self.now.problem.now acts.now }
         ensures { IfOk result (λ a. a ≡ searched self.now.expert.now self.now.problem.now
             self.now.budget) }
     {
-        let actions = prepare_all(alloc, atoms, light)?;
+        let actions = prepare_all(alloc, self.expert, self.problem, atoms, instances, acts)?;
         self.search(alloc, atoms, &actions)
     }
 
@@ -257,13 +243,21 @@ impl<'a> Question<'a> {
     }
 }
 
-/// The atoms of a search by these ground actions from what is known.
-fn atoms_of(alloc: Global, problem: &Problem, light: &[GroundAction]) -> Result<Atoms, AllocError>
-    ensures { IfOk result (λ atoms. atoms
-        ≡ fold (insert_key fact_cmp) [] (problem.now.facts ++ flat_map adds light.now)) }
+/// The atoms of a search by these acts from what is known: the facts that are known at first, and those that an act adds.
+fn atoms_of(
+    alloc: Global,
+    expert: &Expert,
+    problem: &Problem,
+    acts: &[Act],
+) -> Result<Atoms, AllocError>
+    requires { AreFit expert.now problem.now acts.now }
+    ensures { IfOk result (λ atoms. (f : FactView) → list_any (same_fact f) atoms
+        ≡ list_any (same_fact f)
+        (problem.now.facts ++ flat_map adds (grounds_of expert.now problem.now acts.now))) }
 {
     let facts = problem.facts()?;
-    Atoms::of(alloc, &facts, light)
+    let added = facts_added(alloc, expert, acts)?;
+    Atoms::of(alloc, &facts, &added)
 }
 
 impl Solver for Forward {

@@ -3,6 +3,7 @@
 
 mod acts;
 mod atoms;
+mod fits;
 mod fixed;
 mod footprints;
 mod forward;

@@ -1,5 +1,5 @@
 //! Nodes of the search: rows, and how they are reached.
-ghost use Rattle.std.specs.Prelude.{◌≡◌, List, [], ◌∷◌, ◌++◌, false, length, map, IfOk, OnOk};
+ghost use Rattle.std.specs.Prelude.{◌≡◌, List, [], ◌∷◌, ◌++◌, false, true, length, map, IfOk, IfSome, OnOk, None};
 ghost use Rattle.std.specs.List.{list_any};
 ghost use Rattle.ps_world.specs.declared.facts.Fact.{Fact as FactView};
 ghost use Rattle.ps_solve.specs.Rows.{AreWide, HaveWide, plain_state, same_row};
@@ -30,33 +30,38 @@ pub fn path_to(alloc: Global, before: &[Act], act: Act) -> Result<Vec<Act>, Allo
     Ok(path)
 }
 
-/// Puts a row that wasn't met among those that were.
-fn remember(alloc: Global, seen: &mut IndexSet<Row>, row: &Row) -> Result<(), AllocError>
-    requires { list_any (same_row row.now) seen.old.keys ≡ false }
-    ensures seen { OnOk result ((atoms : List FactView)
-        → map (plain_state atoms) seen.new.keys ≡ map (plain_state atoms) seen.old.keys
-        ++ plain_state atoms row.now ∷ []) }
-    ensures wide { OnOk result ((atoms : List FactView) → AreWide atoms seen.old.keys
-        → length row.now.flags.items ≡ length atoms → AreWide atoms seen.new.keys) }
+/// Puts a row among those that were met, and gives an equal one, or None exactly where it was met.
+pub fn remember(
+    alloc: Global,
+    seen: &mut IndexSet<Row>,
+    row: Row,
+) -> Result<Option<Row>, AllocError>
+    ensures old { IfOk result (λ kept. kept ≡ None
+        → (list_any (same_row row) seen.old.keys ≡ true) × (seen.new.keys ≡ seen.old.keys)) }
+    ensures new { IfOk result (λ kept. IfSome kept (λ r.
+        (list_any (same_row row) seen.old.keys ≡ false)
+        × (seen.new.keys ≡ seen.old.keys ++ row ∷ []) × (same_row row r ≡ true))) }
 {
-    let copied = row.copy(alloc)?;
-    seen.insert(copied)?;
-    Ok(())
+    let (place, is_new) = seen.insert_full(row)?;
+    if !is_new {
+        return Ok(None);
+    }
+    match seen.get_index(place) {
+        Some(kept) => Ok(Some(kept.copy(alloc)?)),
+        None => unreachable!(),
+    }
 }
 
 /// Puts a row that wasn't met at the end, with the acts before it, and the one that leads to it and its place.
 pub fn discover(
     alloc: Global,
     atoms: &Atoms,
-    seen: &mut IndexSet<Row>,
     next: &mut Vec<Reached>,
     row: Row,
     before: &[Act],
     act: Act,
     by: usize,
 ) -> Result<(), AllocError>
-    requires new { list_any (same_row row) seen.old.keys ≡ false }
-    requires wide { AreWide atoms.now seen.old.keys }
     requires level { HaveWide atoms.now next.old.items }
     requires row { length row.flags.items ≡ length atoms.now }
     ensures leads { OnOk result (map (plain_lead atoms.now) next.new.items
@@ -69,12 +74,8 @@ pub fn discover(
           };
           by = by;
         } ∷ []) }
-    ensures seen { OnOk result (map (plain_state atoms.now) seen.new.keys
-        ≡ map (plain_state atoms.now) seen.old.keys ++ plain_state atoms.now row ∷ []) }
-    ensures wide { OnOk result (AreWide atoms.now seen.new.keys) }
     ensures level { OnOk result (HaveWide atoms.now next.new.items) }
 {
-    remember(alloc, seen, &row)?;
     let path = path_to(alloc, before, act)?;
     next.push(Reached { row, path, by })?;
     Ok(())

@@ -1,5 +1,6 @@
 //! Ground actions, prepared for steps from row to row.
-ghost use Rattle.std.specs.Prelude.{◌≡◌, ◌&&◌, List, false, filter, filter_map, flat_map, fold, not, option_to_list, true, None, IfOk, IfSome, MatchOption};
+ghost use Rattle.std.specs.Prelude.{◌≡◌, ◌&&◌, List, [], false, filter, filter_map, flat_map, fold, map, not, option_to_list, true, ◌∷◌, IfOk, IfSome, IsSome, None};
+ghost use Rattle.std.specs.Result.{result_ok};
 ghost use Rattle.std.specs.List.{list_any};
 ghost use Rattle.std.specs.Option.{option_map_or};
 ghost use Rattle.std.specs.BTreeSet.{insert_key};
@@ -10,9 +11,11 @@ ghost use Rattle.ps_world.specs.declared.domains.Domain.{Domain as DomainView};
 ghost use Rattle.ps_world.specs.declared.facts.Fact.{Fact as FactView};
 ghost use Rattle.ps_world.specs.declared.known.Knowledge.{Knowledge as KnowledgeView};
 ghost use Rattle.ps_action.specs.Effects.{added_by, deletes};
+ghost use Rattle.ps_action.specs.Grounding.{ground_act, put_cond, put_effect};
 ghost use Rattle.ps_action.specs.Truth.{all_true, is_true};
 ghost use Rattle.ps_solve.specs.States.{State, at, changed, stepped};
-ghost use Rattle.ps_solve.specs.Nodes.{moves};
+ghost use Rattle.ps_solve.specs.Nodes.{Node, move, moves};
+ghost use Rattle.ps_solve.specs.Fitting.{AreFit, IsFit, grounds_of, parts_with};
 ghost use Rattle.ps_solve.specs.Rows.{AddAtoms, AreAtoms, IsOver, adds, plain_node};
 ghost use Rattle.ps_solve.specs.Prepared.{AreSound, IsBare, IsBareTest, IsSound, IsSoundChange, is_number, successor_nodes, successor, passes, turned, with_at, without_at};
 ghost use Rattle.ps_solve.specs.Independence.{HaveFootprints, HasFootprint};
@@ -20,8 +23,11 @@ ghost use Rattle.ps_solve.specs.declared.nodes.Reached.{Reached as ReachedView};
 
 use super::atoms::Atoms;
 use super::footprints::Footprint;
+use super::light::lighten;
 use ps_action::{Act, GroundAction, first_clash};
-use ps_world::{Cond, Conds, Duplicate, Effect, Seq};
+use ps_domain::Expert;
+use ps_problem::Problem;
+use ps_world::{Cond, Conditions, Conds, Duplicate, Effect, Effects, Failure, Name, Seq};
 use std::alloc::{AllocError, Global};
 
 /// Conditions: the places of the atoms that have to be known, and the other conditions.
@@ -70,6 +76,11 @@ impl Test {
             others: Conds::new(alloc),
         }
     }
+
+    /// The place of the first atom, or 0 where there is none.
+    fn first(&self) -> usize {
+        self.wanted.first().copied().unwrap_or(0)
+    }
 }
 
 impl Prepared {
@@ -100,53 +111,132 @@ impl Prepared {
     }
 }
 
-/// Puts a condition into a test, and answers whether it could: false only where the condition holds in no state over the atoms,
-/// since it says of a fact that is no atom that it is known.
-fn take_in(alloc: Global, atoms: &Atoms, cond: &Cond, test: &mut Test) -> Result<bool, AllocError>
-    ensures taken { IfOk result (λ fits. fits ≡ true
-        → (d : DomainView) (k : KnowledgeView) (s : State)
-        → passes d k atoms.now test.new s
-        ≡ (passes d k atoms.now test.old s && is_true d (at k s) (cond_tree cond.now))) }
-    ensures vain { IfOk result (λ fits. fits ≡ false
-        → (d : DomainView) (k : KnowledgeView) (s : State) → IsOver atoms.now s
-        → is_true d (at k s) (cond_tree cond.now) ≡ false) }
-{
-    match cond {
-        Cond::Holds(lifted) => match atoms.place_of(&lifted.ground()) {
-            Some(place) => {
-                test.wanted.push(place)?;
-                Ok(true)
-            }
-            None => Ok(false),
-        },
-        _ => {
-            test.others.push(cond.copy(alloc)?)?;
-            Ok(true)
+/// Where atoms are looked for first: mostly an act is about the same things as the one before it.
+#[derive(Clone, Copy)]
+struct Near {
+    start: usize,
+    over: usize,
+}
+
+impl Near {
+    /// Where atoms are looked for before there is any act.
+    fn nothing() -> Near {
+        Near { start: 0, over: 0 }
+    }
+
+    /// The first atoms that a prepared ground action reads.
+    fn of(before: &Prepared) -> Near {
+        Near {
+            start: before.start.first(),
+            over: before.over.first(),
         }
     }
 }
 
-/// Puts conditions into a test, and answers whether it could: false only where they hold in no state over the atoms.
+/// What came of putting conditions with their arguments into what is prepared.
+#[derive(Clone, Copy)]
+pub enum Taken {
+    /// They are in.
+    Whole,
+    /// They hold in no state over the atoms.
+    Vain,
+    /// They, or the effects, don't speak of facts alone, and so have to be those of a ground action.
+    Unready,
+}
+
+impl Taken {
+    /// Whether they are in.
+    fn is_whole(&self) -> bool
+        ensures yes { result ≡ true → self.now ≡ Taken.Whole }
+        ensures no { result ≡ false → self.now ≡ Taken.Whole → ⊥ }
+    {
+        match self {
+            Taken::Whole => true,
+            Taken::Vain => false,
+            Taken::Unready => false,
+        }
+    }
+}
+
+/// Puts a condition that isn't of a fact alone into a test. With arguments to put in it is unready.
+fn take_other(
+    alloc: Global,
+    args: &[Name],
+    cond: &Cond,
+    test: &mut Test,
+) -> Result<Taken, AllocError>
+    ensures taken { IfOk result (λ taken. taken ≡ Taken.Whole
+        → (d : DomainView) (k : KnowledgeView) (atoms : List FactView) (s : State)
+        → passes d k atoms test.new s
+        ≡ (passes d k atoms test.old s
+        && is_true d (at k s) (put_cond args.now (cond_tree cond.now)))) }
+    ensures vain { IfOk result (λ taken. taken ≡ Taken.Vain → ⊥) }
+    ensures ready { IfOk result (λ taken. taken ≡ Taken.Unready → args.now ≡ [] → ⊥) }
+{
+    if !args.is_empty() {
+        return Ok(Taken::Unready);
+    }
+    test.others.push(cond.copy(alloc)?)?;
+    Ok(Taken::Whole)
+}
+
+/// Puts a condition with its arguments into a test. It is vain only where it says of a fact that is no atom that it is known.
+fn take_in(
+    alloc: Global,
+    atoms: &Atoms,
+    near: usize,
+    args: &[Name],
+    cond: &Cond,
+    test: &mut Test,
+) -> Result<Taken, AllocError>
+    ensures taken { IfOk result (λ taken. taken ≡ Taken.Whole
+        → (d : DomainView) (k : KnowledgeView) (s : State)
+        → passes d k atoms.now test.new s
+        ≡ (passes d k atoms.now test.old s
+        && is_true d (at k s) (put_cond args.now (cond_tree cond.now)))) }
+    ensures vain { IfOk result (λ taken. taken ≡ Taken.Vain
+        → (d : DomainView) (k : KnowledgeView) (s : State) → IsOver atoms.now s
+        → is_true d (at k s) (put_cond args.now (cond_tree cond.now)) ≡ false) }
+    ensures ready { IfOk result (λ taken. taken ≡ Taken.Unready → args.now ≡ [] → ⊥) }
+{
+    match cond {
+        Cond::Holds(lifted) => match atoms.place_near(near, &lifted.ground_in(args)) {
+            Some(place) => {
+                test.wanted.push(place)?;
+                Ok(Taken::Whole)
+            }
+            None => Ok(Taken::Vain),
+        },
+        _ => take_other(alloc, args, cond, test),
+    }
+}
+
+/// Puts conditions with their arguments into a test.
 fn take_all(
     alloc: Global,
     atoms: &Atoms,
+    near: usize,
+    args: &[Name],
     conds: &Conds,
     test: &mut Test,
-) -> Result<bool, AllocError>
-    ensures taken { IfOk result (λ fits. fits ≡ true
+) -> Result<Taken, AllocError>
+    ensures taken { IfOk result (λ taken. taken ≡ Taken.Whole
         → (d : DomainView) (k : KnowledgeView) (s : State)
         → passes d k atoms.now test.new s
-        ≡ (passes d k atoms.now test.old s && all_true d (at k s) conds.now)) }
-    ensures vain { IfOk result (λ fits. fits ≡ false
+        ≡ (passes d k atoms.now test.old s
+        && all_true d (at k s) (map (put_cond args.now) conds.now))) }
+    ensures vain { IfOk result (λ taken. taken ≡ Taken.Vain
         → (d : DomainView) (k : KnowledgeView) (s : State) → IsOver atoms.now s
-        → all_true d (at k s) conds.now ≡ false) }
+        → all_true d (at k s) (map (put_cond args.now) conds.now) ≡ false) }
+    ensures ready { IfOk result (λ taken. taken ≡ Taken.Unready → args.now ≡ [] → ⊥) }
 {
     for cond in conds.as_slice() {
-        if !take_in(alloc, atoms, cond, test)? {
-            return Ok(false);
+        let taken = take_in(alloc, atoms, near, args, cond, test)?;
+        if !taken.is_whole() {
+            return Ok(taken);
         }
     }
-    Ok(true)
+    Ok(Taken::Whole)
 }
 
 /// Whether one of these effects gives a number.
@@ -162,27 +252,33 @@ fn has_number(effects: &[Effect]) -> bool
 }
 
 /// The place of the atom that an effect deletes, if it deletes one.
-fn deleted(atoms: &Atoms, effect: &Effect) -> Option<usize>
+fn deleted(atoms: &Atoms, near: usize, args: &[Name], effect: &Effect) -> Option<usize>
     ensures { (fs : List FactView) → AreAtoms atoms.now fs
         → option_map_or (without_at atoms.now fs) result fs
-        ≡ filter (λ f. not (deletes f effect.now)) fs }
+        ≡ filter (λ f. not (deletes f (put_effect args.now effect.now))) fs }
 {
     match effect {
-        Effect::Delete(lifted) => atoms.place_of(&lifted.ground()),
+        Effect::Delete(lifted) => atoms.place_near(near, &lifted.ground_in(args)),
         Effect::Add(_) => None,
         Effect::Number(..) => None,
     }
 }
 
 /// The places of the atoms that these effects delete.
-fn all_deleted(alloc: Global, atoms: &Atoms, effects: &[Effect]) -> Result<Vec<usize>, AllocError>
+fn all_deleted(
+    alloc: Global,
+    atoms: &Atoms,
+    near: usize,
+    args: &[Name],
+    effects: &[Effect],
+) -> Result<Vec<usize>, AllocError>
     ensures { IfOk result (λ places. (fs : List FactView) → AreAtoms atoms.now fs
         → fold (without_at atoms.now) fs places.items
-        ≡ filter (λ f. not (list_any (deletes f) effects.now)) fs) }
+        ≡ filter (λ f. not (list_any (deletes f) (map (put_effect args.now) effects.now))) fs) }
 {
     let mut places = Vec::new(alloc);
     for effect in effects {
-        if let Some(place) = deleted(atoms, effect) {
+        if let Some(place) = deleted(atoms, near, args, effect) {
             places.push(place)?;
         }
     }
@@ -190,13 +286,14 @@ fn all_deleted(alloc: Global, atoms: &Atoms, effects: &[Effect]) -> Result<Vec<u
 }
 
 /// The place of the atom that an effect adds, if it adds one.
-fn added(atoms: &Atoms, effect: &Effect) -> Option<usize>
-    requires { AreAtoms atoms.now (option_to_list (added_by effect.now)) }
+fn added(atoms: &Atoms, near: usize, args: &[Name], effect: &Effect) -> Option<usize>
+    requires { AreAtoms atoms.now (option_to_list (added_by (put_effect args.now effect.now))) }
     ensures { (fs : List FactView) → option_map_or (with_at atoms.now fs) result fs
-        ≡ fold (insert_key fact_cmp) fs (option_to_list (added_by effect.now)) }
+        ≡ fold (insert_key fact_cmp) fs
+        (option_to_list (added_by (put_effect args.now effect.now))) }
 {
     match effect {
-        Effect::Add(lifted) => match atoms.place_of(&lifted.ground()) {
+        Effect::Add(lifted) => match atoms.place_near(near, &lifted.ground_in(args)) {
             Some(place) => Some(place),
             None => unreachable!(),
         },
@@ -206,120 +303,270 @@ fn added(atoms: &Atoms, effect: &Effect) -> Option<usize>
 }
 
 /// The places of the atoms that these effects add.
-fn all_added(alloc: Global, atoms: &Atoms, effects: &[Effect]) -> Result<Vec<usize>, AllocError>
-    requires { AddAtoms atoms.now effects.now }
+fn all_added(
+    alloc: Global,
+    atoms: &Atoms,
+    near: usize,
+    args: &[Name],
+    effects: &[Effect],
+) -> Result<Vec<usize>, AllocError>
+    requires { AddAtoms atoms.now (map (put_effect args.now) effects.now) }
     ensures { IfOk result (λ places. (fs : List FactView)
         → fold (with_at atoms.now) fs places.items
-        ≡ fold (insert_key fact_cmp) fs (filter_map added_by effects.now)) }
+        ≡ fold (insert_key fact_cmp) fs
+        (filter_map added_by (map (put_effect args.now) effects.now))) }
 {
     let mut places = Vec::new(alloc);
     for effect in effects {
-        if let Some(place) = added(atoms, effect) {
+        if let Some(place) = added(atoms, near, args, effect) {
             places.push(place)?;
         }
     }
     Ok(places)
 }
 
-/// The change of a list of effects.
-fn change_of(alloc: Global, atoms: &Atoms, effects: &Seq<Effect>) -> Result<Change, AllocError>
-    requires { AddAtoms atoms.now effects.now }
-    ensures same { IfOk result (λ change. (d : DomainView) (k : KnowledgeView) (s : State)
-        → IsOver atoms.now s → turned d k atoms.now change s ≡ changed d k s effects.now) }
-    ensures sound { IfOk result (IsSoundChange atoms.now) }
+/// The change of a list of effects, some of which give numbers, or None where there are arguments to put in.
+fn numbers_of(
+    alloc: Global,
+    args: &[Name],
+    effects: &Seq<Effect>,
+) -> Result<Option<Change>, AllocError>
+    ensures same { IfOk result (λ made. IfSome made (λ change.
+        (d : DomainView) (k : KnowledgeView) (atoms : List FactView) (s : State)
+        → turned d k atoms change s ≡ changed d k s (map (put_effect args.now) effects.now))) }
+    ensures sound { IfOk result (λ made. IfSome made (λ change. (atoms : List FactView)
+        → AddAtoms atoms (map (put_effect args.now) effects.now) → IsSoundChange atoms change)) }
+    ensures ready { args.now ≡ [] → IfOk result (λ made. IsSome made) }
 {
-    if has_number(effects.as_slice()) {
-        return Ok(Change::Effects {
-            effects: effects.copy(alloc)?,
-            clash: first_clash(effects.as_slice()),
-        });
+    if !args.is_empty() {
+        return Ok(None);
     }
-    let set = all_added(alloc, atoms, effects.as_slice())?;
-    let cleared = all_deleted(alloc, atoms, effects.as_slice())?;
-    Ok(Change::Flags { cleared, set })
+    Ok(Some(Change::Effects {
+        effects: effects.copy(alloc)?,
+        clash: first_clash(effects.as_slice()),
+    }))
 }
 
-/// Prepares a ground action into a bare one, and answers whether it could: false only where it leads nowhere from any state over the
-/// atoms.
+/// The change of a list of effects with their arguments, or None where some give numbers and there are arguments to put in.
+fn change_of(
+    alloc: Global,
+    atoms: &Atoms,
+    near: usize,
+    args: &[Name],
+    effects: &Seq<Effect>,
+) -> Result<Option<Change>, AllocError>
+    requires { AddAtoms atoms.now (map (put_effect args.now) effects.now) }
+    ensures same { IfOk result (λ made. IfSome made (λ change.
+        (d : DomainView) (k : KnowledgeView) (s : State) → IsOver atoms.now s
+        → turned d k atoms.now change s ≡ changed d k s (map (put_effect args.now) effects.now))) }
+    ensures sound { IfOk result (λ made. IfSome made (IsSoundChange atoms.now)) }
+    ensures ready { args.now ≡ [] → IfOk result (λ made. IsSome made) }
+{
+    if has_number(effects.as_slice()) {
+        return numbers_of(alloc, args, effects);
+    }
+    let set = all_added(alloc, atoms, near, args, effects.as_slice())?;
+    let cleared = all_deleted(alloc, atoms, near, args, effects.as_slice())?;
+    Ok(Some(Change::Flags { cleared, set }))
+}
+
+/// Prepares conditions and effects with their arguments into what is bare. It is vain only where they lead nowhere from any state over
+/// the atoms.
 fn fill(
     alloc: Global,
     atoms: &Atoms,
-    action: &GroundAction,
+    near: Near,
+    args: &[Name],
+    conditions: &Conditions,
+    effects: &Effects,
     made: &mut Prepared,
-) -> Result<bool, AllocError>
+) -> Result<Taken, AllocError>
     requires bare { IsBare made.old }
-    requires atoms { AreAtoms atoms.now (adds action.now) }
+    requires atoms { AreAtoms atoms.now (adds (parts_with args.now conditions.now effects.now)) }
     ensures act { made.new.act ≡ made.old.act }
-    ensures same { IfOk result (λ fits. fits ≡ true
+    ensures same { IfOk result (λ taken. taken ≡ Taken.Whole
         → (d : DomainView) (k : KnowledgeView) (s : State) → IsOver atoms.now s
-        → successor d k atoms.now s made.new ≡ stepped d k s action.now) }
-    ensures vain { IfOk result (λ fits. fits ≡ false
+        → successor d k atoms.now s made.new
+        ≡ stepped d k s (parts_with args.now conditions.now effects.now)) }
+    ensures vain { IfOk result (λ taken. taken ≡ Taken.Vain
         → (d : DomainView) (k : KnowledgeView) (s : State) → IsOver atoms.now s
-        → stepped d k s action.now ≡ None) }
-    ensures sound { IfOk result (λ fits. fits ≡ true → IsSound atoms.now made.new) }
-    ensures footprint { IfOk result (λ fits. fits ≡ true → HasFootprint made.new) }
+        → stepped d k s (parts_with args.now conditions.now effects.now) ≡ None) }
+    ensures sound { IfOk result (λ taken. taken ≡ Taken.Whole → IsSound atoms.now made.new) }
+    ensures footprint { IfOk result (λ taken. taken ≡ Taken.Whole → HasFootprint made.new) }
+    ensures ready { IfOk result (λ taken. taken ≡ Taken.Unready → args.now ≡ [] → ⊥) }
 {
-    if !take_all(alloc, atoms, &action.conditions.at_start, &mut made.start)? {
-        return Ok(false);
+    let start = take_all(
+        alloc,
+        atoms,
+        near.start,
+        args,
+        &conditions.at_start,
+        &mut made.start,
+    )?;
+    if !start.is_whole() {
+        return Ok(start);
     }
-    made.at_start = change_of(alloc, atoms, &action.effects.at_start)?;
-    if !take_all(alloc, atoms, &action.conditions.over_all, &mut made.over)? {
-        return Ok(false);
+    let over = take_all(
+        alloc,
+        atoms,
+        near.over,
+        args,
+        &conditions.over_all,
+        &mut made.over,
+    )?;
+    if !over.is_whole() {
+        return Ok(over);
     }
-    if !take_all(alloc, atoms, &action.conditions.at_end, &mut made.end)? {
-        return Ok(false);
+    let end = take_all(
+        alloc,
+        atoms,
+        near.start,
+        args,
+        &conditions.at_end,
+        &mut made.end,
+    )?;
+    if !end.is_whole() {
+        return Ok(end);
     }
-    made.at_end = change_of(alloc, atoms, &action.effects.at_end)?;
-    made.footprint = Footprint::of(
-        &made.start,
-        &made.over,
-        &made.end,
-        &made.at_start,
-        &made.at_end,
-    );
-    Ok(true)
+    // Mostly what changes is what was read.
+    let read = made.start.first();
+    let Some(at_start) = change_of(alloc, atoms, read, args, &effects.at_start)? else {
+        return Ok(Taken::Unready);
+    };
+    let Some(at_end) = change_of(alloc, atoms, read, args, &effects.at_end)? else {
+        return Ok(Taken::Unready);
+    };
+    made.footprint = Footprint::of(&made.start, &made.over, &made.end, &at_start, &at_end);
+    made.at_start = at_start;
+    made.at_end = at_end;
+    Ok(Taken::Whole)
 }
 
 /// A ground action, prepared. None only where it leads nowhere from any state over the atoms.
-fn prepare(
+fn prepare_ground(
     alloc: Global,
     atoms: &Atoms,
     action: &GroundAction,
 ) -> Result<Option<Prepared>, AllocError>
     requires { AreAtoms atoms.now (adds action.now) }
-    ensures same { IfOk result (λ made. MatchOption made
-        ((d : DomainView) (k : KnowledgeView) (s : State) → IsOver atoms.now s
-        → stepped d k s action.now ≡ None) (λ p. (p.act ≡ action.now.act)
-        × ((d : DomainView) (k : KnowledgeView) (s : State) → IsOver atoms.now s
-        → successor d k atoms.now s p ≡ stepped d k s action.now))) }
+    ensures same { IfOk result (λ made. (d : DomainView) (k : KnowledgeView) (n : Node)
+        → IsOver atoms.now n.state → successor_nodes d k atoms.now (option_to_list made) n
+        ≡ moves d k (action.now ∷ []) n) }
     ensures sound { IfOk result (λ made. IfSome made (IsSound atoms.now)) }
     ensures footprints { IfOk result (λ made. IfSome made HasFootprint) }
 {
     let mut made = Prepared::bare(alloc, action.act);
-    if fill(alloc, atoms, action, &mut made)? {
-        Ok(Some(made))
-    } else {
-        Ok(None)
+    match fill(
+        alloc,
+        atoms,
+        Near::nothing(),
+        &[],
+        &action.conditions,
+        &action.effects,
+        &mut made,
+    )? {
+        Taken::Whole => Ok(Some(made)),
+        Taken::Vain => Ok(None),
+        Taken::Unready => unreachable!(),
     }
 }
 
-/// These ground actions, prepared, in order, without those that lead nowhere from any state over the atoms: they lead to the same
-/// nodes.
+/// An act, prepared from its ground action. None only where it leads nowhere from any state over the atoms.
+fn prepare_made(
+    alloc: Global,
+    expert: &Expert,
+    problem: &Problem,
+    atoms: &Atoms,
+    instances: &[(Name, Name)],
+    act: &Act,
+) -> Result<Option<Prepared>, AllocError>
+    requires { AreAtoms atoms.now (flat_map adds
+        (option_to_list (result_ok (ground_act expert.now instances.now act.now)))) }
+    ensures same { IfOk result (λ made. (n : Node) → IsOver atoms.now n.state
+        → successor_nodes expert.now problem.now atoms.now (option_to_list made) n
+        ≡ moves expert.now problem.now
+        (option_to_list (result_ok (ground_act expert.now instances.now act.now))) n) }
+    ensures sound { IfOk result (λ made. IfSome made (IsSound atoms.now)) }
+    ensures footprints { IfOk result (λ made. IfSome made HasFootprint) }
+{
+    match expert.ground(instances, act) {
+        Ok(mut action) => {
+            lighten(alloc, problem, expert, &mut action)?;
+            prepare_ground(alloc, atoms, &action)
+        }
+        Err(Failure::Refused(_)) => Ok(None),
+        Err(Failure::OutOfMemory) => Err(AllocError),
+    }
+}
+
+/// An act, prepared. None only where it leads nowhere from any state over the atoms. Mostly its conditions and effects speak of facts
+/// alone, and then its ground action isn't made.
+fn prepare(
+    alloc: Global,
+    expert: &Expert,
+    problem: &Problem,
+    atoms: &Atoms,
+    near: Near,
+    instances: &[(Name, Name)],
+    act: &Act,
+) -> Result<Option<Prepared>, AllocError>
+    requires instances { instances.now ≡ problem.now.instances }
+    requires fit { IsFit expert.now problem.now act.now }
+    requires atoms { AreAtoms atoms.now (flat_map adds
+        (option_to_list (result_ok (ground_act expert.now problem.now.instances act.now)))) }
+    ensures same { IfOk result (λ made. (n : Node) → IsOver atoms.now n.state
+        → successor_nodes expert.now problem.now atoms.now (option_to_list made) n
+        ≡ moves expert.now problem.now
+        (option_to_list (result_ok (ground_act expert.now problem.now.instances act.now))) n) }
+    ensures sound { IfOk result (λ made. IfSome made (IsSound atoms.now)) }
+    ensures footprints { IfOk result (λ made. IfSome made HasFootprint) }
+{
+    let Some(action) = expert.action(act.action) else {
+        unreachable!()
+    };
+    let args = act.args.as_slice();
+    let mut made = Prepared::bare(alloc, *act);
+    match fill(
+        alloc,
+        atoms,
+        near,
+        args,
+        &action.conditions,
+        &action.effects,
+        &mut made,
+    )? {
+        Taken::Whole => Ok(Some(made)),
+        Taken::Vain => Ok(None),
+        Taken::Unready => prepare_made(alloc, expert, problem, atoms, instances, act),
+    }
+}
+
+/// These acts, prepared, in order, without those that lead nowhere from any state over the atoms: they lead to the same nodes as their
+/// ground actions.
 pub fn prepare_all(
     alloc: Global,
+    expert: &Expert,
+    problem: &Problem,
     atoms: &Atoms,
-    actions: &[GroundAction],
+    instances: &[(Name, Name)],
+    acts: &[Act],
 ) -> Result<Vec<Prepared>, AllocError>
-    requires { AreAtoms atoms.now (flat_map adds actions.now) }
-    ensures same { IfOk result (λ all. (d : DomainView) (k : KnowledgeView) (r : ReachedView)
-        → successor_nodes d k atoms.now all.items (plain_node atoms.now r)
-        ≡ moves d k actions.now (plain_node atoms.now r)) }
+    requires instances { instances.now ≡ problem.now.instances }
+    requires fit { AreFit expert.now problem.now acts.now }
+    requires atoms { AreAtoms atoms.now (flat_map adds
+        (grounds_of expert.now problem.now acts.now)) }
+    ensures same { IfOk result (λ all. (r : ReachedView)
+        → successor_nodes expert.now problem.now atoms.now all.items (plain_node atoms.now r)
+        ≡ moves expert.now problem.now (grounds_of expert.now problem.now acts.now)
+        (plain_node atoms.now r)) }
     ensures sound { IfOk result (λ all. AreSound atoms.now all.items) }
     ensures footprints { IfOk result (λ all. HaveFootprints all.items) }
 {
-    let mut all = Vec::new(alloc);
-    for action in actions {
-        if let Some(one) = prepare(alloc, atoms, action)? {
+    let mut all = Vec::with_capacity(alloc, acts.len())?;
+    let mut near = Near::nothing();
+    for act in acts {
+        if let Some(one) = prepare(alloc, expert, problem, atoms, near, instances, act)? {
+            near = Near::of(&one);
             all.push(one)?;
         }
     }

@@ -173,8 +173,10 @@ fn flags_of(alloc: Global, atoms: &Atoms, facts: &[Fact]) -> Result<Vec<bool>, A
     for _ in atoms.as_slice() {
         flags.push(false)?;
     }
+    // Both rise, so that each is found after the one before it.
+    let mut near = 0;
     for fact in facts {
-        learn(&mut flags, atoms, fact);
+        near = learn(&mut flags, atoms, near, fact);
     }
     Ok(flags)
 }
@@ -239,16 +241,19 @@ fn forget(flags: &mut Vec<bool>, atoms: &Atoms, fact: &Fact)
     }
 }
 
-/// Sets the flag of a fact.
-fn learn(flags: &mut Vec<bool>, atoms: &Atoms, fact: &Fact)
+/// Sets the flag of a fact, which is looked for near a place first, and gives its place.
+fn learn(flags: &mut Vec<bool>, atoms: &Atoms, near: usize, fact: &Fact) -> usize
     requires wide { length flags.old.items ≡ length atoms.now }
     requires atom { AreAtoms atoms.now (fact.now ∷ []) }
     ensures set { facts_of atoms.now flags.new.items
         ≡ insert_key fact_cmp (facts_of atoms.now flags.old.items) fact.now }
     ensures wide { length flags.new.items ≡ length flags.old.items }
 {
-    match atoms.place_of(fact) {
-        Some(place) => flags[place] = true,
+    match atoms.place_near(near, fact) {
+        Some(place) => {
+            flags[place] = true;
+            place
+        }
         None => unreachable!(),
     }
 }
@@ -302,6 +307,6 @@ fn add(flags: &mut Vec<bool>, atoms: &Atoms, effect: &Effect)
     ensures wide { length flags.new.items ≡ length flags.old.items }
 {
     if let Effect::Add(lifted) = effect {
-        learn(flags, atoms, &lifted.ground());
+        let _place = learn(flags, atoms, 0, &lifted.ground());
     }
 }

@@ -11,7 +11,7 @@ ghost use Rattle.ps_solve.specs.Rows.{AreWide, HaveWide, plain_node, plain_state
 ghost use Rattle.ps_solve.specs.declared.nodes.Reached.{Reached as ReachedView};
 
 use super::atoms::Atoms;
-use super::nodes::{Reached, begin, discover, path_to};
+use super::nodes::{Reached, begin, discover, path_to, remember};
 use super::prepared::Prepared;
 use super::rows::Row;
 use super::steps::{At, step};
@@ -100,13 +100,13 @@ impl<'a, K: Known, T: Types> Search<'a, K, T> {
     {
         // The atoms say with their slice that they rise.
         let _atoms = self.atoms.as_slice();
-        if seen.contains(&row) {
+        let Some(row) = remember(alloc, seen, row)? else {
             return Ok(None);
-        }
+        };
         if self.is_good(&row) {
             return Ok(Some(Seq::of(path_to(alloc, &node.path, act)?)));
         }
-        discover(alloc, self.atoms, seen, next, row, &node.path, act, place)?;
+        discover(alloc, self.atoms, next, row, &node.path, act, place)?;
         Ok(None)
     }
 

@@ -12,4 +12,4 @@ returns-clause-moves g c =
       conditions = record { at_start = c.lighten_conds.new.conds; over_all = c.lighten_conds-2.new.conds; at_end = c.lighten_conds-3.new.conds };
       effects = action.effects;
     } in
-    alike_moves (g.T.Types.types c.args.types.now) (g.K.Known.known c.args.given.now) light action refl c.in_ok-lighten_conds.ensures c.in_ok-lighten_conds-2.ensures c.in_ok-lighten_conds-3.ensures refl refl
+    alike_moves (g.T.Types.types c.args.types.now) (g.K.Known.known c.args.given.now) light action c.in_ok-lighten_conds.ensures c.in_ok-lighten_conds-2.ensures c.in_ok-lighten_conds-3.ensures refl refl refl

@@ -15,12 +15,6 @@ returns-clause-leads c =
     ∙ map-append (plain_lead atoms) c.args.next.now.items _
     ∙ ap (λ (p : List Act). map (plain_lead atoms) c.args.next.now.items ++ lead p ∷ []) c.in_ok-path.ensures
 
-pub returns-clause-seen : goal.returns-clause-seen
-returns-clause-seen c = c.in_ok-remember.ensures.seen c.args.atoms.now
-
-pub returns-clause-wide : goal.returns-clause-wide
-returns-clause-wide c = c.in_ok-remember.ensures.wide c.args.atoms.now c.requires.wide c.requires.row
-
 pub returns-clause-level : goal.returns-clause-level
 returns-clause-level c =
     let P : List Reached → Type 0 = λ l. HaveWide c.args.atoms.now l in

@@ -1,64 +1,94 @@
-use Rattle.std.proofs.Common.{◌≡◌, ◌+◌, ◌++◌, ◌∷◌, Global, List, Vec, drop, ap, subst, sym, ◌∙◌, arith}
-use Rattle.std.proofs.lemmas.List.{drop_more}
+use Rattle.std.proofs.Common.{◌≡◌, ◌+◌, ◌++◌, ◌∷◌, Global, List, Option, Vec, drop, ap, subst, sym, ◌∙◌, arith}
+use Rattle.std.specs.Result.{result_ok}
+use Rattle.std.proofs.lemmas.List.{append-nil, drop_more}
+use Rattle.ps_action.specs.Grounding.{ground_act}
+use Rattle.ps_action.specs.declared.acts.Act.{Act}
 use Rattle.ps_action.specs.declared.acts.GroundAction.{GroundAction}
+use Rattle.ps_solve.specs.Fitting.{AreFit}
 use Rattle.ps_solve.specs.Independence.{HaveFootprints}
-use Rattle.ps_solve.specs.Nodes.{moves}
+use Rattle.ps_solve.specs.Nodes.{Node}
 use Rattle.ps_solve.specs.Prepared.{AreSound, successor_nodes}
 use Rattle.ps_solve.specs.Rows.{plain_node}
 use Rattle.ps_solve.specs.declared.prepared.Prepared.{Prepared}
-use Rattle.ps_solve.proofs.Preparing.{actions_split, idle_more, prepared_more, footprints_more, row_over, sound_more}
+use Rattle.ps_solve.proofs.Gathering.{gathered, one_given}
+use Rattle.ps_solve.proofs.Preparing.{footprints_more, prepared_more, row_over, sound_more}
 use Rattle.ps_solve.proofs.prepared.prepare_all.Goals as goal
 use Rattle.ps_solve.proofs.prepared.prepare_all.Goals.{in-Some+in_ok-push, in_default}
 
-pub loop-action-preserved : goal.loop-action-preserved
-loop-action-preserved c =
+pub loop-act-preserved : goal.loop-act-preserved
+loop-act-preserved c =
+    let d = c.args.expert.now in
+    let k = c.args.problem.now in
     let atoms = c.args.atoms.now in
-    let gs = c.args.actions.now in
-    let i = c.loop-action.action-index in
-    let a = c.action-item.result in
-    let found = c.loop-action.all.items in
-    let split : drop i gs ≡ a ∷ drop (i + 1) gs = drop_more gs i a (omega arith) ∙ ap (λ (x : GroundAction). x ∷ drop (i + 1) gs) (sym c.action-item.is) in
+    let acts = c.args.acts.now in
+    let i = c.loop-act.act-index in
+    let x = c.act-item.result in
+    let found = c.loop-act.all.items in
+    let ground : Act → Option GroundAction = λ act. result_ok (ground_act d k.instances act) in
+    let split : drop i acts ≡ x ∷ drop (i + 1) acts = drop_more acts i x (omega arith) ∙ ap (λ (y : Act). y ∷ drop (i + 1) acts) (sym c.act-item.is) in
     record {
-      same = elim c.match-branch-2.branch [
+      same = elim c.match-branch-3.branch [
         | in-Some+in_ok-push w ↦
             let made = rw w.in-Some.is at c.in_ok-one.ensures.same in
-            λ d k r.
+            λ r.
             let n = plain_node atoms r in
-            ap (λ (v : Vec Prepared Global). successor_nodes d k atoms v.items n ++ moves d k (drop (i + 1) gs) n) w.all-is
-            ∙ ap (λ (l : List Prepared). successor_nodes d k atoms l n ++ moves d k (drop (i + 1) gs) n) w.in_ok-push.ensures.items
-            ∙ prepared_more d k atoms n gs i a found w.in-Some.one split made.0 (made.1 d k n.state (row_over atoms r.row))
-            ∙ c.loop-action.invariant.same d k r
+            let old = successor_nodes d k atoms found n in
+            gathered d k n ground acts i x old (successor_nodes d k atoms c.match-branch-3.all.items n) split
+            (ap (λ (v : Vec Prepared Global). successor_nodes d k atoms v.items n) w.all-is
+            ∙ ap (λ (l : List Prepared). successor_nodes d k atoms l n) w.in_ok-push.ensures.items
+            ∙ prepared_more d k atoms n found w.in-Some.one
+            ∙ ap (λ (l : List Node). old ++ l) (made n (row_over atoms r.row)))
+            ∙ c.loop-act.invariant.same r
         | in_default w ↦
             let idle = rw w.in_default.is at c.in_ok-one.ensures.same in
-            λ d k r.
+            λ r.
             let n = plain_node atoms r in
-            ap (λ (v : Vec Prepared Global). successor_nodes d k atoms v.items n ++ moves d k (drop (i + 1) gs) n) w.all-is
-            ∙ idle_more d k atoms n gs i a found split (idle d k n.state (row_over atoms r.row))
-            ∙ c.loop-action.invariant.same d k r
+            let old = successor_nodes d k atoms found n in
+            gathered d k n ground acts i x old (successor_nodes d k atoms c.match-branch-3.all.items n) split
+            (ap (λ (v : Vec Prepared Global). successor_nodes d k atoms v.items n) w.all-is
+            ∙ sym (append-nil old)
+            ∙ ap (λ (l : List Node). old ++ l) (idle n (row_over atoms r.row)))
+            ∙ c.loop-act.invariant.same r
       ];
-      sound = elim c.match-branch-2.branch [
+      sound = elim c.match-branch-3.branch [
         | in-Some+in_ok-push w ↦
             let one = rw w.in-Some.is at c.in_ok-one.ensures.sound in
             let P : List Prepared → Type 0 = AreSound atoms in
-            subst P (sym (ap (λ (v : Vec Prepared Global). v.items) w.all-is ∙ w.in_ok-push.ensures.items)) (sound_more atoms found w.in-Some.one c.loop-action.invariant.sound one)
+            subst P (sym (ap (λ (v : Vec Prepared Global). v.items) w.all-is ∙ w.in_ok-push.ensures.items)) (sound_more atoms found w.in-Some.one c.loop-act.invariant.sound one)
         | in_default w ↦
             let P : List Prepared → Type 0 = AreSound atoms in
-            subst P (sym (ap (λ (v : Vec Prepared Global). v.items) w.all-is)) c.loop-action.invariant.sound
+            subst P (sym (ap (λ (v : Vec Prepared Global). v.items) w.all-is)) c.loop-act.invariant.sound
       ];
-      footprints = elim c.match-branch-2.branch [
+      footprints = elim c.match-branch-3.branch [
         | in-Some+in_ok-push w ↦
             let one = rw w.in-Some.is at c.in_ok-one.ensures.footprints in
-            subst HaveFootprints (sym (ap (λ (v : Vec Prepared Global). v.items) w.all-is ∙ w.in_ok-push.ensures.items)) (footprints_more found w.in-Some.one c.loop-action.invariant.footprints one)
+            subst HaveFootprints (sym (ap (λ (v : Vec Prepared Global). v.items) w.all-is ∙ w.in_ok-push.ensures.items)) (footprints_more found w.in-Some.one c.loop-act.invariant.footprints one)
         | in_default w ↦
-            subst HaveFootprints (sym (ap (λ (v : Vec Prepared Global). v.items) w.all-is)) c.loop-action.invariant.footprints
+            subst HaveFootprints (sym (ap (λ (v : Vec Prepared Global). v.items) w.all-is)) c.loop-act.invariant.footprints
       ];
-      atoms = (actions_split atoms a gs i split c.loop-action.invariant.atoms).1;
+      fit =
+          let P : List Act → Type 0 = AreFit d k in
+          (subst P split c.loop-act.invariant.fit).1;
     }
 
-pub prepare-requires : goal.prepare-requires
-prepare-requires c =
-    let gs = c.args.actions.now in
-    let i = c.loop-action.action-index in
-    let a = c.action-item.result in
-    let split : drop i gs ≡ a ∷ drop (i + 1) gs = drop_more gs i a (omega arith) ∙ ap (λ (x : GroundAction). x ∷ drop (i + 1) gs) (sym c.action-item.is) in
-    (actions_split c.args.atoms.now a gs i split c.loop-action.invariant.atoms).0
+pub prepare-requires-clause-atoms : goal.prepare-requires-clause-atoms
+prepare-requires-clause-atoms c =
+    let d = c.args.expert.now in
+    let k = c.args.problem.now in
+    let acts = c.args.acts.now in
+    let i = c.loop-act.act-index in
+    let x = c.act-item.result in
+    let ground : Act → Option GroundAction = λ act. result_ok (ground_act d k.instances act) in
+    let split : drop i acts ≡ x ∷ drop (i + 1) acts = drop_more acts i x (omega arith) ∙ ap (λ (y : Act). y ∷ drop (i + 1) acts) (sym c.act-item.is) in
+    one_given ground i acts (drop (i + 1) acts) x c.args.atoms.now split c.requires.atoms
+
+pub prepare-requires-clause-fit : goal.prepare-requires-clause-fit
+prepare-requires-clause-fit c =
+    let d = c.args.expert.now in
+    let k = c.args.problem.now in
+    let acts = c.args.acts.now in
+    let i = c.loop-act.act-index in
+    let x = c.act-item.result in
+    let split : drop i acts ≡ x ∷ drop (i + 1) acts = drop_more acts i x (omega arith) ∙ ap (λ (y : Act). y ∷ drop (i + 1) acts) (sym c.act-item.is) in
+    let P : List Act → Type 0 = AreFit d k in
+    (subst P split c.loop-act.invariant.fit).0

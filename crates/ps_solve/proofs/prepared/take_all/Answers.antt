@@ -3,10 +3,12 @@ use Rattle.std.proofs.lemmas.List.{drop_all, drop_more}
 use Rattle.ps_world.specs.CondViews.{cond_tree}
 use Rattle.ps_world.specs.Trees.{CondTree}
 use Rattle.ps_world.specs.declared.conditions.Cond.{Cond}
+use Rattle.ps_action.specs.Grounding.{put_cond}
 use Rattle.ps_action.specs.Truth.{all_true}
 use Rattle.ps_solve.specs.States.{at}
 use Rattle.ps_solve.specs.Prepared.{passes}
-use Rattle.ps_solve.proofs.Preparing.{one_false, tested_more, true_last}
+use Rattle.ps_solve.proofs.Fixedness.{vain_at}
+use Rattle.ps_solve.proofs.Preparing.{tested_more, true_last}
 use Rattle.ps_solve.proofs.prepared.take_all.Goals as goal
 
 pub loop-cond-preserved : goal.loop-cond-preserved
@@ -15,19 +17,20 @@ loop-cond-preserved c =
     let i = c.loop-cond.cond-index in
     let x = c.cond-item.result in
     let split : drop i items ≡ x ∷ drop (i + 1) items = drop_more items i x (omega arith) ∙ ap (λ (y : Cond). y ∷ drop (i + 1) items) (sym c.cond-item.is) in
-    λ d k s. tested_more d k c.args.atoms.now s items i x c.loop-cond.test c.take_in.new.test split (c.in_ok-take_in.ensures.taken c.if-not-branch.false d k s) ∙ c.loop-cond.invariant d k s
+    λ d k s. tested_more d k c.args.atoms.now s c.args.args.now items i x c.loop-cond.test c.take_in.new.test split (c.in_ok-taken.ensures.taken (c.is_whole.ensures.yes c.if-not-is_whole.false) d k s) ∙ c.loop-cond.invariant d k s
 
-pub returns-then-not-branch : goal.returns-then-not-branch
-returns-then-not-branch c =
+pub returns-then-not-is_whole : goal.returns-then-not-is_whole
+returns-then-not-is_whole c =
     let items = c.as_slice-cond-items.result.now in
     let i = c.loop-cond.cond-index in
     let x = c.cond-item.result in
     let split : drop i items ≡ x ∷ drop (i + 1) items = drop_more items i x (omega arith) ∙ ap (λ (y : Cond). y ∷ drop (i + 1) items) (sym c.cond-item.is) in
     record {
-      taken = λ yes. absurd (cc);
+      taken = λ yes. absurd (c.is_whole.ensures.no c.if-not-is_whole.true yes);
       vain = λ no d k s o.
-          ap (λ (l : List CondTree). all_true d (at k s) l) (sym c.as_slice-cond-items.ensures)
-          ∙ one_false d (at k s) i items (drop (i + 1) items) x split (c.in_ok-take_in.ensures.vain c.if-not-branch.true d k s o);
+          ap (λ (l : List CondTree). all_true d (at k s) (map (put_cond c.args.args.now) l)) (sym c.as_slice-cond-items.ensures)
+          ∙ vain_at d k s c.args.args.now i items (drop (i + 1) items) x split (c.in_ok-taken.ensures.vain no d k s o);
+      ready = c.in_ok-taken.ensures.ready;
     }
 
 pub returns : goal.returns
@@ -38,7 +41,8 @@ returns c =
     record {
       taken = λ yes d k s.
           sym (true_last (passes d k c.args.atoms.now c.loop-cond.test s))
-          ∙ ap (λ (l : List Cond). passes d k c.args.atoms.now c.loop-cond.test s && all_true d (at k s) (map cond_tree l)) (sym gone)
+          ∙ ap (λ (l : List Cond). passes d k c.args.atoms.now c.loop-cond.test s && all_true d (at k s) (map (put_cond c.args.args.now) (map cond_tree l))) (sym gone)
           ∙ c.loop-cond.invariant d k s;
       vain = λ no. absurd (cc);
+      ready = λ no. absurd (cc);
     }

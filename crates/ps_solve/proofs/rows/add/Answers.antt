@@ -5,7 +5,7 @@ use Rattle.ps_action.specs.Effects.{added_by}
 use Rattle.ps_solve.specs.Rows.{AreAtoms}
 use Rattle.ps_solve.proofs.rows.add.Goals as goal
 
-pub learn-requires-clause-atom : goal.learn-requires-clause-atom
-learn-requires-clause-atom c =
+pub learn-place-requires-clause-atom : goal.learn-place-requires-clause-atom
+learn-place-requires-clause-atom c =
     let P : List Fact → Type 0 = AreAtoms c.args.atoms.now in
     subst P (ap (λ (e : Effect). option_to_list (added_by e)) c.in-Add.is ∙ ap (λ (g : Fact). g ∷ []) (sym c.ground.ensures)) c.requires.atom

@@ -43,14 +43,14 @@ loop-fact-preserved c =
     let known = facts_of atoms c.loop-fact.flags.items in
     let split : drop i fs ≡ f ∷ drop (i + 1) fs = drop_more fs i f (omega arith) ∙ ap (λ (x : Fact). x ∷ drop (i + 1) fs) (sym c.fact-item.is) in
     record {
-      facts = ap (λ (l : List Fact). fold (insert_key fact_cmp) l (drop (i + 1) fs)) c.learn.ensures.set
+      facts = ap (λ (l : List Fact). fold (insert_key fact_cmp) l (drop (i + 1) fs)) c.learn-near.ensures.set
           ∙ ap (λ (l : List Fact). fold (insert_key fact_cmp) known l) (sym split) ∙ c.loop-fact.invariant.facts;
-      wide = c.learn.ensures.wide ∙ c.loop-fact.invariant.wide;
+      wide = c.learn-near.ensures.wide ∙ c.loop-fact.invariant.wide;
       left = (facts_split atoms f fs i split c.loop-fact.invariant.left).1;
     }
 
-pub learn-requires-clause-atom : goal.learn-requires-clause-atom
-learn-requires-clause-atom c =
+pub learn-near-requires-clause-atom : goal.learn-near-requires-clause-atom
+learn-near-requires-clause-atom c =
     let fs = c.args.facts.now in
     let i = c.loop-fact.fact-index in
     let f = c.fact-item.result in

@@ -12,8 +12,8 @@ returns-then-has_vain c =
     let known = c.args.self.now.facts in
     let a = c.args.action.now in
     λ yes d k facts fixed atoms s over.
-    no_start d k facts heads known fixed a c.args.act.now atoms
-    (λ t are. ap (λ (names : List Name). all_true d (at k t) (map (put_cond names) a.conditions.at_start)) (sym c.as_slice-args.ensures) ∙ c.has_vain.ensures c.if-has_vain.true d k t are) s over
+    no_over_all d k facts heads known fixed a c.args.act.now atoms
+    (λ t are. ap (λ (names : List Name). all_true d (at k t) (map (put_cond names) a.conditions.over_all)) (sym c.as_slice-args.ensures) ∙ c.has_vain.ensures c.if-has_vain.true d k t are) s over
 
 pub returns-then-has_vain-2 : goal.returns-then-has_vain-2
 returns-then-has_vain-2 c =
@@ -21,8 +21,8 @@ returns-then-has_vain-2 c =
     let known = c.args.self.now.facts in
     let a = c.args.action.now in
     λ yes d k facts fixed atoms s over.
-    no_over_all d k facts heads known fixed a c.args.act.now atoms
-    (λ t are. ap (λ (names : List Name). all_true d (at k t) (map (put_cond names) a.conditions.over_all)) (sym c.as_slice-args.ensures) ∙ c.has_vain-2.ensures c.if-has_vain-2.true d k t are) s over
+    no_start d k facts heads known fixed a c.args.act.now atoms
+    (λ t are. ap (λ (names : List Name). all_true d (at k t) (map (put_cond names) a.conditions.at_start)) (sym c.as_slice-args.ensures) ∙ c.has_vain-2.ensures c.if-has_vain-2.true d k t are) s over
 
 pub returns : goal.returns
 returns c =

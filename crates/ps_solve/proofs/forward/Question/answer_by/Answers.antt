@@ -1,11 +1,8 @@
-use Rattle.std.proofs.Common.{◌≡◌, filter_map, flat_map, List, ap, ◌∙◌, subst, sym}
-use Rattle.std.specs.Result.{result_ok}
-use Rattle.ps_world.specs.declared.names.Name.{Name}
+use Rattle.std.proofs.Common.{flat_map, List, ap, ◌∙◌, subst, sym}
 use Rattle.ps_action.specs.declared.acts.Act.{Act}
-use Rattle.ps_action.specs.declared.acts.GroundAction.{GroundAction}
-use Rattle.ps_action.specs.Grounding.{ground_act}
+use Rattle.ps_solve.specs.Fitting.{AreFit, grounds_of}
 use Rattle.ps_solve.specs.Fixed.{possible_facts}
-use Rattle.ps_solve.specs.Nodes.{grounds, moves}
+use Rattle.ps_solve.specs.Nodes.{moves}
 use Rattle.ps_solve.specs.Rows.{AreAtoms, adds}
 use Rattle.ps_solve.proofs.Gathering.{grounds_possible}
 use Rattle.ps_solve.proofs.forward.Question.answer_by.Goals as goal
@@ -14,20 +11,20 @@ pub answer_over-requires-clause-moves : goal.answer_over-requires-clause-moves
 answer_over-requires-clause-moves c =
     let d = c.args.self.now.expert.now in
     let k = c.args.self.now.problem.now in
-    let given : List (Name × Name) → List Act → List GroundAction = λ is acts. filter_map (λ act. result_ok (ground_act d is act)) acts in
-    let same : given c.args.instances.now c.args.acts.now ≡ grounds d k = (λ i. given (c.requires.instances i) (c.requires.acts i)) in
-    let P : List GroundAction → Type 0 = λ gs. AreAtoms (possible_facts d k) (flat_map adds gs) in
+    let P : List Act → Type 0 = λ acts. AreAtoms (possible_facts d k) (flat_map adds (grounds_of d k acts)) in
     λ n over.
-    ap (λ (l : List GroundAction). moves d k l n) c.deref.ensures.value
-    ∙ c.in_ok-light.ensures.moves (possible_facts d k) n c.in_ok-fixed.ensures (subst P (sym same) (grounds_possible d k)) over
-    ∙ ap (λ (l : List GroundAction). moves d k l n) same
+    ap (λ (l : List Act). moves d k (grounds_of d k l) n) c.deref.ensures.value
+    ∙ c.in_ok-useful.ensures.moves (possible_facts d k) n c.in_ok-fixed.ensures (subst P (sym c.requires.acts) (grounds_possible d k)) over
+    ∙ ap (λ (l : List Act). moves d k (grounds_of d k l) n) c.requires.acts
 
 pub answer_over-requires-clause-adds : goal.answer_over-requires-clause-adds
 answer_over-requires-clause-adds c =
     let d = c.args.self.now.expert.now in
     let k = c.args.self.now.problem.now in
-    let given : List (Name × Name) → List Act → List GroundAction = λ is acts. filter_map (λ act. result_ok (ground_act d is act)) acts in
-    let same : given c.args.instances.now c.args.acts.now ≡ grounds d k = (λ i. given (c.requires.instances i) (c.requires.acts i)) in
-    let P : List GroundAction → Type 0 = λ gs. AreAtoms (possible_facts d k) (flat_map adds gs) in
-    let Q : List GroundAction → Type 0 = λ gs. AreAtoms (possible_facts d k) (flat_map adds gs) in
-    subst Q (sym c.deref.ensures.value) (λ f gone. c.in_ok-light.ensures.adds f (subst P (sym same) (grounds_possible d k) f gone))
+    let P : List Act → Type 0 = λ acts. AreAtoms (possible_facts d k) (flat_map adds (grounds_of d k acts)) in
+    subst P (sym c.deref.ensures.value) (λ f gone. c.in_ok-useful.ensures.adds f (subst P (sym c.requires.acts) (grounds_possible d k) f gone))
+
+pub answer_over-requires-clause-fit : goal.answer_over-requires-clause-fit
+answer_over-requires-clause-fit c =
+    let P : List Act → Type 0 = AreFit c.args.self.now.expert.now c.args.self.now.problem.now in
+    subst P (sym c.deref.ensures.value) c.in_ok-useful.ensures.fit

@@ -11,4 +11,4 @@ search-requires-clause-actions c =
     let k = c.args.self.now.problem.now in
     λ n.
     let here = plain_node c.args.atoms.now n in
-    ap (λ (l : List Prepared). successor_nodes d k c.args.atoms.now l here) c.deref.ensures.value ∙ c.in_ok-actions.ensures.same d k n ∙ c.requires.moves here (λ f gone. row_over c.args.atoms.now n.row f (c.requires.possible f gone))
+    ap (λ (l : List Prepared). successor_nodes d k c.args.atoms.now l here) c.deref.ensures.value ∙ c.in_ok-actions.ensures.same n ∙ c.requires.moves here (λ f gone. row_over c.args.atoms.now n.row f (c.requires.possible f gone))

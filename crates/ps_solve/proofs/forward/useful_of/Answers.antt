@@ -4,10 +4,11 @@ use Rattle.std.proofs.lemmas.List.{append-nil, drop_all, drop_more}
 use Rattle.ps_action.specs.Grounding.{ground_act}
 use Rattle.ps_action.specs.declared.acts.Act.{Act}
 use Rattle.ps_action.specs.declared.acts.GroundAction.{GroundAction}
+use Rattle.ps_solve.specs.Fitting.{grounds_of}
 use Rattle.ps_solve.specs.Nodes.{moves}
 use Rattle.ps_solve.specs.Rows.{adds}
 use Rattle.ps_solve.proofs.Gathering.{gathered, one_given}
-use Rattle.ps_solve.proofs.forward.grounds.Goals as goal
+use Rattle.ps_solve.proofs.forward.useful_of.Goals as goal
 
 pub loop-act-preserved : goal.loop-act-preserved
 loop-act-preserved c =
@@ -16,13 +17,14 @@ loop-act-preserved c =
     let all = c.args.acts.now in
     let i = c.loop-act.act-index in
     let a = c.act-item.result in
-    let ground : Act → Option GroundAction = λ a. result_ok (ground_act d c.args.instances.now a) in
+    let ground : Act → Option GroundAction = λ a. result_ok (ground_act d k.instances a) in
     let split : drop i all ≡ a ∷ drop (i + 1) all = drop_more all i a (omega arith) ∙ ap (λ (x : Act). x ∷ drop (i + 1) all) (sym c.act-item.is) in
     record {
       moves = λ facts n fixed atoms over.
-          gathered d k n ground all i a c.loop-act.found.items c.push_useful.new.found.items split (c.in_ok-push_useful.ensures.moves facts n fixed (one_given ground i all (drop (i + 1) all) a facts split atoms) over)
+          gathered d k n ground all i a (moves d k (grounds_of d k c.loop-act.useful.items) n) (moves d k (grounds_of d k c.push_useful.new.useful.items) n) split (c.in_ok-push_useful.ensures.moves facts n fixed (one_given ground i all (drop (i + 1) all) a facts split atoms) over)
           ∙ c.loop-act.invariant.moves facts n fixed atoms over;
       adds = λ f gone. c.in_ok-push_useful.ensures.adds f (c.loop-act.invariant.adds f gone) (one_given ground i all (drop (i + 1) all) a (flat_map adds (filter_map ground all)) split (λ g h. h) f gone);
+      fit = c.in_ok-push_useful.ensures.fit;
     }
 
 pub returns-clause-moves : goal.returns-clause-moves
@@ -31,10 +33,9 @@ returns-clause-moves c =
     let i = c.loop-act.act-index in
     let d = c.args.expert.now in
     let k = c.args.problem.now in
-    let found = c.loop-act.found.items in
-    let ground : Act → Option GroundAction = λ a. result_ok (ground_act d c.args.instances.now a) in
+    let found = grounds_of d k c.loop-act.useful.items in
     let gone : drop i all ≡ [] = drop_all i all (omega arith) in
     λ facts n fixed atoms over.
     sym (append-nil (moves d k found n))
-    ∙ (λ j. moves d k found n ++ moves d k (filter_map ground (sym gone j)) n)
+    ∙ (λ j. moves d k found n ++ moves d k (grounds_of d k (sym gone j)) n)
     ∙ c.loop-act.invariant.moves facts n fixed atoms over
