@@ -1,5 +1,6 @@
 pub mod Answering
 pub mod Asking
+pub mod Boxed
 pub mod Due
 pub mod Forced
 pub mod Going

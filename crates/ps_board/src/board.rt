@@ -108,7 +108,8 @@ pub struct GrantBack {
 #[derive(Drop)]
 pub struct Board {
     alloc: Global,
-    core: Core,
+    /// In one box, so that whoever hands a board on moves a few words.
+    core: Box<Core>,
     /// For each performer the request of its grant that is out.
     grants: Vec<Option<u64>>,
     /// For each performer a number below which it has answered all requests of the last run.
@@ -125,9 +126,9 @@ impl Model for Board {
 
     ghost coded = { the_row.coded };
 
-    ghost view = { λ b. record { input = b.core.input; entries = b.core.entries.items; grants = b.grants.items; halted = b.halted } };
+    ghost view = { λ b. record { input = b.core.value.input; entries = b.core.value.entries.items; grants = b.grants.items; halted = b.halted } };
 
-    ghost invariant = { λ b. IsKept b.core b.grants.items b.heard.items b.halted };
+    ghost invariant = { λ b. IsKept b.core.value b.grants.items b.heard.items b.halted };
 }
 
 impl Grows for Board {
@@ -155,7 +156,7 @@ impl Board {
         core.show();
         Ok(Board {
             alloc,
-            core,
+            core: Box::new(alloc, core)?,
             grants,
             heard,
             halted: false,
@@ -208,7 +209,7 @@ impl Board {
         ensures grants { self.new.grants ≡ self.old.grants }
         ensures input { self.new.input ≡ self.old.input }
     {
-        if self.core.present.ledger.run.is_running() {
+        if self.is_running() {
             self.halted = true;
         }
     }
@@ -228,8 +229,9 @@ impl Board {
         ensures halted { self.new.halted ≡ self.old.halted }
         ensures err { OnErr result (self.new ≡ self.old) }
     {
-        let result = self.core.command(self.alloc, solver);
-        self.core.show();
+        let core = &mut *self.core;
+        let result = core.command(self.alloc, solver);
+        core.show();
         result
     }
 
@@ -249,13 +251,14 @@ impl Board {
         ensures halted { self.new.halted ≡ self.old.halted }
         ensures err { OnErr result (self.new ≡ self.old) }
     {
-        if !self.core.present.ledger.run.is_running() {
+        if !self.is_running() {
             Ok(closed_answer(self.core.present.ledger.ends.last()))
         } else if self.halted {
             Ok(Ticked::Halted)
         } else {
-            let result = self.core.tick(self.alloc, hand);
-            self.core.show();
+            let core = &mut *self.core;
+            let result = core.tick(self.alloc, hand);
+            core.show();
             result
         }
     }
@@ -274,11 +277,11 @@ impl Board {
         ensures halted { self.new.halted ≡ self.old.halted }
         ensures err { OnErr result (self.new ≡ self.old) }
     {
-        let running = self.core.present.ledger.run.is_running();
-        if running && !self.halted {
+        if self.is_running() && !self.halted {
             let name = self.observer_name(o as usize);
-            let result = self.core.observe(self.alloc, hand, name);
-            self.core.show();
+            let core = &mut *self.core;
+            let result = core.observe(self.alloc, hand, name);
+            core.show();
             Ok(told(result?))
         } else {
             Ok(Turn::Nothing)
@@ -371,9 +374,10 @@ impl Board {
         ensures halted { self.new.halted ≡ (self.old.halted && is_running self.new.entries) }
         ensures err { OnErr result (self.new ≡ self.old) }
     {
-        let result = self.core.submit(self.alloc, hand, snapshot, answer);
-        self.core.show();
-        let running = self.core.present.ledger.run.is_running();
+        let core = &mut *self.core;
+        let result = core.submit(self.alloc, hand, snapshot, answer);
+        core.show();
+        let running = core.present.ledger.run.is_running();
         self.halted &= running;
         result
     }
@@ -382,9 +386,8 @@ impl Board {
     fn is_free(&self, p: usize) -> bool
         ensures { result ≡ is_free self.now p }
     {
-        let running = self.core.present.ledger.run.is_running();
         let out = self.grant_of(p).is_some();
-        running && (!self.halted && !out)
+        self.is_running() && (!self.halted && !out)
     }
 
     /// The request of the grant of a performer that is out, if one is.
@@ -435,10 +438,11 @@ impl Board {
         ensures err { OnErr result (self.new ≡ self.old) }
     {
         let name = self.performer_name(p);
-        let upto = heard_upto(&self.core.present, name, number_at(&self.heard, p));
+        let core = &mut *self.core;
+        let upto = heard_upto(&core.present, name, number_at(&self.heard, p));
         self.heard[p] = upto;
-        let result = self.core.perform(self.alloc, hand, name, upto);
-        self.core.show();
+        let result = core.perform(self.alloc, hand, name, upto);
+        core.show();
         let turn = result?;
         note_grant(&mut self.grants, p, &turn);
         Ok(turn)
@@ -466,8 +470,9 @@ impl Board {
         ensures err { OnErr result (self.new ≡ self.old) }
     {
         let place = self.number_of(by);
-        let result = self.core.record_work(self.alloc, hand, r, by);
-        self.core.show();
+        let core = &mut *self.core;
+        let result = core.record_work(self.alloc, hand, r, by);
+        core.show();
         result?;
         self.grants[place] = None;
         Ok(())

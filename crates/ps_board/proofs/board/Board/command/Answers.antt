@@ -1,18 +1,21 @@
 use Rattle.std.proofs.Common.{◌≡◌, false, ap, ◌∙◌}
 use Rattle.ps_rules.specs.Runs.{is_running}
 use Rattle.ps_board.specs.declared.whole.Core.{Core}
+use Rattle.ps_board.proofs.Boxed.{kept-lent, view-lent}
 use Rattle.ps_board.proofs.Granting.{Spares}
 use Rattle.ps_board.proofs.Keeping.{by-option, closed-goes, closed-spares, kept-result, not-halted}
 use Rattle.ps_board.proofs.board.Board.command.Goals as goal
 
 pub invariant_of-self : goal.invariant_of-self
 invariant_of-self g c =
-    let core : Core = c.self.inside.core in
+    let core : Core = c.deref_mut-core.result.now in
+    let held = kept-lent c.deref_mut-core.ensures.value c.self.invariant in
+    let view = view-lent c.deref_mut-core.ensures.value c.self.view_is in
     let grants = c.self.inside.grants.items in
     let heard = c.self.inside.heard.items in
     let halted = c.self.inside.halted in
-    let closed : is_running core.entries.items ≡ false = ap (λ v. is_running v.entries) c.self.view_is ∙ c.requires.closed in
-    kept-result core c.command-result.new.self c.show.new.self 0 grants heard halted _ c.command-result.result c.self.invariant c.show.ensures.stands c.show.ensures.shown c.show.ensures.input
+    let closed : is_running core.entries.items ≡ false = ap (λ v. is_running v.entries) view ∙ c.requires.closed in
+    kept-result core c.command-result.new.self c.show.new.self 0 grants heard halted _ c.command-result.result held c.show.ensures.stands c.show.ensures.shown c.show.ensures.input
     c.show.ensures.entries c.command-result.ensures.input c.command-result.ensures.ok c.command-result.ensures.err c.command-result.ensures.legal
-    (by-option (Spares core.input grants) _ (λ e is. closed-spares core grants heard halted c.self.invariant closed e))
-    (not-halted halted _ (closed-goes halted (is_running core.entries.items) c.self.invariant.live closed))
+    (by-option (Spares core.input grants) _ (λ e is. closed-spares core grants heard halted held closed e))
+    (not-halted halted _ (closed-goes halted (is_running core.entries.items) held.live closed))

@@ -7,7 +7,7 @@ use Rattle.ps_board.proofs.board.Board.is_running.Goals as goal
 
 pub returns-clause-rest : goal.returns-clause-rest
 returns-clause-rest c = λ closed.
-    let core : Core = c.self.inside.core in
+    let core : Core = c.self.inside.core.value in
     let halted = c.self.inside.halted in
     let shut : is_running core.entries.items ≡ false = ap (λ v. is_running v.entries) c.self.view_is ∙ closed in
     subst IsAtRest c.self.view_is (record {

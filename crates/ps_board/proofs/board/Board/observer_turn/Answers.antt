@@ -7,17 +7,20 @@ use Rattle.ps_board.specs.declared.whole.Core.{Core}
 use Rattle.ps_board.specs.declared.works.Turn.TheVariants.{Did, Nothing}
 use Rattle.ps_board.specs.Board.{answer_of, observing, with_done}
 use Rattle.ps_board.specs.Core.{observed_by}
+use Rattle.ps_board.proofs.Boxed.{kept-lent, view-lent}
 use Rattle.ps_board.proofs.Keeping.{kept-result, not-halted, observers-legal, observers-spare, on-ok}
 use Rattle.ps_board.proofs.Stuck.{observes}
 use Rattle.ps_board.proofs.board.Board.observer_turn.Goals as goal
 
 pub invariant_of-self-then-not-self : goal.invariant_of-self-then-not-self
 invariant_of-self-then-not-self c =
-    let core : Core = c.self.inside.core in
+    let core : Core = c.deref_mut-core.result.now in
+    let held = kept-lent c.deref_mut-core.ensures.value c.self.invariant in
+    let view = view-lent c.deref_mut-core.ensures.value c.self.view_is in
     let grants = c.self.inside.grants.items in
     let name = c.observer_name-name.result in
-    let live : is_running core.entries.items ≡ true = sym (c.is_running-running.ensures core.entries.items c.self.invariant.core.kept.told.run) ∙ c.if-running.true in
-    kept-result core c.observe-result.new.self c.show.new.self c.args.hand grants c.self.inside.heard.items c.self.inside.halted (observed_by core name) c.observe-result.result c.self.invariant
+    let live : is_running core.entries.items ≡ true = ap (λ v. is_running v.entries) view ∙ sym c.is_running.ensures.running ∙ c.if-is_running.true in
+    kept-result core c.observe-result.new.self c.show.new.self c.args.hand grants c.self.inside.heard.items c.self.inside.halted (observed_by core name) c.observe-result.result held
     c.show.ensures.stands c.show.ensures.shown c.show.ensures.input c.show.ensures.entries c.observe-result.ensures.input c.observe-result.ensures.ok c.observe-result.ensures.err
     (on-ok c.observe-result.result (observers-legal core.input name core.entries.items live)) (observers-spare core.input grants name core.entries.items)
     (not-halted c.self.inside.halted (observed_by core name) c.if-not-self.true)
@@ -28,22 +31,24 @@ told-is (Some e) = refl
 
 pub returns-in_ok-result-clause-answer : goal.returns-in_ok-result-clause-answer
 returns-in_ok-result-clause-answer c =
-    let core : Core = c.self.inside.core in
+    let core : Core = c.deref_mut-core.result.now in
+    let view = view-lent c.deref_mut-core.ensures.value c.self.view_is in
     let b : Shown = c.args.self.now in
     let name = c.observer_name-name.result in
-    let live : is_running core.entries.items ≡ true = sym (c.is_running-running.ensures core.entries.items c.self.invariant.core.kept.told.run) ∙ c.if-running.true in
+    let live : is_running core.entries.items ≡ true = ap (λ v. is_running v.entries) view ∙ sym c.is_running.ensures.running ∙ c.if-is_running.true in
     let does : observing b c.args.o ≡ observed_by core name =
-    observes b (sym (ap (λ v. is_running v.entries) c.self.view_is) ∙ live) (sym (ap (λ v. v.halted) c.self.view_is) ∙ c.if-not-self.true) c.args.o name c.observer_name-name.ensures
-    ∙ sym (ap (λ v. observer_turn v.input name v.entries) c.self.view_is) in
+    observes b (sym (ap (λ v. is_running v.entries) view) ∙ live) (sym (ap (λ v. v.halted) view) ∙ c.if-not-self.true) c.args.o name c.observer_name-name.ensures
+    ∙ sym (ap (λ v. observer_turn v.input name v.entries) view) in
     c.told.ensures ∙ ap (λ t. if t then Did else Nothing) c.in_ok-result.ensures.answer ∙ told-is (observed_by core name) ∙ ap answer_of (sym does)
 
 pub returns-in_ok-result-clause-entries : goal.returns-in_ok-result-clause-entries
 returns-in_ok-result-clause-entries c =
-    let core : Core = c.self.inside.core in
+    let core : Core = c.deref_mut-core.result.now in
+    let view = view-lent c.deref_mut-core.ensures.value c.self.view_is in
     let b : Shown = c.args.self.now in
     let name = c.observer_name-name.result in
-    let live : is_running core.entries.items ≡ true = sym (c.is_running-running.ensures core.entries.items c.self.invariant.core.kept.told.run) ∙ c.if-running.true in
+    let live : is_running core.entries.items ≡ true = ap (λ v. is_running v.entries) view ∙ sym c.is_running.ensures.running ∙ c.if-is_running.true in
     let does : observing b c.args.o ≡ observed_by core name =
-    observes b (sym (ap (λ v. is_running v.entries) c.self.view_is) ∙ live) (sym (ap (λ v. v.halted) c.self.view_is) ∙ c.if-not-self.true) c.args.o name c.observer_name-name.ensures
-    ∙ sym (ap (λ v. observer_turn v.input name v.entries) c.self.view_is) in
-    c.show.ensures.entries ∙ c.in_ok-result.ensures.ok ∙ ap (λ v. with_done v c.args.hand (observed_by core name)) c.self.view_is ∙ ap (with_done b c.args.hand) (sym does)
+    observes b (sym (ap (λ v. is_running v.entries) view) ∙ live) (sym (ap (λ v. v.halted) view) ∙ c.if-not-self.true) c.args.o name c.observer_name-name.ensures
+    ∙ sym (ap (λ v. observer_turn v.input name v.entries) view) in
+    c.show.ensures.entries ∙ c.in_ok-result.ensures.ok ∙ ap (λ v. with_done v c.args.hand (observed_by core name)) view ∙ ap (with_done b c.args.hand) (sym does)

@@ -6,6 +6,7 @@ use Rattle.ps_board.specs.declared.board.Shown.{Shown}
 use Rattle.ps_board.specs.declared.whole.Core.{Core}
 use Rattle.ps_board.specs.Grants.{granted, performer_names}
 use Rattle.ps_board.specs.Kept.{IsKept}
+use Rattle.ps_board.proofs.Boxed.{kept-lent, view-lent}
 use Rattle.ps_board.proofs.Granting.{Spares}
 use Rattle.ps_board.proofs.Handing.{free-goes, free-none, kept-handed, out-is}
 use Rattle.ps_board.proofs.Keeping.{first-legal, kept-heard, kept-result, not-halted, on-ok, performers-spare, place-below, some-weaker}
@@ -13,58 +14,64 @@ use Rattle.ps_board.proofs.board.Board.perform.Goals as goal
 
 pub perform-result-requires-clause-heard : goal.perform-result-requires-clause-heard
 perform-result-requires-clause-heard c =
-    let core : Core = c.self.inside.core in
+    let core : Core = c.deref_mut-core.result.now in
+    let held = kept-lent c.deref_mut-core.ensures.value c.self.invariant in
+    let view = view-lent c.deref_mut-core.ensures.value c.self.view_is in
     let name = c.performer_name-name.result in
-    let at : slice_get (performer_names core.input) c.args.p ≡ Some name = ap (λ v. slice_get (performer_names v.input) c.args.p) c.self.view_is ∙ c.performer_name-name.ensures in
-    c.heard_upto-upto.ensures.heard core.input core.entries.items c.self.invariant.core.kept
+    let at : slice_get (performer_names core.input) c.args.p ≡ Some name = ap (λ v. slice_get (performer_names v.input) c.args.p) view ∙ c.performer_name-name.ensures in
+    c.heard_upto-upto.ensures.heard core.input core.entries.items held.core.kept
     (subst (λ u. HasHeard name u core.entries.items) (sym (c.number_at.ensures ∙ ap (λ xs. slice_index_or xs c.args.p 0) c.deref.ensures.value))
-    (c.self.invariant.heard.each c.args.p name at))
+    (held.heard.each c.args.p name at))
 
 pub invariant_of-self : goal.invariant_of-self
 invariant_of-self c =
-    let core : Core = c.self.inside.core in
+    let core : Core = c.deref_mut-core.result.now in
+    let held = kept-lent c.deref_mut-core.ensures.value c.self.invariant in
+    let view = view-lent c.deref_mut-core.ensures.value c.self.view_is in
     let grants = c.self.inside.grants.items in
     let heard = slice_set c.self.inside.heard.items c.args.p c.heard_upto-upto.result in
     let halted = c.self.inside.halted in
-    let goes : halted ≡ false = ap (λ v. v.halted) c.self.view_is ∙ free-goes c.args.self.now c.args.p c.requires.free in
+    let goes : halted ≡ false = ap (λ v. v.halted) view ∙ free-goes c.args.self.now c.args.p c.requires.free in
     let name = c.performer_name-name.result in
-    let at : slice_get (performer_names core.input) c.args.p ≡ Some name = ap (λ v. slice_get (performer_names v.input) c.args.p) c.self.view_is ∙ c.performer_name-name.ensures in
+    let at : slice_get (performer_names core.input) c.args.p ≡ Some name = ap (λ v. slice_get (performer_names v.input) c.args.p) view ∙ c.performer_name-name.ensures in
     let hears : HasHeard name c.heard_upto-upto.result core.entries.items =
-    c.heard_upto-upto.ensures.heard core.input core.entries.items c.self.invariant.core.kept
+    c.heard_upto-upto.ensures.heard core.input core.entries.items held.core.kept
     (subst (λ u. HasHeard name u core.entries.items) (sym (c.number_at.ensures ∙ ap (λ xs. slice_index_or xs c.args.p 0) c.deref.ensures.value))
-    (c.self.invariant.heard.each c.args.p name at)) in
-    let told : IsKept core grants heard halted = kept-heard core grants c.self.inside.heard.items halted c.self.invariant c.args.p c.heard_upto-upto.result name at hears in
-    let free : granted grants c.args.p ≡ None = ap (λ v. granted v.grants c.args.p) c.self.view_is ∙ free-none c.args.self.now c.args.p c.requires.free in
+    (held.heard.each c.args.p name at)) in
+    let told : IsKept core grants heard halted = kept-heard core grants c.self.inside.heard.items halted held c.args.p c.heard_upto-upto.result name at hears in
+    let free : granted grants c.args.p ≡ None = ap (λ v. granted v.grants c.args.p) view ∙ free-none c.args.self.now c.args.p c.requires.free in
     let what = performed core.input name core.entries.items in
     let kept : IsKept c.show.new.self grants heard halted =
     kept-result core c.perform-result.new.self c.show.new.self c.args.hand grants heard halted what c.perform-result.result told c.show.ensures.stands c.show.ensures.shown c.show.ensures.input
     c.show.ensures.entries c.perform-result.ensures.input c.perform-result.ensures.ok c.perform-result.ensures.err
     (on-ok c.perform-result.result (first-legal core.input core.entries.items _))
-    (some-weaker (λ e. is_choice_of name e ≡ true) (Spares core.input grants) what (λ e its. performers-spare core.input c.self.invariant.core.sound grants c.args.p name at free e its)
+    (some-weaker (λ e. is_choice_of name e ≡ true) (Spares core.input grants) what (λ e its. performers-spare core.input held.core.sound grants c.args.p name at free e its)
     c.perform-result.ensures.its) (not-halted halted what goes) in
     kept
 
 pub invariant_of-self-2 : goal.invariant_of-self-2
 invariant_of-self-2 c =
-    let core : Core = c.self.inside.core in
+    let core : Core = c.deref_mut-core.result.now in
+    let held = kept-lent c.deref_mut-core.ensures.value c.self.invariant in
+    let view = view-lent c.deref_mut-core.ensures.value c.self.view_is in
     let grants = c.self.inside.grants.items in
     let heard = slice_set c.self.inside.heard.items c.args.p c.heard_upto-upto.result in
     let halted = c.self.inside.halted in
-    let goes : halted ≡ false = ap (λ v. v.halted) c.self.view_is ∙ free-goes c.args.self.now c.args.p c.requires.free in
+    let goes : halted ≡ false = ap (λ v. v.halted) view ∙ free-goes c.args.self.now c.args.p c.requires.free in
     let name = c.performer_name-name.result in
-    let at : slice_get (performer_names core.input) c.args.p ≡ Some name = ap (λ v. slice_get (performer_names v.input) c.args.p) c.self.view_is ∙ c.performer_name-name.ensures in
+    let at : slice_get (performer_names core.input) c.args.p ≡ Some name = ap (λ v. slice_get (performer_names v.input) c.args.p) view ∙ c.performer_name-name.ensures in
     let hears : HasHeard name c.heard_upto-upto.result core.entries.items =
-    c.heard_upto-upto.ensures.heard core.input core.entries.items c.self.invariant.core.kept
+    c.heard_upto-upto.ensures.heard core.input core.entries.items held.core.kept
     (subst (λ u. HasHeard name u core.entries.items) (sym (c.number_at.ensures ∙ ap (λ xs. slice_index_or xs c.args.p 0) c.deref.ensures.value))
-    (c.self.invariant.heard.each c.args.p name at)) in
-    let told : IsKept core grants heard halted = kept-heard core grants c.self.inside.heard.items halted c.self.invariant c.args.p c.heard_upto-upto.result name at hears in
-    let free : granted grants c.args.p ≡ None = ap (λ v. granted v.grants c.args.p) c.self.view_is ∙ free-none c.args.self.now c.args.p c.requires.free in
+    (held.heard.each c.args.p name at)) in
+    let told : IsKept core grants heard halted = kept-heard core grants c.self.inside.heard.items halted held c.args.p c.heard_upto-upto.result name at hears in
+    let free : granted grants c.args.p ≡ None = ap (λ v. granted v.grants c.args.p) view ∙ free-none c.args.self.now c.args.p c.requires.free in
     let what = performed core.input name core.entries.items in
     let kept : IsKept c.show.new.self grants heard halted =
     kept-result core c.perform-result.new.self c.show.new.self c.args.hand grants heard halted what c.perform-result.result told c.show.ensures.stands c.show.ensures.shown c.show.ensures.input
     c.show.ensures.entries c.perform-result.ensures.input c.perform-result.ensures.ok c.perform-result.ensures.err
     (on-ok c.perform-result.result (first-legal core.input core.entries.items _))
-    (some-weaker (λ e. is_choice_of name e ≡ true) (Spares core.input grants) what (λ e its. performers-spare core.input c.self.invariant.core.sound grants c.args.p name at free e its)
+    (some-weaker (λ e. is_choice_of name e ≡ true) (Spares core.input grants) what (λ e its. performers-spare core.input held.core.sound grants c.args.p name at free e its)
     c.perform-result.ensures.its) (not-halted halted what goes) in
     subst (λ gs. IsKept c.show.new.self gs heard halted) (sym c.note_grant.ensures)
     (kept-handed core c.show.new.self c.args.hand grants heard halted c.args.p name c.in_ok-turn.turn kept (c.show.ensures.input ∙ c.perform-result.ensures.input)
@@ -72,10 +79,12 @@ invariant_of-self-2 c =
 
 pub returns-clause-out : goal.returns-clause-out
 returns-clause-out c =
-    let core : Core = c.self.inside.core in
+    let core : Core = c.deref_mut-core.result.now in
+    let held = kept-lent c.deref_mut-core.ensures.value c.self.invariant in
+    let view = view-lent c.deref_mut-core.ensures.value c.self.view_is in
     let name = c.performer_name-name.result in
-    let at : slice_get (performer_names core.input) c.args.p ≡ Some name = ap (λ v. slice_get (performer_names v.input) c.args.p) c.self.view_is ∙ c.performer_name-name.ensures in
+    let at : slice_get (performer_names core.input) c.args.p ≡ Some name = ap (λ v. slice_get (performer_names v.input) c.args.p) view ∙ c.performer_name-name.ensures in
     let old : Shown = record { input = core.input; entries = core.entries.items; grants = c.self.inside.grants.items; halted = c.self.inside.halted } in
-    out-is old _ c.args.hand c.args.p name c.in_ok-turn.turn c.self.invariant.core.sound
-    (place-below core.input core.entries.items c.self.inside.grants.items c.self.invariant.out c.args.p name at) at c.in_ok-turn.ensures.answer
+    out-is old _ c.args.hand c.args.p name c.in_ok-turn.turn held.core.sound
+    (place-below core.input core.entries.items c.self.inside.grants.items held.out c.args.p name at) at c.in_ok-turn.ensures.answer
     (c.show.ensures.input ∙ c.perform-result.ensures.input) (c.show.ensures.entries ∙ c.in_ok-turn.ensures.ok) c.note_grant.ensures

@@ -5,41 +5,46 @@ use Rattle.ps_ledger.specs.Members.{place_in}
 use Rattle.ps_board.specs.declared.whole.Core.{Core}
 use Rattle.ps_board.specs.Grants.{granted, performer_names}
 use Rattle.ps_board.specs.Kept.{IsKept}
+use Rattle.ps_board.proofs.Boxed.{kept-lent, view-lent}
 use Rattle.ps_board.proofs.Keeping.{granted-below, granted-named, kept-result, on-ok, out-fewer, recorded-leaves, recorded-legal, recorded-spares}
 use Rattle.ps_board.proofs.board.Board.take_in.Goals as goal
 
 pub record_work-result-requires-clause-works : goal.record_work-result-requires-clause-works
 record_work-result-requires-clause-works c =
-    let core : Core = c.self.inside.core in
+    let core : Core = c.deref_mut-core.result.now in
+    let held = kept-lent c.deref_mut-core.ensures.value c.self.invariant in
+    let view = view-lent c.deref_mut-core.ensures.value c.self.view_is in
     let grants = c.self.inside.grants.items in
     let k = place_in (performer_names core.input) c.args.by in
-    let out : granted grants k ≡ Some c.args.r = ap (λ v. granted v.grants (place_in (performer_names v.input) c.args.by)) c.self.view_is ∙ c.requires.out in
-    c.self.invariant.out.working k c.args.r c.args.by (granted-named core.input core.entries.items grants c.self.invariant.out c.args.r c.args.by out) out
+    let out : granted grants k ≡ Some c.args.r = ap (λ v. granted v.grants (place_in (performer_names v.input) c.args.by)) view ∙ c.requires.out in
+    held.out.working k c.args.r c.args.by (granted-named core.input core.entries.items grants held.out c.args.r c.args.by out) out
 
 pub invariant_of-self-2 : goal.invariant_of-self-2
 invariant_of-self-2 c =
-    let core : Core = c.self.inside.core in
+    let core : Core = c.deref_mut-core.result.now in
+    let held = kept-lent c.deref_mut-core.ensures.value c.self.invariant in
+    let view = view-lent c.deref_mut-core.ensures.value c.self.view_is in
     let grants = c.self.inside.grants.items in
     let heard = c.self.inside.heard.items in
     let halted = c.self.inside.halted in
     let k = place_in (performer_names core.input) c.args.by in
-    let out : granted grants k ≡ Some c.args.r = ap (λ v. granted v.grants (place_in (performer_names v.input) c.args.by)) c.self.view_is ∙ c.requires.out in
-    let at : slice_get (performer_names core.input) k ≡ Some c.args.by = granted-named core.input core.entries.items grants c.self.invariant.out c.args.r c.args.by out in
-    let works = c.self.invariant.out.working k c.args.r c.args.by at out in
+    let out : granted grants k ≡ Some c.args.r = ap (λ v. granted v.grants (place_in (performer_names v.input) c.args.by)) view ∙ c.requires.out in
+    let at : slice_get (performer_names core.input) k ≡ Some c.args.by = granted-named core.input core.entries.items grants held.out c.args.r c.args.by out in
+    let works = held.out.working k c.args.r c.args.by at out in
     let below : k < length grants = granted-below grants k c.args.r out in
     let fewer : IsKept core (slice_set grants k None) heard halted =
     record {
-      core = c.self.invariant.core;
-      shown = c.self.invariant.shown;
-      out = out-fewer core.input core.entries.items grants c.self.invariant.out k below;
-      heard = c.self.invariant.heard;
-      live = c.self.invariant.live;
+      core = held.core;
+      shown = held.shown;
+      out = out-fewer core.input core.entries.items grants held.out k below;
+      heard = held.heard;
+      live = held.live;
     } in
-    let place : c.number_of-place.result ≡ k = c.number_of-place.ensures ∙ sym (ap (λ v. place_in (performer_names v.input) c.args.by) c.self.view_is) in
+    let place : c.number_of-place.result ≡ k = c.number_of-place.ensures ∙ sym (ap (λ v. place_in (performer_names v.input) c.args.by) view) in
     subst (λ n. IsKept c.show.new.self (slice_set grants n None) heard halted) (sym place)
     (kept-result core c.record_work-result.new.self c.show.new.self c.args.hand (slice_set grants k None) heard halted (recorded core.input core.entries.items c.args.r c.args.by)
     c.record_work-result.result fewer c.show.ensures.stands c.show.ensures.shown c.show.ensures.input c.show.ensures.entries c.record_work-result.ensures.input
     c.record_work-result.ensures.ok c.record_work-result.ensures.err
-    (on-ok c.record_work-result.result (recorded-legal core.input core.entries.items c.self.invariant.core.sound c.self.invariant.core.history c.args.r c.args.by works))
-    (recorded-spares core.input c.self.invariant.core.sound core.entries.items (slice_set grants k None) k c.args.r c.args.by at (get_or-set_same grants k None None below))
+    (on-ok c.record_work-result.result (recorded-legal core.input core.entries.items held.core.sound held.core.history c.args.r c.args.by works))
+    (recorded-spares core.input held.core.sound core.entries.items (slice_set grants k None) k c.args.r c.args.by at (get_or-set_same grants k None None below))
     (λ h. recorded-leaves core.input core.entries.items c.args.r c.args.by))
