@@ -38,7 +38,6 @@ use Rattle.ps_rows.specs.contracts.present.Present as Present
 use Rattle.ps_board.specs.contracts.board.Board as Board
 use Rattle.ps_board.specs.contracts.whole.Core as Core
 use Rattle.ps_turn.proofs.Sends.{entry_send, input_send}
-use Rattle.ps_pool.specs.contracts.workers.Held as Held
 
 -- ---- domains and edits
 
@@ -127,8 +126,5 @@ present_send = search (sendable, crosses, expert_send, problem_send, instance_se
 core_send : IsSend Core.the_field.row
 core_send = search (sendable, crosses, input_send, entry_send, present_send, monitor_send) depth 20 fits 8000
 
-board_send : IsSend Board.the_row
+pub board_send : IsSend Board.the_row
 board_send = search (sendable, crosses, core_send) depth 20 fits 8000
-
-pub held_send : IsSend Held.the_row
-held_send = search (sendable, crosses, board_send) depth 20 fits 8000

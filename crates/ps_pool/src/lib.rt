@@ -4,6 +4,7 @@
 
 mod gate;
 mod laws;
+mod lead;
 mod ordered;
 mod workers;
 

@@ -9,18 +9,20 @@ ghost use Rattle.ps_turn.specs.Hands.{GoesOnBy, GoesOnByHands};
 ghost use Rattle.ps_board.specs.Board.{IsAtRest};
 ghost use Rattle.ps_board.specs.declared.ticks.Snapshot.{Snapshot as SnapshotView};
 ghost use Rattle.ps_board.specs.declared.ticks.Ticked.TheVariants.{WantsPlan as Wanted};
+ghost use Rattle.ps_pool.specs.declared.workers.Round.TheVariants.{Over};
 ghost use Rattle.ps_pool.specs.Rounds.{IsWanted, passed_before};
 ghost use Rattle.ps_pool.specs.Workers.{EndedBy, HasStayed, IsCrew, IsThere, MayWork, WasWanted, WorkedBy};
 
 use crate::gate::Gate;
+use crate::lead::Lead;
 use crate::ordered::{Passed, RunStop, member_at};
 use ps_action::Answer;
 use ps_board::{Board, Grant, Snapshot, Ticked, Turn};
 use ps_domain::Expert;
-use ps_machine::{Grows, Member};
+use ps_machine::Member;
 use ps_plan::Solver;
 use ps_turn::{NotOpened, Seat, TurnBook};
-use std::alloc::{AllocError, AllocFailed, Global};
+use std::alloc::{AllocError, Global};
 use std::sync::Wait;
 use std::thread;
 use std::thread::Threads;
@@ -131,73 +133,61 @@ fn do_answer(
     }
 }
 
-/// A board in one box: what the workers hand on is one word.
-#[derive(Drop)]
-struct Held {
-    board: Box<Board>,
-}
-
-impl Grows for Held {
-    ghost history = { λ h. h.board.value.entries };
-
-    ghost input = { λ h. h.board.value.input };
-}
-
 /// Takes the turn of a member.
 fn take_turn<R: Wait>(
     rt: &R,
-    book: &TurnBook<Held>,
-    seat: &mut Seat<Held>,
+    book: &TurnBook<Board>,
+    seat: &mut Seat<Board>,
     who: Who,
 ) -> Result<Turn, AllocError>
     requires seat { MayWork book.now seat.old }
     requires there { IsThere book.now.input who }
     ensures { HasStayed book.now seat.old seat.new }
 {
-    let mut held = book.take(rt, seat);
-    let turn = do_turn(&mut held.board, seat.hand(), who);
-    book.give(seat, held);
+    let mut board = book.take(rt, seat);
+    let turn = do_turn(&mut board, seat.hand(), who);
+    book.give(seat, board);
     turn
 }
 
 /// Takes the turn of the ticker.
 fn take_tick<R: Wait>(
     rt: &R,
-    book: &TurnBook<Held>,
-    seat: &mut Seat<Held>,
+    book: &TurnBook<Board>,
+    seat: &mut Seat<Board>,
 ) -> Result<Ticked, AllocError>
     requires { MayWork book.now seat.old }
     ensures wanted { IfOk result (λ t. (s : SnapshotView) → t ≡ Wanted s
         → IsWanted book.now.input seat.new.seen s) }
     ensures seat { HasStayed book.now seat.old seat.new }
 {
-    let mut held = book.take(rt, seat);
-    let ticked = do_tick(&mut held.board, seat.hand());
-    book.give(seat, held);
+    let mut board = book.take(rt, seat);
+    let ticked = do_tick(&mut board, seat.hand());
+    book.give(seat, board);
     ticked
 }
 
 /// Takes the turn to hand in a grant.
 fn hand_in<R: Wait>(
     rt: &R,
-    book: &TurnBook<Held>,
-    seat: &mut Seat<Held>,
+    book: &TurnBook<Board>,
+    seat: &mut Seat<Board>,
     grant: Grant,
 ) -> Result<(), AllocError>
     requires { MayWork book.now seat.old }
     ensures { HasStayed book.now seat.old seat.new }
 {
-    let mut held = book.take(rt, seat);
-    let handed = do_unit(&mut held.board, seat.hand(), grant);
-    book.give(seat, held);
+    let mut board = book.take(rt, seat);
+    let handed = do_unit(&mut board, seat.hand(), grant);
+    book.give(seat, board);
     handed
 }
 
 /// Takes the turn to hand in the solver's answer.
 fn answer<R: Wait>(
     rt: &R,
-    book: &TurnBook<Held>,
-    seat: &mut Seat<Held>,
+    book: &TurnBook<Board>,
+    seat: &mut Seat<Board>,
     snapshot: Snapshot,
     answer: Answer,
 ) -> Result<(), AllocError>
@@ -206,20 +196,20 @@ fn answer<R: Wait>(
     requires fits { Fits book.now.input.domain snapshot.problem book.now.input.budget answer }
     ensures { HasStayed book.now seat.old seat.new }
 {
-    let mut held = book.take(rt, seat);
-    let answered = do_answer(&mut held.board, seat.hand(), snapshot, answer);
-    book.give(seat, held);
+    let mut board = book.take(rt, seat);
+    let answered = do_answer(&mut board, seat.hand(), snapshot, answer);
+    book.give(seat, board);
     answered
 }
 
 /// Takes the turn to halt the run, if one is open.
-fn halt<R: Wait>(rt: &R, book: &TurnBook<Held>, seat: &mut Seat<Held>)
+fn halt<R: Wait>(rt: &R, book: &TurnBook<Board>, seat: &mut Seat<Board>)
     requires { MayWork book.now seat.old }
     ensures { HasStayed book.now seat.old seat.new }
 {
-    let mut held = book.take(rt, seat);
-    held.board.halt();
-    book.give(seat, held);
+    let mut board = book.take(rt, seat);
+    board.halt();
+    book.give(seat, board);
 }
 
 /// What a worker's round came to.
@@ -242,6 +232,7 @@ struct Crew<'a, S: Solver, G: Gate> {
     gate: &'a G,
     budget: u32,
     workers: usize,
+    lead: Lead,
 }
 
 impl<'a, S: Solver, G: Gate> Crew<'a, S, G> {
@@ -253,13 +244,31 @@ impl<'a, S: Solver, G: Gate> Crew<'a, S, G> {
         place % self.workers + 1 == usize::from(hand)
     }
 
+    /// Does a unit of work between turns and without the lead, and hands it in.
+    fn do_unit_aside<R: Wait>(
+        &self,
+        rt: &R,
+        book: &TurnBook<Board>,
+        seat: &mut Seat<Board>,
+        grant: Grant,
+    ) -> Result<(), AllocError>
+        requires { MayWork book.now seat.old }
+        ensures { HasStayed book.now seat.old seat.new }
+    {
+        self.lead.give(rt);
+        self.gate.unit(rt, &grant);
+        let handed = hand_in(rt, book, seat, grant);
+        self.lead.take(rt);
+        handed
+    }
+
     /// Takes the turn of a member, and does the unit of work that it may be handed between that turn and another. Answers
     /// whether anything was done.
     fn do_member<R: Wait>(
         &self,
         rt: &R,
-        book: &TurnBook<Held>,
-        seat: &mut Seat<Held>,
+        book: &TurnBook<Board>,
+        seat: &mut Seat<Board>,
         who: Who,
     ) -> Result<bool, AllocError>
         requires seat { MayWork book.now seat.old }
@@ -268,8 +277,7 @@ impl<'a, S: Solver, G: Gate> Crew<'a, S, G> {
     {
         match take_turn(rt, book, seat, who)? {
             Turn::Work(grant) => {
-                self.gate.unit(rt, &grant);
-                hand_in(rt, book, seat, grant)?;
+                self.do_unit_aside(rt, book, seat, grant)?;
                 Ok(true)
             }
             Turn::Did => Ok(true),
@@ -282,8 +290,8 @@ impl<'a, S: Solver, G: Gate> Crew<'a, S, G> {
     fn do_place<R: Wait>(
         &self,
         rt: &R,
-        book: &TurnBook<Held>,
-        seat: &mut Seat<Held>,
+        book: &TurnBook<Board>,
+        seat: &mut Seat<Board>,
         place: usize,
         home: bool,
     ) -> Result<bool, AllocError>
@@ -305,8 +313,8 @@ impl<'a, S: Solver, G: Gate> Crew<'a, S, G> {
     fn do_members<R: Wait>(
         &self,
         rt: &R,
-        book: &TurnBook<Held>,
-        seat: &mut Seat<Held>,
+        book: &TurnBook<Board>,
+        seat: &mut Seat<Board>,
         home: bool,
     ) -> Result<bool, AllocError>
         requires seat { MayWork book.now seat.old }
@@ -321,12 +329,32 @@ impl<'a, S: Solver, G: Gate> Crew<'a, S, G> {
         Ok(did)
     }
 
+    /// Asks the solver without the lead, and hands its answer in.
+    fn answer_aside<R: Wait>(
+        &self,
+        rt: &R,
+        book: &TurnBook<Board>,
+        seat: &mut Seat<Board>,
+        snapshot: Snapshot,
+    ) -> Result<(), AllocError>
+        requires seat { MayWork book.now seat.old }
+        requires asked { IsWanted book.now.input seat.old.seen snapshot }
+        requires crew { IsCrew book.now.input self.now.members.now self.now.expert.now
+            self.now.budget self.now.workers }
+        ensures { HasStayed book.now seat.old seat.new }
+    {
+        self.lead.give(rt);
+        let answered = self.answer_wanted(rt, book, seat, snapshot);
+        self.lead.take(rt);
+        answered
+    }
+
     /// Asks the solver between turns, and hands its answer in.
     fn answer_wanted<R: Wait>(
         &self,
         rt: &R,
-        book: &TurnBook<Held>,
-        seat: &mut Seat<Held>,
+        book: &TurnBook<Board>,
+        seat: &mut Seat<Board>,
         snapshot: Snapshot,
     ) -> Result<(), AllocError>
         requires seat { MayWork book.now seat.old }
@@ -346,8 +374,8 @@ impl<'a, S: Solver, G: Gate> Crew<'a, S, G> {
     fn tick<R: Wait>(
         &self,
         rt: &R,
-        book: &TurnBook<Held>,
-        seat: &mut Seat<Held>,
+        book: &TurnBook<Board>,
+        seat: &mut Seat<Board>,
     ) -> Result<Round, AllocError>
         requires seat { MayWork book.now seat.old }
         requires crew { IsCrew book.now.input self.now.members.now self.now.expert.now
@@ -359,25 +387,30 @@ impl<'a, S: Solver, G: Gate> Crew<'a, S, G> {
             Ticked::Did => Ok(Round::Did),
             Ticked::Nothing => Ok(Round::Idle),
             Ticked::WantsPlan(snapshot) => {
-                self.answer_wanted(rt, book, seat, snapshot)?;
+                self.answer_aside(rt, book, seat, snapshot)?;
                 Ok(Round::Did)
             }
         }
     }
 
-    /// Does a round: a turn of each member that is at home with the worker, one of the ticker, and one of each other
-    /// member.
+    /// Does a round after one that came to this, unless that saw the run's end: a turn of each member that is at home with
+    /// the worker, one of the ticker, and one of each other member. After an idle round it lets others go first.
     fn do_round<R: Wait>(
         &self,
         rt: &R,
-        book: &TurnBook<Held>,
-        seat: &mut Seat<Held>,
+        book: &TurnBook<Board>,
+        seat: &mut Seat<Board>,
+        last: Round,
     ) -> Result<Round, AllocError>
+        requires going { ¬ (last ≡ Over) }
         requires seat { MayWork book.now seat.old }
         requires crew { IsCrew book.now.input self.now.members.now self.now.expert.now
             self.now.budget self.now.workers }
         ensures { HasStayed book.now seat.old seat.new }
     {
+        if let Round::Idle = last {
+            thread::yield_now();
+        }
         let at_home = self.do_members(rt, book, seat, true)?;
         let ticked = self.tick(rt, book, seat)?;
         if let Round::Over = ticked {
@@ -391,21 +424,34 @@ impl<'a, S: Solver, G: Gate> Crew<'a, S, G> {
     }
 
     /// Does rounds until the run is over or halted. Where memory runs out it halts the run, which the next round sees.
-    fn work<R: Wait>(&self, rt: &R, book: &TurnBook<Held>, seat: &mut Seat<Held>)
+    fn lead_on<R: Wait>(&self, rt: &R, book: &TurnBook<Board>, seat: &mut Seat<Board>)
         requires seat { MayWork book.now seat.old }
         requires crew { IsCrew book.now.input self.now.members.now self.now.expert.now
             self.now.budget self.now.workers }
         ensures { HasStayed book.now seat.old seat.new }
     {
+        let mut last = Round::Did;
         for _ in rt.forever() {
-            match self.do_round(rt, book, seat) {
+            match self.do_round(rt, book, seat, last) {
                 Ok(Round::Over) => return,
-                Ok(Round::Did) => {}
-                Ok(Round::Idle) => thread::yield_now(),
+                Ok(Round::Did) => last = Round::Did,
+                Ok(Round::Idle) => last = Round::Idle,
                 Err(AllocError) => halt(rt, book, seat),
             }
         }
         unreachable!()
+    }
+
+    /// Waits for the lead, and does rounds until the run is over or halted.
+    fn work<R: Wait>(&self, rt: &R, book: &TurnBook<Board>, seat: &mut Seat<Board>)
+        requires seat { MayWork book.now seat.old }
+        requires crew { IsCrew book.now.input self.now.members.now self.now.expert.now
+            self.now.budget self.now.workers }
+        ensures { HasStayed book.now seat.old seat.new }
+    {
+        self.lead.take(rt);
+        self.lead_on(rt, book, seat);
+        self.lead.give(rt);
     }
 }
 
@@ -417,7 +463,7 @@ trait Works {
     ghost suits: { Self → InputView → Type 0 };
 
     /// Takes turns until the run is over or halted.
-    fn take_turns<R: Wait>(&self, rt: &R, book: &TurnBook<Held>, seat: &mut Seat<Held>)
+    fn take_turns<R: Wait>(&self, rt: &R, book: &TurnBook<Board>, seat: &mut Seat<Board>)
         requires seat { MayWork book.now seat.old }
         requires suits { suits self.now book.now.input }
         ensures { HasStayed book.now seat.old seat.new };
@@ -428,7 +474,7 @@ impl<'a, S: Solver, G: Gate> Works for Crew<'a, S, G> {
 
     ghost suits = { λ crew i. IsCrew i crew.members.now crew.expert.now crew.budget crew.workers };
 
-    fn take_turns<R: Wait>(&self, rt: &R, book: &TurnBook<Held>, seat: &mut Seat<Held>) {
+    fn take_turns<R: Wait>(&self, rt: &R, book: &TurnBook<Board>, seat: &mut Seat<Board>) {
         self.work(rt, book, seat)
     }
 }
@@ -437,8 +483,8 @@ impl<'a, S: Solver, G: Gate> Works for Crew<'a, S, G> {
 fn work_all<R: Threads + Wait + Sync, C: Works + Sync>(
     rt: &R,
     crew: &C,
-    book: &TurnBook<Held>,
-    seats: &mut [Seat<Held>],
+    book: &TurnBook<Board>,
+    seats: &mut [Seat<Board>],
 )
     requires seats { All (MayWork book.now) seats.old }
     requires crew { C.suits crew.now book.now.input }
@@ -449,7 +495,7 @@ fn work_all<R: Threads + Wait + Sync, C: Works + Sync>(
         rt,
         seats,
         16,
-        &|_, seat: &mut Seat<Held>|
+        &|_, seat: &mut Seat<Board>|
             requires { MayWork book.now seat.now × C.suits crew.now book.now.input }
             ensures { HasStayed book.entry.now seat.entry.now seat.exit.now }
         { crew.take_turns(rt, book, seat) },
@@ -460,8 +506,8 @@ fn work_all<R: Threads + Wait + Sync, C: Works + Sync>(
 fn work_book<R: Threads + Wait + Sync, C: Works + Sync>(
     rt: &R,
     crew: &C,
-    book: TurnBook<Held>,
-    mut seats: Vec<Seat<Held>>,
+    book: TurnBook<Board>,
+    mut seats: Vec<Seat<Board>>,
 ) -> Board
     requires opened { has_run book.opened ≡ true }
     requires few { book.seats ≤ 16 }
@@ -471,8 +517,7 @@ fn work_book<R: Threads + Wait + Sync, C: Works + Sync>(
     ensures input { result.input ≡ book.input }
 {
     work_all(rt, crew, &book, seats.as_mut_slice());
-    let Held { board } = book.close(seats);
-    Box::into_inner(board)
+    book.close(seats)
 }
 
 /// The board as its workers left it: the run has ended, or it was stopped.
@@ -491,29 +536,12 @@ fn settle(board: Board) -> Result<Board, RunStop>
     }
 }
 
-/// The board in a box. On an error, since there was no memory for one, the run stops as it is.
-fn hold(alloc: Global, board: Board) -> Result<Held, RunStop>
-    ensures held { IfOk result (λ h. h.board.value ≡ board) }
-    ensures stopped { IfErr result (λ stop. stop.board ≡ board) }
-{
-    match Box::new(alloc, board) {
-        Ok(board) => Ok(Held { board }),
-        Err(refused) => {
-            let AllocFailed { value } = refused;
-            Err(RunStop { board: value })
-        }
-    }
-}
-
 /// A run that stops as it is, since there was no memory for a book.
-fn stopped(refused: NotOpened<Held>) -> RunStop
-    ensures { result.board ≡ refused.value.board.value }
+fn stopped(refused: NotOpened<Board>) -> RunStop
+    ensures { result.board ≡ refused.value }
 {
     let NotOpened { value } = refused;
-    let Held { board } = value;
-    RunStop {
-        board: Box::into_inner(board),
-    }
+    RunStop { board: value }
 }
 
 /// Goes on with the open run by these workers until it is over or stopped.
@@ -535,8 +563,7 @@ fn run_crew<R: Threads + Wait + Sync, C: Works + Sync>(
     ensures stopped_input { IfErr result (λ stop. stop.board.input ≡ board.input) }
 {
     let _history = board.entries();
-    let held = hold(alloc, board)?;
-    match TurnBook::open(alloc, held, workers) {
+    match TurnBook::open(alloc, board, workers) {
         Ok((book, seats)) => settle(work_book(rt, crew, book, seats)),
         Err(refused) => Err(stopped(refused)),
     }
@@ -546,7 +573,7 @@ fn run_crew<R: Threads + Wait + Sync, C: Works + Sync>(
 /// They take the board in turns, for one call in each. Each worker repeats rounds: a turn of each member that is at
 /// home with it, one of the ticker, and one of each other member, in the order of the members. The member at place `m`,
 /// counted from 0, is at home with worker `m % workers + 1`, and a worker's number is its hand. Units of work are done
-/// between turns, and so is solving. It promises no return. The only error is that memory ran out: the run is as far as
+/// between turns, and so is solving; one worker at a time does rounds, and while it does a unit or solves another goes on. It promises no return. The only error is that memory ran out: the run is as far as
 /// it came, and it may be halted, with grants out.
 pub fn run_workers<R: Threads + Wait + Sync, S: Solver + Sync, G: Gate + Sync>(
     rt: &R,
@@ -579,6 +606,7 @@ pub fn run_workers<R: Threads + Wait + Sync, S: Solver + Sync, G: Gate + Sync>(
         gate,
         budget: board.input().budget,
         workers: usize::from(workers),
+        lead: Lead::new(),
     };
     run_crew(rt, alloc, &crew, board, workers)
 }

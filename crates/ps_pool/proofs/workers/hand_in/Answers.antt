@@ -1,12 +1,7 @@
-use Rattle.std.proofs.Common.{subst}
-use Rattle.ps_turn.specs.Hands.{GoesOnBy}
-use Rattle.ps_board.specs.declared.board.Shown.{Shown}
 use Rattle.ps_pool.proofs.Seated.{stays}
 use Rattle.ps_pool.proofs.workers.hand_in.Goals as goal
 
 pub returns : goal.returns
 returns g c =
-    let new = c.do_unit-handed.new.board.entries in
-    let P : Shown → Type 0 = λ b. GoesOnBy c.hand.result b.entries new in
-    stays c.args.book.now c.args.seat.now c.take-held.new.seat c.give.new.seat _ c.take-held.result.board.value.entries new c.requires c.take-held.ensures.seat
-    c.take-held.ensures.begins (subst P c.deref_mut.ensures.value c.do_unit-handed.ensures.grows) c.give.ensures
+    stays c.args.book.now c.args.seat.now c.take-board.new.seat c.give.new.seat _ c.take-board.result.entries c.do_unit-handed.new.board.entries c.requires c.take-board.ensures.seat
+    c.take-board.ensures.begins c.do_unit-handed.ensures.grows c.give.ensures

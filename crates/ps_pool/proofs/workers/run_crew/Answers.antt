@@ -1,31 +1,23 @@
 use Rattle.std.proofs.Common.{ap, ◌∙◌}
-use Rattle.std.proofs.lemmas.Result.{err_from_is_err_and}
-use Rattle.ps_board.specs.declared.board.Shown.{Shown}
 use Rattle.ps_rules.specs.Runs.{has_run}
 use Rattle.ps_pool.proofs.Closing.{back-worked, grown-book, settled-ended, settled-stopped}
-use Rattle.ps_pool.specs.declared.workers.Held.{Held}
 use Rattle.ps_pool.proofs.Ran.{running-ran}
 use Rattle.ps_pool.proofs.workers.run_crew.Goals as goal
 
-pub returns-in_err-held-clause-stopped : goal.returns-in_err-held-clause-stopped
-returns-in_err-held-clause-stopped g c =
-    let p = err_from_is_err_and c.from_residual.result c.from_residual.ensures.1 in
-    rw (p.1, p.2) (back-worked c.args.workers c.args.board c.in_err-held.field-0.0.board c.in_err-held.ensures.stopped c.entries-history.ensures.history)
-
 pub work_book-requires-clause-opened : goal.work_book-requires-clause-opened
-work_book-requires-clause-opened g c κs within = ap has_run (c.in-Ok.ensures.book.1 ∙ ap (λ (b : Shown). b.entries) c.in_ok-held.ensures.held) ∙ running-ran c.args.board.entries c.requires.opened
+work_book-requires-clause-opened g c κs within = ap has_run c.in-Ok.ensures.book.1 ∙ running-ran c.args.board.entries c.requires.opened
 
 pub returns-in-Ok-clause-ended : goal.returns-in-Ok-clause-ended
 returns-in-Ok-clause-ended g c =
-    settled-ended c.args.workers c.args.board.input c.args.board.entries c.work_book.result c.settle.result c.settle.ensures.history (c.work_book.ensures.input ∙ c.in-Ok.ensures.book.2 ∙ ap (λ (b : Shown). b.input) c.in_ok-held.ensures.held)
-    (grown-book c.in-Ok.book c.args.workers c.args.board.entries c.work_book.result.entries c.in-Ok.ensures.book.0 (c.in-Ok.ensures.book.1 ∙ ap (λ (b : Shown). b.entries) c.in_ok-held.ensures.held) c.work_book.ensures.grows)
+    settled-ended c.args.workers c.args.board.input c.args.board.entries c.work_book.result c.settle.result c.settle.ensures.history (c.work_book.ensures.input ∙ c.in-Ok.ensures.book.2)
+    (grown-book c.in-Ok.book c.args.workers c.args.board.entries c.work_book.result.entries c.in-Ok.ensures.book.0 c.in-Ok.ensures.book.1 c.work_book.ensures.grows)
     c.requires.opened c.settle.ensures.closed c.settle.ensures.same
 
 pub returns-in-Ok-clause-stopped : goal.returns-in-Ok-clause-stopped
 returns-in-Ok-clause-stopped g c =
-    settled-stopped c.args.workers c.args.board.input c.args.board.entries c.work_book.result c.settle.result c.settle.ensures.history (c.work_book.ensures.input ∙ c.in-Ok.ensures.book.2 ∙ ap (λ (b : Shown). b.input) c.in_ok-held.ensures.held)
-    (grown-book c.in-Ok.book c.args.workers c.args.board.entries c.work_book.result.entries c.in-Ok.ensures.book.0 (c.in-Ok.ensures.book.1 ∙ ap (λ (b : Shown). b.entries) c.in_ok-held.ensures.held) c.work_book.ensures.grows)
+    settled-stopped c.args.workers c.args.board.input c.args.board.entries c.work_book.result c.settle.result c.settle.ensures.history (c.work_book.ensures.input ∙ c.in-Ok.ensures.book.2)
+    (grown-book c.in-Ok.book c.args.workers c.args.board.entries c.work_book.result.entries c.in-Ok.ensures.book.0 c.in-Ok.ensures.book.1 c.work_book.ensures.grows)
     c.settle.ensures.stopped
 
 pub returns-in-Err-clause-stopped : goal.returns-in-Err-clause-stopped
-returns-in-Err-clause-stopped g c = back-worked c.args.workers c.args.board c.stopped.result.board (c.stopped.ensures ∙ ap (λ (h : Held). h.board.value) c.in-Err.ensures.err ∙ c.in_ok-held.ensures.held) c.entries-history.ensures.history
+returns-in-Err-clause-stopped g c = back-worked c.args.workers c.args.board c.stopped.result.board (c.stopped.ensures ∙ c.in-Err.ensures.err) c.entries-history.ensures.history

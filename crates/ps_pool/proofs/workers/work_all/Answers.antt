@@ -9,24 +9,24 @@ use Rattle.ps_turn.specs.contracts.book.TurnBook as TurnBook
 use Rattle.ps_turn.specs.contracts.seat.Seat as Seat
 use Rattle.ps_turn.specs.contracts.view.View as View
 use Rattle.ps_turn.proofs.book.TurnBook.TheSendSync as book
-use Rattle.ps_pool.specs.contracts.workers.Held as Held
-use Rattle.ps_pool.specs.contracts.workers.HeldGrows.TheImpl.{ghosts}
+use Rattle.ps_board.specs.contracts.board.Board as Board
+use Rattle.ps_board.specs.contracts.board.BoardGrows.TheImpl.{ghosts}
 use Rattle.ps_pool.specs.Workers.{HasStayed}
-use Rattle.ps_pool.proofs.Sends.{held_send}
+use Rattle.ps_pool.proofs.Sends.{board_send}
 use Rattle.ps_pool.proofs.workers.work_all.Goals as goal
 
 -- A search from the types alone stops at its limits, so each layer of a seat has its own.
-slot_send : IsSend (Option.the_row Held.the_row)
-slot_send = search (sendable, held_send) depth 12
+slot_send : IsSend (Option.the_row Board.the_row)
+slot_send = search (sendable, board_send) depth 12
 
-token_send : IsSend (Token.the_row (Option.the_row Held.the_row) View.the_row)
-token_send = token.the_send (Option.the_row Held.the_row) View.the_row slot_send
+token_send : IsSend (Token.the_row (Option.the_row Board.the_row) View.the_row)
+token_send = token.the_send (Option.the_row Board.the_row) View.the_row slot_send
 
-seat_send : IsSend (Seat.the_row Held.the_row ghosts)
+seat_send : IsSend (Seat.the_row Board.the_row ghosts)
 seat_send = search (sendable, crosses, token_send) depth 20 fits 8000
 
-book_sync : IsSync (TurnBook.the_row Held.the_row ghosts)
-book_sync = book.the_sync Held.the_row ghosts held_send
+book_sync : IsSync (TurnBook.the_row Board.the_row ghosts)
+book_sync = book.the_sync Board.the_row ghosts board_send
 
 pub for_each_mut-requires-send-T : goal.for_each_mut-requires-send-T
 for_each_mut-requires-send-T g c κs within = search (sendable, seat_send)

@@ -7,7 +7,7 @@ pub work_all-requires-clause-seats : goal.work_all-requires-clause-seats
 work_all-requires-clause-seats g c κs within =
     seated c.args.book c.args.book.seats c.args.seats.items c.as_mut_slice.result.now c.requires.opened c.requires.few c.requires.seats c.as_mut_slice.ensures.value
 
-pub close-board-requires : goal.close-board-requires
-close-board-requires g c =
+pub close-requires : goal.close-requires
+close-requires g c =
     come_back c.args.book c.args.book.seats c.args.seats.items c.as_mut_slice.result.now c.work_all.new.seats c.args.seats.len refl c.requires.seats c.as_mut_slice.ensures.value
     c.as_mut_slice.ensures.len c.work_all.auto.seats (λ i d less. let h = c.work_all.ensures i d less in (h.0.free, h.1))

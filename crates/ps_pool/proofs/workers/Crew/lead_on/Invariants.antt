@@ -1,9 +1,12 @@
+use Rattle.std.proofs.Common.{◌≡◌}
+use Rattle.ps_pool.specs.declared.workers.Round.TheVariants.{Over}
 use Rattle.ps_pool.specs.Workers.{HasStayed}
-use Rattle.ps_pool.proofs.workers.Crew.work.Given as goal
+use Rattle.ps_pool.proofs.workers.Crew.lead_on.Given as goal
 
 abbrev pub invariant-loop : goal.invariant-loop
 invariant-loop g l = record {
   next : (goal.iterator-loop g).can_next l.iterator';
   finite : (goal.iterator-loop g).is_finite l.iterator';
+  going : l.last ≡ Over → ⊥;
   stayed : HasStayed l.book l.fn.seat l.seat;
 }
