@@ -1,5 +1,5 @@
 -- Workers stay at their seats.
-use Rattle.std.proofs.Common.{◌≡◌, ℕ, ◌≤◌, nat_le, ◌&&◌, true, false, List, map, IsTrue, refl, arith, ap, sym, ◌∙◌, subst}
+use Rattle.std.proofs.Common.{◌≡◌, ℕ, zero, suc, ◌<◌, ◌≤◌, nat_le, ◌&&◌, true, false, List, ◌∷◌, length, map, slice_index_or, IsTrue, refl, arith, ap, sym, ◌∙◌, subst}
 use Rattle.std.specs.List.{All, range_with_len}
 use Rattle.std.proofs.lemmas.Bool.Decides.{nat_tests}
 use Rattle.std.proofs.lemmas.List.Elements.{All-map}
@@ -40,3 +40,12 @@ seated book count places lent ran few opened is =
 -- the board is given back as it was taken
 pub gives-same : (old mid : Place) (log new : List Entry) → mid ≡ now_at old log true → new ≡ log → GoesOnBy mid.hand mid.seen new
 gives-same old mid log new took same = nothing-by mid.hand mid.seen new (same ∙ sym (ap (λ (p : Place). p.seen) took))
+
+-- one seat was used, and those after it are as they were
+pub first-stayed : (book : Book) (old new : Place) (rest places : List Place) → places ≡ old ∷ rest → All (MayWork book) places → HasStayed book old new → (i : ℕ) (d : Place) → i < length places
+    → HasStayed book (slice_index_or places i d) (slice_index_or (new ∷ rest) i d)
+first-stayed book old new rest places is may stayed = subst (λ (l : List Place). (i : ℕ) (d : Place) → i < length l → HasStayed book (slice_index_or l i d) (slice_index_or (new ∷ rest) i d)) (sym is) (at (subst (All (MayWork book)) is may))
+  where
+    at : All (MayWork book) (old ∷ rest) → (i : ℕ) (d : Place) → i < length (old ∷ rest) → HasStayed book (slice_index_or (old ∷ rest) i d) (slice_index_or (new ∷ rest) i d)
+    at all zero d less = stayed
+    at all (suc i) d less = (all (suc i) d less, refl)

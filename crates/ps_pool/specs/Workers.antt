@@ -15,6 +15,9 @@ use Rattle.ps_board.specs.declared.ticks.Snapshot.{Snapshot}
 use Rattle.ps_turn.specs.Books.{Book, IsFree, Place}
 use Rattle.ps_turn.specs.Hands.{GoesOnByHands}
 use Rattle.ps_pool.specs.Courses.{GrowsInRun}
+use Rattle.ps_pool.specs.Rounds.{IsWanted}
+use Rattle.ps_pool.specs.declared.workers.Aside.{Aside}
+use Rattle.ps_pool.specs.declared.workers.Aside.TheVariants as aside
 use Rattle.ps_pool.specs.declared.workers.Who.{Who}
 use Rattle.ps_pool.specs.declared.workers.Who.TheVariants as who
 
@@ -44,6 +47,10 @@ pub record IsCrew (i : Input) (members : List Who) (domain : Domain) (budget wor
 pub record WasWanted (i : Input) (es : List Entry) (snapshot : Snapshot) : Type 0 where
   pub asked : WasAsked i es snapshot.at
   pub known : snapshot.problem ≡ know i (take snapshot.at es)
+
+-- after these entries this may be done aside: a snapshot was handed out then
+abbrev pub IsDue : Input → List Entry → Aside → Type 0
+IsDue i seen a = (s : Snapshot) → a ≡ aside.Search s → IsWanted i seen s
 
 -- the seat has the same hand, and a worker may take the board with it still
 abbrev pub HasStayed : Book → Place → Place → Type 0

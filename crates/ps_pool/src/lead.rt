@@ -2,9 +2,10 @@
 
 use std::sync::{Condvar, Mutex, Wait};
 
-/// The lead, which one worker has at a time: it does its rounds while the others sleep, and gives the lead up while it does a unit of work
-/// or asks the solver. So workers don't take the turn from each other where one alone can do all that is to be done. No contract says who
-/// leads, or that a worker gets the lead: what the journal promises rests on the turn alone.
+/// The lead, which one worker has at a time: it does its rounds while the others that were started sleep, and gives the
+/// lead up while it does a unit of work or asks the solver. So workers don't take the turn from each other where one
+/// alone can do all that is to be done. No contract says who leads, or that a worker gets the lead: what the journal
+/// promises rests on the turn alone.
 #[derive(Drop)]
 pub(crate) struct Lead {
     free: Mutex<bool>,

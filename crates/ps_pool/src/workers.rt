@@ -1,6 +1,7 @@
 //! Runs by several workers, each in a thread of its own, which take the board in turns.
-ghost use Rattle.std.specs.Prelude.{◌≡◌, ◌&&◌, ◌==◌, ◌+◌, ◌%◌, ◌<◌, ◌≤◌, ℕ, nat_le, true, false, length, map, slice_index_or, IfErr, IfOk, IsTrue};
+ghost use Rattle.std.specs.Prelude.{◌≡◌, ◌&&◌, ◌==◌, ◌+◌, ◌%◌, ◌<◌, ◌≤◌, ℕ, nat_le, true, false, length, map, slice_index_or, None, IfErr, IfOk, IfSome, IsTrue};
 ghost use Rattle.std.specs.List.{All};
+ghost use Rattle.std.specs.Thread.{IsSync};
 ghost use Rattle.ps_action.specs.Search.{Fits};
 ghost use Rattle.ps_rules.specs.History.{IsHistory};
 ghost use Rattle.ps_rules.specs.Runs.{has_run, is_running};
@@ -11,7 +12,7 @@ ghost use Rattle.ps_board.specs.declared.ticks.Snapshot.{Snapshot as SnapshotVie
 ghost use Rattle.ps_board.specs.declared.ticks.Ticked.TheVariants.{WantsPlan as Wanted};
 ghost use Rattle.ps_pool.specs.declared.workers.Round.TheVariants.{Over};
 ghost use Rattle.ps_pool.specs.Rounds.{IsWanted, passed_before};
-ghost use Rattle.ps_pool.specs.Workers.{EndedBy, HasStayed, IsCrew, IsThere, MayWork, WasWanted, WorkedBy};
+ghost use Rattle.ps_pool.specs.Workers.{EndedBy, HasStayed, IsCrew, IsDue, IsThere, MayWork, WasWanted, WorkedBy};
 
 use crate::gate::Gate;
 use crate::lead::Lead;
@@ -212,7 +213,7 @@ fn halt<R: Wait>(rt: &R, book: &TurnBook<Board>, seat: &mut Seat<Board>)
     book.give(seat, board);
 }
 
-/// What a worker's round came to.
+/// What a worker's round came to so far.
 #[derive(Clone, Copy)]
 enum Round {
     /// Something was done in one of its turns.
@@ -221,6 +222,48 @@ enum Round {
     Idle,
     /// The run is over or halted.
     Over,
+}
+
+/// What a worker does between turns and without the lead.
+#[derive(Drop)]
+enum Aside {
+    /// A unit of work.
+    Unit(Grant),
+    /// The search for a plan.
+    Search(Snapshot),
+}
+
+/// What one step of a round came to.
+#[derive(Clone, Copy)]
+enum Step {
+    /// Something was done, or is to be done aside.
+    Did,
+    /// Nothing was done.
+    Nothing,
+    /// The round is at its end.
+    Ended,
+    /// The run is over or halted.
+    Over,
+}
+
+/// How far a worker is in its round: a turn of each member that is at home with it, one of the ticker, and one of each
+/// other member.
+#[derive(Clone, Copy)]
+struct Spot {
+    /// The turns up to the ticker's are still to be taken.
+    home: bool,
+    /// The place of the next member. Where there is none, the ticker is next, or the round is at its end.
+    place: usize,
+}
+
+impl Spot {
+    /// A round's beginning.
+    fn first() -> Spot {
+        Spot {
+            home: true,
+            place: 0,
+        }
+    }
 }
 
 /// What all workers of a run know.
@@ -244,109 +287,192 @@ impl<'a, S: Solver, G: Gate> Crew<'a, S, G> {
         place % self.workers + 1 == usize::from(hand)
     }
 
-    /// Does a unit of work between turns and without the lead, and hands it in.
-    fn do_unit_aside<R: Wait>(
-        &self,
-        rt: &R,
-        book: &TurnBook<Board>,
-        seat: &mut Seat<Board>,
-        grant: Grant,
-    ) -> Result<(), AllocError>
-        requires { MayWork book.now seat.old }
-        ensures { HasStayed book.now seat.old seat.new }
-    {
-        self.lead.give(rt);
-        self.gate.unit(rt, &grant);
-        let handed = hand_in(rt, book, seat, grant);
-        self.lead.take(rt);
-        handed
-    }
-
-    /// Takes the turn of a member, and does the unit of work that it may be handed between that turn and another. Answers
-    /// whether anything was done.
+    /// Takes the turn of a member. What is then to be done aside is put into `due`, so that each step hands on little.
     fn do_member<R: Wait>(
         &self,
         rt: &R,
         book: &TurnBook<Board>,
         seat: &mut Seat<Board>,
         who: Who,
-    ) -> Result<bool, AllocError>
+        due: &mut Option<Aside>,
+    ) -> Result<Step, AllocError>
+        requires none { due.old ≡ None }
         requires seat { MayWork book.now seat.old }
         requires there { IsThere book.now.input who }
-        ensures { HasStayed book.now seat.old seat.new }
+        ensures due { IfSome due.new (IsDue book.now.input seat.new.seen) }
+        ensures seat { HasStayed book.now seat.old seat.new }
     {
         match take_turn(rt, book, seat, who)? {
             Turn::Work(grant) => {
-                self.do_unit_aside(rt, book, seat, grant)?;
-                Ok(true)
+                *due = Some(Aside::Unit(grant));
+                Ok(Step::Did)
             }
-            Turn::Did => Ok(true),
-            Turn::Nothing => Ok(false),
+            Turn::Did => Ok(Step::Did),
+            Turn::Nothing => Ok(Step::Nothing),
         }
     }
 
-    /// Takes the turn of the member at a place, if it is at home with the worker, or if it isn't. Answers whether anything
-    /// was done.
-    fn do_place<R: Wait>(
+    /// Takes the turn of the ticker.
+    fn tick<R: Wait>(
         &self,
         rt: &R,
         book: &TurnBook<Board>,
         seat: &mut Seat<Board>,
-        place: usize,
-        home: bool,
-    ) -> Result<bool, AllocError>
+        due: &mut Option<Aside>,
+    ) -> Result<Step, AllocError>
+        requires none { due.old ≡ None }
         requires seat { MayWork book.now seat.old }
-        requires there { place < length self.now.members.now }
+        ensures due { IfSome due.new (IsDue book.now.input seat.new.seen) }
+        ensures seat { HasStayed book.now seat.old seat.new }
+    {
+        match take_tick(rt, book, seat)? {
+            Ticked::Over(_) | Ticked::Halted => Ok(Step::Over),
+            Ticked::Did => Ok(Step::Did),
+            Ticked::Nothing => Ok(Step::Nothing),
+            Ticked::WantsPlan(snapshot) => {
+                *due = Some(Aside::Search(snapshot));
+                Ok(Step::Did)
+            }
+        }
+    }
+
+    /// Takes the next turn of a round, where there is one: of the member here, if it is at home with the worker or isn't,
+    /// as the part of the round has it, or else of the ticker.
+    fn take_next<R: Wait>(
+        &self,
+        rt: &R,
+        book: &TurnBook<Board>,
+        seat: &mut Seat<Board>,
+        spot: &mut Spot,
+        due: &mut Option<Aside>,
+    ) -> Result<Step, AllocError>
+        requires none { due.old ≡ None }
+        requires seat { MayWork book.now seat.old }
         requires crew { IsCrew book.now.input self.now.members.now self.now.expert.now
             self.now.budget self.now.workers }
-        ensures { HasStayed book.now seat.old seat.new }
+        ensures due { IfSome due.new (IsDue book.now.input seat.new.seen) }
+        ensures seat { HasStayed book.now seat.old seat.new }
     {
-        if self.is_home(place, seat.hand()) == home {
-            self.do_member(rt, book, seat, self.members[place])
+        let Spot { home, place } = *spot;
+        if place < self.members.len() {
+            spot.place = place + 1;
+            if self.is_home(place, seat.hand()) == home {
+                self.do_member(rt, book, seat, self.members[place], due)
+            } else {
+                Ok(Step::Nothing)
+            }
+        } else if home {
+            *spot = Spot {
+                home: false,
+                place: 0,
+            };
+            self.tick(rt, book, seat, due)
         } else {
-            Ok(false)
+            *spot = Spot::first();
+            Ok(Step::Ended)
         }
     }
 
-    /// Takes the turns of those members that are at home with the worker, or of those that aren't, in their order. Answers
-    /// whether anything was done.
-    fn do_members<R: Wait>(
+    /// Goes one step on in a round that came to this so far, unless the run's end was seen. Before another round after an
+    /// idle one it lets others go first.
+    fn do_step<R: Wait>(
         &self,
         rt: &R,
         book: &TurnBook<Board>,
         seat: &mut Seat<Board>,
-        home: bool,
-    ) -> Result<bool, AllocError>
+        spot: &mut Spot,
+        due: &mut Option<Aside>,
+        round: Round,
+    ) -> Result<Step, AllocError>
+        requires none { due.old ≡ None }
+        requires going { ¬ (round ≡ Over) }
         requires seat { MayWork book.now seat.old }
         requires crew { IsCrew book.now.input self.now.members.now self.now.expert.now
             self.now.budget self.now.workers }
-        ensures { HasStayed book.now seat.old seat.new }
+        ensures due { IfSome due.new (IsDue book.now.input seat.new.seen) }
+        ensures seat { HasStayed book.now seat.old seat.new }
     {
-        let mut did = false;
-        for place in 0..self.members.len() {
-            did |= self.do_place(rt, book, seat, place, home)?;
+        let step = self.take_next(rt, book, seat, spot, due)?;
+        if let (Step::Ended, Round::Idle) = (step, round) {
+            thread::yield_now();
         }
-        Ok(did)
+        Ok(step)
     }
 
-    /// Asks the solver without the lead, and hands its answer in.
-    fn answer_aside<R: Wait>(
+    /// Does rounds until something is to be done aside, or until the run is over or halted. Where memory runs out it
+    /// halts the run, which it then sees.
+    fn do_rounds<R: Wait>(
         &self,
         rt: &R,
         book: &TurnBook<Board>,
         seat: &mut Seat<Board>,
-        snapshot: Snapshot,
+        spot: &mut Spot,
+    ) -> Option<Aside>
+        requires seat { MayWork book.now seat.old }
+        requires crew { IsCrew book.now.input self.now.members.now self.now.expert.now
+            self.now.budget self.now.workers }
+        ensures wanted { IfSome result (IsDue book.now.input seat.new.seen) }
+        ensures seat { HasStayed book.now seat.old seat.new }
+    {
+        let mut round = Round::Did;
+        let mut due = None;
+        for _ in rt.forever() {
+            let step = self.do_step(rt, book, seat, spot, &mut due, round);
+            if due.is_some() {
+                return due;
+            }
+            match step {
+                Ok(Step::Over) => return None,
+                Ok(Step::Did) => round = Round::Did,
+                Ok(Step::Ended) => round = Round::Idle,
+                Ok(Step::Nothing) => {}
+                Err(AllocError) => halt(rt, book, seat),
+            }
+        }
+        unreachable!()
+    }
+
+    /// Waits for the lead, and does rounds with it.
+    fn lead_on<R: Wait>(
+        &self,
+        rt: &R,
+        book: &TurnBook<Board>,
+        seat: &mut Seat<Board>,
+        spot: &mut Spot,
+    ) -> Option<Aside>
+        requires seat { MayWork book.now seat.old }
+        requires crew { IsCrew book.now.input self.now.members.now self.now.expert.now
+            self.now.budget self.now.workers }
+        ensures wanted { IfSome result (IsDue book.now.input seat.new.seen) }
+        ensures seat { HasStayed book.now seat.old seat.new }
+    {
+        self.lead.take(rt);
+        let aside = self.do_rounds(rt, book, seat, spot);
+        self.lead.give(rt);
+        aside
+    }
+
+    /// Does what is to be done aside, and hands it in.
+    fn do_aside<R: Wait>(
+        &self,
+        rt: &R,
+        book: &TurnBook<Board>,
+        seat: &mut Seat<Board>,
+        aside: Aside,
     ) -> Result<(), AllocError>
         requires seat { MayWork book.now seat.old }
-        requires asked { IsWanted book.now.input seat.old.seen snapshot }
+        requires due { IsDue book.now.input seat.old.seen aside }
         requires crew { IsCrew book.now.input self.now.members.now self.now.expert.now
             self.now.budget self.now.workers }
         ensures { HasStayed book.now seat.old seat.new }
     {
-        self.lead.give(rt);
-        let answered = self.answer_wanted(rt, book, seat, snapshot);
-        self.lead.take(rt);
-        answered
+        match aside {
+            Aside::Unit(grant) => {
+                self.gate.unit(rt, &grant);
+                hand_in(rt, book, seat, grant)
+            }
+            Aside::Search(snapshot) => self.answer_wanted(rt, book, seat, snapshot),
+        }
     }
 
     /// Asks the solver between turns, and hands its answer in.
@@ -370,101 +496,66 @@ impl<'a, S: Solver, G: Gate> Crew<'a, S, G> {
         answer(rt, book, seat, snapshot, found)
     }
 
-    /// Takes the turn of the ticker.
-    fn tick<R: Wait>(
+    /// Does what is to be done aside, if anything, and then rounds until there is such again, and so on until the run is
+    /// over or halted.
+    fn work_on<R: Wait>(
         &self,
         rt: &R,
         book: &TurnBook<Board>,
         seat: &mut Seat<Board>,
-    ) -> Result<Round, AllocError>
+        spot: &mut Spot,
+        aside: Option<Aside>,
+    )
         requires seat { MayWork book.now seat.old }
+        requires due { IfSome aside (IsDue book.now.input seat.old.seen) }
         requires crew { IsCrew book.now.input self.now.members.now self.now.expert.now
             self.now.budget self.now.workers }
         ensures { HasStayed book.now seat.old seat.new }
     {
-        match take_tick(rt, book, seat)? {
-            Ticked::Over(_) | Ticked::Halted => Ok(Round::Over),
-            Ticked::Did => Ok(Round::Did),
-            Ticked::Nothing => Ok(Round::Idle),
-            Ticked::WantsPlan(snapshot) => {
-                self.answer_aside(rt, book, seat, snapshot)?;
-                Ok(Round::Did)
-            }
-        }
-    }
-
-    /// Does a round after one that came to this, unless that saw the run's end: a turn of each member that is at home with
-    /// the worker, one of the ticker, and one of each other member. After an idle round it lets others go first.
-    fn do_round<R: Wait>(
-        &self,
-        rt: &R,
-        book: &TurnBook<Board>,
-        seat: &mut Seat<Board>,
-        last: Round,
-    ) -> Result<Round, AllocError>
-        requires going { ¬ (last ≡ Over) }
-        requires seat { MayWork book.now seat.old }
-        requires crew { IsCrew book.now.input self.now.members.now self.now.expert.now
-            self.now.budget self.now.workers }
-        ensures { HasStayed book.now seat.old seat.new }
-    {
-        if let Round::Idle = last {
-            thread::yield_now();
-        }
-        let at_home = self.do_members(rt, book, seat, true)?;
-        let ticked = self.tick(rt, book, seat)?;
-        if let Round::Over = ticked {
-            return Ok(Round::Over);
-        }
-        let abroad = self.do_members(rt, book, seat, false)?;
-        if at_home || abroad {
-            return Ok(Round::Did);
-        }
-        Ok(ticked)
-    }
-
-    /// Does rounds until the run is over or halted. Where memory runs out it halts the run, which the next round sees.
-    fn lead_on<R: Wait>(&self, rt: &R, book: &TurnBook<Board>, seat: &mut Seat<Board>)
-        requires seat { MayWork book.now seat.old }
-        requires crew { IsCrew book.now.input self.now.members.now self.now.expert.now
-            self.now.budget self.now.workers }
-        ensures { HasStayed book.now seat.old seat.new }
-    {
-        let mut last = Round::Did;
+        let mut next = aside;
         for _ in rt.forever() {
-            match self.do_round(rt, book, seat, last) {
-                Ok(Round::Over) => return,
-                Ok(Round::Did) => last = Round::Did,
-                Ok(Round::Idle) => last = Round::Idle,
-                Err(AllocError) => halt(rt, book, seat),
+            let Some(aside) = next else { return };
+            if let Err(AllocError) = self.do_aside(rt, book, seat, aside) {
+                halt(rt, book, seat);
             }
+            next = self.lead_on(rt, book, seat, spot);
         }
         unreachable!()
-    }
-
-    /// Waits for the lead, and does rounds until the run is over or halted.
-    fn work<R: Wait>(&self, rt: &R, book: &TurnBook<Board>, seat: &mut Seat<Board>)
-        requires seat { MayWork book.now seat.old }
-        requires crew { IsCrew book.now.input self.now.members.now self.now.expert.now
-            self.now.budget self.now.workers }
-        ensures { HasStayed book.now seat.old seat.new }
-    {
-        self.lead.take(rt);
-        self.lead_on(rt, book, seat);
-        self.lead.give(rt);
     }
 }
 
 /// What a worker does with its seat, where that suits the input.
 trait Works {
+    ghost use Rattle.std.specs.Prelude.{IfSome};
     ghost use Rattle.ps_machine.specs.declared.inputs.Input.{Input as InputView};
-    ghost use Rattle.ps_pool.specs.Workers.{HasStayed, MayWork};
+    ghost use Rattle.ps_pool.specs.Workers.{HasStayed, IsDue, MayWork};
 
     ghost suits: { Self → InputView → Type 0 };
 
-    /// Takes turns until the run is over or halted.
-    fn take_turns<R: Wait>(&self, rt: &R, book: &TurnBook<Board>, seat: &mut Seat<Board>)
+    /// Takes turns until something is to be done aside, or until the run is over or halted.
+    fn begin<R: Wait>(
+        &self,
+        rt: &R,
+        book: &TurnBook<Board>,
+        seat: &mut Seat<Board>,
+        spot: &mut Spot,
+    ) -> Option<Aside>
         requires seat { MayWork book.now seat.old }
+        requires suits { suits self.now book.now.input }
+        ensures wanted { IfSome result (IsDue book.now.input seat.new.seen) }
+        ensures seat { HasStayed book.now seat.old seat.new };
+
+    /// Does what is to be done aside, if anything, and then goes on until the run is over or halted.
+    fn go_on<R: Wait>(
+        &self,
+        rt: &R,
+        book: &TurnBook<Board>,
+        seat: &mut Seat<Board>,
+        spot: &mut Spot,
+        aside: Option<Aside>,
+    )
+        requires seat { MayWork book.now seat.old }
+        requires due { IfSome aside (IsDue book.now.input seat.old.seen) }
         requires suits { suits self.now book.now.input }
         ensures { HasStayed book.now seat.old seat.new };
 }
@@ -474,12 +565,30 @@ impl<'a, S: Solver, G: Gate> Works for Crew<'a, S, G> {
 
     ghost suits = { λ crew i. IsCrew i crew.members.now crew.expert.now crew.budget crew.workers };
 
-    fn take_turns<R: Wait>(&self, rt: &R, book: &TurnBook<Board>, seat: &mut Seat<Board>) {
-        self.work(rt, book, seat)
+    fn begin<R: Wait>(
+        &self,
+        rt: &R,
+        book: &TurnBook<Board>,
+        seat: &mut Seat<Board>,
+        spot: &mut Spot,
+    ) -> Option<Aside> {
+        self.lead_on(rt, book, seat, spot)
+    }
+
+    fn go_on<R: Wait>(
+        &self,
+        rt: &R,
+        book: &TurnBook<Board>,
+        seat: &mut Seat<Board>,
+        spot: &mut Spot,
+        aside: Option<Aside>,
+    ) {
+        self.work_on(rt, book, seat, spot, aside)
     }
 }
 
-/// Each worker does its rounds, in a thread of its own if there are threads.
+/// The first of these seats' workers begins in this thread. Once it steps aside, the others are started in the same way.
+#[cycle(seats)]
 fn work_all<R: Threads + Wait + Sync, C: Works + Sync>(
     rt: &R,
     crew: &C,
@@ -491,15 +600,48 @@ fn work_all<R: Threads + Wait + Sync, C: Works + Sync>(
     ensures { (i : ℕ) (d : _) → i < length seats.old
         → HasStayed book.now (slice_index_or seats.old i d) (slice_index_or seats.new i d) }
 {
-    thread::for_each_mut(
-        rt,
-        seats,
-        16,
-        &|_, seat: &mut Seat<Board>|
-            requires { MayWork book.now seat.now × C.suits crew.now book.now.input }
-            ensures { HasStayed book.entry.now seat.entry.now seat.exit.now }
-        { crew.take_turns(rt, book, seat) },
-    );
+    let Some((seat, rest)) = seats.split_first_mut() else {
+        return;
+    };
+    let mut spot = Spot::first();
+    let aside = crew.begin(rt, book, seat, &mut spot);
+    if rest.is_empty() || aside.is_none() {
+        crew.go_on(rt, book, seat, &mut spot, aside);
+    } else {
+        work_beside(rt, crew, book, seat, &mut spot, aside, rest);
+    }
+}
+
+/// A worker that steps aside goes on beside those of the other seats, in a thread of their own if there are threads.
+#[cycle(seats)]
+fn work_beside<R: Threads + Wait + Sync, C: Works + Sync>(
+    rt: &R,
+    crew: &C,
+    book: &TurnBook<Board>,
+    seat: &mut Seat<Board>,
+    spot: &mut Spot,
+    mut aside: Option<Aside>,
+    rest: &mut [Seat<Board>],
+)
+    requires seat { MayWork book.now seat.old }
+    requires due { IfSome aside (IsDue book.now.input seat.old.seen) }
+    requires rest { All (MayWork book.now) rest.old }
+    requires crew { C.suits crew.now book.now.input }
+    ensures seat { HasStayed book.now seat.old seat.new }
+    ensures rest { (i : ℕ) (d : _) → i < length rest.old
+        → HasStayed book.now (slice_index_or rest.old i d) (slice_index_or rest.new i d) }
+{
+    let mut others = ||
+        requires { IsSync R.row × IsSync C.row × All (MayWork book.now) rest.now × C.suits crew.now book.now.input }
+        ensures { (i : ℕ) (d : _) → i < length rest.entry.now
+            → HasStayed book.entry.now (slice_index_or rest.entry.now i d) (slice_index_or rest.exit.now i d) }
+    { work_all(rt, crew, book, rest) };
+    let mut one = ||
+        requires { MayWork book.now seat.now × IfSome aside (IsDue book.now.input seat.now.seen)
+            × C.suits crew.now book.now.input }
+        ensures { HasStayed book.entry.now seat.entry.now seat.exit.now }
+    { crew.go_on(rt, book, seat, spot, aside.take()) };
+    thread::join_mut(rt, &mut others, &mut one);
 }
 
 /// The board of a book once all its workers have stopped.
@@ -569,12 +711,14 @@ fn run_crew<R: Threads + Wait + Sync, C: Works + Sync>(
     }
 }
 
-/// Goes on with the open run until it is over, by this many workers, each in a thread of its own if there are threads.
-/// They take the board in turns, for one call in each. Each worker repeats rounds: a turn of each member that is at
-/// home with it, one of the ticker, and one of each other member, in the order of the members. The member at place `m`,
-/// counted from 0, is at home with worker `m % workers + 1`, and a worker's number is its hand. Units of work are done
-/// between turns, and so is solving; one worker at a time does rounds, and while it does a unit or solves another goes on. It promises no return. The only error is that memory ran out: the run is as far as
-/// it came, and it may be halted, with grants out.
+/// Goes on with the open run until it is over, by at most this many workers, each in a thread of its own if there are
+/// threads. The first begins alone, in this thread, and each other one is started when the one before it first steps
+/// aside. They take the board in turns, for one call in each. Each worker repeats rounds: a turn of each member that is
+/// at home with it, one of the ticker, and one of each other member, in the order of the members. The member at place
+/// `m`, counted from 0, is at home with worker `m % workers + 1`, and a worker's number is its hand. Units of work are
+/// done between turns, and so is solving: one worker at a time does rounds, and while it steps aside to do a unit or to
+/// solve, another goes on. It promises no return. The only error is that memory ran out: the run is as far as it came,
+/// and it may be halted, with grants out.
 pub fn run_workers<R: Threads + Wait + Sync, S: Solver + Sync, G: Gate + Sync>(
     rt: &R,
     alloc: Global,

@@ -1,12 +1,13 @@
-use Rattle.std.proofs.Common.{◌≡◌}
+use Rattle.std.proofs.Common.{◌≡◌, None}
 use Rattle.ps_pool.specs.declared.workers.Round.TheVariants.{Over}
 use Rattle.ps_pool.specs.Workers.{HasStayed}
-use Rattle.ps_pool.proofs.workers.Crew.lead_on.Given as goal
+use Rattle.ps_pool.proofs.workers.Crew.do_rounds.Given as goal
 
 abbrev pub invariant-loop : goal.invariant-loop
 invariant-loop g l = record {
   next : (goal.iterator-loop g).can_next l.iterator';
   finite : (goal.iterator-loop g).is_finite l.iterator';
-  going : l.last ≡ Over → ⊥;
+  going : l.round ≡ Over → ⊥;
+  none : l.due ≡ None;
   stayed : HasStayed l.book l.fn.seat l.seat;
 }

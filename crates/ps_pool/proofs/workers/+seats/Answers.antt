@@ -1,19 +1,18 @@
-use Rattle.std.proofs.Common.{rules, ap, subst, ◌∙◌}
+use Rattle.std.proofs.Common.{rules, ◌∙◌}
 use denote.Param.Send.{IsSend, IsSync, sendable}
 use Rattle.std.proofs.Crossing.{crosses}
 use Rattle.std.specs.contracts.option.Option as Option
 use Rattle.atomic_table.proofs.shared.Seat.TheSendSync as token
 use Rattle.atomic_table.specs.contracts.shared.Seat as Token
-use Rattle.ps_turn.specs.Books.{Place}
 use Rattle.ps_turn.specs.contracts.book.TurnBook as TurnBook
 use Rattle.ps_turn.specs.contracts.seat.Seat as Seat
 use Rattle.ps_turn.specs.contracts.view.View as View
 use Rattle.ps_turn.proofs.book.TurnBook.TheSendSync as book
 use Rattle.ps_board.specs.contracts.board.Board as Board
 use Rattle.ps_board.specs.contracts.board.BoardGrows.TheImpl.{ghosts}
-use Rattle.ps_pool.specs.Workers.{HasStayed}
+use Rattle.ps_pool.proofs.Seated.{first-stayed}
 use Rattle.ps_pool.proofs.Sends.{board_send}
-use Rattle.ps_pool.proofs.workers.work_all.Goals as goal
+use Rattle.ps_pool.proofs.workers.+seats.Goals as goal
 
 -- A search from the types alone stops at its limits, so each layer of a seat has its own.
 slot_send : IsSend (Option.the_row Board.the_row)
@@ -28,15 +27,10 @@ seat_send = search (sendable, crosses, token_send) depth 20 fits 8000
 book_sync : IsSync (TurnBook.the_row Board.the_row ghosts)
 book_sync = book.the_sync Board.the_row ghosts board_send
 
-pub for_each_mut-requires-send-T : goal.for_each_mut-requires-send-T
-for_each_mut-requires-send-T g c κs within = search (sendable, seat_send)
+pub work_all-returns-then-is_none : goal.work_all-returns-then-is_none
+work_all-returns-then-is_none g t c =
+    first-stayed c.args.book.now c.in-Some.seat.now c.go_on.new.seat c.in-Some.rest.now c.args.seats.now (search rules) c.requires.seats
+    (c.go_on.ensures.0, c.go_on.ensures.1 ∙ c.begin-aside.ensures.seat.1)
 
-pub for_each_mut-requires-sync-F : goal.for_each_mut-requires-sync-F
-for_each_mut-requires-sync-F g c κs within = search (sendable, book_sync) depth 14
-
-pub returns : goal.returns
-returns g c = λ i d less.
-    let t = (c.for_each_mut.ensures i d less).1 in
-    let worked : HasStayed c.args.book.now t.argument.now t.after_call.now = search rules in
-    let stayed = subst (λ (p : Place). HasStayed c.args.book.now t.argument.now p) t.left worked in
-    (stayed.0, stayed.1 ∙ ap (λ (p : Place). p.hand) t.argument_is)
+pub work_beside-join_mut-requires-send-F : goal.work_beside-join_mut-requires-send-F
+work_beside-join_mut-requires-send-F g t c κs within = search (sendable, seat_send, book_sync) depth 14
