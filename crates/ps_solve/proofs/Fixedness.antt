@@ -1,9 +1,9 @@
 -- What is said of facts that never are known is never so, and leads nowhere.
-use Rattle.std.proofs.Common.{◌≡◌, ℕ, zero, suc, Bool, true, false, not, cond, ◌&&◌, ◌||◌, List, [], ◌∷◌, ◌++◌, Option, Some, None, option_and_then, Result, Ok, Err, drop, filter, filter_map, find, flat_map, fold, map, refl, ap, sym, ◌∙◌, arith}
-use Rattle.std.specs.Prelude.{slice_get, unwrap_or}
-use Rattle.std.specs.List.{cons_option, list_any}
+use Rattle.std.proofs.Common.{◌≡◌, ℕ, zero, suc, Bool, true, false, not, cond, ◌&&◌, ◌||◌, List, [], ◌∷◌, ◌++◌, Option, Some, None, option_and_then, Result, Ok, Err, ◌<◌, drop, filter, filter_map, find, flat_map, fold, length, map, refl, ap, sym, ◌∙◌, arith}
+use Rattle.std.specs.Prelude.{nat_le, slice_get, slice_index_or, unwrap_or, ◌==◌}
+use Rattle.std.specs.List.{cons_option, list_all, list_any}
 use Rattle.std.specs.BTreeSet.{insert_key}
-use Rattle.std.specs.Cmp.{IsTotalOrder, on_total, nat_cmp_total}
+use Rattle.std.specs.Cmp.{IsTotalOrder, first_so, on_total, nat_cmp_total, second_so}
 use Rattle.std.specs.Result.{result_ok}
 use Rattle.std.specs.Ordering.{eq_by_cmp}
 use Rattle.std.proofs.lemmas.Bool.Decides.{nat_tests}
@@ -34,10 +34,11 @@ use Rattle.ps_action.specs.Truth.{all_true, is_true}
 use Rattle.ps_action.specs.declared.acts.Act.{Act}
 use Rattle.ps_action.specs.declared.acts.GroundAction.{GroundAction}
 use Rattle.ps_action.specs.declared.refusals.GroundRefusal.{GroundRefusal}
+use Rattle.ps_action.specs.declared.refusals.GroundRefusal.TheVariants.{Arity, NoAction}
 use Rattle.ps_action.proofs.Facts.{exact_facts}
 use Rattle.ps_action.proofs.Keys.{any-insert_key}
 use Rattle.ps_domain.proofs.Indexes.{at_same}
-use Rattle.ps_solve.specs.Fixed.{AreFixed, all_heads_added, head_added, heads_added, possible_facts}
+use Rattle.ps_solve.specs.Fixed.{AreFixed, all_heads_added, head_added, heads_added, is_from, possible_facts}
 use Rattle.ps_solve.specs.Nodes.{grounds}
 use Rattle.ps_solve.specs.Rows.{AreAtoms, IsOver, adds}
 use Rattle.ps_solve.specs.States.{State, at, changed, ended, stepped, where_so}
@@ -62,6 +63,30 @@ all_put_in args (t ∷ ts) = λ i. put_in args t i ∷ all_put_in args ts i
 -- so is a fact
 pub fact_put_in : (args : List Name) (l : Lifted) → ground_in [] (put_lifted args l) ≡ ground_in args l
 fact_put_in args l = λ i. record { head = l.head; args = all_put_in args l.terms i }
+
+-- a variable after the first arguments stands for the same, whatever these are
+same_var : (fill first tail : List Name) (j : ℕ) → length first ≡ length fill → nat_le (length fill) j ≡ true → slice_index_or (first ++ tail) j object ≡ slice_index_or (fill ++ tail) j object
+same_var [] [] tail j e h = refl
+same_var [] (y ∷ first) tail j e h = absurd (omega (arith, e))
+same_var (x ∷ fill) [] tail j e h = absurd (omega (arith, e))
+same_var (x ∷ fill) (y ∷ first) tail zero e h = absurd (grind (arith, nat_tests, h))
+same_var (x ∷ fill) (y ∷ first) tail (suc j) e h = same_var fill first tail j (omega (arith, e)) (grind (arith, nat_tests, h))
+
+module _ (fill first tail : List Name) (e : length first ≡ length fill) where
+  same_term : (t : Term) → is_from (length fill) t ≡ true → name_in (first ++ tail) t ≡ name_in (fill ++ tail) t
+  same_term (Var j) h = same_var fill first tail j e h
+  same_term (Const n) h = refl
+
+  same_terms : (ts : List Term) → list_all (is_from (length fill)) ts ≡ true → map (name_in (first ++ tail)) ts ≡ map (name_in (fill ++ tail)) ts
+  same_terms [] h = refl
+  same_terms (t ∷ ts) h =
+      let here = is_from (length fill) t in
+      let rest = list_all (is_from (length fill)) ts in
+      λ i. same_term t (first_so here rest h) i ∷ same_terms ts (second_so here rest h) i
+
+  -- so it is with a fact that speaks of none of the first arguments
+  pub same_ground : (l : Lifted) → list_all (is_from (length fill)) l.terms ≡ true → ground_in (first ++ tail) l ≡ ground_in (fill ++ tail) l
+  same_ground l h = λ i. record { head = l.head; args = same_terms l.terms h i }
 
 module _ (d : Domain) (k : Knowledge) (s : State) (args : List Name) where
   -- a fact that isn't known
@@ -121,6 +146,22 @@ module _ (d : Domain) (instances : List (Name × Name)) (act : Act) (g : GroundA
   grounded_of a is e =
       of_many a _ _ (unless (first_unfit d instances a.params act.args 0) (grounded a act)) (of_fitting a (first_unfit d instances a.params act.args 0))
       (ap (λ o. ground_by d instances o act) (sym is) ∙ e)
+
+-- an act of no action has none
+pub none_grounded : {A : Type 0} (d : Domain) (instances : List (Name × Name)) (act : Act) (g : GroundAction) → action_of d act.action ≡ None → ground_act d instances act ≡ Ok g → A
+none_grounded d instances act g is e = no_err NoAction (ap (λ o. ground_by d instances o act) (sym is) ∙ e)
+  where
+    no_err : {A : Type 0} (why : GroundRefusal) → Err why ≡ Ok g → A
+    no_err why e = absurd (cc)
+
+-- nor has one of too many arguments
+pub many_grounded : {A : Type 0} (d : Domain) (instances : List (Name × Name)) (act : Act) (g : GroundAction) (a : ActionDef) → action_of d act.action ≡ Some a → length a.params < length act.args → ground_act d instances act ≡ Ok g → A
+many_grounded d instances act g a is h e =
+    by (length a.params == length act.args) (Arity (length a.params) (length act.args)) _ (grind (arith, nat_tests, h)) (ap (λ o. ground_by d instances o act) (sym is) ∙ e)
+  where
+    by : {A : Type 0} (b : Bool) (why : GroundRefusal) (r : Result GroundAction GroundRefusal) → b ≡ false → cond b r (Err why) ≡ Ok g → A
+    by false why r f e = absurd (cc)
+    by true why r f e = absurd (cc)
 
 -- ---- what is added
 

@@ -1,5 +1,5 @@
 -- The moves by ground actions that are gathered one after another.
-use Rattle.std.proofs.Common.{◌≡◌, ℕ, ◌+◌, List, [], ◌∷◌, ◌++◌, false, Option, Some, None, option_map, option_to_list, Result, Ok, Err, filter_map, flat_map, drop, zero, suc, ◌||◌, refl, ap, sym, ◌∙◌}
+use Rattle.std.proofs.Common.{◌≡◌, ℕ, ◌+◌, List, [], ◌∷◌, ◌++◌, false, Option, Some, None, option_map, option_to_list, Result, Ok, Err, filter_map, flat_map, drop, zero, suc, ◌||◌, inl, inr, refl, ap, sym, ◌∙◌, subst}
 use Rattle.std.specs.List.{cons_option, list_any}
 use Rattle.std.specs.Result.{result_ok}
 use Rattle.std.proofs.lemmas.Grind.{flat_map-append}
@@ -10,12 +10,17 @@ use Rattle.ps_world.specs.declared.domains.Domain.{Domain}
 use Rattle.ps_world.specs.declared.known.Knowledge.{Knowledge}
 use Rattle.ps_world.specs.Knowledge.{same_fact}
 use Rattle.ps_world.specs.declared.facts.Fact.{Fact}
+use Rattle.ps_world.specs.declared.names.Name.{Name}
+use Rattle.ps_action.specs.Grounding.{ground_act}
+use Rattle.ps_action.specs.declared.acts.Act.{Act}
 use Rattle.ps_action.specs.declared.acts.GroundAction.{GroundAction}
 use Rattle.ps_action.specs.declared.refusals.GroundRefusal.{GroundRefusal}
-use Rattle.ps_solve.specs.Fixed.{possible_facts}
+use Rattle.ps_solve.specs.Fitting.{grounds_of}
+use Rattle.ps_solve.specs.Fixed.{AreFixed, possible_facts}
 use Rattle.ps_solve.specs.Nodes.{Node, grounds, move, moves}
-use Rattle.ps_solve.specs.Rows.{AreAtoms, adds}
+use Rattle.ps_solve.specs.Rows.{AreAtoms, IsOver, adds}
 use Rattle.ps_solve.specs.States.{State, stepped}
+use Rattle.ps_solve.specs.Thinned.{IsIdle, IsThinned}
 use Rattle.ps_solve.proofs.Preparing.{atoms_of_both}
 
 as_list : {A : Type 0} (o : Option A) → cons_option o [] ≡ option_to_list o
@@ -105,3 +110,55 @@ pub atoms_possible : (d : Domain) (k : Knowledge) (atoms added : List Fact) → 
 atoms_possible d k atoms added is a f gone =
     let first = (atoms_of_both (possible_facts d k) k.facts (flat_map adds (grounds d k)) (λ g h. h)).0 in
     is f ∙ are_both (possible_facts d k) k.facts added first a f gone
+
+-- ---- acts without some that lead nowhere
+
+module _ (d : Domain) (k : Knowledge) (heads : List Name) (fixed facts : List Fact) (are : AreFixed heads fixed facts) (n : Node) (over : IsOver facts n.state) where
+  abbrev ground_of : Act → Option GroundAction
+  ground_of act = result_ok (ground_act d k.instances act)
+
+  idle_one : (act : Act) → IsIdle d heads fixed act → AreAtoms facts (flat_map adds (option_to_list (ground_of act))) → moves d k (option_to_list (ground_of act)) n ≡ []
+  idle_one act idle atoms = idle_moved d k n (ground_act d k.instances act) facts atoms (λ g e one. idle k g facts e are one n.state over)
+
+  moves_left : (act : Act) (acts : List Act) (ms : List Node) → ms ≡ moves d k (grounds_of d k acts) n → moves d k (option_to_list (ground_of act)) n ≡ [] → ms ≡ moves d k (grounds_of d k (act ∷ acts)) n
+  moves_left act acts ms e none = e ∙ ap (λ (l : List Node). l ++ moves d k (grounds_of d k acts) n) (sym none) ∙ moves_of_one d k n (ground_of act) (grounds_of d k acts)
+
+  moves_kept : (act other : Act) (acts kept : List Act) → other ≡ act → moves d k (grounds_of d k kept) n ≡ moves d k (grounds_of d k acts) n → moves d k (grounds_of d k (other ∷ kept)) n ≡ moves d k (grounds_of d k (act ∷ acts)) n
+  moves_kept act other acts kept same e =
+      ap (λ (x : Act). moves d k (grounds_of d k (x ∷ kept)) n) same
+      ∙ sym (moves_of_one d k n (ground_of act) (grounds_of d k kept))
+      ∙ ap (λ (l : List Node). moves d k (option_to_list (ground_of act)) n ++ l) e
+      ∙ moves_of_one d k n (ground_of act) (grounds_of d k acts)
+
+  -- they lead to the same nodes
+  pub thinned_moves : (kept acts : List Act) → IsThinned (IsIdle d heads fixed) kept acts → AreAtoms facts (flat_map adds (grounds_of d k acts)) → moves d k (grounds_of d k kept) n ≡ moves d k (grounds_of d k acts) n
+  thinned_moves kept [] e atoms = ap (λ (l : List Act). moves d k (grounds_of d k l) n) e
+  thinned_moves [] (act ∷ acts) w atoms =
+      let both = given_first {A = Act} ground_of (ground_of act) (grounds_of d k acts) facts atoms in
+      moves_left act acts [] (thinned_moves [] acts w.1 both.1) (idle_one act w.0 both.0)
+  thinned_moves (other ∷ kept) (act ∷ acts) w atoms =
+      let both = given_first {A = Act} ground_of (ground_of act) (grounds_of d k acts) facts atoms in
+      elim w [
+        | inl h ↦ moves_kept act other acts kept h.0 (thinned_moves kept acts h.1 both.1)
+        | inr h ↦ moves_left act acts (moves d k (grounds_of d k (other ∷ kept)) n) (thinned_moves (other ∷ kept) acts h.1 both.1) (idle_one act h.0 both.0)
+      ]
+
+module _ (d : Domain) (k : Knowledge) (P : Act → Type 0) (facts : List Fact) where
+  abbrev adds_of : List Act → List Fact
+  adds_of acts = flat_map adds (grounds_of d k acts)
+
+  -- and what they add is added by one of all
+  pub thinned_adds : (kept acts : List Act) → IsThinned P kept acts → AreAtoms facts (adds_of acts) → AreAtoms facts (adds_of kept)
+  thinned_adds kept [] e atoms = subst (λ (l : List Act). AreAtoms facts (adds_of l)) (sym e) (λ f gone. refl)
+  thinned_adds [] (act ∷ acts) w atoms = λ f gone. refl
+  thinned_adds (other ∷ kept) (act ∷ acts) w atoms =
+      let ground : Act → Option GroundAction = λ a. result_ok (ground_act d k.instances a) in
+      let both = given_first {A = Act} ground (ground act) (grounds_of d k acts) facts atoms in
+      elim w [
+        | inl h ↦ subst (λ (x : Act). AreAtoms facts (adds_of (x ∷ kept))) (sym h.0) (adds_both (ground act) (grounds_of d k kept) both.0 (thinned_adds kept acts h.1 both.1))
+        | inr h ↦ thinned_adds (other ∷ kept) acts h.1 both.1
+      ]
+    where
+      adds_both : (o : Option GroundAction) (gs : List GroundAction) → AreAtoms facts (flat_map adds (option_to_list o)) → AreAtoms facts (flat_map adds gs) → AreAtoms facts (flat_map adds (cons_option o gs))
+      adds_both None gs a b = b
+      adds_both (Some g) gs a b = are_both facts (adds g) (flat_map adds gs) (alone facts g a) b

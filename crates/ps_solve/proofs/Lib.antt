@@ -27,4 +27,5 @@ pub mod SameRows
 pub mod SameStates
 pub mod Settled
 pub mod Stepping
+pub mod Thinning
 pub mod Whole

@@ -1,40 +1,16 @@
 -- The acts of an action, listed one list of arguments after another, and how many they are.
-use Rattle.std.proofs.Common.{◌≡◌, ℕ, zero, suc, ◌+◌, ◌*◌, ◌<◌, ◌≤◌, ◌⊎◌, inl, inr, min, List, [], ◌∷◌, ◌++◌, length, get_or, map, drop, refl, ap, sym, ◌∙◌, arith, append_assoc, length-append, mul_assoc}
+use Rattle.std.proofs.Common.{◌≡◌, ℕ, zero, suc, ◌+◌, ◌*◌, ◌<◌, ◌≤◌, ◌⊎◌, inl, inr, min, List, [], ◌∷◌, length, get_or, map, drop, refl, ap, sym, ◌∙◌, arith, length-append, mul_assoc}
 use Rattle.std.specs.List.{flat_map}
-use Rattle.std.proofs.lemmas.List.{drop_more, length-map, map-append}
+use Rattle.std.proofs.lemmas.List.{drop_more, length-map}
 use Rattle.std.proofs.lemmas.Nat.{mul-le}
 use Rattle.std.proofs.lemmas.Bool.{cases_lt}
 use Rattle.ps_world.specs.declared.names.Name.{Name}
 use Rattle.ps_world.specs.declared.actions.ActionDef.{ActionDef}
 use Rattle.ps_world.specs.declared.domains.Domain.{Domain}
 use Rattle.ps_action.specs.Grounding.{all_ground, all_of_action, by_name, choices, grounded, picks}
-use Rattle.ps_action.specs.declared.acts.Act.{Act}
 use Rattle.ps_action.specs.declared.acts.GroundAction.{GroundAction}
-use Rattle.ps_solve.specs.Acts.{act_with, acts_from, acts_with}
+use Rattle.ps_solve.specs.Acts.{act_with, acts_with}
 use Rattle.ps_solve.proofs.Lists.{map-flat_map, map-map}
-
-module _ (a : ActionDef) (first : List Name) where
-  -- a name before each list comes after the first arguments
-  acts_from-before : (n : Name) (lists : List (List Name)) → acts_from a first (map (λ args. n ∷ args) lists) ≡ acts_from a (first ++ n ∷ []) lists
-  acts_from-before n [] = refl
-  acts_from-before n (args ∷ lists) = rw (append_assoc first (n ∷ []) args, acts_from-before n lists) refl
-
-  acts_from-both : (xs ys : List (List Name)) → acts_from a first (xs ++ ys) ≡ acts_from a first xs ++ acts_from a first ys
-  acts_from-both xs ys = map-append (λ args. act_with a (first ++ args)) xs ys
-
-  -- what is still to come, after the lists that one more name begins
-  pub acts_more : (lists : List (List Name)) (names : List Name) (i : ℕ) (none : Name) (done more whole : List Act) → i < length names → more ≡ done ++ acts_from a (first ++ get_or names i none ∷ []) lists
-      → done ++ acts_from a first (flat_map (λ n. map (λ args. n ∷ args) lists) (drop i names)) ≡ whole → more ++ acts_from a first (flat_map (λ n. map (λ args. n ∷ args) lists) (drop (i + 1) names)) ≡ whole
-  acts_more lists names i none done more whole within is so_far =
-      let n = get_or names i none in
-      let F : Name → List (List Name) = λ n. map (λ args. n ∷ args) lists in
-      let later = flat_map F (drop (i + 1) names) in
-      let here : acts_from a first (F n ++ later) ≡ acts_from a (first ++ n ∷ []) lists ++ acts_from a first later =
-      acts_from-both (F n) later ∙ ap (λ (l : List Act). l ++ acts_from a first later) (acts_from-before n lists) in
-      ap (λ (l : List Act). l ++ acts_from a first later) is
-      ∙ (append_assoc done (acts_from a (first ++ n ∷ []) lists) (acts_from a first later)
-      ∙ (ap (λ (l : List Act). done ++ l) (sym here)
-      ∙ (sym (ap (λ (l : List Name). done ++ acts_from a first (flat_map F l)) (drop_more names i none within)) ∙ so_far)))
 
 -- ---- how many there are
 

@@ -1,5 +1,5 @@
 -- The acts of an action, as they are listed.
-use Rattle.std.specs.Prelude.{List, ◌++◌, map}
+use Rattle.std.specs.Prelude.{List, map}
 use Rattle.ps_world.specs.declared.names.Name.{Name}
 use Rattle.ps_world.specs.declared.actions.ActionDef.{ActionDef}
 use Rattle.ps_world.specs.declared.domains.Domain.{Domain}
@@ -10,10 +10,6 @@ use Rattle.ps_domain.specs.Listing.{choices_in}
 -- the act of an action with these arguments
 abbrev pub act_with : ActionDef → List Name → Act
 act_with a args = record { action = a.name; args = args }
-
--- the acts of an action whose arguments begin with the first ones and go on with each of these lists
-abbrev pub acts_from : ActionDef → List Name → List (List Name) → List Act
-acts_from a first lists = map (λ args. act_with a (first ++ args)) lists
 
 -- all acts of an action among instances in the order of their names
 abbrev pub acts_with : Domain → List (Name × Name) → ActionDef → List Act

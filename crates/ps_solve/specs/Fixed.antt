@@ -1,5 +1,5 @@
 -- Facts of predicates that no action adds: those of them that aren't known at first never are.
-use Rattle.std.specs.Prelude.{◌≡◌, false, Option, Some, None, List, ◌++◌, filter_map, flat_map}
+use Rattle.std.specs.Prelude.{◌≡◌, ℕ, Bool, true, false, nat_le, Option, Some, None, List, ◌++◌, filter_map, flat_map}
 use Rattle.std.specs.List.{list_any}
 use Rattle.ps_world.specs.Knowledge.{same_fact}
 use Rattle.ps_world.specs.Names.{same_name}
@@ -10,6 +10,8 @@ use Rattle.ps_world.specs.declared.domains.Domain.{Domain}
 use Rattle.ps_world.specs.declared.facts.Fact.{Fact}
 use Rattle.ps_world.specs.declared.known.Knowledge.{Knowledge}
 use Rattle.ps_world.specs.declared.names.Name.{Name}
+use Rattle.ps_world.specs.declared.schemas.Term.{Term}
+use Rattle.ps_world.specs.declared.schemas.Term.TheVariants.{Var, Const}
 use Rattle.ps_solve.specs.Nodes.{grounds}
 use Rattle.ps_solve.specs.Rows.{adds}
 
@@ -34,3 +36,8 @@ possible_facts d k = k.facts ++ flat_map adds (grounds d k)
 -- a fact of none of these predicates that is none of these facts is none of those
 abbrev pub AreFixed : List Name → List Fact → List Fact → Type 0
 AreFixed heads fixed facts = (f : Fact) → list_any (same_name f.head) heads ≡ false → list_any (same_fact f) fixed ≡ false → list_any (same_fact f) facts ≡ false
+
+-- whether a term is no variable before this one
+abbrev pub is_from : ℕ → Term → Bool
+is_from n (Var i) = nat_le n i
+is_from n (Const name) = true

@@ -11,3 +11,4 @@ pub mod Prepared
 pub mod Rows
 pub mod Sample
 pub mod States
+pub mod Thinned

@@ -1,10 +1,13 @@
-//! The acts of a search: all that can be grounded, in the order of the domain's text and of their arguments.
-ghost use Rattle.std.specs.Prelude.{◌≡◌, ◌==◌, ◌+◌, ◌++◌, ◌<◌, ◌≤◌, ◌*◌, [], ◌∷◌, true, false, length, map, min, IfOk, MatchOption, OnOk};
-ghost use Rattle.std.specs.List.{list_any};
+//! The acts of a search: all that can be grounded and may lead anywhere, in the order of the domain's text and of their arguments.
+ghost use Rattle.std.specs.Prelude.{◌≡◌, ◌+◌, ◌++◌, ◌<◌, ◌≤◌, [], ◌∷◌, List, length, map, min, IfOk, IsSome, MatchOption, OnOk};
+ghost use Rattle.ps_world.specs.declared.names.Name.{Name as NameView};
 ghost use Rattle.ps_action.specs.Grounding.{all_ground, by_name, most_ground, picks};
+ghost use Rattle.ps_action.specs.declared.acts.Act.{Act as ActView};
 ghost use Rattle.ps_domain.specs.Listing.{choices_in};
-ghost use Rattle.ps_solve.specs.Acts.{act_with, acts_from, acts_with};
+ghost use Rattle.ps_solve.specs.Acts.{act_with, acts_with};
+ghost use Rattle.ps_solve.specs.Thinned.{GoesOn, IsIdle, IsIdleFrom, IsThinned};
 
+use super::fixed::Fixed;
 use ps_action::Act;
 use ps_domain::{Expert, MOST_GROUND};
 use ps_world::{ActionDef, Args, Name, Param, Seq};
@@ -71,110 +74,235 @@ fn pick_count(choices: &[Seq<Name>]) -> usize
     count
 }
 
-/// Adds the act with these arguments.
-fn push_one(action: &ActionDef, args: &[Name], all: &mut Vec<Act>) -> Result<(), AllocError>
-    requires { length action.now.params ≡ length args.now }
-    ensures { OnOk result (all.new.items ≡ all.old.items ++ act_with action.now args.now ∷ []) }
+/// Makes the names these, then this one, and then those.
+fn lay_out(
+    args: &mut Vec<Name>,
+    before: &[Name],
+    name: Name,
+    tail: &[Name],
+) -> Result<(), AllocError>
+    ensures { OnOk result (args.new.items ≡ before.now ++ name ∷ tail.now) }
 {
-    // Parameters say of their length that they are few, and so are the arguments.
-    let _count = action.params.len();
-    let Some(args) = Args::of(args) else {
-        unreachable!()
-    };
-    all.push(Act {
-        action: action.name,
-        args,
-    })?;
-    Ok(())
+    args.clear();
+    args.extend_from_slice(before)?;
+    args.push(name)?;
+    args.extend_from_slice(tail)
 }
 
-/// Adds the act with each list of arguments that begins with the first ones and goes on with one of each choice.
-fn push_picks(
-    action: &ActionDef,
-    first: &mut Vec<Name>,
-    choices: &[Seq<Name>],
-    all: &mut Vec<Act>,
-) -> Result<(), AllocError>
-    requires { length action.now.params ≡ length first.old.items + length choices.now }
-    ensures first { OnOk result (first.new.items ≡ first.old.items) }
-    ensures all { OnOk result (all.new.items ≡ all.old.items
-        ++ acts_from action.now first.old.items (picks choices.now)) }
+/// These names, and one more.
+fn with_one(alloc: Global, names: &[Name], name: Name) -> Result<Vec<Name>, AllocError>
+    ensures { IfOk result (λ more. more.items ≡ names.now ++ name ∷ []) }
 {
-    let Some((names, rest)) = choices.split_first() else {
-        return push_one(action, first.as_slice(), all);
-    };
-    for name in names.as_slice() {
-        first.push(*name)?;
-        push_picks(action, first, rest, all)?;
-        first.pop();
+    let mut more = Vec::with_capacity(alloc, names.len() + 1)?;
+    more.extend_from_slice(names)?;
+    more.push(name)?;
+    Ok(more)
+}
+
+/// An action whose acts are listed, and the facts by which many of them lead nowhere.
+#[derive(Clone, Copy)]
+struct Listing<'a> {
+    expert: &'a Expert,
+    fixed: &'a Fixed,
+    action: Name,
+}
+
+impl<'a> Listing<'a> {
+    /// Adds the list of arguments with this name and then those, unless it leads nowhere, whatever the arguments before it. Conditions
+    /// are only looked at where they are asked.
+    fn push_one(
+        &self,
+        is_asked: bool,
+        before: &[Name],
+        name: Name,
+        tail: &[Name],
+        args: &mut Vec<Name>,
+        kept: &mut Vec<Args>,
+    ) -> Result<(), AllocError>
+        ensures { OnOk result ((left : List (List NameView)) (whole : List (List NameView))
+            → GoesOn (IsIdleFrom self.now.expert.now self.now.fixed.now.heads.keys
+            self.now.fixed.now.facts self.now.action (length before.now))
+            ((name ∷ tail.now) ∷ left) whole kept.old.items
+            → GoesOn (IsIdleFrom self.now.expert.now self.now.fixed.now.heads.keys
+            self.now.fixed.now.facts self.now.action (length before.now))
+            left whole kept.new.items) }
+    {
+        lay_out(args, before, name, tail)?;
+        if self.fixed.is_idle(self.expert, self.action, is_asked, before, args.as_slice()) {
+            return Ok(());
+        }
+        let (_, list) = args.as_slice().split_at(before.len());
+        let Some(list) = Args::of(list) else {
+            unreachable!()
+        };
+        kept.push(list)?;
+        Ok(())
+    }
+
+    /// Adds the lists of arguments with this name and then one of those lists.
+    fn push_each(
+        &self,
+        is_asked: bool,
+        before: &[Name],
+        name: Name,
+        tails: &[Args],
+        args: &mut Vec<Name>,
+        kept: &mut Vec<Args>,
+    ) -> Result<(), AllocError>
+        ensures { OnOk result ((left : List (List NameView)) (whole : List (List NameView))
+            → GoesOn (IsIdleFrom self.now.expert.now self.now.fixed.now.heads.keys
+            self.now.fixed.now.facts self.now.action (length before.now))
+            (map (λ args. name ∷ args) tails.now ++ left) whole kept.old.items
+            → GoesOn (IsIdleFrom self.now.expert.now self.now.fixed.now.heads.keys
+            self.now.fixed.now.facts self.now.action (length before.now))
+            left whole kept.new.items) }
+    {
+        for tail in tails {
+            self.push_one(is_asked, before, name, tail.as_slice(), args, kept)?;
+        }
+        Ok(())
+    }
+
+    /// The lists of arguments with one of each choice, in their order, without those that lead nowhere, whatever the arguments
+    /// before them, for which these stand.
+    fn lists(
+        &self,
+        alloc: Global,
+        before: &[Name],
+        choices: &[Seq<Name>],
+    ) -> Result<Vec<Args>, AllocError>
+        ensures { IfOk result (λ kept. IsThinned (IsIdleFrom self.now.expert.now
+            self.now.fixed.now.heads.keys self.now.fixed.now.facts self.now.action
+            (length before.now)) kept.items (picks choices.now)) }
+    {
+        let mut kept = Vec::new(alloc);
+        let Some((names, rest)) = choices.split_first() else {
+            let Some(none) = Args::of(&[]) else {
+                unreachable!()
+            };
+            kept.push(none)?;
+            return Ok(kept);
+        };
+        let longer = with_one(alloc, before, Name::OBJECT)?;
+        let tails = self.lists(alloc, longer.as_slice(), rest)?;
+        let is_asked = self.fixed.has_asked(self.expert, self.action, before.len());
+        let mut args = Vec::new(alloc);
+        for name in names.as_slice() {
+            self.push_each(
+                is_asked,
+                before,
+                *name,
+                tails.as_slice(),
+                &mut args,
+                &mut kept,
+            )?;
+        }
+        Ok(kept)
+    }
+}
+
+/// Adds the acts of an action with these lists of arguments.
+fn push_with(action: &ActionDef, lists: &[Args], all: &mut Vec<Act>) -> Result<(), AllocError>
+    ensures { OnOk result (all.new.items ≡ all.old.items ++ map (act_with action.now) lists.now) }
+{
+    all.reserve(lists.len())?;
+    for args in lists {
+        all.push(Act {
+            action: action.name,
+            args: *args,
+        })?;
     }
     Ok(())
 }
 
-/// Adds all acts of an action from the choices for its parameters, of which there are so many lists of arguments, or more.
+/// Adds the acts of an action from the choices for its parameters, of which there are so many lists of arguments, without acts that
+/// lead nowhere.
 fn push_counted(
     alloc: Global,
+    expert: &Expert,
+    fixed: &Fixed,
     action: &ActionDef,
     choices: &[Seq<Name>],
     count: usize,
     all: &mut Vec<Act>,
 ) -> Result<(), AllocError>
-    requires choices { length action.now.params ≡ length choices.now }
-    requires count { count ≡ min ENOUGH (length (picks choices.now)) }
-    ensures { OnOk result (all.new.items ≡ all.old.items
-        ++ map (act_with action.now) (picks choices.now)) }
+    requires { count ≡ min ENOUGH (length (picks choices.now)) }
+    ensures { OnOk result ((left : List ActView) (whole : List ActView)
+        → GoesOn (IsIdle expert.now fixed.now.heads.keys fixed.now.facts)
+        (map (act_with action.now) (picks choices.now) ++ left) whole all.old.items
+        → GoesOn (IsIdle expert.now fixed.now.heads.keys fixed.now.facts)
+        left whole all.new.items) }
 {
     // An earlier parameter's choices would be tried in vain.
     if count == 0 {
         return Ok(());
     }
-    all.reserve(count)?;
-    let mut first = Vec::with_capacity(alloc, choices.len())?;
-    push_picks(action, &mut first, choices, all)
+    let listing = Listing {
+        expert,
+        fixed,
+        action: action.name,
+    };
+    let lists = listing.lists(alloc, &[], choices)?;
+    push_with(action, lists.as_slice(), all)?;
+    Ok(())
 }
 
-/// Adds all acts of an action, unless there are more than 50,000 with them, and answers whether it did.
+/// Adds the acts of an action, without acts that lead nowhere, and answers how many were counted with them before some were left out;
+/// or None where those are more than 50,000.
 fn push_all_of(
     alloc: Global,
     expert: &Expert,
+    fixed: &Fixed,
     sorted: &BTreeMap<Name, Name>,
     action: &ActionDef,
+    counted: usize,
     all: &mut Vec<Act>,
-) -> Result<bool, AllocError>
-    requires { length all.old.items ≤ most_ground }
-    ensures all { IfOk result (λ fit. fit ≡ true → all.new.items ≡ all.old.items
-        ++ acts_with expert.now sorted.now.entries action.now) }
-    ensures few { IfOk result (λ fit. fit ≡ true → length all.new.items ≤ most_ground) }
-    ensures many { IfOk result (λ fit. fit ≡ false → most_ground < length (all.old.items
-        ++ acts_with expert.now sorted.now.entries action.now)) }
+) -> Result<Option<usize>, AllocError>
+    requires { counted ≤ most_ground }
+    ensures thinned { IfOk result (λ sum. IsSome sum
+        → (left : List ActView) (whole : List ActView)
+        → GoesOn (IsIdle expert.now fixed.now.heads.keys fixed.now.facts)
+        (acts_with expert.now sorted.now.entries action.now ++ left) whole all.old.items
+        → GoesOn (IsIdle expert.now fixed.now.heads.keys fixed.now.facts)
+        left whole all.new.items) }
+    ensures count { IfOk result (λ sum. MatchOption sum
+        (most_ground < counted + length (acts_with expert.now sorted.now.entries action.now))
+        (λ n. (n ≤ most_ground)
+        × (n ≡ counted + length (acts_with expert.now sorted.now.entries action.now)))) }
 {
     let choices = all_choices(alloc, expert, sorted, action.params.as_slice())?;
     let count = pick_count(choices.as_slice());
-    if all.len() + count > MOST_GROUND {
-        return Ok(false);
+    if counted + count > MOST_GROUND {
+        return Ok(None);
     }
-    push_counted(alloc, action, choices.as_slice(), count, all)?;
-    Ok(true)
+    push_counted(alloc, expert, fixed, action, choices.as_slice(), count, all)?;
+    Ok(Some(counted + count))
 }
 
 /// The acts that can be grounded among these instances, by the order of the domain's text, and of each action by the names of the
-/// arguments. None exactly where there are more than 50,000, which is found before those of the action that passes it are made.
+/// arguments, without acts that lead nowhere. None exactly where there are more than 50,000 with those, which is found before those
+/// of the action that passes it are made.
 pub fn all_acts(
     alloc: Global,
     expert: &Expert,
+    fixed: &Fixed,
     instances: &[(Name, Name)],
 ) -> Result<Option<Vec<Act>>, AllocError>
     ensures { IfOk result (λ acts. MatchOption acts
         (most_ground < length (all_ground expert.now instances.now)) (λ v.
-        (v.items ≡ map (λ g. g.act) (all_ground expert.now instances.now))
+        (IsThinned (IsIdle expert.now fixed.now.heads.keys fixed.now.facts) v.items
+        (map (λ g. g.act) (all_ground expert.now instances.now)))
         × (length (all_ground expert.now instances.now) ≤ most_ground))) }
 {
     let sorted = by_name(alloc, instances)?;
     let mut all = Vec::new(alloc);
+    let mut counted = 0;
     for action in expert.domain().actions.as_slice() {
-        if !push_all_of(alloc, expert, &sorted, action, &mut all)? {
+        let Some(sum) = push_all_of(alloc, expert, fixed, &sorted, action, counted, &mut all)?
+        else {
             return Ok(None);
-        }
+        };
+        counted = sum;
     }
     Ok(Some(all))
 }

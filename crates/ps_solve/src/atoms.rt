@@ -68,7 +68,7 @@ impl Atoms {
         }
     }
 
-    /// The place of a fact, as `place_of` gives it. It is found fast where it is that place, or a little after it.
+    /// The place of a fact, as `place_of` gives it. It is found fast where it is that place, or a little after or before it.
     pub fn place_near(&self, near: usize, fact: &Fact) -> Option<usize>
         ensures place { MatchOption result (list_any (same_fact fact.now) self.now
             ≡ false) (λ i. slice_get self.now i ≡ Some fact.now) }
@@ -76,6 +76,11 @@ impl Atoms {
     {
         let _atoms = self.as_slice();
         for place in near..near.saturating_add(4) {
+            if self.is_at(place, fact) {
+                return Some(place);
+            }
+        }
+        for place in near.saturating_sub(3)..near {
             if self.is_at(place, fact) {
                 return Some(place);
             }

@@ -14,6 +14,7 @@ ghost use Rattle.ps_solve.specs.States.{state_of};
 ghost use Rattle.ps_solve.specs.Nodes.{Node, grounds, moves};
 ghost use Rattle.ps_solve.specs.Prepared.{AreSound, successor_nodes};
 ghost use Rattle.ps_solve.specs.Rows.{AreAtoms, IsOver, adds, plain_node, plain_state};
+ghost use Rattle.ps_solve.specs.Thinned.{IsIdle, IsThinned};
 ghost use Rattle.ps_solve.specs.declared.nodes.Reached.{Reached as ReachedView};
 
 use super::acts::all_acts;
@@ -42,20 +43,15 @@ impl Forward {
     }
 }
 
-/// Puts an act at the end, unless it can't be grounded or leads nowhere, since a fact that it needs never is known.
+/// Puts an act at the end, unless it can't be grounded.
 fn push_useful(
     expert: &Expert,
     problem: &Problem,
-    fixed: &Fixed,
     act: &Act,
     useful: &mut Vec<Act>,
 ) -> Result<(), AllocError>
     requires { AreFit expert.now problem.now useful.old.items }
-    ensures moves { OnOk result ((facts : List FactView) (n : Node)
-        → AreFixed fixed.now.heads.keys fixed.now.facts facts
-        → AreAtoms facts (flat_map adds
-        (option_to_list (result_ok (ground_act expert.now problem.now.instances act.now))))
-        → IsOver facts n.state
+    ensures moves { OnOk result ((n : Node)
         → moves expert.now problem.now (grounds_of expert.now problem.now useful.new.items) n
         ≡ moves expert.now problem.now (grounds_of expert.now problem.now useful.old.items) n
         ++ moves expert.now problem.now
@@ -70,9 +66,6 @@ fn push_useful(
         (flat_map adds (grounds_of expert.now problem.now useful.new.items)) ≡ false) }
     ensures fit { OnOk result (AreFit expert.now problem.now useful.new.items) }
 {
-    if fixed.is_idle(expert, act) {
-        return Ok(());
-    }
     if !is_fit(expert, problem, act) {
         return Ok(());
     }
@@ -80,19 +73,15 @@ fn push_useful(
     Ok(())
 }
 
-/// Acts whose ground actions lead to the same nodes as those of these acts, without those that can't be grounded or lead nowhere: an
-/// act says its action by its name alone, so that of two actions with one name it means the first.
+/// Acts whose ground actions lead to the same nodes as those of these acts, without those that can't be grounded: an act says its
+/// action by its name alone, so that of two actions with one name it means the first.
 fn useful_of(
     alloc: Global,
     expert: &Expert,
     problem: &Problem,
-    fixed: &Fixed,
     acts: &[Act],
 ) -> Result<Vec<Act>, AllocError>
-    ensures moves { IfOk result (λ v. (facts : List FactView) (n : Node)
-        → AreFixed fixed.now.heads.keys fixed.now.facts facts
-        → AreAtoms facts (flat_map adds (grounds_of expert.now problem.now acts.now))
-        → IsOver facts n.state
+    ensures moves { IfOk result (λ v. (n : Node)
         → moves expert.now problem.now (grounds_of expert.now problem.now v.items) n
         ≡ moves expert.now problem.now (grounds_of expert.now problem.now acts.now) n) }
     ensures adds { IfOk result (λ v. AreAtoms
@@ -102,7 +91,7 @@ fn useful_of(
 {
     let mut useful = Vec::new(alloc);
     for act in acts {
-        push_useful(expert, problem, fixed, act, &mut useful)?;
+        push_useful(expert, problem, act, &mut useful)?;
     }
     Ok(useful)
 }
@@ -135,27 +124,32 @@ impl<'a> Question<'a> {
         ensures { IfOk result (λ a. a ≡ answer self.now.expert.now self.now.problem.now
             self.now.budget) }
     {
-        match all_acts(alloc, self.expert, instances)? {
-            Some(acts) => self.answer_by(alloc, instances, &acts),
+        let fixed = Fixed::of(alloc, self.expert, self.problem)?;
+        match all_acts(alloc, self.expert, &fixed, instances)? {
+            Some(acts) => self.answer_by(alloc, instances, &fixed, &acts),
             None => Ok(Answer::TooMany),
         }
     }
 
-    /// The answer, from all acts.
+    /// The answer, from all acts without some that lead nowhere.
     fn answer_by(
         &self,
         alloc: Global,
         instances: &[(Name, Name)],
+        fixed: &Fixed,
         acts: &[Act],
     ) -> Result<Answer, AllocError>
         requires goal { self.now.problem.now.goal ≡ Some self.now.goal.now }
         requires instances { instances.now ≡ self.now.problem.now.instances }
-        requires acts { acts.now ≡ possible_acts self.now.expert.now self.now.problem.now }
+        requires fixed { AreFixed fixed.now.heads.keys fixed.now.facts
+            (possible_facts self.now.expert.now self.now.problem.now) }
+        requires acts { IsThinned (IsIdle self.now.expert.now fixed.now.heads.keys
+            fixed.now.facts) acts.now
+            (possible_acts self.now.expert.now self.now.problem.now) }
         ensures { IfOk result (λ a. a ≡ searched self.now.expert.now self.now.problem.now
             self.now.budget) }
     {
-        let fixed = Fixed::of(alloc, self.expert, self.problem)?;
-        let useful = useful_of(alloc, self.expert, self.problem, &fixed, acts)?;
+        let useful = useful_of(alloc, self.expert, self.problem, acts)?;
         self.answer_over(alloc, instances, &useful)
     }
 

@@ -1,4 +1,4 @@
-use Rattle.std.proofs.Common.{◌≡◌, ◌+◌, ◌∷◌, List, drop, map, ap, sym, ◌∙◌, arith}
+use Rattle.std.proofs.Common.{◌≡◌, ◌+◌, ◌++◌, ◌∷◌, List, drop, map, ap, sym, ◌∙◌, arith}
 use Rattle.std.proofs.lemmas.List.{drop_more}
 use Rattle.ps_world.specs.Trees.{CondTree}
 use Rattle.ps_world.specs.declared.conditions.Cond.{Cond}
@@ -14,6 +14,6 @@ returns-then-is_vain c =
     let i = c.loop-cond.cond-index in
     let x = c.cond-item.result in
     let split : drop i items ≡ x ∷ drop (i + 1) items = drop_more items i x (omega arith) ∙ ap (λ (y : Cond). y ∷ drop (i + 1) items) (sym c.cond-item.is) in
-    λ yes d k s fixed.
-    ap (λ (cs : List CondTree). all_true d (at k s) (map (put_cond c.args.args.now) cs)) (sym c.as_slice-cond-items.ensures)
-    ∙ vain_at d k s c.args.args.now i items (drop (i + 1) items) x split (c.is_vain.ensures c.if-is_vain.true d k s fixed)
+    λ yes tail laid first same d k s fixed.
+    ap (λ (cs : List CondTree). all_true d (at k s) (map (put_cond (first ++ tail)) cs)) (sym c.as_slice-cond-items.ensures)
+    ∙ vain_at d k s (first ++ tail) i items (drop (i + 1) items) x split (c.is_vain.ensures c.if-is_vain.true tail laid first same d k s fixed)

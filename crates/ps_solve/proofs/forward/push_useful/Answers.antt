@@ -1,4 +1,4 @@
-use Rattle.std.proofs.Common.{◌++◌, List, Option, Result, flat_map, option_to_list, ap, sym, ◌∙◌, subst}
+use Rattle.std.proofs.Common.{◌++◌, List, Option, flat_map, option_to_list, ap, sym, ◌∙◌, subst}
 use Rattle.std.specs.List.{list_any}
 use Rattle.std.specs.Result.{result_ok}
 use Rattle.std.proofs.lemmas.List.{append-nil}
@@ -6,29 +6,18 @@ use Rattle.ps_world.specs.Knowledge.{same_fact}
 use Rattle.ps_action.specs.Grounding.{ground_act}
 use Rattle.ps_action.specs.declared.acts.Act.{Act}
 use Rattle.ps_action.specs.declared.acts.GroundAction.{GroundAction}
-use Rattle.ps_action.specs.declared.refusals.GroundRefusal.{GroundRefusal}
 use Rattle.ps_solve.specs.Fitting.{AreFit, grounds_of}
-use Rattle.ps_solve.specs.Nodes.{Node, moves}
+use Rattle.ps_solve.specs.Nodes.{moves}
 use Rattle.ps_solve.specs.Rows.{adds}
 use Rattle.ps_solve.proofs.Fitted.{fit_more}
-use Rattle.ps_solve.proofs.Gathering.{idle_moved, more_added, one_more}
+use Rattle.ps_solve.proofs.Gathering.{more_added, one_more}
 use Rattle.ps_solve.proofs.forward.push_useful.Goals as goal
-
-pub returns-then-is_idle-clause-moves : goal.returns-then-is_idle-clause-moves
-returns-then-is_idle-clause-moves c =
-    let d = c.args.expert.now in
-    let k = c.args.problem.now in
-    let r : Result GroundAction GroundRefusal = ground_act d k.instances c.args.act.now in
-    λ facts n fixed atoms over.
-    let old = moves d k (grounds_of d k c.args.useful.now.items) n in
-    sym (append-nil old)
-    ∙ ap (λ (l : List Node). old ++ l) (sym (idle_moved d k n r facts atoms (λ g e one. c.is_idle.ensures c.if-is_idle.true k g facts e fixed one n.state over)))
 
 pub returns-then-not-is_fit-clause-moves : goal.returns-then-not-is_fit-clause-moves
 returns-then-not-is_fit-clause-moves c =
     let d = c.args.expert.now in
     let k = c.args.problem.now in
-    λ facts n fixed atoms over.
+    λ n.
     let old = moves d k (grounds_of d k c.args.useful.now.items) n in
     sym (append-nil old)
     ∙ ap (λ (o : Option GroundAction). old ++ moves d k (option_to_list o) n) (sym (c.is_fit.ensures.unfit c.if-not-is_fit.true))
@@ -38,7 +27,7 @@ returns-clause-moves c =
     let d = c.args.expert.now in
     let k = c.args.problem.now in
     let ground : Act → Option GroundAction = λ act. result_ok (ground_act d k.instances act) in
-    λ facts n fixed atoms over.
+    λ n.
     ap (λ (acts : List Act). moves d k (grounds_of d k acts) n) c.in_ok-push.ensures.items ∙ one_more d k n ground c.args.useful.now.items c.args.act.now
 
 pub returns-clause-adds : goal.returns-clause-adds

@@ -20,9 +20,9 @@ loop-act-preserved c =
     let ground : Act → Option GroundAction = λ a. result_ok (ground_act d k.instances a) in
     let split : drop i all ≡ a ∷ drop (i + 1) all = drop_more all i a (omega arith) ∙ ap (λ (x : Act). x ∷ drop (i + 1) all) (sym c.act-item.is) in
     record {
-      moves = λ facts n fixed atoms over.
-          gathered d k n ground all i a (moves d k (grounds_of d k c.loop-act.useful.items) n) (moves d k (grounds_of d k c.push_useful.new.useful.items) n) split (c.in_ok-push_useful.ensures.moves facts n fixed (one_given ground i all (drop (i + 1) all) a facts split atoms) over)
-          ∙ c.loop-act.invariant.moves facts n fixed atoms over;
+      moves = λ n.
+          gathered d k n ground all i a (moves d k (grounds_of d k c.loop-act.useful.items) n) (moves d k (grounds_of d k c.push_useful.new.useful.items) n) split (c.in_ok-push_useful.ensures.moves n)
+          ∙ c.loop-act.invariant.moves n;
       adds = λ f gone. c.in_ok-push_useful.ensures.adds f (c.loop-act.invariant.adds f gone) (one_given ground i all (drop (i + 1) all) a (flat_map adds (filter_map ground all)) split (λ g h. h) f gone);
       fit = c.in_ok-push_useful.ensures.fit;
     }
@@ -35,7 +35,7 @@ returns-clause-moves c =
     let k = c.args.problem.now in
     let found = grounds_of d k c.loop-act.useful.items in
     let gone : drop i all ≡ [] = drop_all i all (omega arith) in
-    λ facts n fixed atoms over.
+    λ n.
     sym (append-nil (moves d k found n))
     ∙ (λ j. moves d k found n ++ moves d k (grounds_of d k (sym gone j)) n)
-    ∙ c.loop-act.invariant.moves facts n fixed atoms over
+    ∙ c.loop-act.invariant.moves n

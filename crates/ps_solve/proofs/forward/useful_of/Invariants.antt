@@ -1,16 +1,13 @@
-use Rattle.std.proofs.Common.{◌≡◌, ◌++◌, List, drop, flat_map}
-use Rattle.ps_world.specs.declared.facts.Fact.{Fact}
+use Rattle.std.proofs.Common.{◌≡◌, ◌++◌, drop, flat_map}
 use Rattle.ps_solve.specs.Fitting.{AreFit, grounds_of}
-use Rattle.ps_solve.specs.Fixed.{AreFixed}
 use Rattle.ps_solve.specs.Nodes.{Node, moves}
-use Rattle.ps_solve.specs.Rows.{AreAtoms, IsOver, adds}
+use Rattle.ps_solve.specs.Rows.{AreAtoms, adds}
 use Rattle.ps_solve.proofs.forward.useful_of.Given as goal
 
 -- the moves by the useful acts so far, with those by the acts that are left, are those by all, what they add is added by one of all, and they fit
 abbrev pub invariant-loop-act : goal.invariant-loop-act
 invariant-loop-act l = record {
-  moves : (facts : List Fact) (n : Node) → AreFixed l.fixed.heads.keys l.fixed.facts facts
-      → AreAtoms facts (flat_map adds (grounds_of l.expert l.problem l.acts)) → IsOver facts n.state
+  moves : (n : Node)
       → moves l.expert l.problem (grounds_of l.expert l.problem l.useful.items) n ++ moves l.expert l.problem (grounds_of l.expert l.problem (drop l.act-index l.acts)) n
       ≡ moves l.expert l.problem (grounds_of l.expert l.problem l.acts) n;
   adds : AreAtoms (flat_map adds (grounds_of l.expert l.problem l.acts)) (flat_map adds (grounds_of l.expert l.problem l.useful.items));
