@@ -1,6 +1,6 @@
 -- Words of a text that is cut off at a place.
 use Rattle.std.proofs.Common.{◌≡◌, ℕ, zero, suc, ◌+◌, ◌-◌, ◌<◌, ◌≤◌, ◌==◌, Bool, true, false, List, [], ◌∷◌, length, take, drop, get_or, slice_range, refl, sym, ap, ◌∙◌, inl, inr, arith}
-use Rattle.std.proofs.lemmas.List.{get_or-take, length-take, take-take, drop-take}
+use Rattle.std.proofs.lemmas.List.{drop_more, get_or-take, length-take, take-take, drop-take}
 use Rattle.std.proofs.lemmas.List.Edits.{between_none}
 use Rattle.std.proofs.lemmas.Slice.{between_is}
 use Rattle.std.proofs.lemmas.Bool.{cases_Bool}
@@ -31,6 +31,12 @@ module _ (p : ℕ → Bool) where
 
 slice_range-take : (xs : List ℕ) (from to end : ℕ) → to ≤ end → slice_range (take end xs) from to ≡ slice_range xs from to
 slice_range-take xs from to end h = between_is (take end xs) from to ∙ ap (drop from) (take-take to end xs h) ∙ sym (between_is xs from to)
+
+-- one byte of a text
+pub slice_range-one : (xs : List ℕ) (at : ℕ) → at < length xs → slice_range xs at (at + 1) ≡ get_or xs at 0 ∷ []
+slice_range-one xs at h =
+    let one : at + 1 - at ≡ 1 = omega arith in
+    ap (λ n. take n (drop at xs)) one ∙ ap (take 1) (drop_more xs at 0 h)
 
 -- ---- one step in a text that is cut off
 

@@ -1,6 +1,6 @@
 -- Tables of names: what putting a text into one keeps.
 use Rattle.std.proofs.Common.{◌≡◌, ℕ, zero, suc, ◌+◌, ◌<◌, ◌≤◌, true, false, cond, List, [], ◌∷◌, ◌++◌, length, map, take, Some, slice_get, get_or, codes, position, refl, sym, ap, subst, ◌∙◌, inl, inr, arith}
-use Rattle.std.proofs.lemmas.List.{length_push, length-take, map_push, get_or_append_left, get_or_push, get_or-take}
+use Rattle.std.proofs.lemmas.List.{length_push, length-map, length-take, map_push, get_or-map, get_or_append_left, get_or_push, get_or-take}
 use Rattle.std.proofs.lemmas.List.Elements.{All-push, All-take}
 use Rattle.std.proofs.lemmas.List.Folds.{list_any_at}
 use Rattle.std.proofs.lemmas.List.Quantifiers.{position-Some}
@@ -97,27 +97,50 @@ place_of-interned t text =
 pub place_of-within : (t : Table) (text : List ℕ) → place_of t text < length (interned t text)
 place_of-within t text = slice_get_within (interned t text) (place_of t text) text (place_of-interned t text)
 
--- ---- a text that is found in a table of names is in lower case
+-- ---- a text that stands in a table of names is in lower case, and stands there once
 
-module _ (t : Table) (text : List ℕ) (place : ℕ) (names : AreNames t) (found : position (same_text text) t ≡ Some place) where
-  at : (place < length t) × (same_text text (get_or t place []) ≡ true) × ((k : ℕ) → k < place → same_text text (get_or t k []) ≡ false)
-  at = position-Some (same_text text) t place [] found
+module _ (t : Table) (text : List ℕ) (place : ℕ) (names : AreNames t) (within : place < length t) (stands : same_text text (get_or t place []) ≡ true) where
+  is : text ≡ get_or t place []
+  is = same_text-same text (get_or t place []) stands
 
   same : folded text ≡ text
-  same = subst (λ x. folded x ≡ x) (sym (same_text-same text (get_or t place []) at.1)) (names.texts place [] at.0).lower_case
+  same = subst (λ x. folded x ≡ x) (sym is) (names.texts place [] within).lower_case
 
-  place_of-found : place ≡ place_of t (folded text)
-  place_of-found = sym (ap (place_of t) same ∙ position_or_len_is (same_text text) t place [] (omega (arith, at.0)) at.2 (λ h. at.1))
+  before : (k : ℕ) → k < place → same_text text (get_or t k []) ≡ false
+  before k h =
+      elim (cases_Bool (same_text text (get_or t k []))) [
+        | inl e ↦ absurd (omega (arith, names.apart k place (omega arith) within (sym (same_text-same text (get_or t k []) e) ∙ is)))
+        | inr e ↦ e
+      ]
 
-  interned-found : t ≡ interned t (folded text)
-  interned-found = sym (ap (interned t) same ∙ interned-there t text (list_any_at (same_text text) t place [] at.0 at.1))
+  pub place_of-stands : place ≡ place_of t (folded text)
+  place_of-stands = sym (ap (place_of t) same ∙ position_or_len_is (same_text text) t place [] (omega arith) before (λ h. stands))
+
+  pub interned-stands : t ≡ interned t (folded text)
+  interned-stands = sym (ap (interned t) same ∙ interned-there t text (list_any_at (same_text text) t place [] within stands))
 
 module _ {V : Type 0} (items : V → List ℕ) (vs : List V) (text : List ℕ) (place : ℕ) (names : AreNames (map items vs)) (found : position (λ y. same_text text (items y)) vs ≡ Some place) where
+  at : (place < length (map items vs)) × (same_text text (get_or (map items vs) place []) ≡ true) × ((k : ℕ) → k < place → same_text text (get_or (map items vs) k []) ≡ false)
+  at = position-Some (same_text text) (map items vs) place [] (sym (position-map items (same_text text) vs) ∙ found)
+
   pub place_of-seen : place ≡ place_of (map items vs) (folded text)
-  place_of-seen = place_of-found (map items vs) text place names (sym (position-map items (same_text text) vs) ∙ found)
+  place_of-seen = place_of-stands (map items vs) text place names at.0 at.1
 
   pub interned-seen : map items vs ≡ interned (map items vs) (folded text)
-  interned-seen = interned-found (map items vs) text place names (sym (position-map items (same_text text) vs) ∙ found)
+  interned-seen = interned-stands (map items vs) text place names at.0 at.1
+
+module _ {V : Type 0} (items : V → List ℕ) (vs : List V) (text : List ℕ) (place : ℕ) (v : V) (names : AreNames (map items vs)) (within : place < length vs) (there : v ≡ get_or vs place v) (is : same_text text (items v) ≡ true) where
+  held : place < length (map items vs)
+  held = omega (arith, length-map vs items)
+
+  stands : same_text text (get_or (map items vs) place []) ≡ true
+  stands = ap (same_text text) (get_or-map items vs place v [] within ∙ ap items (sym there)) ∙ is
+
+  pub place_of-held : place ≡ place_of (map items vs) (folded text)
+  place_of-held = place_of-stands (map items vs) text place names held stands
+
+  pub interned-held : map items vs ≡ interned (map items vs) (folded text)
+  interned-held = interned-stands (map items vs) text place names held stands
 
 -- ---- a table of names stays one
 

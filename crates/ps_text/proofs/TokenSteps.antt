@@ -13,7 +13,7 @@ use Rattle.ps_text.specs.declared.lexing.Token.{Token}
 use Rattle.ps_text.specs.declared.spans.Span.{Span}
 use Rattle.ps_text.specs.Words.{pieces, words}
 use Rattle.ps_text.specs.Tokens.{class_of, class_at, fault_of_word, begins_number, span_of, IsGap, IsNextWord, IsWordAt, AreTokens, IsFirstFault, RefusesText}
-use Rattle.ps_text.proofs.Cuts.{words-gap}
+use Rattle.ps_text.proofs.Cuts.{IsGap-join, words-gap}
 use Rattle.ps_text.proofs.Pieces.{pieces_push}
 
 -- the tokens so far are the words up to a place, however far the text goes on
@@ -35,6 +35,12 @@ Lexed-none bytes =
       in_order = λ i j d h l. absurd (omega arith);
       ended = All-nil (λ t. t.to ≤ 0);
     }
+
+-- a word that is the next one after a gap is the next one before it
+pub IsNextWord-before : (bytes : List ℕ) (from at : ℕ) (s : Span) → from ≤ at → IsGap bytes from at → IsNextWord bytes at s → IsNextWord bytes from s
+IsNextWord-before bytes from at s h gap next =
+    let later = next.later in
+    record { later = omega arith; longer = next.longer; within = next.within; gap = IsGap-join bytes from at s.from later gap next.gap; word = next.word }
 
 module _ (bytes : List ℕ) (tokens : List Token) (from : ℕ) (s : Span) (lexed : Lexed bytes tokens from) (next : IsNextWord bytes from s) where
   abbrev before : List (List ℕ)

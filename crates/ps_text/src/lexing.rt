@@ -1,11 +1,12 @@
 //! The tokens of a text.
-ghost use Rattle.std.specs.Prelude.{◌≡◌, IfOk, IfSome};
+ghost use Rattle.std.specs.Prelude.{◌≡◌, ℕ, ◌<◌, ◌≤◌, ◌==◌, ◌∷◌, [], false, Err, Some, length, is_some, slice_index, slice_range, IfErr, IfOk, IfSome};
 ghost use Rattle.ps_world.specs.Failures.{refusal_of};
-ghost use Rattle.ps_text.specs.Tokens.{AreTokens, RefusesText, begins_digit, begins_number, class_at, class_of, fault_of_word, is_sign, is_sign_byte};
+ghost use Rattle.ps_text.specs.Tokens.{AreTokens, IsFirstWord, IsNextWord, RefusesText, begins_digit, begins_number, class_at, class_of, fault_of_word, is_sign, is_sign_byte, span_of};
+ghost use Rattle.ps_text.specs.Words.{is_blank, is_paren};
 
 use super::decimals::read_number;
-use super::table::is_name;
-use super::word_spans::{next_word, usual_count};
+use super::table::{LONGEST_NAME, first_other_byte, is_name};
+use super::word_spans::{run_ends, usual_count, word_end, word_start};
 use ps_world::Failure;
 use std::alloc::Global;
 
@@ -120,6 +121,77 @@ fn class_at(at: usize, word: &[u8]) -> Result<Class, LexRefusal>
     }
 }
 
+/// The end of the word that begins at a place, if that is a name. It may be a name where this is None.
+// Most words are names, of which this reads each byte once.
+fn name_end(bytes: &[u8], at: usize) -> Option<usize>
+    requires { at < length bytes.now }
+    ensures longer { IfSome result (λ to. at < to) }
+    ensures within { IfSome result (λ to. to ≤ length bytes.now) }
+    ensures word { IfSome result (λ to. IsFirstWord bytes.now (record { from = at; to = to })) }
+    ensures name { IfSome result (λ to. class_of (slice_range bytes.now at to) ≡ Some Class.Name) }
+{
+    if !bytes[at].is_ascii_alphabetic() {
+        return None;
+    }
+    let rest = &bytes[at + 1..];
+    let count = first_other_byte(rest).unwrap_or(rest.len());
+    if count >= LONGEST_NAME {
+        return None;
+    }
+    if run_ends(rest, count) {
+        Some(at + 1 + count)
+    } else {
+        None
+    }
+}
+
+/// The class of a parenthesis.
+fn paren_class(b: u8) -> Option<Class>
+    ensures paren { is_some result ≡ is_paren b }
+    ensures class { IfSome result (λ class. class_of (b ∷ []) ≡ Some class) }
+{
+    match b {
+        b'(' => Some(Class::LeftParen),
+        b')' => Some(Class::RightParen),
+        _ => None,
+    }
+}
+
+/// The token that begins at a place, or why the word there has no class.
+fn token_at(bytes: &[u8], at: usize) -> Result<Token, LexRefusal>
+    requires within { at < length bytes.now }
+    requires black { is_blank (slice_index bytes.now at) ≡ false }
+    requires no_comment { (slice_index bytes.now at == 59) ≡ false }
+    ensures word { IfOk result (λ t. IsNextWord bytes.now at (span_of t)) }
+    ensures class { IfOk result (λ t. class_of (slice_range bytes.now t.from t.to) ≡ Some t.class) }
+    ensures refused { IfErr result (λ r. (to : ℕ)
+        × IsNextWord bytes.now at (record { from = at; to = to })
+        × (class_at at (slice_range bytes.now at to) ≡ Err r)) }
+{
+    // The two kinds of most words come first.
+    if let Some(class) = paren_class(bytes[at]) {
+        return Ok(Token {
+            class,
+            from: at,
+            to: at + 1,
+        });
+    }
+    if let Some(to) = name_end(bytes, at) {
+        return Ok(Token {
+            class: Class::Name,
+            from: at,
+            to,
+        });
+    }
+    let to = word_end(bytes, at);
+    let class = class_at(at, &bytes[at..to])?;
+    Ok(Token {
+        class,
+        from: at,
+        to,
+    })
+}
+
 /// The words of a text, in order, each with its class. Blanks and comments give none.
 ///
 /// The first word without a class is refused: as `Number` where it begins as a number, and as `Bad` otherwise. Memory may run out
@@ -130,17 +202,16 @@ pub fn tokens(alloc: Global, bytes: &[u8]) -> Result<Vec<Token>, Failure<LexRefu
 {
     let mut tokens = Vec::with_capacity(alloc, usual_count(bytes))?;
     let mut from = 0;
-    while let Some(span) = next_word(bytes, from) {
-        let class = match class_at(span.from, &bytes[span.from..span.to]) {
-            Ok(class) => class,
+    loop {
+        let at = word_start(bytes, from);
+        if at == bytes.len() {
+            return Ok(tokens);
+        }
+        let token = match token_at(bytes, at) {
+            Ok(token) => token,
             Err(refusal) => return Err(Failure::Refused(refusal)),
         };
-        tokens.push(Token {
-            class,
-            from: span.from,
-            to: span.to,
-        })?;
-        from = span.to;
+        from = token.to;
+        tokens.push(token)?;
     }
-    Ok(tokens)
 }

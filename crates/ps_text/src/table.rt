@@ -1,6 +1,7 @@
 //! The table of names.
-ghost use Rattle.std.specs.Prelude.{◌≡◌, ◌<◌, ◌∷◌, [], None, Some, codes, length, not, position, slice_get, take, true, IfOk, OnOk, OnErr};
+ghost use Rattle.std.specs.Prelude.{◌≡◌, ◌<◌, ◌∷◌, [], None, Some, codes, length, not, position, slice_get, take, true, IfOk, IfSome, OnOk, OnErr};
 ghost use Rattle.ps_world.specs.Failures.{refusal_of};
+ghost use Rattle.ps_world.specs.Lines.{same_text};
 ghost use Rattle.ps_text.specs.Names.{AreNames, bad_place, folded, interned, is_name, is_name_byte, name_fault, place_of};
 
 use indexmap::IndexSet;
@@ -29,7 +30,7 @@ fn is_name_byte(b: u8) -> bool
     b.is_ascii_lowercase() || b.is_ascii_alphanumeric() || b == b'-' || b == b'_'
 }
 
-fn first_other_byte(text: &[u8]) -> Option<usize>
+pub(crate) fn first_other_byte(text: &[u8]) -> Option<usize>
     ensures { result ≡ position (λ b. not (is_name_byte b)) text.now }
 {
     text.iter().position(|b| !is_name_byte(*b))
@@ -75,11 +76,70 @@ fn lower_case(alloc: Global, text: &[u8]) -> Result<Vec<u8>, AllocError>
     text.iter().map(|b| b.to_ascii_lowercase()).collect(alloc)
 }
 
+/// Whether two texts are one.
+// A loop of its own, since names are short.
+fn is_same(text: &[u8], other: &[u8]) -> bool
+    ensures { result ≡ same_text text.now other.now }
+{
+    if text.len() != other.len() {
+        return false;
+    }
+    for (b, c) in text.iter().zip(other) {
+        if b != c {
+            return false;
+        }
+    }
+    true
+}
+
+/// How many hints there are: a power of two.
+const HINTS: usize = 2048;
+
+/// Where a table may find a text that it was asked for before. A hint may be wrong, so that whoever follows it looks there.
+#[derive(Drop)]
+struct Hints {
+    names: Vec<Name>,
+}
+
+impl Hints {
+    fn new(alloc: Global) -> Result<Hints, AllocError> {
+        Ok(Hints {
+            names: vec![in alloc; Name::OBJECT; HINTS]?,
+        })
+    }
+
+    /// The number of a text's hint. Texts that differ in a number at their end, as `room8` and `room9`, have hints of their own.
+    fn of(text: &[u8]) -> usize {
+        let mut sum: usize = 0;
+        for b in text {
+            sum = sum.wrapping_mul(10).wrapping_add(*b as usize);
+        }
+        sum % HINTS
+    }
+
+    fn get(&self, hint: usize) -> Option<Name> {
+        self.names.get(hint).copied()
+    }
+
+    fn note(&mut self, hint: usize, name: Name) {
+        if let Some(noted) = self.names.get_mut(hint) {
+            *noted = name;
+        }
+    }
+}
+
+/// The texts of a table, and the hints at them.
+#[derive(Drop)]
+struct Texts {
+    set: IndexSet<Vec<u8>>,
+    hints: Hints,
+}
+
 /// The names, each with the number of its place. Texts that differ only in the case of letters are one name, and `object` is 0.
 #[derive(Drop)]
 pub struct Names {
     /// In one box, so that whoever owns a table owns one part.
-    texts: Box<IndexSet<Vec<u8>>>,
+    texts: Box<Texts>,
 }
 
 impl Model for Names {
@@ -89,9 +149,9 @@ impl Model for Names {
 
     ghost Value = { Table };
 
-    ghost view = { λ s. map (λ v. v.items) s.texts.value.keys };
+    ghost view = { λ s. map (λ v. v.items) s.texts.value.set.keys };
 
-    ghost invariant = { λ s. AreNames (map (λ v. v.items) s.texts.value.keys) };
+    ghost invariant = { λ s. AreNames (map (λ v. v.items) s.texts.value.set.keys) };
 }
 
 impl Names {
@@ -99,11 +159,45 @@ impl Names {
     pub fn new(alloc: Global) -> Result<Names, AllocError>
         ensures { IfOk result (λ t. t ≡ codes "object" ∷ []) }
     {
-        let mut texts = IndexSet::new(alloc);
-        texts.insert_full(Vec::from_slice(alloc, b"object")?)?;
+        let mut set = IndexSet::new(alloc);
+        set.insert_full(Vec::from_slice(alloc, b"object")?)?;
+        let hints = Hints::new(alloc)?;
         Ok(Names {
-            texts: Box::new(alloc, texts)?,
+            texts: Box::new(alloc, Texts { set, hints })?,
         })
+    }
+
+    /// The name that a hint tells, where this text is that name's.
+    fn hinted(&self, hint: usize, text: &[u8]) -> Option<Name>
+        ensures ok { IfSome result (λ n. n.0 ≡ place_of self.now (folded text.now)) }
+        ensures table { IfSome result (λ n. self.now ≡ interned self.now (folded text.now)) }
+        ensures within { IfSome result (λ n. n.0 < length self.now) }
+    {
+        let name = self.texts.hints.get(hint)?;
+        let known = self.texts.set.as_slice().get(name.0 as usize)?;
+        if is_same(text, known.as_slice()) {
+            Some(name)
+        } else {
+            None
+        }
+    }
+
+    /// The name that this text is, as `intern_name` gives it, with no look at the hints.
+    #[inline(never)]
+    fn intern_unhinted(&mut self, text: &[u8]) -> Result<Name, AllocError>
+        requires { is_name text.now ≡ true }
+        ensures ok { IfOk result (λ n. n.0 ≡ place_of self.old (folded text.now)) }
+        ensures table { OnOk result (self.new ≡ interned self.old (folded text.now)) }
+        ensures within { IfOk result (λ n. n.0 < length self.new) }
+        ensures err { OnErr result (self.new ≡ self.old) }
+    {
+        // The texts here are in lower case, so that a text that is found needs no folding.
+        if let Some(place) = self.texts.set.get_index_of(text) {
+            return Ok(Name(place as u64));
+        }
+        let folded = lower_case(*self.texts.set.allocator(), text)?;
+        let (place, _) = self.texts.set.insert_full(folded)?;
+        Ok(Name(place as u64))
     }
 
     /// The name that this text is, put at the end of the table if it is new. The only error is out of memory, which changes nothing.
@@ -114,13 +208,13 @@ impl Names {
         ensures within { IfOk result (λ n. n.0 < length self.new) }
         ensures err { OnErr result (self.new ≡ self.old) }
     {
-        // The texts here are in lower case, so that a text that is found needs no folding.
-        if let Some(place) = self.texts.get_index_of(text) {
-            return Ok(Name(place as u64));
+        let hint = Hints::of(text);
+        if let Some(name) = self.hinted(hint, text) {
+            return Ok(name);
         }
-        let folded = lower_case(*self.texts.allocator(), text)?;
-        let (place, _) = self.texts.insert_full(folded)?;
-        Ok(Name(place as u64))
+        let name = self.intern_unhinted(text)?;
+        self.texts.hints.note(hint, name);
+        Ok(name)
     }
 
     /// The name with this text, put at the end of the table if it is new. An error changes nothing.
@@ -144,7 +238,7 @@ impl Names {
         requires { 0 < len }
         ensures { self.new ≡ take len self.old }
     {
-        self.texts.truncate(len);
+        self.texts.set.truncate(len);
     }
 
     /// How many names.
@@ -152,7 +246,7 @@ impl Names {
         ensures count { result ≡ length self.now }
         ensures names { AreNames self.now }
     {
-        self.texts.len()
+        self.texts.set.len()
     }
 
     /// The text of a name, in lower case.
@@ -161,6 +255,6 @@ impl Names {
         ensures text { slice_get self.now n.0 ≡ Some result.now }
         ensures names { AreNames self.now }
     {
-        self.texts.as_slice()[n.0 as usize].as_slice()
+        self.texts.set.as_slice()[n.0 as usize].as_slice()
     }
 }

@@ -1,5 +1,5 @@
 //! The words of a text.
-ghost use Rattle.std.specs.Prelude.{◌≡◌, ◌+◌, ◌<◌, ◌≤◌, ◌==◌, false, Some, drop, length, not, position, slice_get, slice_index, IfOk, MatchOption};
+ghost use Rattle.std.specs.Prelude.{◌≡◌, ◌+◌, ◌<◌, ◌≤◌, ◌==◌, false, Some, drop, length, not, position, slice_get, slice_index, IfOk, IsTrue, MatchOption};
 ghost use Rattle.std.specs.List.{position_or_len};
 ghost use Rattle.ps_text.specs.Tokens.{IsFirstWord, IsGap, IsNextWord};
 ghost use Rattle.ps_text.specs.Words.{is_blank, is_paren, is_run_byte, reads_as, word_at, words};
@@ -43,8 +43,20 @@ fn run_end(bytes: &[u8], from: usize) -> usize
     from + first_other_byte(rest).unwrap_or(rest.len())
 }
 
+/// Whether no byte of a longer word stands at a place, as at the text's end.
+pub(crate) fn run_ends(bytes: &[u8], at: usize) -> bool
+    ensures { IsTrue result → at < length bytes.now → is_run_byte (slice_index bytes.now at) ≡ false }
+{
+    match bytes.get(at) {
+        Some(b) => !is_run_byte(*b),
+        None => true,
+    }
+}
+
 /// The end of the word that begins at a place.
-fn word_end(bytes: &[u8], from: usize) -> usize
+// In line in the loops over words, which call it for each, as `word_start` is.
+#[inline(always)]
+pub(crate) fn word_end(bytes: &[u8], from: usize) -> usize
     requires within { from < length bytes.now }
     requires black { is_blank (slice_index bytes.now from) ≡ false }
     requires no_comment { (slice_index bytes.now from == 59) ≡ false }
@@ -60,7 +72,8 @@ fn word_end(bytes: &[u8], from: usize) -> usize
 }
 
 /// The place from a place on where the next word begins, or the text's length.
-fn word_start(bytes: &[u8], mut from: usize) -> usize
+#[inline(always)]
+pub(crate) fn word_start(bytes: &[u8], mut from: usize) -> usize
     requires { from ≤ length bytes.now }
     ensures later { from ≤ result }
     ensures within { result ≤ length bytes.now }
@@ -82,9 +95,7 @@ fn word_start(bytes: &[u8], mut from: usize) -> usize
 }
 
 /// The span of the next word from a place on, or None where there is no word.
-// In line in the two loops over words, which call it for each.
-#[inline(always)]
-pub(crate) fn next_word(bytes: &[u8], from: usize) -> Option<Span>
+fn next_word(bytes: &[u8], from: usize) -> Option<Span>
     requires { from ≤ length bytes.now }
     ensures { MatchOption result
         (IsGap bytes.now from (length bytes.now)) (IsNextWord bytes.now from) }

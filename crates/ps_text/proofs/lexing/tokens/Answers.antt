@@ -1,18 +1,22 @@
-use Rattle.std.proofs.Common.{slice_range, sym, ◌∙◌}
-use Rattle.ps_text.proofs.TokenSteps.{Lexed-more, IsFirstFault-next, RefusesText-from, class_of-found}
+use Rattle.std.proofs.Common.{slice_range}
+use Rattle.ps_text.specs.declared.spans.Span.{Span}
+use Rattle.ps_text.specs.Tokens.{span_of}
+use Rattle.ps_text.proofs.TokenSteps.{IsFirstFault-next, IsNextWord-before, Lexed-more, RefusesText-from}
 use Rattle.ps_text.proofs.lexing.tokens.Goals as goal
 
 pub returns-in-Err-clause-refused : goal.returns-in-Err-clause-refused
 returns-in-Err-clause-refused c =
     let bytes = c.args.bytes.now in
-    let span = c.in-Some.span in
-    let e = sym c.class_at.ensures ∙ c.in-Err.is in
-    RefusesText-from bytes span.from (slice_range bytes span.from span.to) c.in-Err.refusal e
-    (IsFirstFault-next bytes c.loop-span.tokens.items c.loop-span.from span c.loop-span.invariant c.in-Some.ensures c.in-Err.refusal e)
+    let at = c.word_start-at.result in
+    let fault = c.in-Err.ensures.refused in
+    let span : Span = record { from = at; to = fault.0 } in
+    let next = IsNextWord-before bytes c.loop-tokens.from at span c.word_start-at.ensures.later c.word_start-at.ensures.gap fault.1 in
+    RefusesText-from bytes at (slice_range bytes at fault.0) c.in-Err.refusal fault.2
+    (IsFirstFault-next bytes c.loop-tokens.tokens.items c.loop-tokens.from span c.loop-tokens.invariant next c.in-Err.refusal fault.2)
 
-pub loop-span-preserved : goal.loop-span-preserved
-loop-span-preserved c =
+pub loop-tokens-preserved : goal.loop-tokens-preserved
+loop-tokens-preserved c =
     let bytes = c.args.bytes.now in
-    let span = c.in-Some.span in
-    let is = class_of-found span.from (slice_range bytes span.from span.to) c.in-Ok.class (sym c.class_at.ensures ∙ c.in-Ok.is) in
-    Lexed-more bytes c.loop-span.tokens.items c.loop-span.from span c.loop-span.invariant c.in-Some.ensures c.in-Ok.class is _ c.in_ok-push.ensures.items
+    let token = c.in-Ok.token in
+    let next = IsNextWord-before bytes c.loop-tokens.from c.word_start-at.result (span_of token) c.word_start-at.ensures.later c.word_start-at.ensures.gap c.in-Ok.ensures.word in
+    Lexed-more bytes c.loop-tokens.tokens.items c.loop-tokens.from (span_of token) c.loop-tokens.invariant next token.class c.in-Ok.ensures.class _ c.in_ok-push.ensures.items
