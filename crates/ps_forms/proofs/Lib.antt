@@ -5,6 +5,8 @@ pub mod GrammaticalForms
 pub mod Judged
 pub mod JudgedForms
 pub mod Kept
+pub mod Layers
+pub mod LexemeClasses
 pub mod LexemeSteps
 pub mod NestedLists
 pub mod OneSpelling

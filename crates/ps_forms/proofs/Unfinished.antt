@@ -63,8 +63,13 @@ no_depth : (outer : List Nesteds) → (length outer == 0) ≡ true → outer ≡
 no_depth [] e = refl
 no_depth (ts ∷ outer) e = grind (arith, nat_tests)
 
+-- at the end no parenthesis is open
+pub all_closed : (ls : List Lexeme) (i : ℕ) (outer : List Nesteds) (us : Nesteds) → length ls ≤ i → IsUnfinished ls i outer us → outer ≡ []
+all_closed ls i outer us h before =
+    let shut : (length outer == 0) ≡ true = sym (ap (λ x. is_balanced (length outer) (marks x)) (drop_all i ls h)) ∙ before.balanced in
+    no_depth outer shut
+
 -- at the end all is written
 pub finished : (ls : List Lexeme) (i : ℕ) (outer : List Nesteds) (us : Nesteds) → length ls ≤ i → IsUnfinished ls i outer us → SpellAll us ls
 finished ls i outer us h before =
-    let shut : (length outer == 0) ≡ true = sym (ap (λ x. is_balanced (length outer) (marks x)) (drop_all i ls h)) ∙ before.balanced in
-    subst (λ (x : List Lexeme). SpellAll us x) (take_all i ls h) (stacked_all outer us (take i ls) (no_depth outer shut) before.stacked)
+    subst (λ (x : List Lexeme). SpellAll us x) (take_all i ls h) (stacked_all outer us (take i ls) (all_closed ls i outer us h before) before.stacked)

@@ -1,8 +1,10 @@
 //! The words of a domain's text, each by what the grammar and the meaning need of it.
-ghost use Rattle.std.specs.Prelude.{◌≡◌, Some, slice_get, IfOk, OnErr, OnOk};
+ghost use Rattle.std.specs.Prelude.{◌≡◌, pos, Some, slice_get, IfOk, OnErr, OnOk};
+ghost use Rattle.ps_world.specs.Names.{object};
 ghost use Rattle.ps_text.specs.Names.{folded};
 ghost use Rattle.ps_text.specs.Tokens.{AreTokens, class_of};
 ghost use Rattle.ps_text.specs.Words.{reads_as};
+ghost use Rattle.ps_text.specs.declared.lexing.Class.TheVariants as class;
 ghost use Rattle.ps_shape.specs.declared.marks.Mark.TheVariants as mark;
 ghost use Rattle.ps_forms.specs.Lexemes.{IsTokenOf, fixed_names, keywords, lexeme_of, lexemes_of, mark_in, mark_of, name_within, named, number_or_zero, numbered, signs, table_after};
 ghost use Rattle.ps_text.specs.Names.{Keeps};
@@ -147,6 +149,17 @@ fn mark_of_name_with(letter: u8, word: &[u8]) -> Mark
     }
 }
 
+/// The mark of a variable.
+fn mark_of_variable(word: &[u8]) -> Mark
+    ensures { result ≡ mark_of class.Variable word.now }
+{
+    if reads_as(word, b"?duration") {
+        Mark::Duration
+    } else {
+        Mark::Variable
+    }
+}
+
 /// What a word of a class is to the grammar, in either case of its letters.
 pub fn mark_of(class: Class, word: &[u8]) -> Mark
     ensures { result ≡ mark_of class word.now }
@@ -155,11 +168,7 @@ pub fn mark_of(class: Class, word: &[u8]) -> Mark
         Class::LeftParen => Mark::Open,
         Class::RightParen => Mark::Close,
         Class::Sign => mark_of_sign(word),
-        Class::Variable => if reads_as(word, b"?duration") {
-            Mark::Duration
-        } else {
-            Mark::Variable
-        },
+        Class::Variable => mark_of_variable(word),
         Class::Keyword => mark_of_keyword(word),
         Class::Number => Mark::Number,
         Class::Continuous => Mark::Continuous,
@@ -192,6 +201,59 @@ fn number_within(class: Class, word: &[u8]) -> Num
     }
 }
 
+/// A parenthesis as a word of the domain's text: it is neither a name nor a number.
+fn paren(mark: Mark, at: usize) -> Lexeme
+    ensures { result ≡ record {
+      mark = mark;
+      name = object;
+      number = pos 0;
+      at = at;
+    } }
+{
+    Lexeme {
+        mark,
+        name: Name::OBJECT,
+        number: Num::ZERO,
+        at,
+    }
+}
+
+/// A name as a word of the domain's text. It is put into the table. Where memory runs out nothing changes.
+fn name_of(names: &mut Names, bytes: &[u8], token: Token) -> Result<Lexeme, AllocError>
+    requires token { IsTokenOf bytes.now token }
+    requires class { token.class ≡ class.Name }
+    ensures ok { IfOk result (λ l. l ≡ lexeme_of bytes.now names.old token) }
+    ensures table { OnOk result (names.new ≡ table_after bytes.now names.old token) }
+    ensures err { OnErr result (names.new ≡ names.old) }
+{
+    let word = &bytes[token.from..token.to];
+    let name = name_within(names, Class::Name, word)?;
+    Ok(Lexeme {
+        mark: mark_of_name(word),
+        name,
+        number: Num::ZERO,
+        at: token.from,
+    })
+}
+
+/// A variable as a word of the domain's text. Its name is put into the table. Where memory runs out nothing changes.
+fn variable_of(names: &mut Names, bytes: &[u8], token: Token) -> Result<Lexeme, AllocError>
+    requires token { IsTokenOf bytes.now token }
+    requires class { token.class ≡ class.Variable }
+    ensures ok { IfOk result (λ l. l ≡ lexeme_of bytes.now names.old token) }
+    ensures table { OnOk result (names.new ≡ table_after bytes.now names.old token) }
+    ensures err { OnErr result (names.new ≡ names.old) }
+{
+    let word = &bytes[token.from..token.to];
+    let name = name_within(names, Class::Variable, word)?;
+    Ok(Lexeme {
+        mark: mark_of_variable(word),
+        name,
+        number: Num::ZERO,
+        at: token.from,
+    })
+}
+
 /// A token as a word of the domain's text. Its name is put into the table. Where memory runs out nothing changes.
 fn lexeme_of(names: &mut Names, bytes: &[u8], token: Token) -> Result<Lexeme, AllocError>
     requires { IsTokenOf bytes.now token }
@@ -209,7 +271,8 @@ fn lexeme_of(names: &mut Names, bytes: &[u8], token: Token) -> Result<Lexeme, Al
     })
 }
 
-/// The words of a domain's text, in order. Their names are put into the table; old ones keep their numbers and texts.
+/// The words of a domain's text, in order. Their names are put into the table; old ones keep their numbers and texts. The classes
+/// that nearly all words have come first, so that each is made and kept by a way of its own.
 pub fn lexemes_of(
     alloc: Global,
     names: &mut Names,
@@ -223,7 +286,13 @@ pub fn lexemes_of(
 {
     let mut lexemes = Vec::with_capacity(alloc, tokens.len())?;
     for token in tokens {
-        lexemes.push_reserved(lexeme_of(names, bytes, *token)?);
+        match token.class {
+            Class::LeftParen => lexemes.push_reserved(paren(Mark::Open, token.from)),
+            Class::RightParen => lexemes.push_reserved(paren(Mark::Close, token.from)),
+            Class::Name => lexemes.push_reserved(name_of(names, bytes, *token)?),
+            Class::Variable => lexemes.push_reserved(variable_of(names, bytes, *token)?),
+            _ => lexemes.push_reserved(lexeme_of(names, bytes, *token)?),
+        }
     }
     Ok(lexemes)
 }

@@ -1,6 +1,6 @@
 //! A domain's text as nested lists of words. Contracts see them as `Nested` of specs/Nested.antt.
-ghost use Rattle.std.specs.Prelude.{◌≡◌, true, map, IfOk, OnOk};
-ghost use Rattle.ps_forms.specs.Nested.{followed, nesteds, none};
+ghost use Rattle.std.specs.Prelude.{◌≡◌, true, map, IfOk};
+ghost use Rattle.ps_forms.specs.Nested.{nesteds};
 ghost use Rattle.ps_forms.specs.NestedViews.{nested};
 ghost use Rattle.ps_forms.specs.Lexemes.{marks};
 ghost use Rattle.ps_forms.specs.Spelling.{SpellAll, is_balanced};
@@ -58,45 +58,28 @@ impl Trees {
     {
         self.items.as_slice()
     }
-
-    /// Nothing. It takes no memory.
-    fn none(alloc: Global) -> Self
-        ensures { result ≡ none }
-    {
-        Trees::of(Vec::new(alloc))
-    }
-
-    /// Puts one more at the end.
-    fn push(&mut self, tree: Tree) -> Result<(), AllocError>
-        ensures { OnOk result (self.new ≡ followed self.old (nested tree)) }
-    {
-        self.items.push(tree)?;
-        Ok(())
-    }
 }
 
-/// The nested lists that words are, where each parenthesis has its other one.
+/// The nested lists that words are, where each parenthesis has its other one. What stands in a list that isn't closed yet is kept at
+/// the end of those around it, with room for as many as there are words, so that a list asks for memory once, and for what it needs.
 pub fn trees_of(alloc: Global, words: &[Lexeme]) -> Result<Trees, AllocError>
     requires { is_balanced 0 (marks words.now) ≡ true }
     ensures { IfOk result (λ ts. SpellAll ts words.now) }
 {
-    let mut outer: Vec<Trees> = Vec::new(alloc);
-    let mut inner = Trees::none(alloc);
+    let mut trees: Vec<Tree> = Vec::with_capacity(alloc, words.len())?;
+    let mut starts: Vec<usize> = Vec::new(alloc);
     for word in words {
         match word.mark {
-            Mark::Open => {
-                outer.push(inner)?;
-                inner = Trees::none(alloc);
-            }
+            Mark::Open => starts.push(trees.len())?,
             Mark::Close => {
-                let Some(mut before) = outer.pop() else {
+                let Some(start) = starts.pop() else {
                     unreachable!()
                 };
-                before.push(Tree::Group(inner))?;
-                inner = before;
+                let inside = trees.split_off(start)?;
+                trees.push_reserved(Tree::Group(Trees::of(inside)));
             }
-            _ => inner.push(Tree::Word(*word))?,
+            _ => trees.push_reserved(Tree::Word(*word)),
         }
     }
-    Ok(inner)
+    Ok(Trees::of(trees))
 }
