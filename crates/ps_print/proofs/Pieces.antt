@@ -28,6 +28,6 @@ lines_go_on f xs i x old new whole within at before added =
     let rest = flat_map f (drop (i + 1) xs) in
     rw (added, append_assoc, ← flat_map-append (λ (line : List ℕ). line ++ line_end) (f x) rest) (rw split at before)
 
--- a first line, five lists of lines, and a last line
-pub all_lines : (first last : List ℕ) (a b c d e : List (List ℕ)) (o p q r s t u v : List ℕ) → o ≡ [] → p ≡ o ++ (first ++ line_end) → q ≡ p ++ lines_text a → r ≡ q ++ lines_text b → s ≡ r ++ lines_text c → t ≡ s ++ lines_text d → u ≡ t ++ lines_text e → v ≡ u ++ (last ++ line_end) → v ≡ lines_text (first ∷ (a ++ (b ++ (c ++ (d ++ (e ++ last ∷ []))))))
-all_lines first last a b c d e o p q r s t u v f g h i j k l m = rw (m, l, k, j, i, h, g, f) (simp (flat_map-append, append_assoc))
+-- after a text a first line, five lists of lines, and a last line
+pub all_lines : (first last : List ℕ) (a b c d e : List (List ℕ)) (o p q r s t u v : List ℕ) → p ≡ o ++ (first ++ line_end) → q ≡ p ++ lines_text a → r ≡ q ++ lines_text b → s ≡ r ++ lines_text c → t ≡ s ++ lines_text d → u ≡ t ++ lines_text e → v ≡ u ++ (last ++ line_end) → v ≡ o ++ lines_text (first ∷ (a ++ (b ++ (c ++ (d ++ (e ++ last ∷ []))))))
+all_lines first last a b c d e o p q r s t u v g h i j k l m = rw (m, l, k, j, i, h, g) (simp (flat_map-append, append_assoc))

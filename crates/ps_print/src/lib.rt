@@ -9,6 +9,7 @@ mod effects;
 mod expressions;
 mod laws;
 mod terms;
+mod writer;
 
 pub use actions::push_action;
 pub use conditions::push_condition;

@@ -1,7 +1,0 @@
-use Rattle.std.proofs.Common.{◌≡◌, ◌++◌, map, take}
-use Rattle.ps_world.specs.DomainTexts.{after_spaces, typed_text}
-use Rattle.ps_print.proofs.declared.push_all_typed.Given as goal
-
-abbrev pub invariant-loop-param : goal.invariant-loop-param
-invariant-loop-param l =
-    l.text.items ≡ l.initial.text.items ++ after_spaces (map (typed_text l.names) (take l.param-index l.params))

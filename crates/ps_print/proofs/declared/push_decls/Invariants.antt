@@ -1,7 +1,0 @@
-use Rattle.std.proofs.Common.{◌≡◌, ◌++◌, map, drop}
-use Rattle.ps_world.specs.DomainTexts.{after_spaces, decl_text}
-use Rattle.ps_print.proofs.declared.push_decls.Given as goal
-
-abbrev pub invariant-loop-decl : goal.invariant-loop-decl
-invariant-loop-decl l =
-    l.text.items ++ after_spaces (map (decl_text l.names) (drop l.decl-index l.decls)) ≡ l.initial.text.items ++ after_spaces (map (decl_text l.names) l.decls)

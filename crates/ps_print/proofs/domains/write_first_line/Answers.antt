@@ -1,0 +1,9 @@
+use Rattle.std.proofs.Common.{codes}
+use Rattle.ps_world.specs.Lines.{line_end}
+use Rattle.ps_world.specs.Names.{name_text}
+use Rattle.ps_print.proofs.Pieces.{closed_line_of}
+use Rattle.ps_print.proofs.domains.write_first_line.Goals as goal
+
+pub returns : goal.returns
+returns c =
+    closed_line_of c.args.text.now (codes "(define (domain ") (name_text c.args.names.now c.args.name) (codes ")") line_end _ _ _ c.in_ok-extend_from_slice.ensures c.in_ok-write_name.ensures c.in_ok-extend_from_slice-2.ensures
