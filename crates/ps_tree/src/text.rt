@@ -5,8 +5,9 @@ ghost use Rattle.ps_tree.specs.Parts.{act_lines, first_lines, line_end, numbered
 
 use super::status::{act_status, sequence_status, state_at, wait_status};
 use super::waits::{Waits, waits_at};
+use itoa::Buffer;
 use ps_action::{ActState, Status};
-use std::alloc::{AllocError, Global};
+use std::alloc::AllocError;
 
 /// A status, as a line says it.
 fn status_word(status: Status) -> &'static [u8]
@@ -41,7 +42,6 @@ pub fn push_line(words: &[u8], status: Status, text: &mut Vec<u8>) -> Result<(),
 
 /// Adds a line of words, a number and a status.
 fn push_numbered(
-    alloc: Global,
     words: &[u8],
     number: u32,
     status: Status,
@@ -50,49 +50,34 @@ fn push_numbered(
     ensures { OnOk result (text.new.items ≡ text.old.items ++ numbered words.now number status) }
 {
     text.extend_from_slice(words)?;
-    let digits = number.to_string(alloc)?;
-    text.extend_from_slice(digits.as_bytes())?;
+    let mut digits = Buffer::new();
+    text.extend_from_slice(digits.format(number).as_bytes())?;
     push_status(status, text)?;
     Ok(())
 }
 
 /// Adds the line of a wait.
-fn push_wait(
-    alloc: Global,
-    states: &[ActState],
-    wait: u32,
-    text: &mut Vec<u8>,
-) -> Result<(), AllocError>
+fn push_wait(states: &[ActState], wait: u32, text: &mut Vec<u8>) -> Result<(), AllocError>
     ensures { OnOk result (text.new.items ≡ text.old.items ++ line (wait_node states.now wait)) }
 {
     let status = wait_status(state_at(states, wait));
-    push_numbered(alloc, b"    wait ", wait, status, text)
+    push_numbered(b"    wait ", wait, status, text)
 }
 
 /// Adds the line of an act's leaf.
-fn push_act(
-    alloc: Global,
-    states: &[ActState],
-    act: u32,
-    text: &mut Vec<u8>,
-) -> Result<(), AllocError>
+fn push_act(states: &[ActState], act: u32, text: &mut Vec<u8>) -> Result<(), AllocError>
     ensures { OnOk result (text.new.items ≡ text.old.items ++ line (act_node states.now act)) }
 {
     let status = act_status(state_at(states, act));
-    push_numbered(alloc, b"    act ", act, status, text)
+    push_numbered(b"    act ", act, status, text)
 }
 
 /// Adds the lines of waits. Where memory runs out some of the first may be added.
-fn push_waits(
-    alloc: Global,
-    states: &[ActState],
-    waits: &[u32],
-    text: &mut Vec<u8>,
-) -> Result<(), AllocError>
+fn push_waits(states: &[ActState], waits: &[u32], text: &mut Vec<u8>) -> Result<(), AllocError>
     ensures { OnOk result (text.new.items ≡ text.old.items ++ wait_lines states.now waits.now) }
 {
     for wait in waits {
-        push_wait(alloc, states, *wait, text)?;
+        push_wait(states, *wait, text)?;
     }
     Ok(())
 }
@@ -100,7 +85,6 @@ fn push_waits(
 /// Adds the lines of an act's sequence and of its leaves. Where memory runs out some of the first may be
 /// added.
 fn push_sequence(
-    alloc: Global,
     states: &[ActState],
     waits: &[u32],
     act: u32,
@@ -109,14 +93,13 @@ fn push_sequence(
     ensures { OnOk result (text.new.items ≡ text.old.items ++ act_lines states.now waits.now act) }
 {
     push_line(b"  sequence", sequence_status(states, waits, act), text)?;
-    push_waits(alloc, states, waits, text)?;
-    push_act(alloc, states, act, text)?;
+    push_waits(states, waits, text)?;
+    push_act(states, act, text)?;
     Ok(())
 }
 
 /// Adds the lines of the sequences of so many acts. Where memory runs out some of the first may be added.
 pub fn push_sequences(
-    alloc: Global,
     states: &[ActState],
     all: &[Waits],
     acts: u32,
@@ -125,7 +108,7 @@ pub fn push_sequences(
     ensures { OnOk result (text.new.items ≡ text.old.items ++ first_lines states.now all.now acts) }
 {
     for act in 0..acts {
-        push_sequence(alloc, states, waits_at(all, act), act, text)?;
+        push_sequence(states, waits_at(all, act), act, text)?;
     }
     Ok(())
 }

@@ -104,7 +104,7 @@ impl Tree {
             root_status(self.acts, states, waits),
             &mut text,
         )?;
-        push_sequences(self.alloc, states, waits, self.acts, &mut text)?;
+        push_sequences(states, waits, self.acts, &mut text)?;
         Ok(text)
     }
 }
