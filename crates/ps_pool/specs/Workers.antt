@@ -1,10 +1,15 @@
 -- What workers do, and what they make of a journal.
-use Rattle.std.specs.Prelude.{◌≡◌, ℕ, ◌<◌, ◌≤◌, nat_le, ◌&&◌, true, false, List, [], ◌∷◌, ◌++◌, length, take, IsTrue}
-use Rattle.std.specs.List.{All}
+use Rattle.std.specs.Prelude.{◌≡◌, ℕ, ◌<◌, ◌≤◌, nat_le, Bool, ◌&&◌, not, true, false, List, [], ◌∷◌, ◌++◌, ◌-◌, length, slice_get, take, IsTrue}
+use Rattle.std.specs.List.{All, list_any}
+use Rattle.std.specs.Option.{option_map_or}
 use Rattle.ps_world.specs.declared.domains.Domain.{Domain}
 use Rattle.ps_machine.specs.declared.inputs.Input.{Input}
 use Rattle.ps_machine.specs.declared.journal.Outcome.{Outcome}
+use Rattle.ps_machine.specs.declared.journal.Event.{Event}
 use Rattle.ps_machine.specs.declared.journal.Event.TheVariants as event
+use Rattle.ps_machine.specs.declared.journal.RunKind.TheVariants as run
+use Rattle.ps_machine.specs.declared.members.Member.{Member}
+use Rattle.ps_machine.specs.declared.members.Member.TheVariants as member
 use Rattle.ps_machine.specs.declared.journal.Entry.{Entry}
 use Rattle.ps_rules.specs.History.{IsHistory}
 use Rattle.ps_rules.specs.Known.{know}
@@ -55,6 +60,27 @@ IsDue i seen a = (s : Snapshot) → a ≡ aside.Search s → IsWanted i seen s
 -- the seat has the same hand, and a worker may take the board with it still
 abbrev pub HasStayed : Book → Place → Place → Type 0
 HasStayed book old new = MayWork book new × (new.hand ≡ old.hand)
+
+-- ---- runs for one worker
+
+-- whether a member is an observer
+abbrev pub is_observer : Member → Bool
+is_observer (member.Performer p) = false
+is_observer (member.Observer o) = true
+
+-- whether an event opens a run of one act
+abbrev pub opens_one_act : Event → Bool
+opens_one_act (event.Run run.Action acts) = true
+opens_one_act e = false
+
+-- whether the last of these entries does
+abbrev pub is_of_one_act : List Entry → Bool
+is_of_one_act es = option_map_or (λ e. opens_one_act e.what) (slice_get es (length es - 1)) false
+
+-- whether nothing is to be done beside a unit of work in the run that the last entry opens: it is of one act, for which no plan is made
+-- anew, and there is no observer, who could edit meanwhile
+abbrev pub is_for_one : Input → List Entry → Bool
+is_for_one i es = is_of_one_act es && not (list_any is_observer i.members)
 
 -- ---- a run
 

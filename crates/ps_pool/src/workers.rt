@@ -1,6 +1,6 @@
 //! Runs by several workers, each in a thread of its own, which take the board in turns.
 ghost use Rattle.std.specs.Prelude.{◌≡◌, ◌&&◌, ◌==◌, ◌+◌, ◌%◌, ◌<◌, ◌≤◌, ℕ, nat_le, true, false, length, map, slice_index_or, None, IfErr, IfOk, IfSome, IsTrue};
-ghost use Rattle.std.specs.List.{All};
+ghost use Rattle.std.specs.List.{All, list_any};
 ghost use Rattle.std.specs.Thread.{IsSync};
 ghost use Rattle.ps_action.specs.Search.{Fits};
 ghost use Rattle.ps_rules.specs.History.{IsHistory};
@@ -12,7 +12,7 @@ ghost use Rattle.ps_board.specs.declared.ticks.Snapshot.{Snapshot as SnapshotVie
 ghost use Rattle.ps_board.specs.declared.ticks.Ticked.TheVariants.{WantsPlan as Wanted};
 ghost use Rattle.ps_pool.specs.declared.workers.Round.TheVariants.{Over};
 ghost use Rattle.ps_pool.specs.Rounds.{IsWanted, passed_before};
-ghost use Rattle.ps_pool.specs.Workers.{EndedBy, HasStayed, IsCrew, IsDue, IsThere, MayWork, WasWanted, WorkedBy};
+ghost use Rattle.ps_pool.specs.Workers.{EndedBy, HasStayed, IsCrew, IsDue, IsThere, MayWork, WasWanted, WorkedBy, is_for_one, is_observer, is_of_one_act};
 
 use crate::gate::Gate;
 use crate::lead::Lead;
@@ -20,7 +20,7 @@ use crate::ordered::{Passed, RunStop, member_at};
 use ps_action::Answer;
 use ps_board::{Board, Grant, Snapshot, Ticked, Turn};
 use ps_domain::Expert;
-use ps_machine::Member;
+use ps_machine::{Entry, Event, Member, RunKind};
 use ps_plan::Solver;
 use ps_turn::{NotOpened, Seat, TurnBook};
 use std::alloc::{AllocError, Global};
@@ -75,6 +75,42 @@ fn all_members(alloc: Global, board: &Board) -> Result<Vec<Who>, AllocError>
         passed = now;
     }
     Ok(members)
+}
+
+/// Whether the last entry opens a run of one act, for which no plan is made anew.
+fn is_of_one_act(entries: &[Entry]) -> bool
+    ensures { result ≡ is_of_one_act entries.now }
+{
+    match entries.last() {
+        Some(entry) => match &entry.what {
+            Event::Run {
+                kind: RunKind::Action,
+                acts: _,
+            } => true,
+            _ => false,
+        },
+        None => false,
+    }
+}
+
+/// Whether one of these members is an observer.
+fn has_observer(members: &[Member]) -> bool
+    ensures { result ≡ list_any is_observer members.now }
+{
+    for member in members {
+        if let Member::Observer(_) = member {
+            return true;
+        }
+    }
+    false
+}
+
+/// Whether nothing is to be done beside a unit of work in the run that the last entry opens: it is of one act, so that there
+/// is one unit at a time, and there is no observer, who could edit meanwhile.
+fn is_for_one(board: &Board) -> bool
+    ensures { result ≡ is_for_one board.now.input board.now.entries }
+{
+    is_of_one_act(board.entries()) && !has_observer(board.input().members.as_slice())
 }
 
 /// Does the turn of a member.
@@ -275,6 +311,8 @@ struct Crew<'a, S: Solver, G: Gate> {
     gate: &'a G,
     budget: u32,
     workers: usize,
+    /// Nothing is to be done beside a unit of work.
+    is_for_one: bool,
     lead: Lead,
 }
 
@@ -532,6 +570,9 @@ trait Works {
 
     ghost suits: { Self → InputView → Type 0 };
 
+    /// Whether nothing is to be done beside a unit of work, so that no other worker is started. No contract rests on it.
+    fn is_for_one(&self) -> bool;
+
     /// Takes turns until something is to be done aside, or until the run is over or halted.
     fn begin<R: Wait>(
         &self,
@@ -565,6 +606,10 @@ impl<'a, S: Solver, G: Gate> Works for Crew<'a, S, G> {
 
     ghost suits = { λ crew i. IsCrew i crew.members.now crew.expert.now crew.budget crew.workers };
 
+    fn is_for_one(&self) -> bool {
+        self.is_for_one
+    }
+
     fn begin<R: Wait>(
         &self,
         rt: &R,
@@ -587,7 +632,8 @@ impl<'a, S: Solver, G: Gate> Works for Crew<'a, S, G> {
     }
 }
 
-/// The first of these seats' workers begins in this thread. Once it steps aside, the others are started in the same way.
+/// The first of these seats' workers begins in this thread. Once it steps aside, the others are started in the same way,
+/// unless they had nothing to do.
 #[cycle(seats)]
 fn work_all<R: Threads + Wait + Sync, C: Works + Sync>(
     rt: &R,
@@ -605,7 +651,7 @@ fn work_all<R: Threads + Wait + Sync, C: Works + Sync>(
     };
     let mut spot = Spot::first();
     let aside = crew.begin(rt, book, seat, &mut spot);
-    if rest.is_empty() || aside.is_none() {
+    if rest.is_empty() || aside.is_none() || crew.is_for_one() {
         crew.go_on(rt, book, seat, &mut spot, aside);
     } else {
         work_beside(rt, crew, book, seat, &mut spot, aside, rest);
@@ -713,7 +759,8 @@ fn run_crew<R: Threads + Wait + Sync, C: Works + Sync>(
 
 /// Goes on with the open run until it is over, by at most this many workers, each in a thread of its own if there are
 /// threads. The first begins alone, in this thread, and each other one is started when the one before it first steps
-/// aside. They take the board in turns, for one call in each. Each worker repeats rounds: a turn of each member that is
+/// aside. A run of one act without observers is done by the first alone, since nothing is to be done beside its units of
+/// work. They take the board in turns, for one call in each. Each worker repeats rounds: a turn of each member that is
 /// at home with it, one of the ticker, and one of each other member, in the order of the members. The member at place
 /// `m`, counted from 0, is at home with worker `m % workers + 1`, and a worker's number is its hand. Units of work are
 /// done between turns, and so is solving: one worker at a time does rounds, and while it steps aside to do a unit or to
@@ -750,6 +797,7 @@ pub fn run_workers<R: Threads + Wait + Sync, S: Solver + Sync, G: Gate + Sync>(
         gate,
         budget: board.input().budget,
         workers: usize::from(workers),
+        is_for_one: is_for_one(&board),
         lead: Lead::new(),
     };
     run_crew(rt, alloc, &crew, board, workers)

@@ -27,8 +27,8 @@ seat_send = search (sendable, crosses, token_send) depth 20 fits 8000
 book_sync : IsSync (TurnBook.the_row Board.the_row ghosts)
 book_sync = book.the_sync Board.the_row ghosts board_send
 
-pub work_all-returns-then-is_none : goal.work_all-returns-then-is_none
-work_all-returns-then-is_none g t c =
+pub work_all-returns-then-is_for_one : goal.work_all-returns-then-is_for_one
+work_all-returns-then-is_for_one g t c =
     first-stayed c.args.book.now c.in-Some.seat.now c.go_on.new.seat c.in-Some.rest.now c.args.seats.now (search rules) c.requires.seats
     (c.go_on.ensures.0, c.go_on.ensures.1 ∙ c.begin-aside.ensures.seat.1)
 
