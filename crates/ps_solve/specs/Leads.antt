@@ -11,10 +11,11 @@ use Rattle.ps_action.specs.declared.acts.Act.{Act}
 use Rattle.ps_solve.specs.Independence.{is_pruned}
 use Rattle.ps_solve.specs.States.{State, at}
 use Rattle.ps_solve.specs.Nodes.{Node, is_met, met, with_state}
-use Rattle.ps_solve.specs.Prepared.{successor_node, successor_nodes, successor}
+use Rattle.ps_solve.specs.Prepared.{passes, successor_node, successor_nodes, successor}
 use Rattle.ps_solve.specs.Rows.{plain_node}
 use Rattle.ps_solve.specs.declared.nodes.Reached.{Reached}
 use Rattle.ps_solve.specs.declared.prepared.Prepared.{Prepared}
+use Rattle.ps_solve.specs.declared.prepared.Test.{Test}
 
 -- a node, and the place of the ground action that leads to it
 pub record Lead : Type 0 where
@@ -38,6 +39,10 @@ first_leads seen (l ∷ ls) = if is_met seen l.node.state then first_leads seen 
 -- whether a state meets the goal
 abbrev pub is_good : Domain → Knowledge → Cond → State → Bool
 is_good d k goal s = is_true d (at k s) (cond_tree goal)
+
+-- a test passes in just the states that meet the goal
+abbrev pub MeansGoal : Domain → Knowledge → List Fact → Test → Cond → Type 0
+MeansGoal d k atoms test goal = (s : State) → passes d k atoms test s ≡ is_good d k goal s
 
 -- the path of the first lead whose state is good, if there is one
 abbrev pub good_path : (State → Bool) → List Lead → Option (List Act)

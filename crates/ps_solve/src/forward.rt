@@ -21,7 +21,7 @@ use super::acts::all_acts;
 use super::atoms::{Atoms, facts_added};
 use super::fits::is_fit;
 use super::fixed::Fixed;
-use super::prepared::{Prepared, prepare_all};
+use super::prepared::{Prepared, prepare_all, prepare_goal};
 use super::rows::Row;
 use super::search::Search;
 use ps_action::{Act, Answer};
@@ -226,10 +226,12 @@ impl<'a> Question<'a> {
             self.now.budget) }
     {
         let start = start_of(alloc, atoms, self.problem)?;
+        let test = prepare_goal(alloc, atoms, self.goal)?;
         let search = Search {
             given: self.problem,
             types: self.expert,
             goal: self.goal,
+            test: &test,
             atoms,
             actions,
         };

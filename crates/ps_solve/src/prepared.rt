@@ -19,6 +19,7 @@ ghost use Rattle.ps_solve.specs.Fitting.{AreFit, IsFit, grounds_of, parts_with};
 ghost use Rattle.ps_solve.specs.Rows.{AddAtoms, AreAtoms, IsOver, adds, plain_node};
 ghost use Rattle.ps_solve.specs.Prepared.{AreSound, IsBare, IsBareTest, IsSound, IsSoundChange, is_number, successor_nodes, successor, passes, turned, with_at, without_at};
 ghost use Rattle.ps_solve.specs.Independence.{HaveFootprints, HasFootprint};
+ghost use Rattle.ps_solve.specs.Leads.{MeansGoal};
 ghost use Rattle.ps_solve.specs.declared.nodes.Reached.{Reached as ReachedView};
 
 use super::atoms::Atoms;
@@ -28,12 +29,13 @@ use ps_action::{Act, GroundAction, first_clash};
 use ps_domain::Expert;
 use ps_problem::Problem;
 use ps_world::{Cond, Conditions, Conds, Duplicate, Effect, Effects, Failure, Name, Seq};
+use smallvec::SmallVec;
 use std::alloc::{AllocError, Global};
 
 /// Conditions: the places of the atoms that have to be known, and the other conditions.
 #[derive(Drop)]
 pub struct Test {
-    pub wanted: Vec<usize>,
+    pub wanted: SmallVec<usize, 2>,
     pub others: Conds,
 }
 
@@ -42,8 +44,8 @@ pub struct Test {
 pub enum Change {
     /// The flags at the places that are cleared, and then at those that are set.
     Flags {
-        cleared: Vec<usize>,
-        set: Vec<usize>,
+        cleared: SmallVec<usize, 2>,
+        set: SmallVec<usize, 2>,
     },
     /// The effects, some of which give numbers, and the place of the first that gives a term a value that an earlier one gives a
     /// value.
@@ -72,14 +74,14 @@ impl Test {
         ensures { IsBareTest result }
     {
         Test {
-            wanted: Vec::new(alloc),
+            wanted: SmallVec::new(alloc),
             others: Conds::new(alloc),
         }
     }
 
     /// The place of the first atom, or 0 where there is none.
     fn first(&self) -> usize {
-        self.wanted.first().copied().unwrap_or(0)
+        self.wanted.as_slice().first().copied().unwrap_or(0)
     }
 }
 
@@ -239,6 +241,24 @@ fn take_all(
     Ok(Taken::Whole)
 }
 
+/// The goal, prepared. A fact that is no atom has no place: where the goal says of one that it is known, it stays as it is.
+pub fn prepare_goal(alloc: Global, atoms: &Atoms, goal: &Cond) -> Result<Test, AllocError>
+    ensures { IfOk result (λ test. (d : DomainView) (k : KnowledgeView)
+        → MeansGoal d k atoms.now test goal.now) }
+{
+    let mut test = Test::bare(alloc);
+    let taken = match goal {
+        Cond::And(parts) => take_all(alloc, atoms, 0, &[], parts, &mut test)?,
+        _ => take_in(alloc, atoms, 0, &[], goal, &mut test)?,
+    };
+    if taken.is_whole() {
+        return Ok(test);
+    }
+    let mut whole = Test::bare(alloc);
+    whole.others.push(goal.copy(alloc)?)?;
+    Ok(whole)
+}
+
 /// Whether one of these effects gives a number.
 fn has_number(effects: &[Effect]) -> bool
     ensures { result ≡ list_any is_number effects.now }
@@ -271,12 +291,12 @@ fn all_deleted(
     near: usize,
     args: &[Name],
     effects: &[Effect],
-) -> Result<Vec<usize>, AllocError>
+) -> Result<SmallVec<usize, 2>, AllocError>
     ensures { IfOk result (λ places. (fs : List FactView) → AreAtoms atoms.now fs
         → fold (without_at atoms.now) fs places.items
         ≡ filter (λ f. not (list_any (deletes f) (map (put_effect args.now) effects.now))) fs) }
 {
-    let mut places = Vec::new(alloc);
+    let mut places = SmallVec::new(alloc);
     for effect in effects {
         if let Some(place) = deleted(atoms, near, args, effect) {
             places.push(place)?;
@@ -309,14 +329,14 @@ fn all_added(
     near: usize,
     args: &[Name],
     effects: &[Effect],
-) -> Result<Vec<usize>, AllocError>
+) -> Result<SmallVec<usize, 2>, AllocError>
     requires { AddAtoms atoms.now (map (put_effect args.now) effects.now) }
     ensures { IfOk result (λ places. (fs : List FactView)
         → fold (with_at atoms.now) fs places.items
         ≡ fold (insert_key fact_cmp) fs
         (filter_map added_by (map (put_effect args.now) effects.now))) }
 {
-    let mut places = Vec::new(alloc);
+    let mut places = SmallVec::new(alloc);
     for effect in effects {
         if let Some(place) = added(atoms, near, args, effect) {
             places.push(place)?;

@@ -5,18 +5,18 @@ ghost use Rattle.ps_solve.specs.Endings.{searched, unfinished};
 ghost use Rattle.ps_solve.specs.States.{state_of};
 ghost use Rattle.ps_solve.specs.Nodes.{grounds, met, moves, root};
 ghost use Rattle.ps_solve.specs.Independence.{HaveFootprints, is_pruned};
-ghost use Rattle.ps_solve.specs.Leads.{ArePruned, IsPruned, first_leads, good_path, is_good, leads_from, plain_lead};
+ghost use Rattle.ps_solve.specs.Leads.{ArePruned, IsPruned, MeansGoal, first_leads, good_path, is_good, leads_from, plain_lead};
 ghost use Rattle.ps_solve.specs.Prepared.{AreSound, IsSound, successor_nodes};
 ghost use Rattle.ps_solve.specs.Rows.{AreWide, HaveWide, plain_node, plain_state};
 ghost use Rattle.ps_solve.specs.declared.nodes.Reached.{Reached as ReachedView};
 
 use super::atoms::Atoms;
 use super::nodes::{Reached, begin, discover, path_to, remember};
-use super::prepared::Prepared;
+use super::prepared::{Prepared, Test};
 use super::rows::Row;
-use super::steps::{At, step};
+use super::steps::{passes, step};
 use indexmap::IndexSet;
-use ps_action::{Act, Answer, Known, Types, is_true};
+use ps_action::{Act, Answer, Known, Types};
 use ps_world::{Cond, Seq};
 use std::alloc::{AllocError, Global};
 
@@ -30,6 +30,8 @@ pub struct Search<'a, K: Known, T: Types> {
     pub given: &'a K,
     pub types: &'a T,
     pub goal: &'a Cond,
+    /// The goal, prepared.
+    pub test: &'a Test,
     pub atoms: &'a Atoms,
     pub actions: &'a [Prepared],
 }
@@ -37,15 +39,12 @@ pub struct Search<'a, K: Known, T: Types> {
 impl<'a, K: Known, T: Types> Search<'a, K, T> {
     /// Whether a row meets the goal.
     fn is_good(&self, row: &Row) -> bool
+        requires { MeansGoal (T.types self.now.types.now) (K.known self.now.given.now)
+            self.now.atoms.now self.now.test.now self.now.goal.now }
         ensures { result ≡ is_good (T.types self.now.types.now) (K.known self.now.given.now)
             self.now.goal.now (plain_state self.now.atoms.now row.now) }
     {
-        let here = At {
-            given: self.given,
-            atoms: self.atoms,
-            row,
-        };
-        is_true(&here, self.types, self.goal)
+        passes(self.given, self.types, self.atoms, row, self.test)
     }
 
     /// Puts a row that a ground action leads to at the end, unless it was met. Where it is new and meets the goal, its path is
@@ -63,6 +62,8 @@ impl<'a, K: Known, T: Types> Search<'a, K, T> {
         requires wide { AreWide self.now.atoms.now seen.old.keys }
         requires level { HaveWide self.now.atoms.now next.old.items }
         requires row { length row.flags.items ≡ length self.now.atoms.now }
+        requires test { MeansGoal (T.types self.now.types.now) (K.known self.now.given.now)
+            self.now.atoms.now self.now.test.now self.now.goal.now }
         ensures found { IfOk result (λ path. path
             ≡ good_path (is_good (T.types self.now.types.now)
             (K.known self.now.given.now) self.now.goal.now)
@@ -125,6 +126,8 @@ impl<'a, K: Known, T: Types> Search<'a, K, T> {
         requires sound { IsSound self.now.atoms.now action.now }
         requires node { length node.now.row.flags.items ≡ length self.now.atoms.now }
         requires level { HaveWide self.now.atoms.now next.old.items }
+        requires test { MeansGoal (T.types self.now.types.now) (K.known self.now.given.now)
+            self.now.atoms.now self.now.test.now self.now.goal.now }
         ensures found { IfOk result (λ path. path
             ≡ good_path (is_good (T.types self.now.types.now)
             (K.known self.now.given.now) self.now.goal.now)
@@ -187,6 +190,8 @@ impl<'a, K: Known, T: Types> Search<'a, K, T> {
             (K.known self.now.given.now) self.now.atoms.now self.now.actions.now
             (map (plain_state self.now.atoms.now) seen.old.keys)
             (plain_lead self.now.atoms.now node.now) }
+        requires test { MeansGoal (T.types self.now.types.now) (K.known self.now.given.now)
+            self.now.atoms.now self.now.test.now self.now.goal.now }
         ensures found { IfOk result (λ path. path
             ≡ good_path (is_good (T.types self.now.types.now)
             (K.known self.now.given.now) self.now.goal.now)
@@ -233,6 +238,8 @@ impl<'a, K: Known, T: Types> Search<'a, K, T> {
             (K.known self.now.given.now) self.now.atoms.now self.now.actions.now
             (map (plain_state self.now.atoms.now) seen.old.keys)
             (plain_lead self.now.atoms.now node.now) }
+        requires test { MeansGoal (T.types self.now.types.now) (K.known self.now.given.now)
+            self.now.atoms.now self.now.test.now self.now.goal.now }
         ensures found { IfOk result (λ path. path
             ≡ good_path (is_good (T.types self.now.types.now)
             (K.known self.now.given.now) self.now.goal.now)
@@ -281,6 +288,8 @@ impl<'a, K: Known, T: Types> Search<'a, K, T> {
             (K.known self.now.given.now) self.now.atoms.now self.now.actions.now
             (map (plain_state self.now.atoms.now) seen.old.keys)
             (map (plain_lead self.now.atoms.now) level.now) }
+        requires test { MeansGoal (T.types self.now.types.now) (K.known self.now.given.now)
+            self.now.atoms.now self.now.test.now self.now.goal.now }
         ensures found { IfOk result (λ path. path
             ≡ good_path (is_good (T.types self.now.types.now)
             (K.known self.now.given.now) self.now.goal.now)
@@ -352,6 +361,8 @@ impl<'a, K: Known, T: Types> Search<'a, K, T> {
             ≡ state_of (K.known self.now.given.now) ∷ [] }
         requires wide { AreWide self.now.atoms.now seen.old.keys }
         requires level { HaveWide self.now.atoms.now level.old.items }
+        requires test { MeansGoal (T.types self.now.types.now) (K.known self.now.given.now)
+            self.now.atoms.now self.now.test.now self.now.goal.now }
         ensures { IfOk result (λ answer. answer
             ≡ searched (T.types self.now.types.now) (K.known self.now.given.now) budget) }
     {
@@ -388,6 +399,8 @@ impl<'a, K: Known, T: Types> Search<'a, K, T> {
             ≡ moves (T.types self.now.types.now) (K.known self.now.given.now)
             (grounds (T.types self.now.types.now) (K.known self.now.given.now))
             (plain_node self.now.atoms.now n) }
+        requires test { MeansGoal (T.types self.now.types.now) (K.known self.now.given.now)
+            self.now.atoms.now self.now.test.now self.now.goal.now }
         ensures { IfOk result (λ answer. answer
             ≡ searched (T.types self.now.types.now) (K.known self.now.given.now) budget) }
     {

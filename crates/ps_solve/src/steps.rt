@@ -80,7 +80,13 @@ fn change<K: Known, T: Types>(
 }
 
 /// Whether a test holds in a row.
-fn passes<K: Known, T: Types>(given: &K, types: &T, atoms: &Atoms, row: &Row, test: &Test) -> bool
+pub fn passes<K: Known, T: Types>(
+    given: &K,
+    types: &T,
+    atoms: &Atoms,
+    row: &Row,
+    test: &Test,
+) -> bool
     ensures { result ≡ passes (T.types types.now) (K.known given.now) atoms.now test.now
         (plain_state atoms.now row.now) }
 {

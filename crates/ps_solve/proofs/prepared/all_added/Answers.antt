@@ -1,8 +1,9 @@
-use Rattle.std.proofs.Common.{◌≡◌, ◌+◌, ◌∷◌, [], ℕ, Global, List, Option, Vec, filter_map, fold, drop, map, option_to_list, ap, sym, ◌∙◌, arith}
+use Rattle.std.proofs.Common.{◌≡◌, ◌+◌, ◌∷◌, [], ℕ, List, Option, filter_map, fold, drop, map, option_to_list, ap, sym, ◌∙◌, arith}
 use Rattle.std.specs.Option.{option_map_or}
 use Rattle.std.specs.BTreeSet.{insert_key}
 use Rattle.std.proofs.lemmas.List.{drop_all, drop_more}
 use Rattle.std.proofs.lemmas.List.Sums.{fold-append}
+use Rattle.smallvec.specs.SmallVec.{SmallVec}
 use Rattle.ps_world.specs.Facts.{fact_cmp}
 use Rattle.ps_world.specs.declared.actions.Effect.{Effect}
 use Rattle.ps_world.specs.declared.facts.Fact.{Fact}
@@ -32,8 +33,8 @@ loop-effect-preserved c =
             let left = fold (with_at atoms) fs places in
             let now : with_at atoms left w.in-Some.place ≡ fold (insert_key fact_cmp) left (option_to_list (added_by e)) =
             (sym (ap (λ (o : Option ℕ). option_map_or (with_at atoms left) o left) w.in-Some.is) ∙ c.added.ensures left) in
-            ap (λ (v : Vec ℕ Global). rest (fold (with_at atoms) fs v.items)) w.places-is
-            ∙ ap (λ (l : List ℕ). rest (fold (with_at atoms) fs l)) w.in_ok-push.ensures.items
+            ap (λ (v : SmallVec ℕ). rest (fold (with_at atoms) fs v.items)) w.places-is
+            ∙ ap (λ (l : List ℕ). rest (fold (with_at atoms) fs l)) w.in_ok-push.ensures.ok
             ∙ ap rest (fold-append (with_at atoms) fs places (w.in-Some.place ∷ []) ∙ now)
             ∙ added_more es i e left split ∙ c.loop-effect.invariant.put fs
         | in_default w ↦
@@ -41,7 +42,7 @@ loop-effect-preserved c =
             let left = fold (with_at atoms) fs places in
             let now : left ≡ fold (insert_key fact_cmp) left (option_to_list (added_by e)) =
             (sym (ap (λ (o : Option ℕ). option_map_or (with_at atoms left) o left) w.in_default.is) ∙ c.added.ensures left) in
-            ap (λ (v : Vec ℕ Global). rest (fold (with_at atoms) fs v.items)) w.places-is
+            ap (λ (v : SmallVec ℕ). rest (fold (with_at atoms) fs v.items)) w.places-is
             ∙ ap rest now
             ∙ added_more es i e left split ∙ c.loop-effect.invariant.put fs
       ];

@@ -1,8 +1,9 @@
-use Rattle.std.proofs.Common.{◌≡◌, ◌+◌, ◌∷◌, [], ℕ, Global, List, Option, Vec, not, filter, fold, drop, map, ap, sym, ◌∙◌, arith}
+use Rattle.std.proofs.Common.{◌≡◌, ◌+◌, ◌∷◌, [], ℕ, List, Option, not, filter, fold, drop, map, ap, sym, ◌∙◌, arith}
 use Rattle.std.specs.List.{list_any}
 use Rattle.std.specs.Option.{option_map_or}
 use Rattle.std.proofs.lemmas.List.{drop_all, drop_more}
 use Rattle.std.proofs.lemmas.List.Sums.{fold-append}
+use Rattle.smallvec.specs.SmallVec.{SmallVec}
 use Rattle.ps_world.specs.declared.actions.Effect.{Effect}
 use Rattle.ps_world.specs.declared.facts.Fact.{Fact}
 use Rattle.ps_action.specs.Effects.{deletes}
@@ -31,8 +32,8 @@ loop-effect-preserved c =
           let left = fold (without_at atoms) fs places in
           let now : without_at atoms left w.in-Some.place ≡ filter (λ f. not (deletes f e)) left =
           (sym (ap (λ (o : Option ℕ). option_map_or (without_at atoms left) o left) w.in-Some.is) ∙ c.deleted.ensures left (without_atoms atoms places fs a)) in
-          ap (λ (v : Vec ℕ Global). rest (fold (without_at atoms) fs v.items)) w.places-is
-          ∙ ap (λ (l : List ℕ). rest (fold (without_at atoms) fs l)) w.in_ok-push.ensures.items
+          ap (λ (v : SmallVec ℕ). rest (fold (without_at atoms) fs v.items)) w.places-is
+          ∙ ap (λ (l : List ℕ). rest (fold (without_at atoms) fs l)) w.in_ok-push.ensures.ok
           ∙ ap rest (fold-append (without_at atoms) fs places (w.in-Some.place ∷ []) ∙ now)
           ∙ deleted_more atoms es i e left split ∙ c.loop-effect.invariant fs a
       | in_default w ↦
@@ -40,7 +41,7 @@ loop-effect-preserved c =
           let left = fold (without_at atoms) fs places in
           let now : left ≡ filter (λ f. not (deletes f e)) left =
           (sym (ap (λ (o : Option ℕ). option_map_or (without_at atoms left) o left) w.in_default.is) ∙ c.deleted.ensures left (without_atoms atoms places fs a)) in
-          ap (λ (v : Vec ℕ Global). rest (fold (without_at atoms) fs v.items)) w.places-is
+          ap (λ (v : SmallVec ℕ). rest (fold (without_at atoms) fs v.items)) w.places-is
           ∙ ap rest now
           ∙ deleted_more atoms es i e left split ∙ c.loop-effect.invariant fs a
     ]

@@ -16,7 +16,7 @@ returns-in_ok-push-in-Some c =
     let test = c.args.test.now in
     record {
       taken = λ yes d k s.
-          taken_fact d k s args c.in-Holds.lifted c.args.atoms.now test test.others c.push.new.self.items c.in-Some.place c.in_ok-push-in-Some.ensures.items refl (c.in-Some.ensures.place ∙ ap Some c.ground_in.ensures)
+          taken_fact d k s args c.in-Holds.lifted c.args.atoms.now test test.others c.push.new.self.items c.in-Some.place c.in_ok-push-in-Some.ensures.ok refl (c.in-Some.ensures.place ∙ ap Some c.ground_in.ensures)
           ∙ (λ i. passes d k c.args.atoms.now test s && is_true d (at k s) (put_cond args (cond_tree (sym c.in-Holds.is i))));
       vain = λ out. absurd (cc);
       ready = λ out. absurd (cc);
