@@ -1,5 +1,5 @@
 -- The facts that flags stand for: where one is found, and what a flag that is cleared or set changes.
-use Rattle.std.proofs.Common.{◌≡◌, ℕ, zero, suc, ◌≤◌, ◌<◌, Bool, true, false, not, ◌||◌, List, [], ◌∷◌, ◌++◌, Option, Some, None, filter, length, get_or, set, refl, ap, sym, ◌∙◌, arith}
+use Rattle.std.proofs.Common.{◌≡◌, ℕ, zero, suc, ◌≤◌, ◌<◌, Bool, true, false, not, ◌||◌, List, [], ◌∷◌, Option, Some, None, filter, length, get_or, replicate, set, refl, ap, sym, ◌∙◌, arith, inl, inr}
 use Rattle.std.specs.Prelude.{slice_get}
 use Rattle.std.specs.List.{AllByRecursion, list_any}
 use Rattle.std.specs.List.Sorted.{IsStrictlySortedBy}
@@ -8,7 +8,9 @@ use Rattle.std.specs.BTreeSet.{insert_key}
 use Rattle.std.specs.Ordering.{is_eq, ordering_reverse}
 use Rattle.std.specs.declared.cmp.Ordering.{Ordering}
 use Rattle.std.specs.declared.cmp.Ordering.TheVariants.{Less, Equal, Greater}
+use Rattle.std.proofs.lemmas.Bool.{cases_lt}
 use Rattle.std.proofs.lemmas.Cmp.{eq_by_cmp_equiv}
+use Rattle.std.proofs.lemmas.Option.{slice_get_past}
 use Rattle.ps_world.specs.Facts.{fact_cmp}
 use Rattle.ps_world.specs.Knowledge.{same_fact}
 use Rattle.ps_world.specs.declared.facts.Fact.{Fact}
@@ -176,18 +178,13 @@ flags_told (a ∷ atoms) (false ∷ fs) (false ∷ gs) s p q e =
     let q' : length gs ≡ length atoms = omega arith in
     ap (λ l. false ∷ l) (flags_told atoms fs gs s.1 p' q' e)
 
--- ---- flags one after another
+-- ---- no flags
 
-pub no_flags : (atoms : List Fact) → facts_of atoms [] ≡ []
-no_flags [] = refl
-no_flags (a ∷ atoms) = refl
-
--- one more flag that isn't set
-pub one_unset : (atoms : List Fact) (flags : List Bool) → facts_of atoms (flags ++ false ∷ []) ≡ facts_of atoms flags
-one_unset [] flags = refl
-one_unset (a ∷ atoms) [] = no_flags atoms
-one_unset (a ∷ atoms) (true ∷ flags) = ap (λ l. a ∷ l) (one_unset atoms flags)
-one_unset (a ∷ atoms) (false ∷ flags) = one_unset atoms flags
+-- where no flag is set, no fact is known
+pub none_set : (atoms : List Fact) (k : ℕ) → facts_of atoms (replicate k false) ≡ []
+none_set [] k = refl
+none_set (a ∷ atoms) zero = refl
+none_set (a ∷ atoms) (suc k) = none_set atoms k
 
 -- ---- flags by their places
 
@@ -227,3 +224,16 @@ module _ (atoms : List Fact) (i : ℕ) (flags : List Bool) (rise : IsStrictlySor
   -- to set it is to put its atom in
   pub place_set : i < length flags → facts_of atoms (set flags i true) ≡ option_map_or (insert_key fact_cmp (facts_of atoms flags)) (slice_get atoms i) (facts_of atoms flags)
   place_set h = set_by (slice_get atoms i) refl h
+
+  past_all : length flags ≤ i → length flags ≡ length atoms → facts_of atoms (set flags i true) ≡ option_map_or (insert_key fact_cmp (facts_of atoms flags)) (slice_get atoms i) (facts_of atoms flags)
+  past_all past wide =
+      let none = slice_get_past atoms i (omega (arith, past, wide)) in
+      past_kept true atoms i flags none ∙ ap (λ (o : Option Fact). option_map_or (insert_key fact_cmp (facts_of atoms flags)) o (facts_of atoms flags)) (sym none)
+
+  -- so it is past the last too, where there is a flag for each atom
+  pub place_put : length flags ≡ length atoms → facts_of atoms (set flags i true) ≡ option_map_or (insert_key fact_cmp (facts_of atoms flags)) (slice_get atoms i) (facts_of atoms flags)
+  place_put wide =
+      elim (cases_lt i (length flags)) [
+        | inl within ↦ place_set within
+        | inr past ↦ past_all past wide
+      ]

@@ -16,6 +16,7 @@ pub mod Levels
 pub mod Listing
 pub mod Lists
 pub mod NoneLaw
+pub mod Packing
 pub mod Places
 pub mod Preparing
 pub mod Pruning

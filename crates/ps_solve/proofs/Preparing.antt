@@ -40,7 +40,7 @@ use Rattle.ps_solve.proofs.Settled.{both_true}
 
 -- a row is over the atoms
 pub row_over : (atoms : List Fact) (r : Row) → IsOver atoms (plain_state atoms r)
-row_over atoms r f e = none_known (same_fact f) atoms r.flags.items e
+row_over atoms r f e = none_known (same_fact f) atoms r.flags e
 
 -- ---- changes
 

@@ -186,7 +186,7 @@ module _ (d : Domain) (k : Knowledge) (atoms : List Fact) where
 
       all_rise : (rs : List Reached) → AllRise (map (plain_node atoms) rs)
       all_rise [] = tt
-      all_rise (r ∷ rs) = (facts_rise atoms r.row.flags.items rise, all_rise rs)
+      all_rise (r ∷ rs) = (facts_rise atoms r.row.flags rise, all_rise rs)
 
       -- where a level has led on, what is pruned at the next leads to what was met
       pub pruned_on : (rs next : List Reached) (seen later : List State) → IsClosed seen (map (plain_node atoms) rs) → map (plain_lead atoms) next ≡ first_leads seen (flat_map (leads_from d k atoms 0 ps) (map (plain_node atoms) rs)) → later ≡ met seen (flat_map (successor_nodes d k atoms ps) (map (plain_node atoms) rs)) → ArePruned d k atoms ps later (map (plain_lead atoms) next)

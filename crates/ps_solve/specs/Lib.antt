@@ -2,6 +2,7 @@ pub mod Acts
 pub mod Endings
 pub mod Fitting
 pub mod Fixed
+pub mod Flags
 pub mod Independence
 pub mod Laws
 pub mod Leads

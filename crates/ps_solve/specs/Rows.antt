@@ -1,5 +1,5 @@
 -- Rows of flags, each of which says of an atom whether it is known.
-use Rattle.std.specs.Prelude.{◌≡◌, ℕ, Bool, true, false, ◌&&◌, if◌then◌else◌, List, [], ◌∷◌, ◌++◌, filter_map, flat_map, length, IsTrue, refl, ◌+◌, ◌*◌, ◌%◌, ◌^◌, cond, fold}
+use Rattle.std.specs.Prelude.{◌≡◌, ℕ, Bool, false, ◌&&◌, if◌then◌else◌, List, [], ◌∷◌, ◌++◌, filter_map, flat_map, length, IsTrue}
 use Rattle.std.proofs.Math.Bool.{beq}
 use Rattle.std.specs.Hash as fed
 use Rattle.std.specs.List.{list_any}
@@ -11,6 +11,7 @@ use Rattle.ps_world.specs.declared.actions.Effect.{Effect}
 use Rattle.ps_world.specs.declared.facts.Fact.{Fact}
 use Rattle.ps_action.specs.Effects.{added_by}
 use Rattle.ps_action.specs.declared.acts.GroundAction.{GroundAction}
+use Rattle.ps_solve.specs.Flags.{flags_fed_alike, flags_key}
 use Rattle.ps_solve.specs.Orders.{values_cmp, values_fed_alike, values_total}
 use Rattle.ps_solve.specs.States.{State}
 use Rattle.ps_solve.specs.Nodes.{Node}
@@ -25,7 +26,7 @@ facts_of (a ∷ atoms) (flag ∷ flags) = if flag then a ∷ facts_of atoms flag
 
 -- the state of a row over these atoms
 abbrev pub plain_state : List Fact → Row → State
-plain_state atoms r = record { facts = facts_of atoms r.flags.items; values = r.values }
+plain_state atoms r = record { facts = facts_of atoms r.flags; values = r.values }
 
 -- the node of a row that was reached
 abbrev pub plain_node : List Fact → Reached → Node
@@ -33,50 +34,31 @@ plain_node atoms r = record { state = plain_state atoms r.row; path = r.path.ite
 
 -- whether two rows are the same
 abbrev pub same_row : Row → Row → Bool
-same_row r s = pointwise beq r.flags.items s.flags.items && eq_by_cmp values_cmp r.values s.values
+same_row r s = pointwise beq r.flags s.flags && eq_by_cmp values_cmp r.values s.values
 
 pub rows_equiv : IsEquivalence same_row
-rows_equiv = and_equiv (on_equiv (λ r. r.flags.items) (lists_equiv bool_eq_equiv)) (on_equiv (λ r. r.values) (eq_by_cmp_equiv values_total))
-
--- a number made of flags, as digits of a base, without what passes 64 bits
-abbrev pub with_flag : ℕ → Bool → ℕ
-with_flag n flag = (((n * 31) % 2 ^ 64) + cond flag 1 0) % 2 ^ 64
-
-abbrev pub flags_key : List Bool → ℕ
-flags_key flags = fold with_flag 0 flags
+rows_equiv = and_equiv (on_equiv (λ r. r.flags) (lists_equiv bool_eq_equiv)) (on_equiv (λ r. r.values) (eq_by_cmp_equiv values_total))
 
 -- what a row feeds to a hash
 abbrev pub row_fed : Row → List (List ℕ)
-row_fed r = fed.u64 (flags_key r.flags.items) ++ flat_map (λ v. fed.i64 v.1) r.values
-
-same_bool : (a b : Bool) → beq a b ≡ true → a ≡ b
-same_bool true true e = refl
-same_bool true false e = absurd (cc)
-same_bool false true e = absurd (cc)
-same_bool false false e = refl
-
-pub same_flags : (fs gs : List Bool) → pointwise beq fs gs ≡ true → fs ≡ gs
-same_flags [] [] e = refl
-same_flags [] (g ∷ gs) e = absurd (cc)
-same_flags (f ∷ fs) [] e = absurd (cc)
-same_flags (f ∷ fs) (g ∷ gs) e = λ i. same_bool f g (first_so (beq f g) (pointwise beq fs gs) e) i ∷ same_flags fs gs (second_so (beq f g) (pointwise beq fs gs) e) i
+row_fed r = fed.u64 (flags_key r.flags) ++ flat_map (λ v. fed.i64 v.1) r.values
 
 -- rows that are the same are fed alike
 pub rows_fed_alike : (r s : Row) → IsTrue (same_row r s) → row_fed r ≡ row_fed s
 rows_fed_alike r s e =
-    let flags = pointwise beq r.flags.items s.flags.items in
+    let flags = pointwise beq r.flags s.flags in
     let values = eq_by_cmp values_cmp r.values s.values in
-    λ i. fed.u64 (flags_key (same_flags r.flags.items s.flags.items (first_so flags values e) i)) ++ values_fed_alike r.values s.values (second_so flags values e) i
+    λ i. flags_fed_alike r.flags s.flags (first_so flags values e) i ++ values_fed_alike r.values s.values (second_so flags values e) i
 
 -- each of these rows has a flag for each atom
 abbrev pub AreWide : List Fact → List Row → Type 0
 AreWide atoms [] = Unit {0}
-AreWide atoms (r ∷ rs) = (length r.flags.items ≡ length atoms) × AreWide atoms rs
+AreWide atoms (r ∷ rs) = (length r.flags ≡ length atoms) × AreWide atoms rs
 
 -- so has the row of each of these
 abbrev pub HaveWide : List Fact → List Reached → Type 0
 HaveWide atoms [] = Unit {0}
-HaveWide atoms (n ∷ ns) = (length n.row.flags.items ≡ length atoms) × HaveWide atoms ns
+HaveWide atoms (n ∷ ns) = (length n.row.flags ≡ length atoms) × HaveWide atoms ns
 
 -- the facts that a ground action adds, at its start and then at its end
 abbrev pub adds : GroundAction → List Fact

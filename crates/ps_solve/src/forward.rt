@@ -100,7 +100,7 @@ fn useful_of(
 fn start_of(alloc: Global, atoms: &Atoms, problem: &Problem) -> Result<Row, AllocError>
     requires { AreAtoms atoms.now problem.now.facts }
     ensures same { IfOk result (λ row. plain_state atoms.now row ≡ state_of problem.now) }
-    ensures wide { IfOk result (λ row. length row.flags.items ≡ length atoms.now) }
+    ensures wide { IfOk result (λ row. length row.flags ≡ length atoms.now) }
 {
     let facts = problem.facts()?;
     let values = problem.values()?;

@@ -5,6 +5,7 @@ mod acts;
 mod atoms;
 mod fits;
 mod fixed;
+mod flags;
 mod footprints;
 mod forward;
 mod laws;

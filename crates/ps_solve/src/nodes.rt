@@ -63,7 +63,7 @@ pub fn discover(
     by: usize,
 ) -> Result<(), AllocError>
     requires level { HaveWide atoms.now next.old.items }
-    requires row { length row.flags.items ≡ length atoms.now }
+    requires row { length row.flags ≡ length atoms.now }
     ensures leads { OnOk result (map (plain_lead atoms.now) next.new.items
         ≡ map (plain_lead atoms.now) next.old.items
         ++ record {
@@ -90,7 +90,7 @@ pub fn begin(
     by: usize,
 ) -> Result<Vec<Reached>, AllocError>
     requires empty { seen.old.keys ≡ [] }
-    requires wide { length row.flags.items ≡ length atoms.now }
+    requires wide { length row.flags ≡ length atoms.now }
     ensures leads { IfOk result (λ level. map (plain_lead atoms.now) level.items
         ≡ record { node = record { state = plain_state atoms.now row; path = [] }; by = by } ∷ []) }
     ensures seen { OnOk result (map (plain_state atoms.now) seen.new.keys

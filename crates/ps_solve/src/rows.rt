@@ -1,5 +1,5 @@
 //! Rows: states over the atoms of a search.
-ghost use Rattle.std.specs.Prelude.{◌≡◌, ◌∷◌, [], false, true, not, filter, filter_map, fold, length, option_to_list, slice_index_or, slice_set, IfOk, OnOk};
+ghost use Rattle.std.specs.Prelude.{◌≡◌, ◌∷◌, [], not, filter, filter_map, fold, length, option_to_list, IfOk, OnOk};
 ghost use Rattle.std.specs.List.{list_all, list_any};
 ghost use Rattle.std.specs.List.Sorted.{IsStrictlySortedBy};
 ghost use Rattle.std.specs.BTreeSet.{insert_key};
@@ -8,10 +8,11 @@ ghost use Rattle.ps_world.specs.Facts.{fact_cmp};
 ghost use Rattle.ps_world.specs.Knowledge.{same_fact};
 ghost use Rattle.ps_action.specs.Effects.{added_by, deletes};
 ghost use Rattle.ps_solve.specs.States.{made_state};
-ghost use Rattle.ps_solve.specs.Rows.{AddAtoms, AreAtoms, facts_of, flags_key, plain_state};
+ghost use Rattle.ps_solve.specs.Rows.{AddAtoms, AreAtoms, facts_of, plain_state};
 ghost use Rattle.ps_solve.specs.Prepared.{known_at, with_at, without_at};
 
 use super::atoms::Atoms;
+use super::flags::Flags;
 use super::values::Values;
 use ps_world::{Effect, Fact, Num};
 use std::alloc::{AllocError, Global};
@@ -20,7 +21,7 @@ use std::hash::{Hash, Hasher};
 /// A state over the atoms of a search: a flag for each atom, whether it is known, and the values of functions.
 #[derive(Drop)]
 pub struct Row {
-    pub flags: Vec<bool>,
+    pub flags: Flags,
     pub values: Values,
 }
 
@@ -51,7 +52,7 @@ impl Hash for Row {
     ghost respects_eq = { rows_fed_alike };
 
     fn hash<H: Hasher>(&self, state: &mut H) {
-        key_of(self.flags.as_slice()).hash(state);
+        self.flags.hash(state);
         self.values.hash(state);
     }
 }
@@ -67,9 +68,9 @@ impl Row {
         requires facts { IsStrictlySortedBy fact_cmp facts.now }
         requires values { IsStrictlySortedBy fact_cmp (keys_of values.now) }
         requires atoms { AreAtoms atoms.now facts.now }
-        ensures same { IfOk result (λ row. (facts_of atoms.now row.flags.items ≡ facts.now)
+        ensures same { IfOk result (λ row. (facts_of atoms.now row.flags ≡ facts.now)
             × (row.values ≡ values.now)) }
-        ensures wide { IfOk result (λ row. length row.flags.items ≡ length atoms.now) }
+        ensures wide { IfOk result (λ row. length row.flags ≡ length atoms.now) }
     {
         Ok(Row {
             flags: flags_of(alloc, atoms, facts)?,
@@ -79,11 +80,11 @@ impl Row {
 
     /// An equal row.
     pub fn copy(&self, alloc: Global) -> Result<Row, AllocError>
-        ensures flags { IfOk result (λ copied. copied.flags.items ≡ self.now.flags.items) }
+        ensures flags { IfOk result (λ copied. copied.flags ≡ self.now.flags) }
         ensures values { IfOk result (λ copied. copied.values ≡ self.now.values) }
     {
         Ok(Row {
-            flags: Vec::from_slice(alloc, self.flags.as_slice())?,
+            flags: self.flags.copy(alloc)?,
             values: self.values.copy()?,
         })
     }
@@ -96,11 +97,11 @@ impl Row {
         effects: &[Effect],
         ready: &[(Fact, Num)],
     ) -> Result<(), AllocError>
-        requires wide { length self.old.flags.items ≡ length atoms.now }
+        requires wide { length self.old.flags ≡ length atoms.now }
         requires atoms { AddAtoms atoms.now effects.now }
         ensures state { OnOk result (plain_state atoms.now self.new
             ≡ made_state (plain_state atoms.now self.old) effects.now ready.now) }
-        ensures wide { OnOk result (length self.new.flags.items ≡ length self.old.flags.items) }
+        ensures wide { OnOk result (length self.new.flags ≡ length self.old.flags) }
     {
         delete_all(&mut self.flags, atoms, effects);
         add_all(&mut self.flags, atoms, effects);
@@ -115,7 +116,7 @@ impl Row {
                   (plain_state atoms.now self.old).facts places.now;
               values = self.old.values;
             } }
-        ensures wide { length self.new.flags.items ≡ length self.old.flags.items }
+        ensures wide { length self.new.flags ≡ length self.old.flags }
     {
         for place in places {
             clear_at(&mut self.flags, atoms, *place);
@@ -124,14 +125,14 @@ impl Row {
 
     /// Sets the flags at these places.
     pub fn set_all(&mut self, atoms: &Atoms, places: &[usize])
-        requires { length self.old.flags.items ≡ length atoms.now }
+        requires { length self.old.flags ≡ length atoms.now }
         ensures state { plain_state atoms.now self.new
             ≡ record {
               facts = fold (with_at atoms.now)
                   (plain_state atoms.now self.old).facts places.now;
               values = self.old.values;
             } }
-        ensures wide { length self.new.flags.items ≡ length self.old.flags.items }
+        ensures wide { length self.new.flags ≡ length self.old.flags }
     {
         for place in places {
             set_at(&mut self.flags, atoms, *place);
@@ -144,7 +145,7 @@ fn is_known_at(atoms: &Atoms, row: &Row, place: usize) -> bool
     ensures { result ≡ known_at atoms.now (plain_state atoms.now row.now) place }
 {
     if place < atoms.as_slice().len() {
-        is_set(row.flags.as_slice(), place)
+        row.flags.get(place)
     } else {
         false
     }
@@ -163,16 +164,13 @@ pub fn are_known(atoms: &Atoms, row: &Row, places: &[usize]) -> bool
 }
 
 /// Flags for the atoms, where these facts are set. The only error is out of memory.
-fn flags_of(alloc: Global, atoms: &Atoms, facts: &[Fact]) -> Result<Vec<bool>, AllocError>
+fn flags_of(alloc: Global, atoms: &Atoms, facts: &[Fact]) -> Result<Flags, AllocError>
     requires { AreAtoms atoms.now facts.now }
-    ensures facts { IfOk result (λ flags. facts_of atoms.now flags.items
+    ensures facts { IfOk result (λ flags. facts_of atoms.now flags
         ≡ fold (insert_key fact_cmp) [] facts.now) }
-    ensures wide { IfOk result (λ flags. length flags.items ≡ length atoms.now) }
+    ensures wide { IfOk result (λ flags. length flags ≡ length atoms.now) }
 {
-    let mut flags = Vec::with_capacity(alloc, atoms.as_slice().len())?;
-    for _ in atoms.as_slice() {
-        flags.push(false)?;
-    }
+    let mut flags = Flags::cleared(alloc, atoms.as_slice().len())?;
     // Both rise, so that each is found after the one before it.
     let mut near = 0;
     for fact in facts {
@@ -181,77 +179,50 @@ fn flags_of(alloc: Global, atoms: &Atoms, facts: &[Fact]) -> Result<Vec<bool>, A
     Ok(flags)
 }
 
-/// A number made of flags, for a hash: one write is much less work than one for each flag.
-fn key_of(flags: &[bool]) -> u64
-    ensures { result ≡ flags_key flags.now }
-{
-    let mut key: u64 = 0;
-    for flag in flags {
-        key = key.wrapping_mul(31).wrapping_add(*flag as u64);
-    }
-    key
-}
-
-/// Whether the flag at a place is set; false where there is none.
-pub fn is_set(flags: &[bool], place: usize) -> bool
-    ensures { result ≡ slice_index_or flags.now place false }
-{
-    match flags.get(place) {
-        Some(flag) => *flag,
-        None => false,
-    }
-}
-
 /// Clears the flag at a place, if there is one.
-fn clear_at(flags: &mut Vec<bool>, atoms: &Atoms, place: usize)
-    ensures facts { facts_of atoms.now flags.new.items
-        ≡ without_at atoms.now (facts_of atoms.now flags.old.items) place }
-    ensures wide { length flags.new.items ≡ length flags.old.items }
+fn clear_at(flags: &mut Flags, atoms: &Atoms, place: usize)
+    ensures facts { facts_of atoms.now flags.new
+        ≡ without_at atoms.now (facts_of atoms.now flags.old) place }
+    ensures wide { length flags.new ≡ length flags.old }
 {
     // The atoms say with their slice that they rise.
     let _atoms = atoms.as_slice();
-    if place < flags.as_slice().len() {
-        flags[place] = false;
-    }
+    flags.clear(place);
 }
 
 /// Sets the flag at a place, if there is one.
-fn set_at(flags: &mut Vec<bool>, atoms: &Atoms, place: usize)
-    requires { length flags.old.items ≡ length atoms.now }
-    ensures facts { facts_of atoms.now flags.new.items
-        ≡ with_at atoms.now (facts_of atoms.now flags.old.items) place }
-    ensures wide { length flags.new.items ≡ length flags.old.items }
+fn set_at(flags: &mut Flags, atoms: &Atoms, place: usize)
+    requires { length flags.old ≡ length atoms.now }
+    ensures facts { facts_of atoms.now flags.new
+        ≡ with_at atoms.now (facts_of atoms.now flags.old) place }
+    ensures wide { length flags.new ≡ length flags.old }
 {
     let _atoms = atoms.as_slice();
-    if place < flags.as_slice().len() {
-        flags[place] = true;
-    }
+    flags.set(place);
 }
 
 /// Clears the flag of a fact, if it is an atom.
-fn forget(flags: &mut Vec<bool>, atoms: &Atoms, fact: &Fact)
-    ensures facts { facts_of atoms.now flags.new.items
-        ≡ filter (λ f. not (same_fact fact.now f)) (facts_of atoms.now flags.old.items) }
-    ensures wide { length flags.new.items ≡ length flags.old.items }
+fn forget(flags: &mut Flags, atoms: &Atoms, fact: &Fact)
+    ensures facts { facts_of atoms.now flags.new
+        ≡ filter (λ f. not (same_fact fact.now f)) (facts_of atoms.now flags.old) }
+    ensures wide { length flags.new ≡ length flags.old }
 {
     if let Some(place) = atoms.place_of(fact) {
-        if place < flags.as_slice().len() {
-            flags[place] = false;
-        }
+        flags.clear(place);
     }
 }
 
 /// Sets the flag of a fact, which is looked for near a place first, and gives its place.
-fn learn(flags: &mut Vec<bool>, atoms: &Atoms, near: usize, fact: &Fact) -> usize
-    requires wide { length flags.old.items ≡ length atoms.now }
+fn learn(flags: &mut Flags, atoms: &Atoms, near: usize, fact: &Fact) -> usize
+    requires wide { length flags.old ≡ length atoms.now }
     requires atom { AreAtoms atoms.now (fact.now ∷ []) }
-    ensures set { facts_of atoms.now flags.new.items
-        ≡ insert_key fact_cmp (facts_of atoms.now flags.old.items) fact.now }
-    ensures wide { length flags.new.items ≡ length flags.old.items }
+    ensures set { facts_of atoms.now flags.new
+        ≡ insert_key fact_cmp (facts_of atoms.now flags.old) fact.now }
+    ensures wide { length flags.new ≡ length flags.old }
 {
     match atoms.place_near(near, fact) {
         Some(place) => {
-            flags[place] = true;
+            flags.set(place);
             place
         }
         None => unreachable!(),
@@ -259,11 +230,11 @@ fn learn(flags: &mut Vec<bool>, atoms: &Atoms, near: usize, fact: &Fact) -> usiz
 }
 
 /// Clears the flags of every fact that one of these effects deletes.
-fn delete_all(flags: &mut Vec<bool>, atoms: &Atoms, effects: &[Effect])
-    ensures facts { facts_of atoms.now flags.new.items
+fn delete_all(flags: &mut Flags, atoms: &Atoms, effects: &[Effect])
+    ensures facts { facts_of atoms.now flags.new
         ≡ filter (λ f. not (list_any (deletes f) effects.now))
-        (facts_of atoms.now flags.old.items) }
-    ensures wide { length flags.new.items ≡ length flags.old.items }
+        (facts_of atoms.now flags.old) }
+    ensures wide { length flags.new ≡ length flags.old }
 {
     for effect in effects {
         delete(flags, atoms, effect);
@@ -271,10 +242,10 @@ fn delete_all(flags: &mut Vec<bool>, atoms: &Atoms, effects: &[Effect])
 }
 
 /// Clears the flag of the fact that an effect deletes, if it deletes one.
-fn delete(flags: &mut Vec<bool>, atoms: &Atoms, effect: &Effect)
-    ensures facts { facts_of atoms.now flags.new.items
-        ≡ filter (λ f. not (deletes f effect.now)) (facts_of atoms.now flags.old.items) }
-    ensures wide { length flags.new.items ≡ length flags.old.items }
+fn delete(flags: &mut Flags, atoms: &Atoms, effect: &Effect)
+    ensures facts { facts_of atoms.now flags.new
+        ≡ filter (λ f. not (deletes f effect.now)) (facts_of atoms.now flags.old) }
+    ensures wide { length flags.new ≡ length flags.old }
 {
     match effect {
         Effect::Delete(lifted) => forget(flags, atoms, &lifted.ground()),
@@ -284,13 +255,13 @@ fn delete(flags: &mut Vec<bool>, atoms: &Atoms, effect: &Effect)
 }
 
 /// Sets the flags of every fact that one of these effects adds.
-fn add_all(flags: &mut Vec<bool>, atoms: &Atoms, effects: &[Effect])
-    requires wide { length flags.old.items ≡ length atoms.now }
+fn add_all(flags: &mut Flags, atoms: &Atoms, effects: &[Effect])
+    requires wide { length flags.old ≡ length atoms.now }
     requires atoms { AddAtoms atoms.now effects.now }
-    ensures facts { facts_of atoms.now flags.new.items
-        ≡ fold (insert_key fact_cmp) (facts_of atoms.now flags.old.items)
+    ensures facts { facts_of atoms.now flags.new
+        ≡ fold (insert_key fact_cmp) (facts_of atoms.now flags.old)
         (filter_map added_by effects.now) }
-    ensures wide { length flags.new.items ≡ length flags.old.items }
+    ensures wide { length flags.new ≡ length flags.old }
 {
     for effect in effects {
         add(flags, atoms, effect);
@@ -298,13 +269,13 @@ fn add_all(flags: &mut Vec<bool>, atoms: &Atoms, effects: &[Effect])
 }
 
 /// Sets the flag of the fact that an effect adds, if it adds one.
-fn add(flags: &mut Vec<bool>, atoms: &Atoms, effect: &Effect)
-    requires wide { length flags.old.items ≡ length atoms.now }
+fn add(flags: &mut Flags, atoms: &Atoms, effect: &Effect)
+    requires wide { length flags.old ≡ length atoms.now }
     requires atom { AreAtoms atoms.now (option_to_list (added_by effect.now)) }
-    ensures facts { facts_of atoms.now flags.new.items
-        ≡ fold (insert_key fact_cmp) (facts_of atoms.now flags.old.items)
+    ensures facts { facts_of atoms.now flags.new
+        ≡ fold (insert_key fact_cmp) (facts_of atoms.now flags.old)
         (option_to_list (added_by effect.now)) }
-    ensures wide { length flags.new.items ≡ length flags.old.items }
+    ensures wide { length flags.new ≡ length flags.old }
 {
     if let Effect::Add(lifted) = effect {
         let _place = learn(flags, atoms, 0, &lifted.ground());

@@ -61,7 +61,7 @@ impl<'a, K: Known, T: Types> Search<'a, K, T> {
     ) -> Result<Option<Seq<Act>>, AllocError>
         requires wide { AreWide self.now.atoms.now seen.old.keys }
         requires level { HaveWide self.now.atoms.now next.old.items }
-        requires row { length row.flags.items ≡ length self.now.atoms.now }
+        requires row { length row.flags ≡ length self.now.atoms.now }
         requires test { MeansGoal (T.types self.now.types.now) (K.known self.now.given.now)
             self.now.atoms.now self.now.test.now self.now.goal.now }
         ensures found { IfOk result (λ path. path
@@ -124,7 +124,7 @@ impl<'a, K: Known, T: Types> Search<'a, K, T> {
     ) -> Result<Option<Seq<Act>>, AllocError>
         requires wide { AreWide self.now.atoms.now seen.old.keys }
         requires sound { IsSound self.now.atoms.now action.now }
-        requires node { length node.now.row.flags.items ≡ length self.now.atoms.now }
+        requires node { length node.now.row.flags ≡ length self.now.atoms.now }
         requires level { HaveWide self.now.atoms.now next.old.items }
         requires test { MeansGoal (T.types self.now.types.now) (K.known self.now.given.now)
             self.now.atoms.now self.now.test.now self.now.goal.now }
@@ -183,7 +183,7 @@ impl<'a, K: Known, T: Types> Search<'a, K, T> {
     ) -> Result<Option<Seq<Act>>, AllocError>
         requires wide { AreWide self.now.atoms.now seen.old.keys }
         requires sound { IsSound self.now.atoms.now action.now }
-        requires node { length node.now.row.flags.items ≡ length self.now.atoms.now }
+        requires node { length node.now.row.flags ≡ length self.now.atoms.now }
         requires level { HaveWide self.now.atoms.now next.old.items }
         requires place { slice_get self.now.actions.now place ≡ Some action.now }
         requires pruned { IsPruned (T.types self.now.types.now)
@@ -232,7 +232,7 @@ impl<'a, K: Known, T: Types> Search<'a, K, T> {
     ) -> Result<Option<Seq<Act>>, AllocError>
         requires wide { AreWide self.now.atoms.now seen.old.keys }
         requires sound { AreSound self.now.atoms.now self.now.actions.now }
-        requires node { length node.now.row.flags.items ≡ length self.now.atoms.now }
+        requires node { length node.now.row.flags ≡ length self.now.atoms.now }
         requires level { HaveWide self.now.atoms.now next.old.items }
         requires pruned { IsPruned (T.types self.now.types.now)
             (K.known self.now.given.now) self.now.atoms.now self.now.actions.now
@@ -388,7 +388,7 @@ impl<'a, K: Known, T: Types> Search<'a, K, T> {
     pub fn answer(&self, alloc: Global, start: Row, budget: u32) -> Result<Answer, AllocError>
         requires start { plain_state self.now.atoms.now start
             ≡ state_of (K.known self.now.given.now) }
-        requires wide { length start.flags.items ≡ length self.now.atoms.now }
+        requires wide { length start.flags ≡ length self.now.atoms.now }
         requires goal { (K.known self.now.given.now).goal ≡ Some self.now.goal.now }
         requires sound { AreSound self.now.atoms.now self.now.actions.now }
         requires footprints { HaveFootprints self.now.actions.now }

@@ -7,7 +7,7 @@ ghost use Rattle.ps_solve.specs.Rows.{AddAtoms, plain_state};
 
 use super::atoms::Atoms;
 use super::prepared::{Change, Prepared, Test};
-use super::rows::{Row, are_known, is_set};
+use super::rows::{Row, are_known};
 use ps_action::{Known, Types, all_true, fault_with, values_set};
 use ps_world::{Effect, Fact, Name, Num};
 use std::alloc::{AllocError, Global};
@@ -28,7 +28,7 @@ impl<'a, K: Known> Known for At<'a, K> {
 
     fn has(&self, fact: &Fact) -> bool {
         match self.atoms.place_of(fact) {
-            Some(place) => is_set(self.row.flags.as_slice(), place),
+            Some(place) => self.row.flags.get(place),
             None => false,
         }
     }
@@ -57,14 +57,14 @@ fn change<K: Known, T: Types>(
     effects: &[Effect],
     clash: Option<usize>,
 ) -> Result<bool, AllocError>
-    requires wide { length row.old.flags.items ≡ length atoms.now }
+    requires wide { length row.old.flags ≡ length atoms.now }
     requires atoms { AddAtoms atoms.now effects.now }
     requires clash { clash ≡ first_clash effects.now }
     ensures state { IfOk result (λ made.
         (if made then Some (plain_state atoms.now row.new) else None)
         ≡ changed (T.types types.now) (K.known given.now)
         (plain_state atoms.now row.old) effects.now) }
-    ensures wide { OnOk result (length row.new.flags.items ≡ length row.old.flags.items) }
+    ensures wide { OnOk result (length row.new.flags ≡ length row.old.flags) }
 {
     let here = At {
         given,
@@ -103,13 +103,13 @@ fn turn<K: Known, T: Types>(
     row: &mut Row,
     by: &Change,
 ) -> Result<bool, AllocError>
-    requires wide { length row.old.flags.items ≡ length atoms.now }
+    requires wide { length row.old.flags ≡ length atoms.now }
     requires sound { IsSoundChange atoms.now by.now }
     ensures state { IfOk result (λ made.
         (if made then Some (plain_state atoms.now row.new) else None)
         ≡ turned (T.types types.now) (K.known given.now) atoms.now by.now
         (plain_state atoms.now row.old)) }
-    ensures wide { OnOk result (length row.new.flags.items ≡ length row.old.flags.items) }
+    ensures wide { OnOk result (length row.new.flags ≡ length row.old.flags) }
 {
     match by {
         Change::Flags { cleared, set } => {
@@ -133,13 +133,13 @@ fn end<K: Known, T: Types>(
     row: &mut Row,
     action: &Prepared,
 ) -> Result<bool, AllocError>
-    requires wide { length row.old.flags.items ≡ length atoms.now }
+    requires wide { length row.old.flags ≡ length atoms.now }
     requires sound { IsSound atoms.now action.now }
     ensures state { IfOk result (λ made.
         (if made then Some (plain_state atoms.now row.new) else None)
         ≡ landed (T.types types.now) (K.known given.now) atoms.now action.now
         (plain_state atoms.now row.old)) }
-    ensures wide { OnOk result (length row.new.flags.items ≡ length row.old.flags.items) }
+    ensures wide { OnOk result (length row.new.flags ≡ length row.old.flags) }
 {
     if !passes(given, types, atoms, row, &action.over)
         || !passes(given, types, atoms, row, &action.end)
@@ -159,14 +159,14 @@ fn go_on<K: Known, T: Types>(
     row: &mut Row,
     action: &Prepared,
 ) -> Result<bool, AllocError>
-    requires wide { length row.old.flags.items ≡ length atoms.now }
+    requires wide { length row.old.flags ≡ length atoms.now }
     requires sound { IsSound atoms.now action.now }
     ensures state { IfOk result (λ made.
         (if made then Some (plain_state atoms.now row.new) else None)
         ≡ option_and_then (landed (T.types types.now) (K.known given.now) atoms.now action.now)
         (turned (T.types types.now) (K.known given.now) atoms.now action.now.at_start
         (plain_state atoms.now row.old))) }
-    ensures wide { OnOk result (length row.new.flags.items ≡ length row.old.flags.items) }
+    ensures wide { OnOk result (length row.new.flags ≡ length row.old.flags) }
 {
     if turn(alloc, given, types, atoms, row, &action.at_start)? {
         end(alloc, given, types, atoms, row, action)
@@ -185,13 +185,13 @@ pub fn step<K: Known, T: Types>(
     row: &Row,
     action: &Prepared,
 ) -> Result<Option<Row>, AllocError>
-    requires wide { length row.now.flags.items ≡ length atoms.now }
+    requires wide { length row.now.flags ≡ length atoms.now }
     requires sound { IsSound atoms.now action.now }
     ensures state { IfOk result (λ next. option_map (plain_state atoms.now) next
         ≡ successor (T.types types.now) (K.known given.now) atoms.now
         (plain_state atoms.now row.now) action.now) }
-    ensures wide { IfOk result (λ next. IfSome next (λ r. length r.flags.items
-        ≡ length row.now.flags.items)) }
+    ensures wide { IfOk result (λ next. IfSome next (λ r. length r.flags
+        ≡ length row.now.flags)) }
 {
     if !passes(given, types, atoms, row, &action.start) {
         return Ok(None);

@@ -13,7 +13,7 @@ loop-effect-preserved c =
     let es = c.args.effects.now in
     let i = c.loop-effect.effect-index in
     let e = c.effect-item.result in
-    let facts = facts_of c.args.atoms.now c.loop-effect.flags.items in
+    let facts = facts_of c.args.atoms.now c.loop-effect.flags in
     let split : drop i es ≡ e ∷ drop (i + 1) es = drop_more es i e (omega arith) ∙ ap (λ (x : Effect). x ∷ drop (i + 1) es) (sym c.effect-item.is) in
     record {
       facts = (λ j. fold (insert_key fact_cmp) (c.add.ensures.facts j) (filter_map added_by (drop (i + 1) es)))

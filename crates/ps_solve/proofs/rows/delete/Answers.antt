@@ -9,7 +9,7 @@ use Rattle.ps_solve.proofs.rows.delete.Goals as goal
 
 pub returns-in-Delete-clause-facts : goal.returns-in-Delete-clause-facts
 returns-in-Delete-clause-facts c =
-    let facts = facts_of c.args.atoms.now c.args.flags.now.items in
+    let facts = facts_of c.args.atoms.now c.args.flags.now in
     let fact = c.ground.result in
     c.forget.ensures.facts
     ∙ (λ i. filter (λ f. not ((eq_by_cmp_equiv facts_total).symm fact f i)) facts)
@@ -18,10 +18,10 @@ returns-in-Delete-clause-facts c =
 
 pub returns-in-Add-clause-facts : goal.returns-in-Add-clause-facts
 returns-in-Add-clause-facts c =
-    let facts = facts_of c.args.atoms.now c.args.flags.now.items in
+    let facts = facts_of c.args.atoms.now c.args.flags.now in
     sym (filter_all facts) ∙ (λ i. filter (λ f. not (deletes f (sym c.in-Add.is i))) facts)
 
 pub returns-in-Number-clause-facts : goal.returns-in-Number-clause-facts
 returns-in-Number-clause-facts c =
-    let facts = facts_of c.args.atoms.now c.args.flags.now.items in
+    let facts = facts_of c.args.atoms.now c.args.flags.now in
     sym (filter_all facts) ∙ (λ i. filter (λ f. not (deletes f (sym c.in-Number.is i))) facts)

@@ -13,7 +13,7 @@ loop-effect-preserved c =
     let es = c.args.effects.now in
     let i = c.loop-effect.effect-index in
     let e = c.effect-item.result in
-    let facts = facts_of c.args.atoms.now c.loop-effect.flags.items in
+    let facts = facts_of c.args.atoms.now c.loop-effect.flags in
     let split : drop i es ≡ e ∷ drop (i + 1) es = drop_more es i e (omega arith) ∙ ap (λ (x : Effect). x ∷ drop (i + 1) es) (sym c.effect-item.is) in
     record {
       facts = ap (λ (fs : List Fact). filter (λ f. not (list_any (deletes f) (drop (i + 1) es))) fs) c.delete.ensures.facts
@@ -26,6 +26,6 @@ pub returns-clause-facts : goal.returns-clause-facts
 returns-clause-facts c =
     let es = c.args.effects.now in
     let i = c.loop-effect.effect-index in
-    let facts = facts_of c.args.atoms.now c.loop-effect.flags.items in
+    let facts = facts_of c.args.atoms.now c.loop-effect.flags in
     let gone : drop i es ≡ [] = drop_all i es (omega arith) in
     sym (filter_all facts) ∙ (λ j. filter (λ f. not (list_any (deletes f) (sym gone j))) facts) ∙ c.loop-effect.invariant.facts

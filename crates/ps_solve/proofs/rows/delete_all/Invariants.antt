@@ -7,6 +7,6 @@ use Rattle.ps_solve.proofs.rows.delete_all.Given as goal
 -- what the effects that are left delete of what is left
 abbrev pub invariant-loop-effect : goal.invariant-loop-effect
 invariant-loop-effect l = record {
-  facts : filter (λ f. not (list_any (deletes f) (drop l.effect-index l.effects))) (facts_of l.atoms l.flags.items) ≡ filter (λ f. not (list_any (deletes f) l.effects)) (facts_of l.atoms l.initial.flags.items);
-  wide : length l.flags.items ≡ length l.initial.flags.items;
+  facts : filter (λ f. not (list_any (deletes f) (drop l.effect-index l.effects))) (facts_of l.atoms l.flags) ≡ filter (λ f. not (list_any (deletes f) l.effects)) (facts_of l.atoms l.initial.flags);
+  wide : length l.flags ≡ length l.initial.flags;
 }

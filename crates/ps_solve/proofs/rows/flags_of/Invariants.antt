@@ -4,18 +4,10 @@ use Rattle.ps_world.specs.Facts.{fact_cmp}
 use Rattle.ps_solve.specs.Rows.{AreAtoms, facts_of}
 use Rattle.ps_solve.proofs.rows.flags_of.Given as goal
 
--- a flag for each atom so far, none of which is set
-abbrev pub invariant-loop : goal.invariant-loop
-invariant-loop l = record {
-  unset : facts_of l.atoms l.flags.items ≡ [];
-  wide : length l.flags.items ≡ l.index;
-  all : length l.items ≡ length l.atoms;
-}
-
 -- the flags of the facts so far are set, and those that are left are atoms
 abbrev pub invariant-loop-fact : goal.invariant-loop-fact
 invariant-loop-fact l = record {
-  facts : fold (insert_key fact_cmp) (facts_of l.atoms l.flags.items) (drop l.fact-index l.facts) ≡ fold (insert_key fact_cmp) [] l.facts;
-  wide : length l.flags.items ≡ length l.atoms;
+  facts : fold (insert_key fact_cmp) (facts_of l.atoms l.flags) (drop l.fact-index l.facts) ≡ fold (insert_key fact_cmp) [] l.facts;
+  wide : length l.flags ≡ length l.atoms;
   left : AreAtoms l.atoms (drop l.fact-index l.facts);
 }
