@@ -85,7 +85,7 @@ impl Row {
     {
         Ok(Row {
             flags: self.flags.copy(alloc)?,
-            values: self.values.copy()?,
+            values: self.values.copy(alloc)?,
         })
     }
 

@@ -43,10 +43,15 @@ impl Values {
         Ok(made)
     }
 
-    /// Equal values.
-    pub fn copy(&self) -> Result<Values, AllocError>
+    /// Equal values. Mostly there are none, and then nothing is walked.
+    pub fn copy(&self, alloc: Global) -> Result<Values, AllocError>
         ensures { IfOk result (λ values. values ≡ self.now) }
     {
+        if self.all.is_empty() {
+            return Ok(Values {
+                all: BTreeMap::new(alloc),
+            });
+        }
         Ok(Values {
             all: self.all.clone()?,
         })
