@@ -1,15 +1,19 @@
 -- Lists that rise are what comes of putting in their items, one after another.
-use Rattle.std.proofs.Common.{◌≡◌, List, [], ◌∷◌, ◌++◌, fold, refl, ap, sym, ◌∙◌, subst}
+use Rattle.std.proofs.Common.{◌≡◌, ℕ, ◌<◌, ◌≤◌, List, [], ◌∷◌, ◌++◌, fold, refl, ap, sym, ◌∙◌, subst, arith}
 use Rattle.std.specs.List.{AllByRecursion}
 use Rattle.std.specs.List.Sorted.{IsStrictlySortedBy}
 use Rattle.std.specs.BTreeSet.{insert_key}
+use Rattle.std.specs.Cmp.{nat_cmp_is}
 use Rattle.std.specs.Map.{keys_of}
+use Rattle.std.specs.Ordering.{nat_cmp}
 use Rattle.std.specs.declared.cmp.Ordering.TheVariants.{Less, Greater}
 use Rattle.std.proofs.lemmas.List.{append-nil, append_assoc}
 use Rattle.ps_world.specs.Facts.{fact_cmp}
 use Rattle.ps_world.specs.declared.facts.Fact.{Fact}
+use Rattle.ps_world.specs.declared.names.Name.{Name}
 use Rattle.ps_world.specs.declared.numbers.Num.{Num}
 use Rattle.ps_action.specs.Effects.{with_value}
+use Rattle.ps_action.specs.Grounding.{with_named}
 use Rattle.ps_solve.proofs.FlagRows.{above}
 
 -- each of these facts is below this one
@@ -63,3 +67,22 @@ values_on us (v ∷ vs) s =
 -- values that rise
 pub values_put : (vs : List (Fact × Num)) → IsStrictlySortedBy fact_cmp (keys_of vs) → fold with_value [] vs ≡ vs
 values_put vs s = values_on [] vs s
+
+-- ---- instances
+
+-- the names of these instances are below this number
+abbrev pub AreUnder : ℕ → List (Name × Name) → Type 0
+AreUnder n is = AllByRecursion (λ i. i.0.0 < n) is
+
+higher : (n m : ℕ) → m < n → nat_cmp n m ≡ Greater
+higher n m h = sym (nat_cmp_is n m Greater h)
+
+-- one whose name isn't goes last
+pub named_last : (n : ℕ) (i : Name × Name) (is : List (Name × Name)) → n ≤ i.0.0 → AreUnder n is → with_named is i ≡ is ++ i ∷ []
+named_last n i [] up h = refl
+named_last n i (j ∷ is) up h = rw (higher i.0.0 j.0.0 (omega (arith, up, h.0))) (ap (λ l. j ∷ l) (named_last n i is up h.1))
+
+-- with it they are below any number above its name
+pub under_more : (n m : ℕ) (i : Name × Name) (is : List (Name × Name)) → n ≤ i.0.0 → i.0.0 < m → AreUnder n is → AreUnder m (is ++ i ∷ [])
+under_more n m i [] up down h = (down, tt)
+under_more n m i (j ∷ is) up down h = (omega (arith, up, down, h.0), under_more n m i is up down h.1)

@@ -1,5 +1,5 @@
 //! The acts of a search: all that can be grounded and may lead anywhere, in the order of the domain's text and of their arguments.
-ghost use Rattle.std.specs.Prelude.{◌≡◌, ◌+◌, ◌++◌, ◌<◌, ◌≤◌, [], ◌∷◌, List, length, map, min, IfOk, IsSome, MatchOption, OnOk};
+ghost use Rattle.std.specs.Prelude.{◌≡◌, ◌+◌, ◌++◌, ◌<◌, ◌≤◌, [], ◌∷◌, List, length, map, min, true, IfOk, IsSome, MatchOption, OnOk};
 ghost use Rattle.ps_world.specs.declared.names.Name.{Name as NameView};
 ghost use Rattle.ps_action.specs.Grounding.{all_ground, by_name, most_ground, picks};
 ghost use Rattle.ps_action.specs.declared.acts.Act.{Act as ActView};
@@ -17,8 +17,26 @@ use std::collections::BTreeMap;
 /// Where the count of an action's acts stops.
 const ENOUGH: usize = 50_001;
 
-/// The instances in the order of their names. One that stands twice has the type of its last place.
-fn by_name(alloc: Global, instances: &[(Name, Name)]) -> Result<BTreeMap<Name, Name>, AllocError>
+/// Whether the names of instances rise, so that they stand in their order, and each once.
+fn rise(instances: &[(Name, Name)]) -> bool
+    ensures { result ≡ true → by_name instances.now ≡ instances.now }
+{
+    // All names before are below this number.
+    let mut bound: u64 = 0;
+    for (name, _) in instances {
+        if name.0 < bound || name.0 == u64::MAX {
+            return false;
+        }
+        bound = name.0 + 1;
+    }
+    true
+}
+
+/// The instances in the order of their names, put in one after another.
+fn put_by_name(
+    alloc: Global,
+    instances: &[(Name, Name)],
+) -> Result<BTreeMap<Name, Name>, AllocError>
     ensures { IfOk result (λ sorted. sorted.entries ≡ by_name instances.now) }
 {
     let mut sorted = BTreeMap::new(alloc);
@@ -28,14 +46,29 @@ fn by_name(alloc: Global, instances: &[(Name, Name)]) -> Result<BTreeMap<Name, N
     Ok(sorted)
 }
 
+/// The instances in the order of their names. One that stands twice has the type of its last place.
+fn by_name(alloc: Global, instances: &[(Name, Name)]) -> Result<Vec<(Name, Name)>, AllocError>
+    ensures { IfOk result (λ sorted. sorted.items ≡ by_name instances.now) }
+{
+    // Mostly they rise already.
+    if rise(instances) {
+        return Vec::from_slice(alloc, instances);
+    }
+    let mut sorted = Vec::new(alloc);
+    for (name, kind) in &put_by_name(alloc, instances)? {
+        sorted.push((*name, *kind))?;
+    }
+    Ok(sorted)
+}
+
 /// The names that may stand for a parameter, rising.
 fn choices(
     alloc: Global,
     expert: &Expert,
-    sorted: &BTreeMap<Name, Name>,
+    sorted: &[(Name, Name)],
     param: &Param,
 ) -> Result<Seq<Name>, AllocError>
-    ensures { IfOk result (λ names. names ≡ choices_in expert.now sorted.now.entries param.now) }
+    ensures { IfOk result (λ names. names ≡ choices_in expert.now sorted.now param.now) }
 {
     let mut names = Seq::new(alloc);
     for (name, kind) in sorted {
@@ -50,11 +83,11 @@ fn choices(
 fn all_choices(
     alloc: Global,
     expert: &Expert,
-    sorted: &BTreeMap<Name, Name>,
+    sorted: &[(Name, Name)],
     params: &[Param],
 ) -> Result<Vec<Seq<Name>>, AllocError>
     ensures { IfOk result (λ all. all.items
-        ≡ map (choices_in expert.now sorted.now.entries) params.now) }
+        ≡ map (choices_in expert.now sorted.now) params.now) }
 {
     let mut all = Vec::new(alloc);
     for param in params {
@@ -253,7 +286,7 @@ fn push_all_of(
     alloc: Global,
     expert: &Expert,
     fixed: &Fixed,
-    sorted: &BTreeMap<Name, Name>,
+    sorted: &[(Name, Name)],
     action: &ActionDef,
     counted: usize,
     all: &mut Vec<Act>,
@@ -262,13 +295,13 @@ fn push_all_of(
     ensures thinned { IfOk result (λ sum. IsSome sum
         → (left : List ActView) (whole : List ActView)
         → GoesOn (IsIdle expert.now fixed.now.heads.keys fixed.now.facts)
-        (acts_with expert.now sorted.now.entries action.now ++ left) whole all.old.items
+        (acts_with expert.now sorted.now action.now ++ left) whole all.old.items
         → GoesOn (IsIdle expert.now fixed.now.heads.keys fixed.now.facts)
         left whole all.new.items) }
     ensures count { IfOk result (λ sum. MatchOption sum
-        (most_ground < counted + length (acts_with expert.now sorted.now.entries action.now))
+        (most_ground < counted + length (acts_with expert.now sorted.now action.now))
         (λ n. (n ≤ most_ground)
-        × (n ≡ counted + length (acts_with expert.now sorted.now.entries action.now)))) }
+        × (n ≡ counted + length (acts_with expert.now sorted.now action.now)))) }
 {
     let choices = all_choices(alloc, expert, sorted, action.params.as_slice())?;
     let count = pick_count(choices.as_slice());
@@ -295,11 +328,11 @@ pub fn all_acts(
         × (length (all_ground expert.now instances.now) ≤ most_ground))) }
 {
     let sorted = by_name(alloc, instances)?;
+    let sorted = sorted.as_slice();
     let mut all = Vec::new(alloc);
     let mut counted = 0;
     for action in expert.domain().actions.as_slice() {
-        let Some(sum) = push_all_of(alloc, expert, fixed, &sorted, action, counted, &mut all)?
-        else {
+        let Some(sum) = push_all_of(alloc, expert, fixed, sorted, action, counted, &mut all)? else {
             return Ok(None);
         };
         counted = sum;

@@ -89,7 +89,7 @@ fn useful_of(
         (flat_map adds (grounds_of expert.now problem.now v.items))) }
     ensures fit { IfOk result (λ v. AreFit expert.now problem.now v.items) }
 {
-    let mut useful = Vec::new(alloc);
+    let mut useful = Vec::with_capacity(alloc, acts.len())?;
     for act in acts {
         push_useful(expert, problem, act, &mut useful)?;
     }

@@ -15,12 +15,12 @@ use Rattle.ps_solve.proofs.acts.all_acts.Goals as goal
 pub loop-action-init : goal.loop-action-init
 loop-action-init c =
     let d = c.args.expert.now in
-    let sorted = c.in_ok-sorted.sorted.entries in
+    let sorted = c.as_slice-sorted.result.now in
     let all = all_ground d c.args.instances.now in
     let P : Act → Type 0 = IsIdle d c.args.fixed.now.heads.keys c.args.fixed.now.facts in
     let here : c.as_slice-action-items.result.now ≡ d.actions = c.as_slice-action-items.ensures ∙ ap (λ (e : Domain). e.actions) c.domain.ensures in
     let whole : flat_map (acts_with d sorted) c.as_slice-action-items.result.now ≡ map (λ (g : GroundAction). g.act) all =
-    ap (λ (l : List ActionDef). flat_map (acts_with d sorted) l) here ∙ acts_are d sorted c.args.instances.now c.in_ok-sorted.ensures in
+    ap (λ (l : List ActionDef). flat_map (acts_with d sorted) l) here ∙ acts_are d sorted c.args.instances.now (c.as_slice-sorted.ensures.value ∙ c.in_ok-sorted.ensures) in
     record {
       few = omega arith;
       count = omega (arith, ap (λ (l : List Act). length l) whole, length-map all (λ (g : GroundAction). g.act));
@@ -31,7 +31,7 @@ loop-action-init c =
 pub loop-action-preserved : goal.loop-action-preserved
 loop-action-preserved c =
     let d = c.args.expert.now in
-    let acts : ActionDef → List Act = acts_with d c.in_ok-sorted.sorted.entries in
+    let acts : ActionDef → List Act = acts_with d c.as_slice-sorted.result.now in
     let P : Act → Type 0 = IsIdle d c.args.fixed.now.heads.keys c.args.fixed.now.facts in
     let whole = map (λ (g : GroundAction). g.act) (all_ground d c.args.instances.now) in
     let items = c.as_slice-action-items.result.now in
@@ -50,7 +50,7 @@ loop-action-preserved c =
 pub returns-in_default : goal.returns-in_default
 returns-in_default c =
     let d = c.args.expert.now in
-    let acts : ActionDef → List Act = acts_with d c.in_ok-sorted.sorted.entries in
+    let acts : ActionDef → List Act = acts_with d c.as_slice-sorted.result.now in
     let items = c.as_slice-action-items.result.now in
     let i = c.loop-action.action-index in
     let a = c.action-item.result in
@@ -63,7 +63,7 @@ returns-in_default c =
 pub returns : goal.returns
 returns c =
     let d = c.args.expert.now in
-    let acts : ActionDef → List Act = acts_with d c.in_ok-sorted.sorted.entries in
+    let acts : ActionDef → List Act = acts_with d c.as_slice-sorted.result.now in
     let P : Act → Type 0 = IsIdle d c.args.fixed.now.heads.keys c.args.fixed.now.facts in
     let whole = map (λ (g : GroundAction). g.act) (all_ground d c.args.instances.now) in
     let items = c.as_slice-action-items.result.now in

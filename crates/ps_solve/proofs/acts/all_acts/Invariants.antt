@@ -9,6 +9,6 @@ use Rattle.ps_solve.proofs.acts.all_acts.Given as goal
 abbrev pub invariant-loop-action : goal.invariant-loop-action
 invariant-loop-action l = record {
   few : l.counted ≤ most_ground;
-  count : l.counted + length (flat_map (acts_with l.expert l.sorted.entries) (drop l.action-index l.action-items)) ≡ length (all_ground l.expert l.instances);
-  thinned : GoesOn (IsIdle l.expert l.fixed.heads.keys l.fixed.facts) (flat_map (acts_with l.expert l.sorted.entries) (drop l.action-index l.action-items)) (map (λ g. g.act) (all_ground l.expert l.instances)) l.all.items;
+  count : l.counted + length (flat_map (acts_with l.expert l.sorted) (drop l.action-index l.action-items)) ≡ length (all_ground l.expert l.instances);
+  thinned : GoesOn (IsIdle l.expert l.fixed.heads.keys l.fixed.facts) (flat_map (acts_with l.expert l.sorted) (drop l.action-index l.action-items)) (map (λ g. g.act) (all_ground l.expert l.instances)) l.all.items;
 }

@@ -2,7 +2,7 @@ use Rattle.std.proofs.Common.{List, [], get_or, ap, sym, ◌∙◌, arith}
 use Rattle.std.proofs.lemmas.List.Sums.{fold_more}
 use Rattle.ps_world.specs.declared.names.Name.{Name}
 use Rattle.ps_action.specs.Grounding.{with_named}
-use Rattle.ps_solve.proofs.acts.by_name.Goals as goal
+use Rattle.ps_solve.proofs.acts.put_by_name.Goals as goal
 
 pub loop-name-preserved : goal.loop-name-preserved
 loop-name-preserved c =
