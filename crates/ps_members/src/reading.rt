@@ -1,6 +1,7 @@
 //! Reading a member script.
-ghost use Rattle.std.specs.Prelude.{◌≡◌};
+ghost use Rattle.std.specs.Prelude.{◌≡◌, Err};
 ghost use Rattle.ps_world.specs.Failures.{Gives};
+ghost use Rattle.ps_world.specs.declared.failures.Failure.TheVariants.{OutOfMemory};
 ghost use Rattle.ps_text.specs.Names.{Keeps};
 ghost use Rattle.ps_text.specs.ScriptLines.{script_lines};
 ghost use Rattle.ps_text.specs.Words.{AreWithin, pieces};
@@ -79,8 +80,27 @@ fn read_lines(
 /// Reads a member script. The refusal is the first fault in the text.
 ///
 /// The names of the lines that fit their forms, up to the first fault, are put into the table. Old names keep their numbers and texts,
-/// after an error too.
+/// after an error too. Where memory runs out the table is as it was.
 pub fn read_member(
+    alloc: Global,
+    names: &mut Names,
+    expert: &Expert,
+    bytes: &[u8],
+) -> Result<Member, Failure<ScriptRefusal>>
+    ensures reads { OnAnswer (λ r. IsMember expert.now names.old bytes.now r names.new) result }
+    ensures kept { Keeps names.old names.new }
+    ensures starved { result ≡ Err OutOfMemory → names.new ≡ names.old }
+{
+    let known = names.len();
+    let read = read_known(alloc, names, expert, bytes);
+    if let Err(Failure::OutOfMemory) = read {
+        names.cut_back(known);
+    }
+    read
+}
+
+/// Reads a member script, as `read_member` does, but where memory runs out the table may have new names too.
+fn read_known(
     alloc: Global,
     names: &mut Names,
     expert: &Expert,

@@ -1,6 +1,7 @@
 //! Reading a domain's text.
-ghost use Rattle.std.specs.Prelude.{◌≡◌, IfOk, IfSome, OnOk};
+ghost use Rattle.std.specs.Prelude.{◌≡◌, Err, IfOk, IfSome, OnOk};
 ghost use Rattle.ps_world.specs.Failures.{refusal_of};
+ghost use Rattle.ps_world.specs.declared.failures.Failure.TheVariants.{OutOfMemory};
 ghost use Rattle.ps_text.specs.Tokens.{AreTokens};
 ghost use Rattle.ps_shape.specs.Shape.{IsDomainShape, IsShallow};
 ghost use Rattle.ps_text.specs.Names.{Keeps};
@@ -16,13 +17,31 @@ use ps_world::{Domain, Failure};
 use std::alloc::{AllocError, Global};
 
 /// The domain that a text declares. Its names are put into the table. After a refusal the table may have new names; old ones keep
-/// their numbers and texts.
+/// their numbers and texts. Where memory runs out the table is as it was.
 ///
 /// The refusal is the first fault, where each phase runs only if the one before found none: `Lex`, at the first word without a class;
 /// the first of `Unsupported`, `Limit` of depth and `Unexpected` in the order of the text; then, in the order types, constants,
 /// predicates, functions, actions, each in the order of the text, the first of `Limit`, `Twice`, `Unknown`, `Arity` and `Kind`, with
 /// `Cycle` after all types. Memory may run out at any time.
 pub fn read_domain(
+    alloc: Global,
+    names: &mut Names,
+    bytes: &[u8],
+) -> Result<Domain, Failure<DomainRefusal>>
+    ensures reads { ReadsDomain names.old bytes.now result names.new }
+    ensures kept { Keeps names.old names.new }
+    ensures starved { result ≡ Err OutOfMemory → names.new ≡ names.old }
+{
+    let known = names.len();
+    let read = read_known(alloc, names, bytes);
+    if let Err(Failure::OutOfMemory) = read {
+        names.cut_back(known);
+    }
+    read
+}
+
+/// Reads a domain, as `read_domain` does, but where memory runs out the table may have new names too.
+fn read_known(
     alloc: Global,
     names: &mut Names,
     bytes: &[u8],
