@@ -1,0 +1,4 @@
+pub mod Members
+pub mod Stood
+pub mod Ticker
+pub mod Whose
