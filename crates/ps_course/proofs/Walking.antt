@@ -1,5 +1,5 @@
 -- The entries of a plan that was good where it begins, one after another.
-use Rattle.std.proofs.Common.{◌≡◌, ℕ, ◌<◌, ◌==◌, ◌&&◌, ◌||◌, Bool, true, false, not, Option, Some, None, is_none, Ok, is_ok, List, [], ◌∷◌, ◌++◌, IsTrue, length, filter, map, if◌then◌else◌, nat_le, refl, arith, ap, sym, ◌∙◌, subst, inl, inr, ◌⊎◌, append_assoc, append-nil}
+use Rattle.std.proofs.Common.{◌≡◌, ℕ, ◌<◌, ◌==◌, ◌&&◌, ◌||◌, Bool, true, false, not, Option, Some, None, is_none, Ok, is_ok, List, [], ◌∷◌, ◌++◌, length, filter, map, if◌then◌else◌, nat_le, refl, arith, ap, sym, ◌∙◌, subst, inl, inr, ◌⊎◌}
 use Rattle.std.specs.List.{AllByRecursion, list_all, list_any}
 use Rattle.std.specs.Option.{unwrap_or}
 use Rattle.std.proofs.lemmas.Bool.{lt-ltb, true≢false}
@@ -17,11 +17,10 @@ use Rattle.ps_machine.specs.declared.inputs.Line.{Line}
 use Rattle.ps_machine.specs.declared.inputs.Line.TheVariants.{Good}
 use Rattle.ps_machine.specs.declared.inputs.Command.TheVariants as command
 use Rattle.ps_action.specs.declared.states.ActState.{ActState}
-use Rattle.ps_action.specs.declared.states.ActState.TheVariants.{Waiting, Active, Done, Cancelled}
+use Rattle.ps_action.specs.declared.states.ActState.TheVariants.{Waiting, Active, Done}
 use Rattle.ps_machine.specs.declared.journal.RunKind.{RunKind}
 use Rattle.ps_machine.specs.declared.journal.RunKind.TheVariants as run
 use Rattle.ps_machine.specs.declared.journal.FailWhy.TheVariants as fail
-use Rattle.ps_machine.specs.declared.journal.CancelWhy.{CancelWhy}
 use Rattle.ps_machine.specs.declared.journal.CancelWhy.TheVariants as cancel
 use Rattle.ps_machine.specs.declared.journal.Outcome.{Outcome}
 use Rattle.ps_machine.specs.declared.journal.Outcome.TheVariants as outcome
@@ -40,17 +39,17 @@ use Rattle.ps_rules.specs.Lines.{next_line}
 use Rattle.ps_rules.specs.Members.{observers, performers, seen_by}
 use Rattle.ps_rules.specs.Settled.{places, any_harmed, ends_well, unreached, given_up, is_blocked, is_met, is_reached, is_ready, is_settled, is_startable, may_end, may_go_on, verdict}
 use Rattle.ps_rules.specs.Legal.{ending, fits, is_act_active, is_finished, is_legal, is_outcome, is_plan, opens_with, same_flag}
-use Rattle.ps_rules.specs.History.{any_of, broken, cancels, forced, forced_after, is_fail, sound}
+use Rattle.ps_rules.specs.History.{any_of, broken, cancels, forced, forced_after, is_fail, IsHistory, sound}
 use Rattle.ps_rules.specs.Prefixes.{Leads}
-use Rattle.ps_rules.specs.Prefixes.Leads.{here, owed, next}
 use Rattle.ps_rules.specs.Laws.{is_cancel}
-use Rattle.ps_rules.proofs.Prefixes.{history-leads}
 use Rattle.ps_rules.proofs.Kept.{both, fits-legal}
 use Rattle.ps_rules.proofs.Pushed.{know-push, read-push}
 use Rattle.ps_rules.proofs.SameThings.{same_outcome-decides}
-use Rattle.ps_course.specs.Segments.{InTheJournal, is_given_up, is_own_fault, IsOfOnePlan, makes_good_plan, NoEditCounts}
+use Rattle.ps_course.specs.Segments.{ends_plan, is_edit, is_given_up, is_own_fault, IsOfOnePlan, JournalsGoWell, makes_good_plan, NoEditCounts, NoneIs}
 use Rattle.ps_course.proofs.Grounded.{good_of, Good as GoodOne}
-use Rattle.ps_course.proofs.Going.{active_ends, acts_on, all_in, any_in, GoesAfter, GoesAt, goes_next, goes-push, going, harmed_next, is_for_act, is_through, ready_starts}
+use Rattle.ps_course.proofs.Following.{after, all_in, is_through, runs_now}
+use Rattle.ps_course.proofs.Going.{active_ends, any_in, cancel_next, GoesAfter, GoesAt, goes_next, goes-push, going, is_for_act, ready_starts}
+use Rattle.ps_course.proofs.Leading.{from_history, head_of}
 
 -- ---- lists
 
@@ -135,51 +134,6 @@ forced_alone : (i : Input) (es : List Entry) (hand : ℕ) (b : Bool) (bs : List 
 forced_alone i es hand true bs e = ap (λ bs. map (cancels hand cancel.OverAll) bs ++ map (cancels hand cancel.Stop) (sound i es)) e
 forced_alone i es hand false bs e = ap (λ bs. map (cancels hand cancel.OverAll) bs ++ (if any_of bs then map (cancels hand cancel.Stop) (sound i es) else [])) e
 
--- ---- prefixes
-
--- what stands first: a cancel that is due, or a legal event
-abbrev Head : Input → List Entry → List Entry → List Entry → List Entry → Type 0
-Head i before due [] last = Unit {0}
-Head i before due (e ∷ es) last =
-    ((more : List Entry) × (due ≡ e ∷ more) × Leads i (before ++ e ∷ []) more es last)
-    ⊎ ((due ≡ []) × (IsTrue (is_legal i before e.what)) × Leads i (before ++ e ∷ []) (forced i before e) es last)
-
-head_of : (i : Input) (before due es last : List Entry) → Leads i before due es last → Head i before due es last
-head_of i _ _ _ _ (here before due) = tt
-head_of i _ _ _ _ (owed before due es last c l) = inl (due, refl, l)
-head_of i _ _ _ _ (next before es last e legal hand l) = inr (refl, legal, l)
-
-abbrev AreCancels : List Entry → Type 0
-AreCancels due = AllByRecursion (λ c. is_cancel c.what ≡ true) due
-
-cancels_are : (hand : ℕ) (why : CancelWhy) (acts : List ℕ) (more : List Entry) → AreCancels more → AreCancels (map (cancels hand why) acts ++ more)
-cancels_are hand why [] more h = h
-cancels_are hand why (act ∷ acts) more h = (refl, cancels_are hand why acts more h)
-
-stops_are : (hand : ℕ) (b : Bool) (acts : List ℕ) → AreCancels (if b then map (cancels hand cancel.Stop) acts else [])
-stops_are hand true acts = subst AreCancels (append-nil (map (cancels hand cancel.Stop) acts)) (cancels_are hand cancel.Stop acts [] tt)
-stops_are hand false acts = tt
-
-forced_are : (i : Input) (es : List Entry) (hand : ℕ) (e : Event) → AreCancels (forced_after i es hand e)
-forced_are i es hand e =
-    cancels_are hand cancel.OverAll (broken i es) (if is_fail e || any_of (broken i es) then map (cancels hand cancel.Stop) (sound i es) else [])
-    (stops_are hand (is_fail e || any_of (broken i es)) (sound i es))
-
--- after the first of some entries, the others lead on
-cut : (i : Input) (past due before es last : List Entry) → AreCancels due → Leads i past due (before ++ es) last
-    → (now : List Entry) × AreCancels now × Leads i (past ++ before) now es last
-cut i past due [] es last h l = (due, h, subst (λ t. Leads i t due es last) (sym (append-nil past)) l)
-cut i past due (b ∷ before) es last h l =
-    let join = append_assoc past (b ∷ []) before in
-    elim (head_of i past due (b ∷ (before ++ es)) last l) [
-      | inl w ↦
-          let g = cut i (past ++ b ∷ []) w.0 before es last (subst AreCancels w.1 h).1 w.2 in
-          (g.0, g.1, subst (λ t. Leads i t g.0 es last) join g.2)
-      | inr w ↦
-          let g = cut i (past ++ b ∷ []) (forced i past b) before es last (forced_are i (past ++ b ∷ []) b.hand b.what) w.2 in
-          (g.0, g.1, subst (λ t. Leads i t g.0 es last) join g.2)
-    ]
-
 -- ---- the walk
 
 module _ (i : Input) (acts : List Act) (first last : Knowledge) (good : IsGood i.domain first (grounds i.domain acts) last) (each : length (grounds i.domain acts) ≡ length acts) where
@@ -242,12 +196,19 @@ module _ (i : Input) (acts : List Act) (first last : Knowledge) (good : IsGood i
       by_fail : (b : Bool) → AreStops now (if b then map (cancels hand cancel.Stop) (sound i es) else [])
       by_fail true =
           stop_few now hand (λ act. is_active (state act es) && may_go_on i es act)
-          (λ b e. acts_on (state b es) (now b) (g.stage b) (both (is_active (state b es)) (may_go_on i es b) e).0) (places es)
+          (λ b e. runs_now i acts es now b g.follows (both (is_active (state b es)) (may_go_on i es b) e).0) (places es)
       by_fail false = tt
 
   stop_next : (es : List Entry) (now : ℕ → Stage) (e : Event) → At es now → IsStop now e → GoesAfter i acts first last good each es e now
-  stop_next es now (event.Cancel act cancel.Stop) g h = harmed_next i acts first last good each es now act Cancelled g h h
+  stop_next es now (event.Cancel act cancel.Stop) g h = cancel_next i acts first last good each es now act cancel.Stop g h
   stop_next es now e g h = absurd h
+
+  -- an entry that is legal, doesn't end the plan and is no edit that counts
+  goes_on : (es : List Entry) (now : ℕ → Stage) (e : Entry) → At es now → is_legal i es e.what ≡ true → ends_plan e.what ≡ false
+      → (is_edit e.what ≡ true → TellTheSame (know i es) (know i (es ++ e ∷ []))) → At (es ++ e ∷ []) (after now e.what)
+  goes_on es now e g legal stays same =
+      goes-push i acts first last good each es e (after now e.what)
+      (goes_next i acts first last good each es now e.what g legal stays (λ edits. subst (λ k. TellTheSame (know i es) k) (know-push i es e) (same edits)))
 
   -- ---- no fault of the plan's own
 
@@ -268,10 +229,10 @@ module _ (i : Input) (acts : List Act) (first last : Knowledge) (good : IsGood i
                   (goes-push i acts first last good each before e now (stop_next before now e.what g s.0)) s.1 one.1 same.1,
             )
         | inr w ↦
-            let n = goes_next i acts first last good each before now e.what g w.1 one.0 (λ edits. subst (λ k. TellTheSame (know i before) k) (know-push i before e) (same.0 edits)) in
-            let there = goes-push i acts first last good each before e n.0 n.1 in (
+            let now_then = after now e.what in
+            let there = goes_on before now e g w.1 one.0 same.0 in (
               no_own_fault before now e.what g (fits-legal i before e.what w.1),
-              walk (before ++ e ∷ []) (forced i before e) (f ∷ es) rest end n.0 w.2 there (forced_stops (before ++ e ∷ []) n.0 e.hand e.what there) one.1 same.1,
+              walk (before ++ e ∷ []) (forced i before e) (f ∷ es) rest end now_then w.2 there (forced_stops (before ++ e ∷ []) now_then e.hand e.what there) one.1 same.1,
             )
       ]
 
@@ -290,8 +251,8 @@ module _ (i : Input) (acts : List Act) (first last : Knowledge) (good : IsGood i
         let none : any_harmed es ≡ false = none_any (λ act. is_harmed (state act es)) un (places es) in
         let done : ends ≡ true = elim (either ends (is_blocked i es) (sym (ap (λ b. b || (ends || is_blocked i es)) none) ∙ w)) [ inl d ↦ d | inr b ↦ absurd (not_blocked es now g b) ] in
         let all : (j : ℕ) → j < length (grounds i.domain acts) → now j ≡ ended =
-        λ j l. is_through (state j es) (now j) (g.stage j)
-        (all_in (λ act. is_done (state act es)) 0 (length (plan es)) j done (omega arith) (let e = ap length g.of_plan in omega (arith, l, e, each))) in
+        λ j l. is_through (state j es) (now j) (g.follows.stage j)
+        (all_in (λ act. is_done (state act es)) 0 (length (plan es)) j done (omega arith) (let e = ap length g.follows.of_plan in omega (arith, l, e, each))) in
         let told = (going i acts first last good each es now g).come all in
         let so : is_met i.domain (know i es) (know i es).goal ≡ true =
         ap (λ c. is_met i.domain (know i es) c) (told.goal ∙ goal) ∙ met_same i.domain (know i es) last first.goal told ∙ met in
@@ -333,13 +294,13 @@ module _ (i : Input) (acts : List Act) (first last : Knowledge) (good : IsGood i
         elim (head_of i before due (e ∷ f ∷ (es ++ rest)) end l) [
           | inl w ↦ absurd (let c = sym none ∙ w.1 in cc)
           | inr w ↦
-              let n = goes_next i acts first last good each before now e.what g w.1 one.0 (λ edits. subst (λ k. TellTheSame (know i before) k) (know-push i before e) (same.0 edits)) in
-              let there = goes-push i acts first last good each before e n.0 n.1 in
-              let empty : forced i before e ≡ [] = forced_so (before ++ e ∷ []) n.0 e.hand e.what there ∙ ap (λ b. if b then map (cancels e.hand cancel.Stop) (sound i (before ++ e ∷ [])) else []) calm.0 in
+              let now_then = after now e.what in
+              let there = goes_on before now e g w.1 one.0 same.0 in
+              let empty : forced i before e ≡ [] = forced_so (before ++ e ∷ []) now_then e.hand e.what there ∙ ap (λ b. if b then map (cancels e.hand cancel.Stop) (sound i (before ++ e ∷ [])) else []) calm.0 in
               let well : Unharmed (before ++ e ∷ []) = λ j.
               ap is_harmed (read-push (λ s f. unwrap_or (says_state j f) s) Waiting before e) ∙ unharmed_next before e.what un (fits-legal i before e.what w.1) calm.0 j in (
                 not_given before now e.what g un (fits-legal i before e.what w.1),
-                walk_well (before ++ e ∷ []) (forced i before e) (f ∷ es) rest end n.0 w.2 there empty well one.1 same.1 calm.1,
+                walk_well (before ++ e ∷ []) (forced i before e) (f ∷ es) rest end now_then w.2 there empty well one.1 same.1 calm.1,
               )
         ]
 
@@ -357,14 +318,14 @@ opened i es (event.Run run.Goal new) h m = run_opens (next_line i es) (fits-lega
     run_opens : (line : Option Line) → opens_with i es run.Goal new line ≡ true → Opens i es (event.Run run.Goal new)
     run_opens (Some (Good command.Run)) f =
         let g = good_of i.domain (know i es) new (both (is_ok (judged i.domain (know i es) new)) _ f).0 in
-        (new, g, record { come = come_opened; stage = λ j. refl; own = λ j r. absurd (cc); of_plan = refl; is_open = refl; by_goal = refl }, λ j. refl)
+        (new, g, record { come = come_opened; follows = record { stage = λ j. refl; own = λ j r. absurd (cc); of_plan = refl; is_open = refl }; by_goal = refl }, λ j. refl)
     run_opens line f = absurd (cc)
 opened i es (event.Run run.Plan new) h m = run_opens (next_line i es) (fits-legal i es (event.Run run.Plan new) h)
   where
     run_opens : (line : Option Line) → opens_with i es run.Plan new line ≡ true → Opens i es (event.Run run.Plan new)
     run_opens (Some (Good (command.RunPlan (Ok steps)))) f =
         let g = good_of i.domain (know i es) new (both _ (is_ok (judged i.domain (know i es) new)) f).1 in
-        (new, g, record { come = come_opened; stage = λ j. refl; own = λ j r. absurd (cc); of_plan = refl; is_open = refl; by_goal = refl }, λ j. refl)
+        (new, g, record { come = come_opened; follows = record { stage = λ j. refl; own = λ j r. absurd (cc); of_plan = refl; is_open = refl }; by_goal = refl }, λ j. refl)
     run_opens line f = absurd (cc)
 opened i es (event.Replan new) h m =
     let f = fits-legal i es (event.Replan new) h in
@@ -375,10 +336,12 @@ opened i es (event.Replan new) h m =
       g,
       record {
         come = come_opened;
-        stage = λ j. refl;
-        own = λ j r. absurd (cc);
-        of_plan = refl;
-        is_open = running_now (is_running es) (both (same_flag false (not (is_running es))) (fits i es (event.Replan new)) h).0;
+        follows = record {
+          stage = λ j. refl;
+          own = λ j r. absurd (cc);
+          of_plan = refl;
+          is_open = running_now (is_running es) (both (same_flag false (not (is_running es))) (fits i es (event.Replan new)) h).0;
+        };
         by_goal = by_verdict (kind es) u.0;
       },
       λ j. refl,
@@ -405,22 +368,29 @@ plan_is_no_cancel (event.Run for acts) h = (λ c. true≢false (sym c), refl)
 plan_is_no_cancel (event.Replan acts) h = (λ c. true≢false (sym c), refl)
 plan_is_no_cancel e h = absurd (true≢false (sym h))
 
-pub in_the_journal : InTheJournal
+-- entries of a history that follow one that makes a good plan, where no edit counts, tell that the plan goes well
+pub in_the_journal : (i : Input) (before es rest : List Entry) (e : Entry) → IsHistory i (before ++ e ∷ (es ++ rest)) → makes_good_plan e.what ≡ true
+    → IsOfOnePlan es → NoEditCounts i (before ++ e ∷ []) es → NoneIs is_own_fault es × (NoneIs is_fail es → NoneIs is_given_up es)
 in_the_journal i before es rest e history made one same =
-    let c = cut i [] [] before (e ∷ (es ++ rest)) [] tt (history-leads i (before ++ e ∷ (es ++ rest)) history) in
-    elim (head_of i before c.0 (e ∷ (es ++ rest)) [] c.2) [
-      | inl w ↦ absurd ((plan_is_no_cancel e.what made).0 (subst AreCancels w.1 c.1).0)
-      | inr w ↦
-          let o = opened i before e.what w.1 made in
-          let g : GoodOne i.domain (know i before) o.0 = o.1 in
-          let there = goes-push i o.0 (know i before) g.last g.good g.each before e all_waiting o.2 in
-          let well : (j : ℕ) → is_harmed (state j (before ++ e ∷ [])) ≡ false = λ j.
-          ap is_harmed (read-push (λ s f. unwrap_or (says_state j f) s) Waiting before e ∙ o.3 j) in
-          let empty : forced i before e ≡ [] =
-          forced_so i o.0 (know i before) g.last g.good g.each (before ++ e ∷ []) all_waiting e.hand e.what there
-          ∙ ap (λ b. if b then map (cancels e.hand cancel.Stop) (sound i (before ++ e ∷ [])) else []) (plan_is_no_cancel e.what made).1 in (
-            walk i o.0 (know i before) g.last g.good g.each (before ++ e ∷ []) (forced i before e) es rest [] all_waiting w.2 there
-                (forced_stops i o.0 (know i before) g.last g.good g.each (before ++ e ∷ []) all_waiting e.hand e.what there) one same,
-            λ calm. walk_well i o.0 (know i before) g.last g.good g.each g.met g.goal (before ++ e ∷ []) (forced i before e) es rest [] all_waiting w.2 there empty well one same calm,
-          )
-    ]
+    let own = plan_is_no_cancel e.what made in
+    let w = from_history i before (es ++ rest) e history own.0 in
+    let o = opened i before e.what w.0 made in
+    let g : GoodOne i.domain (know i before) o.0 = o.1 in
+    let after_it : List Entry = before ++ e ∷ [] in
+    let there = goes-push i o.0 (know i before) g.last g.good g.each before e all_waiting o.2 in
+    let well : (j : ℕ) → is_harmed (state j after_it) ≡ false = λ j.
+    ap is_harmed (read-push (λ s f. unwrap_or (says_state j f) s) Waiting before e ∙ o.3 j) in
+    let empty : forced i before e ≡ [] =
+    forced_so i o.0 (know i before) g.last g.good g.each after_it all_waiting e.hand e.what there
+    ∙ ap (λ b. if b then map (cancels e.hand cancel.Stop) (sound i after_it) else []) own.1 in (
+      walk i o.0 (know i before) g.last g.good g.each after_it (forced i before e) es rest [] all_waiting w.1 there
+          (forced_stops i o.0 (know i before) g.last g.good g.each after_it all_waiting e.hand e.what there) one same,
+      λ calm. walk_well i o.0 (know i before) g.last g.good g.each g.met g.goal after_it (forced i before e) es rest [] all_waiting w.1 there empty well one same calm,
+    )
+
+pub journals_go_well : JournalsGoWell
+journals_go_well i all history = record {
+  each = λ before es rest e is made one same.
+      let w = in_the_journal i before es rest e (subst (IsHistory i) is history) made one same in
+      record { no_fault = w.0; success = w.1 };
+}

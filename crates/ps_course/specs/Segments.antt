@@ -1,5 +1,5 @@
 -- The entries of one plan, after the entry that makes it.
-use Rattle.std.specs.Prelude.{Bool, true, false, List, [], ◌∷◌, ◌++◌, IsTrue, IsFalse}
+use Rattle.std.specs.Prelude.{◌≡◌, Bool, true, false, List, [], ◌∷◌, ◌++◌, IsTrue, IsFalse}
 use Rattle.std.specs.List.{AllByRecursion}
 use Rattle.ps_machine.specs.declared.inputs.Input.{Input}
 use Rattle.ps_machine.specs.declared.journal.RunKind.TheVariants as run
@@ -64,14 +64,22 @@ is_given_up e = false
 abbrev pub NoneIs : (Event → Bool) → List Entry → Type 0
 NoneIs test es = AllByRecursion (λ e. IsFalse (test e.what)) es
 
--- Take entries of a history that follow one that makes a good plan, up to the end of the plan or less far, where no edit among them
--- changed what is known. Then none of them tells that the plan went wrong by itself; and if no act failed, none leaves the plan
--- without success.
-abbrev pub InTheJournal : Type 0
-InTheJournal =
-    (i : Input) (before es rest : List Entry) (e : Entry)
-    → IsHistory i (before ++ e ∷ (es ++ rest))
-    → IsTrue (makes_good_plan e.what)
-    → IsOfOnePlan es
-    → NoEditCounts i (before ++ e ∷ []) es
-    → NoneIs is_own_fault es × (NoneIs is_fail es → NoneIs is_given_up es)
+-- entries of one plan tell that it goes well: none tells that it went wrong by itself, and if no act failed, none leaves it without
+-- success
+pub record GoesWell (es : List Entry) : Type 0 where
+  pub no_fault : NoneIs is_own_fault es
+  pub success : NoneIs is_fail es → NoneIs is_given_up es
+
+-- The good plans of a journal go well: take entries of it that follow one that makes a plan which is good where it begins, up to the end
+-- of the plan or less far, and let no edit among them have changed what is known; then they tell that the plan goes well.
+pub record GoWell (i : Input) (all : List Entry) : Type 0 where
+  pub each : (before es rest : List Entry) (e : Entry)
+      → all ≡ before ++ e ∷ (es ++ rest)
+      → IsTrue (makes_good_plan e.what)
+      → IsOfOnePlan es
+      → NoEditCounts i (before ++ e ∷ []) es
+      → GoesWell es
+
+-- the good plans of every history go well
+abbrev pub JournalsGoWell : Type 0
+JournalsGoWell = (i : Input) (all : List Entry) → IsHistory i all → GoWell i all

@@ -1,11 +1,18 @@
 //! Laws of journals. A call does nothing: its contract is the law.
-ghost use Rattle.ps_course.specs.Segments.{InTheJournal};
+ghost use Rattle.ps_course.specs.Beginnings.{JournalsGoInOrder};
+ghost use Rattle.ps_course.specs.Segments.{JournalsGoWell};
 ghost use Rattle.ps_course.specs.Telling.{ToldIsKnown};
 
-/// Where no edit changes what is known, a plan that is good where it begins doesn't go wrong by itself: no act fails at its end, no
-/// over-all condition breaks, and the run isn't blocked; and where no act fails at all, the plan isn't left without success.
-pub fn in_the_journal()
-    ensures { InTheJournal }
+/// In every history, where no edit changes what is known, a plan that is good where it begins doesn't go wrong by itself: no act fails at
+/// its end, no over-all condition breaks, and the run isn't blocked; and where no act fails at all, the plan isn't left without success.
+pub fn journals_go_well()
+    ensures { JournalsGoWell }
+{}
+
+/// In every history the starts and ends of the acts of a plan, of whatever kind, are a beginning of an order that the plan's arcs allow:
+/// each act starts at most once, and ends at most once and after its start, and each act with an arc to it has ended before.
+pub fn journals_go_in_order()
+    ensures { JournalsGoInOrder }
 {}
 
 /// What is known after some entries and after others tells the same exactly where it is equal.

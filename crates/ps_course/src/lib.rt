@@ -1,6 +1,6 @@
-//! What a journal tells of a plan that was good where it begins.
+//! What a journal tells of a plan: in which order its acts start and end, and that a plan that was good where it begins goes well.
 #![tactic(auto)]
 
 mod laws;
 
-pub use laws::{in_the_journal, told_is_known};
+pub use laws::{journals_go_in_order, journals_go_well, told_is_known};
