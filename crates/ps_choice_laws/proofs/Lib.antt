@@ -1,3 +1,4 @@
+pub mod ByMembers
 pub mod Members
 pub mod Stood
 pub mod Ticker

@@ -1,13 +1,17 @@
 -- Whose an event is. An observer's events are those that are counted as its units.
-use Rattle.std.specs.Prelude.{Bool, true, false, IsTrue}
+use Rattle.std.specs.Prelude.{Bool, true, false, is_some, List, IsTrue}
 use Rattle.ps_world.specs.Names.{same_name}
 use Rattle.ps_world.specs.declared.names.Name.{Name}
+use Rattle.ps_machine.specs.declared.inputs.Input.{Input}
 use Rattle.ps_machine.specs.declared.journal.By.TheVariants as by
 use Rattle.ps_machine.specs.declared.journal.Event.{Event}
 use Rattle.ps_machine.specs.declared.journal.Event.TheVariants as event
+use Rattle.ps_machine.specs.declared.journal.Entry.{Entry}
+use Rattle.ps_rules.specs.History.{IsHistory}
 use Rattle.ps_rules.specs.Laws.{is_cancel}
+use Rattle.ps_rules.specs.Legal.{is_legal}
 use Rattle.ps_rules.specs.Lines.{answers_line}
-use Rattle.ps_rules.specs.Members.{is_observed}
+use Rattle.ps_rules.specs.Members.{is_observed, observer_of, performer_of}
 
 -- whether an event is the ticker's
 abbrev pub is_ticker_event : Event → Bool
@@ -52,3 +56,12 @@ pub data IsSomebodys (e : Event) : Type 0 where
 -- each event is somebody's
 abbrev pub EachEventIsSomebodys : Type 0
 EachEventIsSomebodys = (e : Event) → IsSomebodys e
+
+-- those whose an event is are members of the input: a performer of it, or an observer of it
+pub record IsOfMembers (i : Input) (e : Event) : Type 0 where
+  pub performer : (p : Name) → IsTrue (is_performer_event p e) → IsTrue (is_some (performer_of i p))
+  pub observer : (o : Name) → IsTrue (is_observed o e) → IsTrue (is_some (observer_of i o))
+
+-- in every history each legal event of a performer or an observer is by a member of the input
+abbrev pub MembersAloneAct : Type 0
+MembersAloneAct = (i : Input) (es : List Entry) → IsHistory i es → (e : Event) → IsTrue (is_legal i es e) → IsOfMembers i e

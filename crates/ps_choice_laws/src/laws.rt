@@ -6,11 +6,16 @@ ghost use Rattle.ps_choice_laws.specs.Choosing.{
   TickerLeavesNothing,
   TickerListsAll,
 };
-ghost use Rattle.ps_choice_laws.specs.Whose.{EachEventIsSomebodys};
+ghost use Rattle.ps_choice_laws.specs.Whose.{EachEventIsSomebodys, MembersAloneAct};
 
 /// Each event is the terminal's, the ticker's, a performer's or an observer's, or a cancel.
 pub fn each_event_is_somebodys()
     ensures { EachEventIsSomebodys }
+{}
+
+/// After a history each legal event of a performer is by a performer of the input, and each one of an observer by an observer of it.
+pub fn members_alone_act()
+    ensures { MembersAloneAct }
 {}
 
 /// After a history the ticker chooses the first legal event of a list, in which each legal event of its own stands, but for a new plan or
@@ -24,8 +29,8 @@ pub fn ticker_leaves_nothing()
     ensures { TickerLeavesNothing }
 {}
 
-/// After a history each legal event of a performer stands in the list from which it chooses before any work, or is the next unit on the
-/// request that it works on.
+/// After a history a performer chooses, before any work, the first legal event of a list, in which each legal event of its own stands, but
+/// for units: each of these is on the request that it works on.
 pub fn performers_list_all()
     ensures { PerformersListAll }
 {}

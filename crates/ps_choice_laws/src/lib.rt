@@ -5,6 +5,6 @@
 mod laws;
 
 pub use laws::{
-    each_event_is_somebodys, observers_leave_nothing, performers_leave_nothing,
+    each_event_is_somebodys, members_alone_act, observers_leave_nothing, performers_leave_nothing,
     performers_list_all, ticker_leaves_nothing, ticker_lists_all,
 };

@@ -9,8 +9,9 @@ pub fn journals_go_well()
     ensures { JournalsGoWell }
 {}
 
-/// In every history the starts and ends of the acts of a plan, of whatever kind, are a beginning of an order that the plan's arcs allow:
-/// each act starts at most once, and ends at most once and after its start, and each act with an arc to it has ended before.
+/// In every history the starts and ends of a plan, of whatever kind, are a beginning of an order that the plan's arcs allow, and such an
+/// order where each act has ended: each act starts at most once, after the end of each act with an arc to it, and ends at most once,
+/// after its start.
 pub fn journals_go_in_order()
     ensures { JournalsGoInOrder }
 {}
