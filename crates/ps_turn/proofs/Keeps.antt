@@ -2,16 +2,18 @@
 use Rattle.std.proofs.Common.{◌≡◌, ◌≢◌, ℕ, ◌<◌, true, false, List, [], ◌∷◌, ◌++◌, slice_index, slice_set, refl, sym, ap, ◌∙◌, subst, inl, inr, ⊎_elim, arith, eqb}
 use Rattle.std.specs.Prelude.{Option, Some, None}
 use Rattle.std.specs.List.{All}
-use mathlib.Core.Option.{Option as Home, none, some}
+use mathlib.Core.Option.{Option as Home, none, some, some-injective}
+use native.Mathlib.Decide.{ℕ_discrete}
+use mathlib.Core.Logic.{dite}
 use prog.Atomic.{either}
 use lib.ListN.{get_elem?}
 use Rattle.atomic_table.specs.Table.{State, Me, step, Act, Allows, Valid, stepped, carried_after}
 use Rattle.atomic_table.specs.Table.Act.{keeps, takes, gives}
-use Rattle.atomic_table.proofs.Lists.{at_set, set_again, exchanged}
+use Rattle.atomic_table.proofs.Lists.{at_set, set_again, set_else, exchanged}
 use Rattle.ps_machine.specs.declared.inputs.Input.{Input}
 use Rattle.ps_machine.specs.declared.journal.Entry.{Entry}
 use Rattle.ps_turn.specs.Hands.{of_hand, IsBeginning, GoesOnBy, GoesOnByHands}
-use Rattle.ps_turn.specs.Rule.{Founded, Known, AreKnown, HasNote, Fits, AtHome, IsTaken, Kept, Rule}
+use Rattle.ps_turn.specs.Rule.{Founded, Known, AreKnown, AreApart, HasNote, Stands, Fits, AtHome, IsTaken, Kept, Rule}
 use Rattle.ps_turn.specs.Turns.{told, Begins, Takes, Gives}
 use Rattle.ps_turn.specs.declared.view.Note.{Note}
 use Rattle.ps_turn.specs.declared.view.View.{View}
@@ -31,6 +33,24 @@ was views id v w at hand notes j u here =
     (λ (t : (j ≡ id) × (w ≡ u)). record { old = v; at = ap (λ k. get_elem? views k) t.0 ∙ at; hand_is = ap (λ (x : View). x.hand) (sym t.1) ∙ hand; notes_are = ap (λ (x : View). x.notes) (sym t.1) ∙ notes })
     (λ (t : (j ≢ id) × (get_elem? views j ≡ some u)). record { old = u; at = t.1; hand_is = refl; notes_are = refl })
     (at_set views id j w u here)
+
+-- a hand still stands where one view has become another with the same hand and notes
+pub stands_still : (views : List View) (id : ℕ) (v w : View) (hand : ℕ) → get_elem? views id ≡ some v → w.hand ≡ v.hand → w.notes ≡ v.notes
+    → Stands hand views → Stands hand (slice_set views id w)
+stands_still views id v w hand at same notes s =
+    dite (ℕ_discrete s.id id)
+    (λ e.
+    let one : s.view ≡ v = some-injective s.view v (sym s.at ∙ (ap (λ i. get_elem? views i) e ∙ at)) in
+    let hand_is : s.view.hand ≡ w.hand = ap (λ (x : View). x.hand) one ∙ sym same in
+    let notes_are : s.view.notes ≡ w.notes = ap (λ (x : View). x.notes) one ∙ sym notes in
+    record {
+      id = id;
+      view = w;
+      at = set_over views id v w at;
+      live = subst (λ n. 0 < n) hand_is s.live;
+      has = ⊎_elim (λ (t : s.view.hand ≡ hand). inl (sym hand_is ∙ t)) (λ (t : HasNote hand s.view.notes). inr (subst (λ ns. HasNote hand ns) notes_are t)) s.has;
+    })
+    (λ ne. record { id = s.id; view = s.view; at = set_else views id s.id w ne ∙ s.at; live = s.live; has = s.has })
 
 module _ {X : Type 0} (history : X → List Entry) (input : X → Input) (founded : Founded) where
   -- where the seat's new view fits, and what fits and has another hand still does
@@ -58,24 +78,35 @@ module _ {X : Type 0} (history : X → List Entry) (input : X → Input) (founde
         let y = was views id v w at hand notes j b there in
         k.noted i j x.old y.old x.at y.at (subst (λ n. 0 < n) x.hand_is some_hand) (subst (λ n. 0 < n) y.hand_is other_hand)
         (subst (λ n. HasNote n y.old.notes) x.hand_is (subst (λ ns. HasNote a.hand ns) y.notes_are has));
+    stands = λ n some_hand within. stands_still views id v w n at hand notes (k.stands n some_hand within);
+    once = λ i j a b n here there some_hand other_hand has also.
+        let x = was views id v w at hand notes i a here in
+        let y = was views id v w at hand notes j b there in
+        k.once i j x.old y.old n x.at y.at (subst (λ m. 0 < m) x.hand_is some_hand) (subst (λ m. 0 < m) y.hand_is other_hand)
+        (subst (λ ns. HasNote n ns) x.notes_are has) (subst (λ ns. HasNote n ns) y.notes_are also);
+    notes_apart = λ j u here some_hand.
+        let x = was views id v w at hand notes j u here in
+        subst AreApart (sym x.notes_are) (k.notes_apart j x.old x.at (subst (λ n. 0 < n) x.hand_is some_hand));
     after = after;
   }
 
 -- what another hand adds leaves what is known of a hand known
-known_more : (made hand other : ℕ) (log log' more : List Entry) (seen mine : List Entry) → log' ≡ log ++ more → All (λ e. e.hand ≡ hand) more → other ≢ hand
-    → Known made log other seen mine → Known made log' other seen mine
-known_more made hand other log log' more seen mine e all apart k = record {
+known_more : (base : List Entry) (made hand other : ℕ) (log log' more : List Entry) (seen mine : List Entry) → log' ≡ log ++ more → All (λ e. e.hand ≡ hand) more → other ≢ hand
+    → Known base made log other seen mine → Known base made log' other seen mine
+known_more base made hand other log log' more seen mine e all apart k = record {
+  live = k.live;
   dealt = k.dealt;
+  opened = k.opened;
   begins = subst (λ l. IsBeginning seen l) (sym e) (begins_still seen log more k.begins);
   own = k.own ∙ (sym (of_hand-others hand other log more apart all) ∙ ap (λ l. of_hand other l) (sym e));
 }
 
-are_known_more : (made hand : ℕ) (log log' more : List Entry) (notes : List Note) → log' ≡ log ++ more → All (λ e. e.hand ≡ hand) more → (HasNote hand notes → ⊥)
-    → AreKnown made log notes → AreKnown made log' notes
-are_known_more made hand log log' more [] e all apart k = tt
-are_known_more made hand log log' more (n ∷ notes) e all apart k = (
-  known_more made hand n.hand log log' more n.seen n.mine e all (λ same. apart (inl same)) k.0,
-  are_known_more made hand log log' more notes e all (λ has. apart (inr has)) k.1,
+are_known_more : (base : List Entry) (made hand : ℕ) (log log' more : List Entry) (notes : List Note) → log' ≡ log ++ more → All (λ e. e.hand ≡ hand) more → (HasNote hand notes → ⊥)
+    → AreKnown base made log notes → AreKnown base made log' notes
+are_known_more base made hand log log' more [] e all apart k = tt
+are_known_more base made hand log log' more (n ∷ notes) e all apart k = (
+  known_more base made hand n.hand log log' more n.seen n.mine e all (λ same. apart (inl same)) k.0,
+  are_known_more base made hand log log' more notes e all (λ has. apart (inr has)) k.1,
 )
 
 module _ {X : Type 0} where
@@ -87,7 +118,7 @@ module _ {X : Type 0} where
 
   -- a seat without the turn fits whatever the turn and the home are
   fits_aside : (founded : Founded) (turn turn' : ℕ) (home home' : Home (Option X)) (log log' : List Entry) (made : ℕ) (u : View)
-      → (u.holds ≡ true → ⊥) → Known made log' u.hand u.seen u.mine → AreKnown made log' u.notes → Fits founded turn home log made u → Fits founded turn' home' log' made u
+      → (u.holds ≡ true → ⊥) → Known founded.base made log' u.hand u.seen u.mine → AreKnown founded.base made log' u.notes → Fits founded turn home log made u → Fits founded turn' home' log' made u
   fits_aside founded turn turn' home home' log log' made u aside known notes f = record {
     known = known;
     notes = notes;
@@ -149,8 +180,14 @@ module _ {X : Type 0} (history : X → List Entry) (input : X → Input) (founde
       (λ _. record { value = x; there = refl; history_is = refl; input_is = of_input })
       (λ some_turn. absurd (some_turn refl))
       record {
-        known = record { dealt = f.known.dealt; begins = is_beginning_of_itself (history x); own = refl };
-        notes = are_known_more made v.hand log (history x) goes.0 v.notes e goes.2 (k.noted id id v v at at live live) f.notes;
+        known = record {
+          live = live;
+          dealt = f.known.dealt;
+          opened = subst (λ l. IsBeginning founded.base l) (sym e) (begins_still founded.base log goes.0 (k.after.0, k.after.1));
+          begins = is_beginning_of_itself (history x);
+          own = refl;
+        };
+        notes = are_known_more founded.base made v.hand log (history x) goes.0 v.notes e goes.2 (k.noted id id v v at at live live) f.notes;
         of_input = f.of_input;
         holding = λ h. absurd cc;
         opening = λ o. absurd cc;
@@ -158,8 +195,8 @@ module _ {X : Type 0} (history : X → List Entry) (input : X → Input) (founde
       }
       (λ j u here some_hand apart g.
       fits_aside founded turn 0 home (some (Some x)) log (history x) made u (others_aside turn home log made v u f holds apart g)
-      (known_more made v.hand u.hand log (history x) goes.0 u.seen u.mine e goes.2 apart g.known)
-      (are_known_more made v.hand log (history x) goes.0 u.notes e goes.2 (k.noted id j v u at here live some_hand) g.notes)
+      (known_more founded.base made v.hand u.hand log (history x) goes.0 u.seen u.mine e goes.2 apart g.known)
+      (are_known_more founded.base made v.hand log (history x) goes.0 u.notes e goes.2 (k.noted id j v u at here live some_hand) g.notes)
       g)
       (subst (λ l. GoesOnByHands made founded.base l) (sym e) (goes_on_still v.hand made founded.base log goes.0 live f.known.dealt k.after goes.2))
 
@@ -193,7 +230,7 @@ module _ {X : Type 0} (history : X → List Entry) (input : X → Input) (founde
       (λ z. absurd (omega arith))
       (λ _. record { id = id; view = told v log true; at = set_over views id v (told v log true) at; hand_is = refl; holds = refl })
       record {
-        known = record { dealt = f.known.dealt; begins = is_beginning_of_itself log; own = refl };
+        known = record { live = live; dealt = f.known.dealt; opened = (k.after.0, k.after.1); begins = is_beginning_of_itself log; own = refl };
         notes = f.notes;
         of_input = f.of_input;
         holding = λ h. (refl, refl);

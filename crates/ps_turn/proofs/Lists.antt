@@ -48,6 +48,11 @@ set_over [] i a b e = absurd (some-ne-none a (sym e))
 set_over (x ∷ xs) zero a b e = refl
 set_over (x ∷ xs) (suc i) a b e = set_over xs i a b e
 
+-- the last element stands at the end
+pub at_end : {A : Type 0} (l : List A) (a : A) → get_elem? (l ++ a ∷ []) (length l) ≡ some a
+at_end [] a = refl
+at_end (x ∷ xs) a = at_end xs a
+
 -- what stands in a list with one more element stands there already, or is the last
 pub at_end_or_before : {A : Type 0} (l : List A) (a b : A) (j : ℕ) → get_elem? (l ++ a ∷ []) j ≡ some b → (get_elem? l j ≡ some b) ⊎ ((j ≡ length l) × (a ≡ b))
 at_end_or_before [] a b zero e = inr (refl, some-injective a b e)

@@ -36,14 +36,17 @@ all_noted hand keeper places left last notes split noted kept any =
     (hand_noted hand left last moved.0 moved.1 moved.2 moved.3 moved.4)
 
 -- each seat agrees with the history where its note is known, and the last one is known too
-known_agree : (made : ℕ) (log : List Entry) (left : List Place) (last : Place) → Known made log last.hand last.seen last.mine → AreKnown made log (map place_note left) → All (Agrees log) (left ++ last ∷ [])
-known_agree made log [] last known notes = All-cons (Agrees log) last [] (known.begins, known.own) (All-nil (Agrees log))
-known_agree made log (p ∷ left) last known notes = All-cons (Agrees log) p (left ++ last ∷ []) (notes.0.begins, notes.0.own) (known_agree made log left last known notes.1)
+known_agree : (base : List Entry) (made : ℕ) (log : List Entry) (left : List Place) (last : Place) → Known base made log last.hand last.seen last.mine → AreKnown base made log (map place_note left)
+    → All (Agrees base log) (left ++ last ∷ [])
+known_agree base made log [] last known notes =
+    All-cons (Agrees base log) last [] record { opened = known.opened; begins = known.begins; own = known.own } (All-nil (Agrees base log))
+known_agree base made log (p ∷ left) last known notes =
+    All-cons (Agrees base log) p (left ++ last ∷ []) record { opened = notes.0.opened; begins = notes.0.begins; own = notes.0.own } (known_agree base made log left last known notes.1)
 
-pub all_agree : (made : ℕ) (log : List Entry) (places left : List Place) (last : Place) (notes : List Note) → places ≡ left ++ last ∷ [] → notes ≡ map place_note left
-    → Known made log last.hand last.seen last.mine → AreKnown made log notes → All (Agrees log) places
-all_agree made log places left last notes split noted known are =
-    subst (All (Agrees log)) (sym split) (known_agree made log left last known (subst (AreKnown made log) noted are))
+pub all_agree : (base : List Entry) (made : ℕ) (log : List Entry) (places left : List Place) (last : Place) (notes : List Note) → places ≡ left ++ last ∷ [] → notes ≡ map place_note left
+    → Known base made log last.hand last.seen last.mine → AreKnown base made log notes → All (Agrees base log) places
+all_agree base made log places left last notes split noted known are =
+    subst (All (Agrees base log)) (sym split) (known_agree base made log left last known (subst (AreKnown base made log) noted are))
 
 -- seats that came back in their order, each with its hand and without the turn, are all of the book's
 pub all_back : (book : Book) (count : ℕ) (places back : List Place) → book.seats ≡ count → places ≡ map (new_place book) (hands count) → length back ≡ length places

@@ -52,9 +52,11 @@ later_hands seats = range_with_len 2 (seats - 1)
 abbrev pub now_at : Place → List Entry → Bool → Place
 now_at place log holds = record { book = place.book; hand = place.hand; seen = log; mine = of_hand place.hand log; holds = holds }
 
--- the history begins with what the seat saw, and the seat's own entries are all that the history has of its hand
-abbrev pub Agrees : List Entry → Place → Type 0
-Agrees log place = IsBeginning place.seen log × (place.mine ≡ of_hand place.hand log)
+-- The history begins with what the seat saw, which begins with the opening history, and the seat's own entries are all that the history has of its hand.
+pub record Agrees (base log : List Entry) (place : Place) : Type 0 where
+  pub opened : IsBeginning base place.seen
+  pub begins : IsBeginning place.seen log
+  pub own : place.mine ≡ of_hand place.hand log
 
 -- the seat is of this book and doesn't hold the turn
 abbrev pub IsFree : Book → Place → Type 0

@@ -15,21 +15,36 @@ pub record Founded : Type 0 where
   pub base : List Entry
   pub input : Input
 
--- a hand that was dealt has seen a beginning of the history, and knows which of its entries are its own
-pub record Known (made : ℕ) (log : List Entry) (hand : ℕ) (seen mine : List Entry) : Type 0 where
+-- a hand that was dealt has seen a beginning of the history, which goes on from the opening history, and knows which of its entries are its own
+pub record Known (base : List Entry) (made : ℕ) (log : List Entry) (hand : ℕ) (seen mine : List Entry) : Type 0 where
+  pub live : 0 < hand
   pub dealt : hand ≤ made
+  pub opened : IsBeginning base seen
   pub begins : IsBeginning seen log
   pub own : mine ≡ of_hand hand log
 
 -- each note is of a hand that is known
-abbrev pub AreKnown : ℕ → List Entry → List Note → Type 0
-AreKnown made log [] = Unit {0}
-AreKnown made log (note ∷ notes) = Known made log note.hand note.seen note.mine × AreKnown made log notes
+abbrev pub AreKnown : List Entry → ℕ → List Entry → List Note → Type 0
+AreKnown base made log [] = Unit {0}
+AreKnown base made log (note ∷ notes) = Known base made log note.hand note.seen note.mine × AreKnown base made log notes
 
 -- some note is of this hand
 abbrev pub HasNote : ℕ → List Note → Type 0
 HasNote hand [] = ⊥
 HasNote hand (note ∷ notes) = (note.hand ≡ hand) ⊎ HasNote hand notes
+
+-- no two notes are of one hand
+abbrev pub AreApart : List Note → Type 0
+AreApart [] = Unit {0}
+AreApart (note ∷ notes) = (HasNote note.hand notes → ⊥) × AreApart notes
+
+-- the hand is that of a seat, or some seat has a note of it
+pub record Stands (hand : ℕ) (views : List View) : Type 0 where
+  pub id : ℕ
+  pub view : View
+  pub at : get_elem? views id ≡ some view
+  pub live : 0 < view.hand
+  pub has : (view.hand ≡ hand) ⊎ HasNote hand view.notes
 
 -- some seat has the turn
 pub record IsTaken (turn : ℕ) (views : List View) : Type 0 where
@@ -42,8 +57,8 @@ pub record IsTaken (turn : ℕ) (views : List View) : Type 0 where
 module _ {X : Type 0} where
   -- The view of a seat fits the history: if it holds the turn, the turn has its hand and it has seen all.
   pub record Fits (founded : Founded) (turn : ℕ) (home : Home (Option X)) (log : List Entry) (made : ℕ) (v : View) : Type 0 where
-    pub known : Known made log v.hand v.seen v.mine
-    pub notes : AreKnown made log v.notes
+    pub known : Known founded.base made log v.hand v.seen v.mine
+    pub notes : AreKnown founded.base made log v.notes
     pub of_input : v.input ≡ Some founded.input
     pub holding : v.holds ≡ true → (v.hand ≡ turn) × (v.seen ≡ log)
     pub opening : v.opening ≡ true → (v.holds ≡ true) × (home ≡ some None)
@@ -56,14 +71,18 @@ module _ {X : Type 0} where
     pub history_is : history value ≡ log
     pub input_is : input value ≡ founded.input
 
-  -- Where the turn is 0 the value is at home, and else a seat has the turn. No two seats have one hand, and a seat's notes are of hands that no seat has.
+  -- Where the turn is 0 the value is at home, and else a seat has the turn. Each hand that was dealt stands once: no two seats have one hand, a seat's
+  -- notes are of hands that no seat has, and no two notes are of one hand.
   pub record Kept (history : X → List Entry) (input : X → Input) (founded : Founded) (turn : ℕ) (home : Home (Option X)) (log : List Entry) (made : ℕ) (views : List View) : Type 0 where
     pub few : made ≤ founded.seats
     pub idle : turn ≡ 0 → AtHome history input founded home log
     pub taken : (turn ≡ 0 → ⊥) → IsTaken turn views
     pub each : (id : ℕ) (v : View) → get_elem? views id ≡ some v → 0 < v.hand → Fits founded turn home log made v
+    pub stands : (hand : ℕ) → 0 < hand → hand ≤ made → Stands hand views
     pub apart : (i j : ℕ) (v w : View) → get_elem? views i ≡ some v → get_elem? views j ≡ some w → 0 < v.hand → v.hand ≡ w.hand → i ≡ j
     pub noted : (i j : ℕ) (v w : View) → get_elem? views i ≡ some v → get_elem? views j ≡ some w → 0 < v.hand → 0 < w.hand → HasNote v.hand w.notes → ⊥
+    pub once : (i j : ℕ) (v w : View) (hand : ℕ) → get_elem? views i ≡ some v → get_elem? views j ≡ some w → 0 < v.hand → 0 < w.hand → HasNote hand v.notes → HasNote hand w.notes → i ≡ j
+    pub notes_apart : (id : ℕ) (v : View) → get_elem? views id ≡ some v → 0 < v.hand → AreApart v.notes
     pub after : GoesOnByHands made founded.base log
 
   -- The table's one word is the turn, and its one slot is the value's home.

@@ -49,6 +49,6 @@ pub record IsKeeper (place : Place) (v : View) : Type 0 where
 abbrev pub HasHands : ℕ → View → Type 0
 HasHands last v = (hand : ℕ) → 0 < hand → hand ≤ last → (v.hand ≡ hand) ⊎ HasNote hand v.notes
 
--- what the seat knows and what it has noted of others agrees with the history
-abbrev pub Tells : List Entry → View → Type 0
-Tells log v = (made : ℕ) × Known made log v.hand v.seen v.mine × AreKnown made log v.notes
+-- what the seat knows and what it has noted of others agrees with the history, which goes on from the opening history
+abbrev pub Tells : List Entry → List Entry → View → Type 0
+Tells base log v = (made : ℕ) × Known base made log v.hand v.seen v.mine × AreKnown base made log v.notes

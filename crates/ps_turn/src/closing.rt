@@ -15,13 +15,13 @@ use ps_machine::Grows;
 
 impl<V: Grows> TurnBook<V> {
     /// Closes the book, and gives the value back, which has the book's input. Its history begins with the opening history, and each
-    /// later entry has the hand of a seat. It begins with what each seat saw, and each seat's own entries are all that it has of that
-    /// seat's hand. It takes no memory.
+    /// later entry has the hand of a seat. It begins with what each seat saw, which begins with the opening history, and each seat's own
+    /// entries are all that it has of that seat's hand. It takes no memory.
     pub fn close(self, mut seats: Vec<Seat<V>>) -> V
         requires { AreAll self seats.items }
         ensures of_input { V.input result ≡ self.input }
         ensures grows { GoesOnByHands self.seats self.opened (V.history result) }
-        ensures agrees { All (Agrees (V.history result)) seats.items }
+        ensures agrees { All (Agrees self.opened (V.history result)) seats.items }
     {
         let last = seats.pop();
         let Some(last) = last else { unreachable!() };
@@ -74,7 +74,7 @@ impl<V: Grows> TurnBook<V> {
         requires all { HasHands self.seats keeper.me.0 }
         ensures of_input { V.input result ≡ self.input }
         ensures grows { GoesOnByHands self.seats self.opened (V.history result) }
-        ensures tells { Tells (V.history result) keeper.me.0 }
+        ensures tells { Tells self.opened (V.history result) keeper.me.0 }
     {
         let TurnBook { table, waiting: _ } = self;
         let mut closed = table.close_with(keeper);

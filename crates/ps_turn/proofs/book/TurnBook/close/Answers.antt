@@ -1,4 +1,4 @@
-use Rattle.std.proofs.Common.{◌≤◌, subst, sym, ap, ◌∙◌}
+use Rattle.std.proofs.Common.{◌<◌, ◌≤◌, subst, sym, ap, ◌∙◌}
 use Rattle.ps_turn.specs.Hands.{of_hand, IsBeginning}
 use Rattle.ps_turn.specs.Rule.{Known}
 use Rattle.ps_turn.proofs.Places.{all_noted, all_agree}
@@ -16,9 +16,12 @@ returns-clause-agrees g c =
     let is = c.gather-keeper.ensures.keeper in
     let tells = c.finish.ensures.tells in
     let log = g.V.Grows.history c.finish.result in
-    let known : Known tells.0 log last.hand last.seen last.mine = record {
+    let base = c.args.self.opened in
+    let known : Known base tells.0 log last.hand last.seen last.mine = record {
+      live = subst (λ h. 0 < h) is.hand_is tells.1.live;
       dealt = subst (λ h. h ≤ tells.0) is.hand_is tells.1.dealt;
+      opened = subst (λ l. IsBeginning base l) is.seen_is tells.1.opened;
       begins = subst (λ l. IsBeginning l log) is.seen_is tells.1.begins;
       own = sym is.mine_is ∙ (tells.1.own ∙ ap (λ h. of_hand h log) is.hand_is);
     } in
-    all_agree tells.0 log c.args.seats.items c.pop-last.new.self.items last keeper.notes c.in-Some.ensures.items c.gather-keeper.ensures.notes known tells.2
+    all_agree base tells.0 log c.args.seats.items c.pop-last.new.self.items last keeper.notes c.in-Some.ensures.items c.gather-keeper.ensures.notes known tells.2

@@ -16,5 +16,5 @@ join_seat-requires g c =
       ap (λ m. m.1) (free_token me seat.slots_are aside),
       (let w = c.self.invariant.0 in omega arith),
       join_allowed g.V.Grows.history g.V.Grows.input record { seats = key.seats; base = g.V.Grows.history key.opened.value; input = g.V.Grows.input key.opened.value } _ _ c.args.keeper.now.me.0 me.0
-          c.requires.live (subst (λ n. 0 < n) (sym seat.hand_is) seat.live) aside,
+          c.requires.live (subst (λ n. 0 < n) (sym seat.hand_is) seat.live) aside seat.alone,
     )
