@@ -1,12 +1,11 @@
 -- What is kept of the answers to requests: for each request a row, and in it a place for each performer.
-use Rattle.std.specs.Prelude.{◌≡◌, ℕ, ◌<◌, ◌&&◌, ◌||◌, nat_lt, Bool, true, false, None, is_some, List, length, replicate, slice_index_or}
-use Rattle.std.specs.Vec.{vec_capacity, vec_len}
+use Rattle.std.specs.Prelude.{◌≡◌, ℕ, ◌≤◌, ◌&&◌, ◌||◌, nat_lt, Bool, true, false, None, is_some, List, length, replicate, slice_index_or}
 use Rattle.ps_world.specs.declared.names.Name.{Name}
 use Rattle.ps_machine.specs.declared.journal.Event.{Event}
 use Rattle.ps_machine.specs.declared.journal.Event.TheVariants as event
 use Rattle.ps_machine.specs.declared.journal.Entry.{Entry}
 use Rattle.ps_rules.specs.Auctions.{has_answered, has_offered, is_rejected, pass_of, requests}
-use Rattle.ps_ledger.specs.Kept.{put}
+use Rattle.ps_ledger.specs.Kept.{room_left, put}
 use Rattle.ps_ledger.specs.Members.{at_name, place_in, with_named}
 use Rattle.ps_ledger.specs.declared.answers.Answer.{Answer}
 use Rattle.ps_ledger.specs.declared.answers.Answers.{Answers}
@@ -55,6 +54,6 @@ speaks_of_answers names rows (event.Pass r p why) = has_answer names rows r p
 speaks_of_answers names rows (event.Reject r p) = has_answer names rows r p
 speaks_of_answers names rows e = true
 
--- there is memory for the answers to a request more
-abbrev pub HasRow : Answers → Type 0
-HasRow l = vec_len l.rows < vec_capacity l.rows
+-- there is memory for the answers to so many requests more
+abbrev pub HasRows : ℕ → Answers → Type 0
+HasRows n l = n ≤ room_left l.rows

@@ -1,5 +1,7 @@
 -- What is kept of a journal, and how an entry more changes it.
-use Rattle.std.specs.Prelude.{◌≡◌, ℕ, nat_lt, if◌then◌else◌, List, [], ◌∷◌, ◌++◌, length, slice_set}
+use Rattle.std.specs.Prelude.{◌≡◌, ℕ, ◌-◌, nat_lt, if◌then◌else◌, List, [], ◌∷◌, ◌++◌, length, slice_set}
+use Rattle.std.specs.Global.{Vec}
+use Rattle.std.specs.Vec.{vec_capacity, vec_len}
 use Rattle.ps_machine.specs.declared.journal.CancelWhy.{CancelWhy}
 use Rattle.ps_machine.specs.declared.journal.Event.{Event}
 use Rattle.ps_machine.specs.declared.journal.Entry.{Entry}
@@ -22,6 +24,10 @@ TakesCancel Tells act old new =
 -- what tells of a journal still does
 abbrev pub Keeps : {A : Type 0} → (List Entry → A → Type 0) → A → A → Type 0
 Keeps Tells old new = (es : List Entry) → Tells es old → Tells es new
+
+-- for how many items more there is memory in a vector
+abbrev pub room_left : {A : Type 0} → Vec A → ℕ
+room_left v = vec_capacity v - vec_len v
 
 -- a list with another item at this place, where it has the place
 abbrev pub put : {A : Type 0} → List A → ℕ → A → List A

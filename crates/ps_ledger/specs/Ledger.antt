@@ -1,5 +1,5 @@
 -- What is kept of a journal, whole.
-use Rattle.std.specs.Prelude.{◌≡◌, ℕ, Bool, not, if◌then◌else◌, IsTrue, Option, Some, None, List, length}
+use Rattle.std.specs.Prelude.{◌≡◌, ℕ, ◌-◌, Bool, not, if◌then◌else◌, IsTrue, Option, Some, None, List, length}
 use Rattle.ps_world.specs.declared.names.Name.{Name}
 use Rattle.ps_machine.specs.declared.members.Performer.{Performer}
 use Rattle.ps_machine.specs.declared.journal.PassWhy.{PassWhy}
@@ -10,14 +10,14 @@ use Rattle.ps_rules.specs.Laws.{speaks_of}
 use Rattle.ps_rules.specs.Legal.{pass_reason}
 use Rattle.ps_rules.specs.Members.{matches_request}
 use Rattle.ps_ledger.specs.Acts.{HasActs, new_acts, speaks_of_acts, TellsActs}
-use Rattle.ps_ledger.specs.Answers.{HasRow, speaks_of_answers, TellsAnswers, TellsRows}
+use Rattle.ps_ledger.specs.Answers.{HasRows, speaks_of_answers, TellsAnswers, TellsRows}
 use Rattle.ps_ledger.specs.Ends.{TellsEnds}
-use Rattle.ps_ledger.specs.Offers.{HasOffer, TellsOffers}
+use Rattle.ps_ledger.specs.Offers.{HasOffers, TellsOffers}
 use Rattle.ps_ledger.specs.Lines.{speaks_of_lines, TellsLines}
 use Rattle.ps_ledger.specs.Members.{speaks_of_observers, speaks_of_performers, TellsObservers, TellsPerformers}
-use Rattle.ps_ledger.specs.Requests.{HasRequest, TellsRequests}
+use Rattle.ps_ledger.specs.Requests.{HasRequests, TellsRequests}
 use Rattle.ps_ledger.specs.Runs.{speaks_of_run, TellsRun}
-use Rattle.ps_ledger.specs.Work.{HasJob, speaks_of_jobs, TellsJobs, TellsUnits, TellsWork}
+use Rattle.ps_ledger.specs.Work.{HasJobs, speaks_of_jobs, TellsJobs, TellsUnits, TellsWork}
 use Rattle.ps_ledger.specs.declared.ledger.Ledger.{Ledger}
 
 -- The ledger tells what these entries do.
@@ -36,13 +36,24 @@ pub record TellsAll (es : List Entry) (l : Ledger) : Type 0 where
   pub offers : TellsOffers es l.offers
   pub ends : TellsEnds es l.ends
 
+-- There is memory to take so many events that make no plan.
+pub record HasSpare (n : ℕ) (l : Ledger) : Type 0 where
+  pub requests : HasRequests n l.requests
+  pub work : HasJobs n l.work
+  pub answers : HasRows n l.answers
+  pub offers : HasOffers n l.offers
+
+-- where there was memory for so many there still is; where there was memory for so many, there is for one less
+abbrev pub KeepsSpare : Ledger → Ledger → Type 0
+KeepsSpare old new = (n : ℕ) → HasSpare n old → HasSpare n new
+
+abbrev pub TakesOne : Ledger → Ledger → Type 0
+TakesOne old new = (n : ℕ) → HasSpare n old → HasSpare (n - 1) new
+
 -- There is memory to take an event.
 pub record HasRoom (e : Event) (l : Ledger) : Type 0 where
   pub acts : HasActs (new_acts e) l.acts
-  pub requests : HasRequest l.requests
-  pub work : HasJob l.work
-  pub answers : HasRow l.answers
-  pub offers : HasOffer l.offers
+  pub spare : HasSpare 1 l
 
 -- An event speaks of acts, requests and members that are there, and of work by those who were confirmed.
 pub record Speaks (e : Event) (l : Ledger) : Type 0 where

@@ -1,12 +1,12 @@
 -- What is kept of the offers that stand.
-use Rattle.std.specs.Prelude.{◌≡◌, ℕ, ◌<◌, ◌==◌, ◌&&◌, not, Bool, if◌then◌else◌, List, [], ◌∷◌, ◌++◌, filter, map}
-use Rattle.std.specs.Vec.{vec_capacity, vec_len}
+use Rattle.std.specs.Prelude.{◌≡◌, ℕ, ◌≤◌, ◌==◌, ◌&&◌, not, Bool, if◌then◌else◌, List, [], ◌∷◌, ◌++◌, filter, map}
 use Rattle.ps_world.specs.Names.{same_name}
 use Rattle.ps_world.specs.declared.names.Name.{Name}
 use Rattle.ps_machine.specs.declared.journal.Event.{Event}
 use Rattle.ps_machine.specs.declared.journal.Event.TheVariants as event
 use Rattle.ps_machine.specs.declared.journal.Entry.{Entry}
 use Rattle.ps_rules.specs.Reading.{read}
+use Rattle.ps_ledger.specs.Kept.{room_left}
 use Rattle.ps_ledger.specs.declared.offers.Offer.{Offer}
 use Rattle.ps_ledger.specs.declared.offers.Offers.{Offers}
 
@@ -37,6 +37,6 @@ pub record TellsOffers (es : List Entry) (l : Offers) : Type 0 where
 abbrev pub is_other : ℕ → Name → Offer → Bool
 is_other r q o = not ((r == o.r) && same_name o.by q)
 
--- there is memory for an offer more
-abbrev pub HasOffer : Offers → Type 0
-HasOffer l = vec_len l.all < vec_capacity l.all
+-- there is memory for so many offers more
+abbrev pub HasOffers : ℕ → Offers → Type 0
+HasOffers n l = n ≤ room_left l.all

@@ -1,11 +1,10 @@
 -- What is kept of requests.
-use Rattle.std.specs.Prelude.{◌≡◌, ℕ, ◌<◌, ◌≤◌, nat_lt, nat_le, ◌&&◌, Bool, true, false, Option, Some, None, if◌then◌else◌, List, length, slice_index_or}
+use Rattle.std.specs.Prelude.{◌≡◌, ℕ, ◌≤◌, nat_lt, nat_le, ◌&&◌, Bool, true, false, Option, Some, None, if◌then◌else◌, List, length, slice_index_or}
 use Rattle.std.specs.Option.{option_or}
-use Rattle.std.specs.Vec.{vec_capacity, vec_len}
 use Rattle.ps_world.specs.declared.names.Name.{Name}
 use Rattle.ps_machine.specs.declared.journal.Entry.{Entry}
 use Rattle.ps_rules.specs.Auctions.{act_of, confirmed, finish_of, first_offer, offers, is_of_run, is_unserved, requests}
-use Rattle.ps_ledger.specs.Kept.{put}
+use Rattle.ps_ledger.specs.Kept.{room_left, put}
 use Rattle.ps_ledger.specs.declared.requests.Request.{Request}
 use Rattle.ps_ledger.specs.declared.requests.Requests.{Requests}
 
@@ -55,6 +54,6 @@ pub record TellsRequests (es : List Entry) (l : Requests) : Type 0 where
   pub firsts : (r : ℕ) → first_offer_on r es ≡ (request_at l.all.items r).first
   pub finishes : (r : ℕ) → finish_of r es ≡ (request_at l.all.items r).finish
 
--- there is memory for a request more
-abbrev pub HasRequest : Requests → Type 0
-HasRequest l = vec_len l.all < vec_capacity l.all
+-- there is memory for so many requests more
+abbrev pub HasRequests : ℕ → Requests → Type 0
+HasRequests n l = n ≤ room_left l.all

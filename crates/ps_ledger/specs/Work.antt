@@ -1,7 +1,6 @@
 -- What is kept of the work on requests.
-use Rattle.std.specs.Prelude.{◌≡◌, ℕ, ◌+◌, ◌<◌, nat_lt, Bool, true, false, ◌&&◌, ◌==◌, Option, Some, None, is_none, if◌then◌else◌, List, length, slice_index_or}
+use Rattle.std.specs.Prelude.{◌≡◌, ℕ, ◌+◌, ◌≤◌, nat_lt, Bool, true, false, ◌&&◌, ◌==◌, Option, Some, None, is_none, if◌then◌else◌, List, length, slice_index_or}
 use Rattle.std.specs.Option.{option_map_or}
-use Rattle.std.specs.Vec.{vec_capacity, vec_len}
 use Rattle.ps_world.specs.Names.{same_name}
 use Rattle.ps_world.specs.declared.names.Name.{Name}
 use Rattle.ps_machine.specs.declared.journal.By.TheVariants as by
@@ -9,7 +8,7 @@ use Rattle.ps_machine.specs.declared.journal.Event.{Event}
 use Rattle.ps_machine.specs.declared.journal.Event.TheVariants as event
 use Rattle.ps_machine.specs.declared.journal.Entry.{Entry}
 use Rattle.ps_rules.specs.Auctions.{confirmed, has_begun, is_through, is_working, requests, units_done}
-use Rattle.ps_ledger.specs.Kept.{put}
+use Rattle.ps_ledger.specs.Kept.{room_left, put}
 use Rattle.ps_ledger.specs.declared.work.Job.{Job}
 use Rattle.ps_ledger.specs.declared.work.Work.{Work}
 
@@ -68,9 +67,9 @@ speaks_of_jobs all (event.Edit (by.Performer r p) edit) = has_unit all r p
 speaks_of_jobs all (event.Refused (by.Performer r p) why) = has_unit all r p
 speaks_of_jobs all e = true
 
--- there is memory for the work on a request more
-abbrev pub HasJob : Work → Type 0
-HasJob l = vec_len l.jobs < vec_capacity l.jobs
+-- there is memory for the work on so many requests more
+abbrev pub HasJobs : ℕ → Work → Type 0
+HasJobs n l = n ≤ room_left l.jobs
 
 -- there is a job for each request
 pub record TellsJobs (es : List Entry) (l : Work) : Type 0 where

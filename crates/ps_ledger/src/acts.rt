@@ -1,5 +1,5 @@
 //! What the entries so far tell of the plan and its acts.
-ghost use Rattle.std.specs.Prelude.{◌≡◌, ◌<◌, IsTrue, List, [], length, None, OnOk, Some, replicate};
+ghost use Rattle.std.specs.Prelude.{◌≡◌, ◌<◌, IsTrue, List, [], count_by, length, None, OnOk, Some, replicate};
 ghost use Rattle.ps_action.specs.declared.states.ActState.TheVariants.{Waiting};
 ghost use Rattle.ps_machine.specs.declared.journal.Entry.{Entry};
 ghost use Rattle.ps_rules.specs.Runs.{is_active, plan, state};
@@ -19,6 +19,16 @@ pub struct Acts {
     pub states: Vec<ActState>,
     /// For each act the last request for it.
     pub asked: Vec<Option<u64>>,
+}
+
+/// Whether an act in this state is active.
+pub fn is_active(state: ActState) -> bool
+    ensures { result ≡ is_active state }
+{
+    match state {
+        ActState::Active => true,
+        _ => false,
+    }
 }
 
 impl Acts {
@@ -65,6 +75,16 @@ impl Acts {
             Some(ActState::Active) => true,
             _ => false,
         }
+    }
+
+    /// How many acts are active.
+    pub fn count_active(&self) -> usize
+        ensures { result ≡ count_by is_active self.now.states.items }
+    {
+        self.states
+            .iter()
+            .filter(|state| is_active(**state))
+            .count()
     }
 
     /// The last request for an act of the plan.

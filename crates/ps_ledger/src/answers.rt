@@ -1,10 +1,10 @@
 //! What the entries so far tell of the answers to requests.
-ghost use Rattle.std.specs.Prelude.{◌≡◌, ◌<◌, IsTrue, List, [], ◌∷◌, ◌++◌, length, OnOk, replicate};
+ghost use Rattle.std.specs.Prelude.{◌≡◌, ◌≤◌, ◌+◌, ◌<◌, IsTrue, List, [], ◌∷◌, ◌++◌, length, OnOk, replicate};
 ghost use Rattle.ps_world.specs.declared.names.Name.{Name as NameView};
 ghost use Rattle.ps_rules.specs.Auctions.{has_answered, has_offered, is_rejected, pass_of};
-ghost use Rattle.ps_ledger.specs.Kept.{Keeps, Reads, Takes};
+ghost use Rattle.ps_ledger.specs.Kept.{Keeps, room_left, Reads, Takes};
 ghost use Rattle.ps_ledger.specs.Members.{place_in};
-ghost use Rattle.ps_ledger.specs.Answers.{answer_at, HasRow, no_answer, speaks_of_answers, TellsAnswers, TellsRows, with_answer};
+ghost use Rattle.ps_ledger.specs.Answers.{answer_at, HasRows, no_answer, speaks_of_answers, TellsAnswers, TellsRows, with_answer};
 
 use super::members::place_in;
 use ps_machine::{Event, PassWhy};
@@ -91,37 +91,41 @@ impl Answers {
     fn change(&mut self, names: &[Name], r: u64, by: Name, answer: Answer)
         requires row { r < length self.now.rows.items }
         requires place { place_in names.now by < 64 }
-        ensures { self.new.rows.items ≡ with_answer names.now self.old.rows.items r by answer }
+        ensures rows { self.new.rows.items ≡ with_answer names.now self.old.rows.items r by answer }
+        ensures spare { room_left self.old.rows ≤ room_left self.new.rows }
     {
         let place = place_in(names, by);
         self.rows[r as usize][place] = answer;
     }
 
     fn push(&mut self)
-        requires { HasRow self.now }
-        ensures { self.new.rows.items ≡ self.old.rows.items ++ replicate 64 no_answer ∷ [] }
+        requires { HasRows 1 self.now }
+        ensures rows { self.new.rows.items ≡ self.old.rows.items ++ replicate 64 no_answer ∷ [] }
+        ensures spare { room_left self.old.rows ≤ room_left self.new.rows + 1 }
     {
         if self.rows.push([Answer::NONE; 64]).is_err() {
             unreachable!();
         }
     }
 
-    /// Makes room for the answers to a request more.
-    pub fn make_room(&mut self) -> Result<(), AllocError>
-        ensures ok { OnOk result (HasRow self.new) }
+    /// Makes room for the answers to so many requests more.
+    pub fn reserve(&mut self, more: usize) -> Result<(), AllocError>
+        ensures ok { OnOk result (HasRows more self.new) }
+        ensures spare { room_left self.old.rows ≤ room_left self.new.rows }
         ensures rows { Keeps TellsRows self.old self.new }
         ensures told { (names : List NameView) → Keeps (TellsAnswers names) self.old self.new }
     {
-        self.rows.reserve(1)?;
+        self.rows.reserve(more)?;
         Ok(())
     }
 
     /// Takes one more event, which speaks of requests and performers that are there.
     pub fn take(&mut self, names: &[Name], event: &Event)
-        requires room { HasRow self.now }
+        requires room { HasRows 1 self.now }
         requires speaks { IsTrue (speaks_of_answers names.now self.now.rows.items event.now) }
         ensures rows { Takes TellsRows event.now self.old self.new }
         ensures told { Takes (TellsAnswers names.now) event.now self.old self.new }
+        ensures spare { room_left self.old.rows ≤ room_left self.new.rows + 1 }
     {
         match event {
             Event::Request { r: _, act: _ } => self.push(),

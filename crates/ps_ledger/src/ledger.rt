@@ -5,9 +5,9 @@ ghost use Rattle.ps_rules.specs.Auctions.{has_answered, has_offered, is_for_acti
 ghost use Rattle.ps_rules.specs.Runs.{is_active, is_cancelled};
 ghost use Rattle.ps_ledger.specs.Acts.{IsCancelled};
 ghost use Rattle.ps_ledger.specs.Kept.{Keeps, Takes, TakesCancel};
-ghost use Rattle.ps_ledger.specs.Ledger.{HasRoom, HasSameMembers, pass_where, PassesFor, Speaks, TellsAll};
+ghost use Rattle.ps_ledger.specs.Ledger.{HasRoom, HasSameMembers, HasSpare, KeepsSpare, pass_where, PassesFor, Speaks, TakesOne, TellsAll};
 
-use super::acts::Acts;
+use super::acts::{Acts, is_active};
 use super::answers::Answers;
 use super::ends::Ends;
 use super::lines::Lines;
@@ -34,15 +34,6 @@ pub struct Ledger {
     pub lines: Lines,
     pub offers: Offers,
     pub ends: Ends,
-}
-
-fn is_active(state: ActState) -> bool
-    ensures { result ≡ is_active state }
-{
-    match state {
-        ActState::Active => true,
-        _ => false,
-    }
 }
 
 fn is_cancelled(state: ActState) -> bool
@@ -162,11 +153,26 @@ impl Ledger {
         pass_where(open, matches, engaged)
     }
 
+    /// Makes room for so many events that make no plan.
+    pub fn reserve(&mut self, more: usize) -> Result<(), AllocError>
+        ensures ok { OnOk result (HasSpare more self.new) }
+        ensures told { Keeps TellsAll self.old self.new }
+        ensures acts { self.new.acts ≡ self.old.acts }
+        ensures members { HasSameMembers self.old self.new }
+        ensures spare { KeepsSpare self.old self.new }
+    {
+        self.requests.reserve(more)?;
+        self.work.reserve(more)?;
+        self.answers.reserve(more)?;
+        self.offers.reserve(more)
+    }
+
     /// Makes room for an event.
     pub fn make_room(&mut self, event: &Event) -> Result<(), AllocError>
         ensures ok { OnOk result (HasRoom event.now self.new) }
         ensures told { Keeps TellsAll self.old self.new }
         ensures members { HasSameMembers self.old self.new }
+        ensures spare { KeepsSpare self.old self.new }
     {
         let acts = match event {
             Event::Run { kind: _, acts } => acts.len(),
@@ -174,10 +180,7 @@ impl Ledger {
             _ => 0,
         };
         self.acts.make_room(acts)?;
-        self.requests.make_room()?;
-        self.work.make_room()?;
-        self.answers.make_room()?;
-        self.offers.make_room()
+        self.reserve(1)
     }
 
     /// Takes one more event, which speaks of what is there.
@@ -186,6 +189,7 @@ impl Ledger {
         requires speaks { Speaks event.now self.now }
         ensures told { Takes TellsAll event.now self.old self.new }
         ensures members { HasSameMembers self.old self.new }
+        ensures spare { TakesOne self.old self.new }
     {
         self.run.take(event);
         self.acts.take(event);
@@ -205,6 +209,7 @@ impl Ledger {
         ensures told { TakesCancel TellsAll act self.old self.new }
         ensures states { IsCancelled act self.old.acts self.new.acts }
         ensures members { HasSameMembers self.old self.new }
+        ensures spare { KeepsSpare self.old self.new }
     {
         self.acts.cancel(act);
     }

@@ -1,7 +1,7 @@
 //! What the entries so far tell of the offers that stand.
-ghost use Rattle.std.specs.Prelude.{◌≡◌, ◌++◌, [], ◌∷◌, filter, OnOk};
-ghost use Rattle.ps_ledger.specs.Kept.{Keeps, Takes};
-ghost use Rattle.ps_ledger.specs.Offers.{HasOffer, is_other, TellsOffers};
+ghost use Rattle.std.specs.Prelude.{◌≡◌, ◌≤◌, ◌+◌, ◌++◌, [], ◌∷◌, filter, OnOk};
+ghost use Rattle.ps_ledger.specs.Kept.{Keeps, room_left, Takes};
+ghost use Rattle.ps_ledger.specs.Offers.{HasOffers, is_other, TellsOffers};
 
 use ps_machine::Event;
 use ps_world::Name;
@@ -40,8 +40,9 @@ impl Offers {
     }
 
     fn push(&mut self, r: u64, by: Name)
-        requires { HasOffer self.now }
-        ensures { self.new.all.items ≡ self.old.all.items ++ record { r = r; by = by } ∷ [] }
+        requires { HasOffers 1 self.now }
+        ensures all { self.new.all.items ≡ self.old.all.items ++ record { r = r; by = by } ∷ [] }
+        ensures spare { room_left self.old.all ≤ room_left self.new.all + 1 }
     {
         if self.all.push(Offer { r, by }).is_err() {
             unreachable!();
@@ -49,24 +50,27 @@ impl Offers {
     }
 
     fn strike(&mut self, r: u64, by: Name)
-        ensures { self.new.all.items ≡ filter (is_other r by) self.old.all.items }
+        ensures all { self.new.all.items ≡ filter (is_other r by) self.old.all.items }
+        ensures spare { room_left self.old.all ≤ room_left self.new.all }
     {
         self.all.retain(|offer| is_other(r, by, *offer));
     }
 
-    /// Makes room for an offer more.
-    pub fn make_room(&mut self) -> Result<(), AllocError>
-        ensures ok { OnOk result (HasOffer self.new) }
+    /// Makes room for so many offers more.
+    pub fn reserve(&mut self, more: usize) -> Result<(), AllocError>
+        ensures ok { OnOk result (HasOffers more self.new) }
+        ensures spare { room_left self.old.all ≤ room_left self.new.all }
         ensures told { Keeps TellsOffers self.old self.new }
     {
-        self.all.reserve(1)?;
+        self.all.reserve(more)?;
         Ok(())
     }
 
     /// Takes one more event.
     pub fn take(&mut self, event: &Event)
-        requires { HasOffer self.now }
-        ensures { Takes TellsOffers event.now self.old self.new }
+        requires { HasOffers 1 self.now }
+        ensures told { Takes TellsOffers event.now self.old self.new }
+        ensures spare { room_left self.old.all ≤ room_left self.new.all + 1 }
     {
         match event {
             Event::Offer { r, by } => self.push(*r, *by),

@@ -1,10 +1,10 @@
 //! What the entries so far tell of requests.
-ghost use Rattle.std.specs.Prelude.{◌≡◌, ◌++◌, ◌<◌, IsTrue, List, [], ◌∷◌, length, OnOk};
+ghost use Rattle.std.specs.Prelude.{◌≡◌, ◌≤◌, ◌+◌, ◌++◌, ◌<◌, IsTrue, List, [], ◌∷◌, length, OnOk};
 ghost use Rattle.ps_machine.specs.declared.journal.Entry.{Entry};
 ghost use Rattle.ps_rules.specs.Auctions.{act_of, confirmed, finish_of, is_of_run, is_unserved, requests};
 ghost use Rattle.ps_rules.specs.Laws.{speaks_of};
-ghost use Rattle.ps_ledger.specs.Kept.{Keeps, Takes};
-ghost use Rattle.ps_ledger.specs.Requests.{asked_for, first_offer_on, HasRequest, TellsRequests, with_confirmed, with_finish, with_offer, with_unserved};
+ghost use Rattle.ps_ledger.specs.Kept.{Keeps, room_left, Takes};
+ghost use Rattle.ps_ledger.specs.Requests.{asked_for, first_offer_on, HasRequests, TellsRequests, with_confirmed, with_finish, with_offer, with_unserved};
 
 use ps_machine::Event;
 use ps_world::Name;
@@ -114,6 +114,7 @@ impl Requests {
         ensures all { self.new.all.items ≡ with_confirmed self.old.all.items r by }
         ensures plan { self.new.of_plan ≡ self.old.of_plan }
         ensures run { self.new.of_run ≡ self.old.of_run }
+        ensures spare { room_left self.old.all ≤ room_left self.new.all }
     {
         self.all[r as usize].confirmed = Some(by);
     }
@@ -123,6 +124,7 @@ impl Requests {
         ensures all { self.new.all.items ≡ with_offer self.old.all.items r by }
         ensures plan { self.new.of_plan ≡ self.old.of_plan }
         ensures run { self.new.of_run ≡ self.old.of_run }
+        ensures spare { room_left self.old.all ≤ room_left self.new.all }
     {
         let request = &mut self.all[r as usize];
         if request.first.is_none() {
@@ -135,6 +137,7 @@ impl Requests {
         ensures all { self.new.all.items ≡ with_finish self.old.all.items r ok }
         ensures plan { self.new.of_plan ≡ self.old.of_plan }
         ensures run { self.new.of_run ≡ self.old.of_run }
+        ensures spare { room_left self.old.all ≤ room_left self.new.all }
     {
         self.all[r as usize].finish = Some(ok);
     }
@@ -144,15 +147,17 @@ impl Requests {
         ensures all { self.new.all.items ≡ with_unserved self.old.all.items r }
         ensures plan { self.new.of_plan ≡ self.old.of_plan }
         ensures run { self.new.of_run ≡ self.old.of_run }
+        ensures spare { room_left self.old.all ≤ room_left self.new.all }
     {
         self.all[r as usize].unserved = true;
     }
 
     fn push(&mut self, act: u32)
-        requires { HasRequest self.now }
+        requires { HasRequests 1 self.now }
         ensures all { self.new.all.items ≡ self.old.all.items ++ asked_for act ∷ [] }
         ensures plan { self.new.of_plan ≡ self.old.of_plan }
         ensures run { self.new.of_run ≡ self.old.of_run }
+        ensures spare { room_left self.old.all ≤ room_left self.new.all + 1 }
     {
         let request = Request {
             act,
@@ -166,20 +171,22 @@ impl Requests {
         }
     }
 
-    /// Makes room for a request more.
-    pub fn make_room(&mut self) -> Result<(), AllocError>
-        ensures ok { OnOk result (HasRequest self.new) }
+    /// Makes room for so many requests more.
+    pub fn reserve(&mut self, more: usize) -> Result<(), AllocError>
+        ensures ok { OnOk result (HasRequests more self.new) }
+        ensures spare { room_left self.old.all ≤ room_left self.new.all }
         ensures told { Keeps TellsRequests self.old self.new }
     {
-        self.all.reserve(1)?;
+        self.all.reserve(more)?;
         Ok(())
     }
 
     /// Takes one more event, which speaks of requests that are there.
     pub fn take(&mut self, event: &Event)
-        requires room { HasRequest self.now }
+        requires room { HasRequests 1 self.now }
         requires speaks { IsTrue (speaks_of (length self.now.all.items) event.now) }
-        ensures { Takes TellsRequests event.now self.old self.new }
+        ensures told { Takes TellsRequests event.now self.old self.new }
+        ensures spare { room_left self.old.all ≤ room_left self.new.all + 1 }
     {
         match event {
             Event::Run { kind: _, acts: _ } => {

@@ -1,10 +1,10 @@
 //! What the entries so far tell of the work on requests.
-ghost use Rattle.std.specs.Prelude.{◌≡◌, ℕ, ◌+◌, ◌<◌, ◌++◌, IsTrue, List, [], ◌∷◌, length, OnOk};
+ghost use Rattle.std.specs.Prelude.{◌≡◌, ◌≤◌, ℕ, ◌+◌, ◌<◌, ◌++◌, IsTrue, List, [], ◌∷◌, length, OnOk};
 ghost use Rattle.ps_machine.specs.declared.journal.Entry.{Entry};
 ghost use Rattle.ps_rules.specs.Auctions.{has_begun, is_through, is_working, units_done};
 ghost use Rattle.ps_rules.specs.Legal.{is_confirmed};
-ghost use Rattle.ps_ledger.specs.Kept.{Keeps, Takes};
-ghost use Rattle.ps_ledger.specs.Work.{begun_job, finished_job, HasJob, is_by, job_at, longer_job, no_job, speaks_of_jobs, stopped_job, TellsJobs, TellsUnits, TellsWork, with_job, with_worker};
+ghost use Rattle.ps_ledger.specs.Kept.{Keeps, room_left, Takes};
+ghost use Rattle.ps_ledger.specs.Work.{begun_job, finished_job, HasJobs, is_by, job_at, longer_job, no_job, speaks_of_jobs, stopped_job, TellsJobs, TellsUnits, TellsWork, with_job, with_worker};
 
 use ps_machine::{By, Event};
 use ps_world::Name;
@@ -112,7 +112,8 @@ impl Work {
 
     fn confirm(&mut self, r: u64, by: Name)
         requires { r < length self.now.jobs.items }
-        ensures { self.new.jobs.items ≡ with_worker self.old.jobs.items r by }
+        ensures jobs { self.new.jobs.items ≡ with_worker self.old.jobs.items r by }
+        ensures spare { room_left self.old.jobs ≤ room_left self.new.jobs }
     {
         self.jobs[r as usize] = Job {
             by: Some(by),
@@ -125,7 +126,8 @@ impl Work {
 
     fn begin(&mut self, r: u64)
         requires { r < length self.now.jobs.items }
-        ensures { self.new.jobs.items ≡ with_job begun_job self.old.jobs.items r }
+        ensures jobs { self.new.jobs.items ≡ with_job begun_job self.old.jobs.items r }
+        ensures spare { room_left self.old.jobs ≤ room_left self.new.jobs }
     {
         let job = &mut self.jobs[r as usize];
         job.begun = true;
@@ -134,7 +136,8 @@ impl Work {
 
     fn end(&mut self, r: u64)
         requires { r < length self.now.jobs.items }
-        ensures { self.new.jobs.items ≡ with_job stopped_job self.old.jobs.items r }
+        ensures jobs { self.new.jobs.items ≡ with_job stopped_job self.old.jobs.items r }
+        ensures spare { room_left self.old.jobs ≤ room_left self.new.jobs }
     {
         let job = &mut self.jobs[r as usize];
         job.works = false;
@@ -144,7 +147,8 @@ impl Work {
     fn finish(&mut self, r: u64)
         requires there { r < length self.now.jobs.items }
         requires few { (job_at self.now.jobs.items r).units < 1000 }
-        ensures { self.new.jobs.items ≡ with_job finished_job self.old.jobs.items r }
+        ensures jobs { self.new.jobs.items ≡ with_job finished_job self.old.jobs.items r }
+        ensures spare { room_left self.old.jobs ≤ room_left self.new.jobs }
     {
         let job = &mut self.jobs[r as usize];
         job.works = false;
@@ -155,15 +159,17 @@ impl Work {
     fn count(&mut self, r: u64)
         requires there { r < length self.now.jobs.items }
         requires few { (job_at self.now.jobs.items r).units < 1000 }
-        ensures { self.new.jobs.items ≡ with_job longer_job self.old.jobs.items r }
+        ensures jobs { self.new.jobs.items ≡ with_job longer_job self.old.jobs.items r }
+        ensures spare { room_left self.old.jobs ≤ room_left self.new.jobs }
     {
         self.jobs[r as usize].units += 1;
     }
 
     fn push(&mut self)
-        requires { HasJob self.now }
+        requires { HasJobs 1 self.now }
         ensures same { (r : ℕ) → job_at self.new.jobs.items r ≡ job_at self.old.jobs.items r }
         ensures all { self.new.jobs.items ≡ self.old.jobs.items ++ no_job ∷ [] }
+        ensures spare { room_left self.old.jobs ≤ room_left self.new.jobs + 1 }
     {
         let job = Job {
             by: None,
@@ -177,25 +183,27 @@ impl Work {
         }
     }
 
-    /// Makes room for the work on a request more.
-    pub fn make_room(&mut self) -> Result<(), AllocError>
-        ensures ok { OnOk result (HasJob self.new) }
+    /// Makes room for the work on so many requests more.
+    pub fn reserve(&mut self, more: usize) -> Result<(), AllocError>
+        ensures ok { OnOk result (HasJobs more self.new) }
+        ensures spare { room_left self.old.jobs ≤ room_left self.new.jobs }
         ensures jobs { Keeps TellsJobs self.old self.new }
         ensures work { Keeps TellsWork self.old self.new }
         ensures units { Keeps TellsUnits self.old self.new }
     {
-        self.jobs.reserve(1)?;
+        self.jobs.reserve(more)?;
         Ok(())
     }
 
     /// Takes one more event, which speaks of requests that are there and of work by those who were
     /// confirmed.
     pub fn take(&mut self, event: &Event)
-        requires room { HasJob self.now }
+        requires room { HasJobs 1 self.now }
         requires speaks { IsTrue (speaks_of_jobs self.now.jobs.items event.now) }
         ensures jobs { Takes TellsJobs event.now self.old self.new }
         ensures work { Takes TellsWork event.now self.old self.new }
         ensures units { Takes TellsUnits event.now self.old self.new }
+        ensures spare { room_left self.old.jobs ≤ room_left self.new.jobs + 1 }
     {
         match event {
             Event::Request { r: _, act: _ } => self.push(),
