@@ -1,5 +1,5 @@
 -- How an event changes what is kept beside the ledger.
-use Rattle.std.specs.Prelude.{◌≡◌, ℕ, List, [], length, slice_get}
+use Rattle.std.specs.Prelude.{◌≡◌, ℕ, Bool, true, false, List, [], length, slice_get}
 use Rattle.std.specs.Option.{option_map_or}
 use Rattle.ps_action.specs.Arcs.{arcs_of}
 use Rattle.ps_action.specs.Trees.{waits_of}
@@ -33,6 +33,15 @@ abbrev pub acts_next : ℕ → Event → ℕ
 acts_next n (event.Run for acts) = length acts
 acts_next n (event.Replan acts) = length acts
 acts_next n e = n
+
+-- whether an event leaves what is known and the plan
+abbrev pub leaves_known : Event → Bool
+leaves_known (event.Edit by edit) = false
+leaves_known (event.Run for acts) = false
+leaves_known (event.Replan acts) = false
+leaves_known (event.Start act) = false
+leaves_known (event.End act) = false
+leaves_known e = true
 
 -- All is as it was, but for what is known and the ground actions with their arcs and the tree over them.
 pub record HasSameBase (old new : Present) : Type 0 where

@@ -1,5 +1,5 @@
 //! Taking events that may come next.
-ghost use Rattle.std.specs.Prelude.{◌≡◌, ◌<◌, [], ◌∷◌, ◌++◌, All, IfOk, IsOk, OnErr, OnOk, filter_map, length, map};
+ghost use Rattle.std.specs.Prelude.{◌≡◌, true, ◌<◌, [], ◌∷◌, ◌++◌, All, IfOk, IsOk, OnErr, OnOk, filter_map, length, map};
 ghost use Rattle.ps_world.specs.Knowledge.{edited};
 ghost use Rattle.ps_action.specs.Arcs.{arcs_of};
 ghost use Rattle.ps_action.specs.Grounding.{ground_act};
@@ -7,10 +7,10 @@ ghost use Rattle.ps_action.specs.Trees.{waits_of};
 ghost use Rattle.ps_rules.specs.Known.{changed, grounds, kept};
 ghost use Rattle.ps_rules.specs.Members.{as_observer, as_performer, observers, performers};
 ghost use Rattle.ps_ledger.specs.Acts.{IsCancelled};
-ghost use Rattle.ps_ledger.specs.Ledger.{HasRoom, Speaks};
+ghost use Rattle.ps_ledger.specs.Ledger.{HasRoom, HasSpare, KeepsSpare, Speaks};
 ghost use Rattle.ps_rows.specs.Present.{Stands};
 ghost use Rattle.ps_rows.specs.Table.{Advances, KeepsAwaiting, MayBegin, MayBePlan, TakesCancelOf, TakesEvent};
-ghost use Rattle.ps_rows.specs.Taking.{GoesOn, HasSameBase, part_of};
+ghost use Rattle.ps_rows.specs.Taking.{GoesOn, HasSameBase, leaves_known, part_of};
 
 use super::lines::count_due;
 use super::present::Present;
@@ -127,8 +127,20 @@ impl Present {
         ensures ok { OnOk result (HasRoom event.now self.new.ledger) }
         ensures kept { KeepsAwaiting self.old self.new }
         ensures plan { MayBegin event.now self.old → MayBegin event.now self.new }
+        ensures spare { KeepsSpare self.old.ledger self.new.ledger }
     {
         self.ledger.make_room(event)
+    }
+
+    /// Makes room for so many events that make no plan.
+    pub fn reserve(&mut self, more: usize) -> Result<(), AllocError>
+        ensures ok { OnOk result (HasSpare more self.new.ledger) }
+        ensures kept { KeepsAwaiting self.old self.new }
+        ensures spare { KeepsSpare self.old.ledger self.new.ledger }
+        ensures acts { self.new.ledger.acts ≡ self.old.ledger.acts }
+        ensures rest { self.new ≡ record self.old { ledger = self.new.ledger } }
+    {
+        self.ledger.reserve(more)
     }
 
     /// Keeps the ground actions of a plan, with their arcs and the tree over them. Where memory runs out nothing changes.
@@ -152,11 +164,12 @@ impl Present {
     }
 
     /// Changes what is known as a start or an end does, and keeps the ground actions of a new plan. Where memory runs out nothing
-    /// changes.
+    /// changes; other events take none.
     fn go_on(&mut self, alloc: Global, event: &Event) -> Result<(), AllocError>
         requires { MayBegin event.now self.now }
         ensures ok { OnOk result (GoesOn event.now self.old self.new) }
         ensures err { OnErr result (self.new ≡ self.old) }
+        ensures reserved { leaves_known event.now ≡ true → IsOk result }
     {
         match event {
             Event::Start(act) => {
@@ -173,12 +186,14 @@ impl Present {
         }
     }
 
-    /// Changes all but the ledger as an event does that may come next. Where memory runs out nothing changes.
+    /// Changes all but the ledger as an event does that may come next. Where memory runs out nothing changes; an event that leaves
+    /// what is known and the plan takes none.
     pub fn advance(&mut self, alloc: Global, event: &Event) -> Result<(), AllocError>
         requires { MayBegin event.now self.now }
         ensures ok { OnOk result (Advances event.now self.old self.new) }
         ensures base { OnOk result (HasSameBase self.old self.new) }
         ensures err { OnErr result (self.new ≡ self.old) }
+        ensures reserved { leaves_known event.now ≡ true → IsOk result }
     {
         match event {
             Event::Edit { by: _, edit } => make(&self.expert, &mut self.problem, edit),

@@ -11,4 +11,5 @@ returns-in_default c = record {
   ok = on-ok c.go_on.result (λ g i es s. others-ahead i es c.args.event.now c.args.self.now c.go_on.new.self c.in_default.not-Edit s c.requires g) c.go_on.ensures.ok;
   base = on-ok c.go_on.result (λ g. g.base) c.go_on.ensures.ok;
   err = c.go_on.ensures.err;
+  reserved = c.go_on.ensures.reserved;
 }
