@@ -6,7 +6,7 @@ use Rattle.ps_board.specs.Kept.{IsKept}
 
 -- what contracts see of a board with this core
 abbrev pub shown : Core → List (Option ℕ) → Bool → Shown
-shown core grants halted = record { input = core.input; entries = core.entries.items; grants = grants; halted = halted }
+shown core grants halted = record { input = core.input; entries = core.entries.items; grants = grants; halted = halted; spare = core.spare }
 
 pub kept-lent : {lent held : Core} {grants : List (Option ℕ)} {heard : List ℕ} {halted : Bool} → lent ≡ held → IsKept held grants heard halted → IsKept lent grants heard halted
 kept-lent {lent} {held} {grants} {heard} {halted} is kept = subst (λ core. IsKept core grants heard halted) (sym is) kept

@@ -21,7 +21,7 @@ use Rattle.ps_rows.specs.Present as rows
 use Rattle.ps_monitor.specs.declared.acts.Acts.{Acts}
 use Rattle.ps_monitor.specs.Watched.{broken, is_false, marked, others, watched}
 use Rattle.ps_board.specs.declared.whole.Core.{Core}
-use Rattle.ps_board.specs.Core.{IsDue, IsWatching, Stands, watch_for}
+use Rattle.ps_board.specs.Core.{HasSpare, IsDue, IsWatching, Stands, watch_for}
 use Rattle.ps_board.proofs.Forced.{block-told, broken-told, IsAt, others-told, Watches}
 
 -- the entries with this one
@@ -82,8 +82,9 @@ pub stands-after : (c new : Core) (hand : ℕ) (e : Event) → IsDue c hand e
     → TellsAll new.entries.items new.present.ledger
     → IsWatching new.monitor new.present.ledger c.present.grounds.items
     → HasMembersOf c.input new.present.ledger
+    → HasSpare new.spare new
     → Stands new
-stands-after c new hand e d input present entries told watching members =
+stands-after c new hand e d input present entries told watching members spare =
     let x : Entry = record { hand = hand; what = e } in
     let planned : plan (with_block c.input hand c.entries.items e) ≡ unwrap_or (says_plan e) (plan c.entries.items) =
     read-block (λ a f. unwrap_or (says_plan f) a) [] c.input c.entries.items x (λ a act why. refl) in
@@ -108,6 +109,7 @@ stands-after c new hand e d input present entries told watching members =
       kept = subst (λ i. rows.Stands i new.entries.items new.present) (sym input) stood;
       watching = subst (IsWatching new.monitor new.present.ledger) (sym acts) watching;
       all = ap length acts ∙ d.all ∙ ap length (sym plans);
+      spare = spare;
     }
 
 -- the entries as they are made, one stretch after another

@@ -13,6 +13,7 @@ pub mod Quiet
 pub mod Ready
 pub mod Rejecting
 pub mod Skipping
+pub mod Sparing
 pub mod Stuck
 pub mod Submitting
 pub mod Ticking

@@ -1,6 +1,7 @@
 -- What holds where the block of an event is due.
-use Rattle.std.proofs.Common.{◌≡◌, ℕ, ◌+◌, ◌<◌, ◌≤◌, None, Result, Ok, Err, OnErr, IsTrue, List, [], length, ap, sym, subst, arith, ◌∙◌}
+use Rattle.std.proofs.Common.{◌≡◌, ℕ, ◌≤◌, None, Result, Ok, Err, OnErr, IsTrue, List, [], length, refl, ap, sym, subst, arith, ◌∙◌}
 use Rattle.std.specs.Option.{unwrap_or}
+use Rattle.std.specs.Global.{Vec}
 use Rattle.std.specs.Vec.{vec_capacity}
 use Rattle.ps_world.specs.declared.domains.Domain.{Domain}
 use Rattle.ps_world.specs.declared.known.Knowledge.{Knowledge}
@@ -21,7 +22,7 @@ use Rattle.ps_rules.specs.History.{IsHistory}
 use Rattle.ps_rules.specs.History.IsHistory.{nothing}
 use Rattle.ps_rules.specs.Sound.{IsSound}
 use Rattle.ps_rules.specs.Choices.{edit_event, outcome_of, with_block}
-use Rattle.ps_ledger.specs.Ledger.{HasRoom}
+use Rattle.ps_ledger.specs.Ledger.{KeepsSpare}
 use Rattle.ps_monitor.specs.Watched.{watched}
 use Rattle.ps_rows.specs.Present as rows
 use Rattle.ps_rows.specs.Table.{IsAhead, KeepsAwaiting, MayBegin}
@@ -29,7 +30,7 @@ use Rattle.ps_rows.specs.declared.present.Present.{Present}
 use Rattle.ps_rows.proofs.Awaiting.{keeps-standing}
 use Rattle.ps_rows.proofs.Grounded.{as-many}
 use Rattle.ps_board.specs.declared.whole.Core.{Core}
-use Rattle.ps_board.specs.Core.{IsDue, most_entries, Stands, state_in, watch_for}
+use Rattle.ps_board.specs.Core.{edit_of, HasPlaces, HasSpare, IsDue, IsGrown, MayCome, most_entries, Stands, state_in, watch_for}
 use Rattle.ps_board.specs.Watching.{IsWatchedAs}
 use Rattle.ps_board.proofs.Lengths.{block-space}
 
@@ -40,8 +41,8 @@ pub watching-told : (c : Core) → Stands c → (act : ℕ) → watched c.monito
 watching-told c s act = s.watching act ∙ ap (watch_for c.present.grounds.items act) (sym (s.kept.told.acts.states act))
 
 pub stands-again : (c new : Core) → Stands c → new.input ≡ c.input → new.entries.items ≡ c.entries.items → rows.Stands c.input c.entries.items new.present
-    → IsWatchedAs new.monitor (watched c.monitor) → Stands new
-stands-again c new s input entries stood watching =
+    → IsWatchedAs new.monitor (watched c.monitor) → HasSpare new.spare new → Stands new
+stands-again c new s input entries stood watching room =
     let same : new.present.grounds.items ≡ c.present.grounds.items = stood.grounds ∙ sym s.kept.grounds in
     record {
       sound = subst IsSound (sym input) s.sound;
@@ -51,13 +52,42 @@ stands-again c new s input entries stood watching =
           watching act ∙ watching-told c s act ∙ ap (watch_for c.present.grounds.items act) (stood.told.acts.states act)
           ∙ ap (λ gs. watch_for gs act (state_in new.present.ledger act)) (sym same);
       all = ap length same ∙ s.all ∙ ap (λ es. length (plan es)) (sym entries);
+      spare = room;
     }
 
 -- where there is more memory for what is kept and for entries
-pub stands-grown : (c new : Core) → Stands c → new.input ≡ c.input → new.entries.items ≡ c.entries.items → KeepsAwaiting c.present new.present
-    → IsWatchedAs new.monitor (watched c.monitor) → Stands new
-stands-grown c new s input entries keeps watching =
-    stands-again c new s input entries (keeps-standing c.input c.entries.items c.present new.present keeps s.kept) watching
+pub stands-roomy : (c new : Core) → Stands c → IsGrown c new → HasSpare new.spare new → Stands new
+stands-roomy c new s grown room =
+    stands-again c new s grown.input grown.entries (keeps-standing c.input c.entries.items c.present new.present grown.kept s.kept) (λ act. ap (λ m. watched m act) grown.monitor) room
+
+pub room-grown : (c new : Core) → HasSpare c.spare c → IsGrown c new → new.spare ≡ c.spare → HasSpare new.spare new
+room-grown c new room grown spare = subst (λ n. HasSpare n new) (sym spare) (grown.room c.spare room)
+
+pub stands-grown : (c new : Core) → Stands c → IsGrown c new → new.spare ≡ c.spare → Stands new
+stands-grown c new s grown spare = stands-roomy c new s grown (room-grown c new s.spare grown spare)
+
+pub grown-by : (c : Core) (p : Present) (es : Vec Entry) (s : ℕ) → es.items ≡ c.entries.items → vec_capacity c.entries ≤ vec_capacity es → KeepsAwaiting c.present p → KeepsSpare c.present.ledger p.ledger
+    → IsGrown c (record { input = c.input; entries = es; present = p; monitor = c.monitor; spare = s })
+grown-by c p es s items grows kept spare = record {
+  input = refl;
+  entries = items;
+  monitor = refl;
+  kept = kept;
+  room = λ n h. let long = ap length items in let room = h.entries in record { entries = omega (arith, long, room, grows); ledger = spare n h.ledger };
+}
+
+-- what may come, and what an edit comes to, doesn't either
+pub edit-grown : (c new : Core) → IsGrown c new → (whose : By) (edit : Edit) → edit_of new whose edit ≡ edit_of c whose edit
+edit-grown c new grown whose edit =
+    ap (λ i. edit_event i new.entries.items whose edit) grown.input ∙ ap (λ es. edit_event c.input es whose edit) grown.entries
+
+pub legal-grown : (c new : Core) → IsGrown c new → (e : Event) → MayCome c e → MayCome new e
+legal-grown c new grown e legal =
+    subst (λ i. IsTrue (is_legal i new.entries.items e)) (sym grown.input) (subst (λ es. IsTrue (is_legal c.input es e)) (sym grown.entries) legal)
+
+pub block-grown : (c new : Core) → IsGrown c new → (hand : ℕ) (e : Event) → with_block new.input hand new.entries.items e ≡ with_block c.input hand c.entries.items e
+block-grown c new grown hand e =
+    ap (λ i. with_block i hand new.entries.items e) grown.input ∙ ap (λ es. with_block c.input hand es e) grown.entries
 
 -- on an error this holds
 pub on-err : {A E P : Type 0} (r : Result A E) → P → OnErr r P
@@ -80,13 +110,13 @@ all-for d k acts e p same may all = all
 pub due : (c new : Core) (hand : ℕ) (e : Event) → Stands c → new.input ≡ c.input → new.entries.items ≡ c.entries.items
     → IsTrue (is_legal c.input c.entries.items e) → IsTrue (has_hand e hand) → MayBegin e c.present → IsAhead c.input c.entries.items e new.present
     → ((act : ℕ) → watched new.monitor act ≡ watch_for new.present.grounds.items act (unwrap_or (says_state act e) (state act c.entries.items)))
-    → HasRoom e new.present.ledger → length new.entries.items < 18446744073709551615 → length new.entries.items + most_entries e ≤ vec_capacity new.entries
-    → IsDue new hand e
-due c new hand e s input entries legal by may ahead watching room short space =
+    → HasPlaces e (most_entries c.present.ledger e) new → HasSpare new.spare new → IsDue new hand e
+due c new hand e s input entries legal by may ahead watching places room =
     let es : List Entry = c.entries.items in
     let many : length c.present.grounds.items ≡ length (grounds c.input.domain (plan es)) = ap length s.kept.grounds in
-    let long = block-space c.input es hand e s.history ahead.few in
+    let long = block-space c.input es hand e c.present.ledger s.history s.kept.told.acts legal ahead.few in
     let longer = ap length entries in
+    let space = places.entries in
     let fits_in : length (with_block c.input hand es e) ≤ vec_capacity new.entries = omega (arith, long, longer, space) in
     record {
       sound = subst IsSound (sym input) s.sound;
@@ -97,26 +127,26 @@ due c new hand e s input entries legal by may ahead watching room short space =
           ∙ ap (λ xs. length (unwrap_or (says_plan e) (plan xs))) (sym entries);
       legal = subst (λ i. IsTrue (is_legal i new.entries.items e)) (sym input) (subst (λ xs. IsTrue (is_legal c.input xs e)) (sym entries) legal);
       by = by;
-      room = room;
-      short = short;
+      room = places.ledger;
+      short = places.short;
       space = subst (λ i. length (with_block i hand new.entries.items e) ≤ vec_capacity new.entries) (sym input)
           (subst (λ xs. length (with_block c.input hand xs e) ≤ vec_capacity new.entries) (sym entries) fits_in);
+      spare = room;
     }
 
 -- where an event changes neither the plan nor a state of its acts, and so no watch
 pub due-still : (c new : Core) (hand : ℕ) (e : Event) → Stands c → new.input ≡ c.input → new.entries.items ≡ c.entries.items
     → IsTrue (is_legal c.input c.entries.items e) → IsTrue (has_hand e hand) → MayBegin e c.present → IsAhead c.input c.entries.items e new.present
     → says_plan e ≡ None → ((act : ℕ) → says_state act e ≡ None) → new.monitor ≡ c.monitor
-    → HasRoom e new.present.ledger → length new.entries.items < 18446744073709551615 → length new.entries.items + most_entries e ≤ vec_capacity new.entries
-    → IsDue new hand e
-due-still c new hand e s input entries legal by may ahead plans states monitor room short space =
+    → HasPlaces e (most_entries c.present.ledger e) new → HasSpare new.spare new → IsDue new hand e
+due-still c new hand e s input entries legal by may ahead plans states monitor places room =
     let es : List Entry = c.entries.items in
     let same : c.present.grounds.items ≡ new.present.grounds.items =
     s.kept.grounds ∙ ap (λ o. grounds c.input.domain (unwrap_or o (plan es))) (sym plans) ∙ sym ahead.grounds in
     due c new hand e s input entries legal by may ahead
     (λ act. ap (λ m. watched m act) monitor ∙ watching-told c s act ∙ ap (λ gs. watch_for gs act (state act es)) same
     ∙ ap (λ o. watch_for new.present.grounds.items act (unwrap_or o (state act es))) (sym (states act)))
-    room short space
+    places room
 
 -- ---- edits
 
@@ -134,11 +164,20 @@ event-refused c why whose edit s made = ap (λ r. outcome_of whose edit (edit_re
 
 -- ---- nothing yet
 
-pub stands-open : (c : Core) → IsSound c.input → c.entries.items ≡ [] → rows.Stands c.input [] c.present → ((act : ℕ) → watched c.monitor act ≡ None) → Stands c
-stands-open c sound entries stood off = record {
+none-spare : (c : Core) → c.entries.items ≡ [] → HasSpare 0 c
+none-spare c entries =
+    let none = ap length entries in
+    record {
+      entries = omega (arith, none);
+      ledger = record { requests = omega arith; work = omega arith; answers = omega arith; offers = omega arith };
+    }
+
+pub stands-open : (c : Core) → IsSound c.input → c.entries.items ≡ [] → rows.Stands c.input [] c.present → ((act : ℕ) → watched c.monitor act ≡ None) → c.spare ≡ 0 → Stands c
+stands-open c sound entries stood off none = record {
   sound = sound;
   history = subst (IsHistory c.input) (sym entries) nothing;
   kept = subst (λ es. rows.Stands c.input es c.present) (sym entries) stood;
   watching = λ act. off act ∙ ap (watch_for c.present.grounds.items act) (stood.told.acts.states act);
   all = ap length stood.grounds ∙ ap (λ es. length (plan es)) (sym entries);
+  spare = subst (λ n. HasSpare n c) (sym none) (none-spare c entries);
 }

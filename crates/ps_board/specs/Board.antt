@@ -14,6 +14,7 @@ use Rattle.ps_ledger.specs.Members.{place_in}
 use Rattle.ps_ledger.specs.Ends.{last_outcome}
 use Rattle.ps_machine.specs.declared.inputs.Input.{Input}
 use Rattle.ps_board.specs.Grants.{grant_for, granted, granted_after, performer_names, turn_of}
+use Rattle.ps_board.specs.Core.{CoversDone, spent}
 use Rattle.ps_board.specs.Kept.{all_in}
 use Rattle.ps_board.specs.Ticks.{closed_answer, snapshot_of, ticked_answer}
 use Rattle.ps_board.specs.declared.ticks.Ticked.{Ticked}
@@ -27,7 +28,7 @@ use Rattle.ps_board.specs.declared.works.Turn.TheVariants.{Did, Nothing}
 
 -- a board of this input on which nothing was done yet
 abbrev pub nothing_done : Input → Shown
-nothing_done i = record { input = i; entries = []; grants = all_in i; halted = false }
+nothing_done i = record { input = i; entries = []; grants = all_in i; halted = false; spare = 0 }
 
 -- what the observer with this number does in its turn, in the order of the members: nothing where no run is open or the board is halted
 abbrev pub observing : Shown → ℕ → Option Event
@@ -39,6 +40,14 @@ observing b o =
 -- the entries with the block of what is done, if something is
 abbrev pub with_done : Shown → ℕ → Option Event → List Entry
 with_done b hand done = option_map_or (with_block b.input hand b.entries) done b.entries
+
+-- what is spare on a board once it has these entries: one less for each entry more, as long as there is one
+abbrev pub spare_after : Shown → List Entry → ℕ
+spare_after b es = spent b.spare b.entries es
+
+-- something is done that takes no memory but room for its block, and that has at most as many entries as are spare
+abbrev pub IsReserved : Shown → ℕ → Option Event → Type 0
+IsReserved b hand done = CoversDone b.input b.entries b.spare hand done
 
 -- the answer of a turn in which this is done, if something is
 abbrev pub answer_of : Option Event → Turn

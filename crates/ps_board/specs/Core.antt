@@ -1,5 +1,5 @@
 -- What a board keeps.
-use Rattle.std.specs.Prelude.{◌≡◌, ℕ, ◌≤◌, ◌<◌, IsTrue, Bool, true, false, Option, Some, None, option_and_then, if◌then◌else◌, List, [], length, slice_get, slice_index_or}
+use Rattle.std.specs.Prelude.{◌≡◌, ℕ, ◌+◌, ◌-◌, ◌≤◌, ◌<◌, IsTrue, Bool, true, false, Option, Some, None, option_and_then, if◌then◌else◌, List, [], count_by, length, slice_get, slice_index_or}
 use Rattle.std.specs.Option.{option_map_or, unwrap_or}
 use Rattle.std.specs.Vec.{vec_capacity}
 use Rattle.ps_world.specs.Trees.{CondTree}
@@ -10,17 +10,19 @@ use Rattle.ps_machine.specs.declared.journal.Event.{Event}
 use Rattle.ps_machine.specs.declared.journal.Event.TheVariants as event
 use Rattle.ps_rules.specs.Runs.{is_active, plan, says_plan, says_state, state}
 use Rattle.ps_rules.specs.Legal.{has_hand, is_legal}
-use Rattle.ps_rules.specs.History.{IsHistory}
+use Rattle.ps_rules.specs.History.{IsHistory, is_fail}
 use Rattle.ps_rules.specs.Sound.{IsSound}
 use Rattle.ps_rows.specs.Present as rows
-use Rattle.ps_rows.specs.Table.{IsAhead}
+use Rattle.ps_rows.specs.Table.{IsAhead, KeepsAwaiting}
 use Rattle.ps_world.specs.declared.names.Name.{Name}
 use Rattle.ps_world.specs.declared.edits.Edit.{Edit}
+use Rattle.ps_machine.specs.declared.inputs.Input.{Input}
 use Rattle.ps_machine.specs.declared.journal.By.{By}
 use Rattle.ps_machine.specs.declared.journal.Entry.{Entry}
 use Rattle.ps_rules.specs.Choices.{edit_event, line_event, observer_turn, Says, with_block}
 use Rattle.ps_rules.specs.Lines.{next_line}
 use Rattle.ps_ledger.specs.declared.ledger.Ledger.{Ledger}
+use Rattle.ps_ledger.specs.Ledger as ledger
 use Rattle.ps_ledger.specs.Ledger.{HasRoom}
 use Rattle.ps_monitor.specs.declared.monitor.Monitor.{Monitor}
 use Rattle.ps_monitor.specs.Watched.{watched}
@@ -42,14 +44,20 @@ state_in b act = slice_index_or b.acts.states.items act Waiting
 abbrev pub IsWatching : Monitor → Ledger → List GroundAction → Type 0
 IsWatching m b gs = (act : ℕ) → watched m act ≡ watch_for gs act (state_in b act)
 
--- What holds between calls: the journal is a history, what is kept is what it tells, exactly the active acts are watched, and each act of
--- the plan has its ground action.
+-- There is memory for so many entries more, and for what they tell if they make no plan.
+pub record HasSpare (n : ℕ) (c : Core) : Type 0 where
+  pub entries : length c.entries.items + n ≤ vec_capacity c.entries
+  pub ledger : ledger.HasSpare n c.present.ledger
+
+-- What holds between calls: the journal is a history, what is kept is what it tells, exactly the active acts are watched, each act of the
+-- plan has its ground action, and there is memory for what is spare.
 pub record Stands (c : Core) : Type 0 where
   pub sound : IsSound c.input
   pub history : IsHistory c.input c.entries.items
   pub kept : rows.Stands c.input c.entries.items c.present
   pub watching : IsWatching c.monitor c.present.ledger c.present.grounds.items
   pub all : length c.present.grounds.items ≡ length (plan c.entries.items)
+  pub spare : HasSpare c.spare c
 
 -- What holds where the block of an event is due: it is legal, there is memory for its block, and all but the ledger is as it is after it.
 pub record IsDue (c : Core) (hand : ℕ) (e : Event) : Type 0 where
@@ -63,6 +71,7 @@ pub record IsDue (c : Core) (hand : ℕ) (e : Event) : Type 0 where
   pub room : HasRoom e c.present.ledger
   pub short : length c.entries.items < 18446744073709551615
   pub space : length (with_block c.input hand c.entries.items e) ≤ vec_capacity c.entries
+  pub spare : HasSpare c.spare c
 
 -- whether an event leaves what is known, the plan and the states of its acts
 abbrev pub is_quiet : Event → Bool
@@ -75,9 +84,63 @@ is_quiet (event.Fail act why) = false
 is_quiet (event.Cancel act why) = false
 is_quiet e = true
 
--- how many entries the block of an event has at most
-abbrev pub most_entries : Event → ℕ
-most_entries e = if is_quiet e then 1 else 257
+-- how many entries the block of an event has at most: a failure cancels each other active act
+abbrev pub most_entries : Ledger → Event → ℕ
+most_entries l e = if is_quiet e then 1 else (if is_fail e then count_by is_active l.acts.states.items else 257)
+
+-- whether an event makes a plan
+abbrev pub makes_plan : Event → Bool
+makes_plan (event.Run for acts) = true
+makes_plan (event.Replan acts) = true
+makes_plan e = false
+
+-- whether an event takes no memory but room for its block and for what that tells: not one that changes what is known or the plan, or is
+-- made of texts
+abbrev pub takes_only_room : Event → Bool
+takes_only_room (event.Edit by edit) = false
+takes_only_room (event.Refused by why) = false
+takes_only_room (event.Ask query) = false
+takes_only_room (event.Run for acts) = false
+takes_only_room (event.Replan acts) = false
+takes_only_room (event.Start act) = false
+takes_only_room (event.End act) = false
+takes_only_room (event.Feedback r p percent text) = false
+takes_only_room e = true
+
+-- An event takes no memory but room, and its block after these entries has at most as many entries as are spare.
+pub record IsCovered (i : Input) (es : List Entry) (spare hand : ℕ) (e : Event) : Type 0 where
+  pub kind : takes_only_room e ≡ true
+  pub room : length (with_block i hand es e) ≤ length es + spare
+
+-- something is done, and it is covered; the same where a core does it
+abbrev pub CoversDone : Input → List Entry → ℕ → ℕ → Option Event → Type 0
+CoversDone i es spare hand (Some e) = IsCovered i es spare hand e
+CoversDone i es spare hand None = ⊥
+
+abbrev pub Covers : Core → ℕ → Option Event → Type 0
+Covers c hand done = CoversDone c.input c.entries.items c.spare hand done
+
+-- what is spare where there were these entries and now are those: one less for each entry more, as long as there is one
+abbrev pub spent : ℕ → List Entry → List Entry → ℕ
+spent spare old new = spare - (length new - length old)
+
+-- a core has as many spare entries fewer as it has entries more
+abbrev pub Spends : Core → Core → Type 0
+Spends old new = new.spare ≡ spent old.spare old.entries.items new.entries.items
+
+-- There is memory for the block of an event, which has at most so many entries.
+pub record HasPlaces (e : Event) (most : ℕ) (c : Core) : Type 0 where
+  pub ledger : HasRoom e c.present.ledger
+  pub entries : length c.entries.items + most ≤ vec_capacity c.entries
+  pub short : length c.entries.items < 18446744073709551615
+
+-- All is as it was, but that there may be more memory.
+pub record IsGrown (old new : Core) : Type 0 where
+  pub input : new.input ≡ old.input
+  pub entries : new.entries.items ≡ old.entries.items
+  pub monitor : new.monitor ≡ old.monitor
+  pub kept : KeepsAwaiting old.present new.present
+  pub room : (n : ℕ) → HasSpare n old → HasSpare n new
 
 -- this event may come next in the journal
 abbrev pub MayCome : Core → Event → Type 0

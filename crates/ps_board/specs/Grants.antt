@@ -1,7 +1,9 @@
 -- The work that is handed out to performers.
-use Rattle.std.specs.Prelude.{◌≡◌, ℕ, true, Option, Some, None, option_map, List, length, map, slice_get, slice_index_or, slice_set}
+use Rattle.std.specs.Prelude.{◌≡◌, ℕ, Bool, true, false, Option, Some, None, option_map, List, length, map, slice_get, slice_index_or, slice_set}
 use Rattle.ps_world.specs.declared.names.Name.{Name}
 use Rattle.ps_machine.specs.declared.inputs.Input.{Input}
+use Rattle.ps_machine.specs.declared.members.Unit.{Unit as Task}
+use Rattle.ps_machine.specs.declared.members.Unit.TheVariants as unit
 use Rattle.ps_machine.specs.declared.journal.Event.{Event}
 use Rattle.ps_machine.specs.declared.journal.Entry.{Entry}
 use Rattle.ps_rules.specs.Auctions.{is_working}
@@ -27,6 +29,12 @@ pub record AreOut (i : Input) (es : List Entry) (grants : List (Option ℕ)) : T
 -- the grant of the work that a performer has to do now, if it has some: its next unit
 abbrev pub grant_for : Input → List Entry → Name → Option Grant
 grant_for i es p = option_map (λ w. record { r = w.0; by = p; unit = w.1 }) (work_of i p es)
+
+-- whether a unit has neither a text nor an edit
+abbrev pub is_bare : Task → Bool
+is_bare unit.Work = true
+is_bare (unit.Finish ok) = true
+is_bare u = false
 
 -- the answer of a performer's turn in which it does this, if something, and is else handed this grant, if one
 abbrev pub turn_of : Option Event → Option Grant → Turn

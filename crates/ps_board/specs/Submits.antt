@@ -1,5 +1,5 @@
 -- What comes of the answer of a solver.
-use Rattle.std.specs.Prelude.{◌≡◌, ℕ, IsTrue, Option, Some, None, List, slice_get}
+use Rattle.std.specs.Prelude.{◌≡◌, ℕ, ◌≤◌, IsTrue, Option, Some, None, List, slice_get}
 use Rattle.ps_world.specs.declared.edits.Edit.{Edit}
 use Rattle.ps_action.specs.declared.answers.Answer.{Answer}
 use Rattle.ps_machine.specs.declared.inputs.Input.{Input}
@@ -19,6 +19,10 @@ edit_in e = None
 -- the entry at this place, if there is one, may come while the solver is asked
 abbrev pub MayComeAt : List Entry → ℕ → Type 0
 MayComeAt es k = (e : Entry) → slice_get es k ≡ Some e → IsTrue (may_come e.what)
+
+-- no entry from this place on records an edit
+abbrev pub NoEditFrom : List Entry → ℕ → Type 0
+NoEditFrom es at = (k : ℕ) (e : Entry) → at ≤ k → slice_get es k ≡ Some e → edit_in e.what ≡ None
 
 -- this is the first entry that counts for who asked the solver after so many, if one does
 abbrev pub IsFirstFrom : Input → List Entry → ℕ → Option ℕ → Type 0

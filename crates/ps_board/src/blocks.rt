@@ -1,7 +1,8 @@
 //! Blocks of entries: an event, and the cancels that it forces.
-ghost use Rattle.std.specs.Prelude.{◌≡◌, ℕ, IsTrue, if◌then◌else◌, ◌+◌, ◌<◌, ◌≤◌, List, [], ◌∷◌, ◌++◌, length, map, OnOk};
+ghost use Rattle.std.specs.Prelude.{◌≡◌, ℕ, IsTrue, if◌then◌else◌, ◌+◌, ◌<◌, ◌≤◌, List, [], ◌∷◌, ◌++◌, length, map, IsOk, OnOk};
 ghost use Rattle.std.specs.Vec.{vec_capacity};
 ghost use Rattle.ps_rules.specs.History.{any_of, cancels, is_fail};
+ghost use Rattle.ps_ledger.specs.Ledger.{KeepsSpare};
 ghost use Rattle.ps_monitor.specs.Watched.{marked};
 ghost use Rattle.ps_board.specs.Blocks.{due_act, KeepsMembers, KeepsWatching, planned, TakesCancels};
 
@@ -28,6 +29,8 @@ pub fn reserve(entries: &mut Vec<Entry>, more: usize) -> Result<(), AllocError>
     ensures items { entries.new.items ≡ entries.old.items }
     ensures room { OnOk result (length entries.new.items + more ≤ vec_capacity entries.new) }
     ensures short { OnOk result (length entries.new.items < 18446744073709551615) }
+    ensures capacity { vec_capacity entries.old ≤ vec_capacity entries.new }
+    ensures reserved { length entries.old.items + more ≤ vec_capacity entries.old → IsOk result }
 {
     entries.reserve(more)?;
     let _capacity = entries.capacity();
@@ -68,6 +71,7 @@ fn cancel_if(
     ensures told { TakesCancels hand why (due_act act is_due) ledger.old ledger.new }
     ensures watching { KeepsWatching monitor.old ledger.old monitor.new ledger.new }
     ensures members { KeepsMembers ledger.old ledger.new }
+    ensures spare { KeepsSpare ledger.old ledger.new }
     ensures acts { length ledger.new.acts.states.items ≡ length ledger.old.acts.states.items }
     ensures len { length entries.new.items
         ≡ length entries.old.items + length (due_act act is_due) }
@@ -103,6 +107,7 @@ pub fn cancel_all(
     ensures told { TakesCancels hand why (planned acts.now ledger.old) ledger.old ledger.new }
     ensures watching { KeepsWatching monitor.old ledger.old monitor.new ledger.new }
     ensures members { KeepsMembers ledger.old ledger.new }
+    ensures spare { KeepsSpare ledger.old ledger.new }
     ensures acts { length ledger.new.acts.states.items ≡ length ledger.old.acts.states.items }
     ensures len { length entries.new.items
         ≡ length entries.old.items + length (planned acts.now ledger.old) }

@@ -1,16 +1,17 @@
 //! The board.
-ghost use Rattle.std.specs.Prelude.{◌≡◌, ◌<◌, ◌≤◌, ◌||◌, ◌&&◌, nat_le, if◌then◌else◌, IsTrue, IfErr, IfOk, OnOk, OnErr, None, Some, is_none, is_some, true, false, [], length, map, slice_get, slice_index_or, slice_set, take};
+ghost use Rattle.std.specs.Prelude.{◌≡◌, ◌<◌, ◌≤◌, ◌||◌, ◌&&◌, nat_le, if◌then◌else◌, IsTrue, IsOk, IfErr, IfOk, OnOk, OnErr, None, Some, is_none, is_some, true, false, [], length, map, max, slice_get, slice_index_or, slice_set, take};
 ghost use Rattle.std.specs.Bool.{Decides};
 ghost use Rattle.std.specs.Option.{option_copied};
 ghost use Rattle.ps_board.specs.declared.ticks.Ticked.TheVariants.{Nothing as Idle};
 ghost use Rattle.ps_board.specs.declared.works.Grant.{Grant as GrantView};
 ghost use Rattle.ps_board.specs.declared.works.Turn.TheVariants.{Did, Nothing, Work as Handed};
-ghost use Rattle.ps_board.specs.Board.{answer_of, commanded, GoesOn, grants_after, grants_without, is_end, is_free, IsAtRest, IsOut, nothing_done, observing, performing, performing_answer, recording, shown_tree, step_of, tick_answer, ticking, with_done};
+ghost use Rattle.ps_board.specs.Board.{answer_of, commanded, GoesOn, grants_after, grants_without, is_end, is_free, IsAtRest, IsOut, IsReserved, nothing_done, observing, performing, performing_answer, recording, shown_tree, spare_after, step_of, tick_answer, ticking, with_done};
 ghost use Rattle.ps_board.specs.Grants.{AreOut, granted, granted_after, performer_names};
 ghost use Rattle.ps_ends.specs.Working.{recorded};
 ghost use Rattle.ps_action.specs.Search.{Fits};
 ghost use Rattle.ps_asked.specs.Asked.{WasAsked};
-ghost use Rattle.ps_board.specs.Submits.{IsSubmitted, taken_event};
+ghost use Rattle.ps_board.specs.Submits.{IsSubmitted, NoEditFrom, taken_event};
+ghost use Rattle.ps_rules.specs.Choices.{planned};
 ghost use Rattle.ps_rules.specs.Members.{observers, performers};
 ghost use Rattle.ps_rules.specs.History.{IsHistory};
 ghost use Rattle.ps_rules.specs.Known.{know};
@@ -49,6 +50,8 @@ pub struct Shown {
     pub grants: Seq<Option<u64>>,
     /// Whether the open run was halted.
     pub halted: bool,
+    /// For how many entries more memory is kept.
+    pub spare: u64,
 }
 
 fn told(did: bool) -> Turn
@@ -126,7 +129,7 @@ impl Model for Board {
 
     ghost coded = { the_row.coded };
 
-    ghost view = { λ b. record { input = b.core.value.input; entries = b.core.value.entries.items; grants = b.grants.items; halted = b.halted } };
+    ghost view = { λ b. record { input = b.core.value.input; entries = b.core.value.entries.items; grants = b.grants.items; halted = b.halted; spare = b.core.value.spare } };
 
     ghost invariant = { λ b. IsKept b.core.value b.grants.items b.heard.items b.halted };
 }
@@ -152,6 +155,7 @@ impl Board {
             entries: Vec::new(alloc),
             present,
             monitor: Monitor::new(alloc),
+            spare: 0,
         };
         core.show();
         Ok(Board {
@@ -208,10 +212,24 @@ impl Board {
         ensures entries { self.new.entries ≡ self.old.entries }
         ensures grants { self.new.grants ≡ self.old.grants }
         ensures input { self.new.input ≡ self.old.input }
+        ensures spare { self.new.spare ≡ self.old.spare }
     {
         if self.is_running() {
             self.halted = true;
         }
+    }
+
+    /// Keeps memory for at least so many entries more. Each block lowers what is spare by its number of entries, as long as there is
+    /// some, and a call that appends nothing leaves it. An event other than an edit, its refusal, a question, a start, an end, a
+    /// feedback, a run and a new plan, whose block has at most as many entries as are spare, takes no memory; where an edit was recorded
+    /// since a solver was asked, its answer may take some before it ends the run. The only error is that memory ran out, also where no
+    /// memory has place for so many, and then nothing changes.
+    pub fn reserve(&mut self, n: u64) -> Result<(), AllocError>
+        ensures ok { OnOk result (self.new ≡ record self.old { spare = max self.old.spare n }) }
+        ensures err { OnErr result (self.new ≡ self.old) }
+    {
+        let core = &mut *self.core;
+        core.reserve(n as usize)
     }
 
     /// Does the next line of the terminal's script, where one is left and none before it was `quit`. A run for the goal has the plan
@@ -227,6 +245,9 @@ impl Board {
         ensures input { self.new.input ≡ self.old.input }
         ensures grants { self.new.grants ≡ self.old.grants }
         ensures halted { self.new.halted ≡ self.old.halted }
+        ensures spare { self.new.spare ≡ spare_after self.old self.new.entries }
+        ensures reserved { IsReserved self.old 0 (commanded (S.says solver.now) self.old)
+            → IsOk result }
         ensures err { OnErr result (self.new ≡ self.old) }
     {
         let core = &mut *self.core;
@@ -249,6 +270,8 @@ impl Board {
         ensures input { self.new.input ≡ self.old.input }
         ensures grants { self.new.grants ≡ self.old.grants }
         ensures halted { self.new.halted ≡ self.old.halted }
+        ensures spare { self.new.spare ≡ spare_after self.old self.new.entries }
+        ensures reserved { IsReserved self.old hand (ticking self.old) → IsOk result }
         ensures err { OnErr result (self.new ≡ self.old) }
     {
         if !self.is_running() {
@@ -275,6 +298,7 @@ impl Board {
         ensures input { self.new.input ≡ self.old.input }
         ensures grants { self.new.grants ≡ self.old.grants }
         ensures halted { self.new.halted ≡ self.old.halted }
+        ensures spare { self.new.spare ≡ spare_after self.old self.new.entries }
         ensures err { OnErr result (self.new ≡ self.old) }
     {
         if self.is_running() && !self.halted {
@@ -321,6 +345,8 @@ impl Board {
         ensures out { IfOk result (λ t. (g : GrantView) → t ≡ Handed g → IsOut self.new g) }
         ensures input { self.new.input ≡ self.old.input }
         ensures halted { self.new.halted ≡ self.old.halted }
+        ensures spare { self.new.spare ≡ spare_after self.old self.new.entries }
+        ensures reserved { IsReserved self.old hand (performing self.old p) → IsOk result }
         ensures err { OnErr result (self.new ≡ self.old) }
     {
         if self.is_free(p as usize) {
@@ -341,6 +367,8 @@ impl Board {
         ensures dropped { (IsOut self.old grant → ⊥) → OnOk result (self.new ≡ self.old) }
         ensures input { self.new.input ≡ self.old.input }
         ensures halted { self.new.halted ≡ self.old.halted }
+        ensures spare { self.new.spare ≡ spare_after self.old self.new.entries }
+        ensures reserved { IsReserved self.old hand (recording self.old grant) → IsOk result }
         ensures err { OnErr result (self.new ≡ self.old) }
         ensures back { IfErr result (λ b. b.grant ≡ grant) }
     {
@@ -372,6 +400,9 @@ impl Board {
         ensures input { self.new.input ≡ self.old.input }
         ensures grants { self.new.grants ≡ self.old.grants }
         ensures halted { self.new.halted ≡ (self.old.halted && is_running self.new.entries) }
+        ensures spare { self.new.spare ≡ spare_after self.old self.new.entries }
+        ensures reserved { NoEditFrom self.old.entries snapshot.at
+            → IsReserved self.old hand (planned answer) → IsOk result }
         ensures err { OnErr result (self.new ≡ self.old) }
     {
         let core = &mut *self.core;
@@ -435,6 +466,8 @@ impl Board {
         ensures out { IfOk result (λ t. (g : GrantView) → t ≡ Handed g → IsOut self.new g) }
         ensures input { self.new.input ≡ self.old.input }
         ensures halted { self.new.halted ≡ self.old.halted }
+        ensures spare { self.new.spare ≡ spare_after self.old self.new.entries }
+        ensures reserved { IsReserved self.old hand (performing self.old p) → IsOk result }
         ensures err { OnErr result (self.new ≡ self.old) }
     {
         let name = self.performer_name(p);
@@ -467,6 +500,9 @@ impl Board {
             (place_in (performer_names self.old.input) by) None) }
         ensures input { self.new.input ≡ self.old.input }
         ensures halted { self.new.halted ≡ self.old.halted }
+        ensures spare { self.new.spare ≡ spare_after self.old self.new.entries }
+        ensures reserved { IsReserved self.old hand
+            (recorded self.old.input self.old.entries r by) → IsOk result }
         ensures err { OnErr result (self.new ≡ self.old) }
     {
         let place = self.number_of(by);

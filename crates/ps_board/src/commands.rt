@@ -1,7 +1,7 @@
 //! What answers the lines of the terminal.
-ghost use Rattle.std.specs.Prelude.{◌≡◌, ◌≤◌, ◌+◌, length, IfOk, IsSome, None, Some};
+ghost use Rattle.std.specs.Prelude.{◌≡◌, ◌≤◌, ◌+◌, length, IfOk, IsOk, IsSome, None, Some};
 ghost use Rattle.ps_action.specs.Search.{Fits};
-ghost use Rattle.ps_machine.specs.declared.inputs.Command.TheVariants.{Ask as AskLine, Edit as EditLine, Run as RunLine, RunAction as ActionLine, RunPlan as PlanLine};
+ghost use Rattle.ps_machine.specs.declared.inputs.Command.TheVariants.{Ask as AskLine, Edit as EditLine, Quit as QuitLine, Run as RunLine, RunAction as ActionLine, RunPlan as PlanLine};
 ghost use Rattle.ps_machine.specs.declared.inputs.Line.TheVariants.{Bad, Good};
 ghost use Rattle.ps_machine.specs.declared.journal.By.TheVariants.{Terminal};
 ghost use Rattle.ps_machine.specs.declared.journal.Event.TheVariants.{Refused};
@@ -199,7 +199,8 @@ impl Core {
         requires stands { Stands self.now }
         requires next { line_of self.now ≡ Some line.now }
         requires sound { IsSoundLine line.now }
-        ensures { IfOk result (IsNext (S.says solver.now) self.now) }
+        ensures next { IfOk result (IsNext (S.says solver.now) self.now) }
+        ensures reserved { line.now ≡ Good QuitLine → IsOk result }
     {
         match line {
             Line::Bad(cause) => Ok(Next::Event(self.answer_bad(*cause))),
@@ -227,7 +228,8 @@ impl Core {
     /// What the next line asks for.
     pub fn next<S: Solver>(&self, alloc: Global, solver: &S) -> Result<Next, AllocError>
         requires { Stands self.now }
-        ensures { IfOk result (IsNext (S.says solver.now) self.now) }
+        ensures next { IfOk result (IsNext (S.says solver.now) self.now) }
+        ensures reserved { line_of self.now ≡ Some (Good QuitLine) → IsOk result }
     {
         match self.present.next_line(&self.input) {
             Some(line) => self.answer_line(alloc, solver, line),

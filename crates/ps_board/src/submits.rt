@@ -7,8 +7,8 @@ ghost use Rattle.ps_action.specs.Search.{Fits};
 ghost use Rattle.ps_rules.specs.Choices.{planned, wants_plan};
 ghost use Rattle.ps_rules.specs.Known.{know};
 ghost use Rattle.ps_asked.specs.Asked.{Counts, ends_plan, WasAsked};
-ghost use Rattle.ps_board.specs.Core.{MayCome, Stands, with_turn};
-ghost use Rattle.ps_board.specs.Submits.{edit_in, IsFirstFrom, IsSubmitted, MayComeAt, taken_event};
+ghost use Rattle.ps_board.specs.Core.{Covers, MayCome, Spends, Stands, with_turn};
+ghost use Rattle.ps_board.specs.Submits.{edit_in, IsFirstFrom, IsSubmitted, MayComeAt, NoEditFrom, taken_event};
 
 use super::ticks::Snapshot;
 use super::whole::Core;
@@ -86,6 +86,7 @@ impl Core {
             (λ b. Decides b (Counts self.now.input self.now.entries.items k)) }
         ensures known { OnOk result
             (problem.new ≡ know self.now.input (take (k + 1) self.now.entries.items)) }
+        ensures reserved { NoEditFrom self.now.entries.items k → IsOk result }
     {
         let what = &self.entries[k].what;
         match edit_in(what) {
@@ -100,7 +101,8 @@ impl Core {
         requires stands { Stands self.now }
         requires asked { WasAsked self.now.input self.now.entries.items at }
         requires known { problem.old ≡ know self.now.input (take at self.now.entries.items) }
-        ensures { IfOk result (IsFirstFrom self.now.input self.now.entries.items at) }
+        ensures first { IfOk result (IsFirstFrom self.now.input self.now.entries.items at) }
+        ensures reserved { NoEditFrom self.now.entries.items at → IsOk result }
     {
         for k in at as usize..self.entries.len() {
             if self.counts(problem, k)? {
@@ -124,6 +126,8 @@ impl Core {
         ensures legal { IfSome (planned answer) (MayCome self.old) }
         ensures err { OnErr result (self.new.entries.items ≡ self.old.entries.items) }
         ensures input { self.new.input ≡ self.old.input }
+        ensures spare { Spends self.old self.new }
+        ensures reserved { Covers self.old hand (planned answer) → IsOk result }
     {
         let event = event_of(answer);
         self.put(alloc, hand, event)
@@ -152,6 +156,9 @@ impl Core {
         ensures legal { IfOk result (λ s. IfSome (taken_event s answer) (MayCome self.old)) }
         ensures err { OnErr result (self.new.entries.items ≡ self.old.entries.items) }
         ensures input { self.new.input ≡ self.old.input }
+        ensures spare { Spends self.old self.new }
+        ensures reserved { NoEditFrom self.old.entries.items snapshot.at
+            → Covers self.old hand (planned answer) → IsOk result }
     {
         match self.first_to_count(snapshot.at, &mut snapshot.problem)? {
             Some(at) => Ok(Submitted::Stale { at }),

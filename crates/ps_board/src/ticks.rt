@@ -1,12 +1,12 @@
 //! What the ticker does.
-ghost use Rattle.std.specs.Prelude.{◌≡◌, ◌&&◌, [], ◌∷◌, nat_le, true, false, if◌then◌else◌, None, Some, flat_map, IfOk, IfSome, IsTrue, OnErr, OnOk};
+ghost use Rattle.std.specs.Prelude.{◌≡◌, ◌&&◌, [], ◌∷◌, nat_le, true, false, if◌then◌else◌, None, Some, flat_map, IfOk, IfSome, IsOk, IsTrue, OnErr, OnOk};
 ghost use Rattle.ps_machine.specs.declared.journal.Event.TheVariants.{Fail, Unserved};
 ghost use Rattle.ps_machine.specs.declared.journal.FailWhy.TheVariants.{AtEnd, Effect as ByEffect};
 ghost use Rattle.ps_rules.specs.Choices.{all_requests, overs, rejects};
 ghost use Rattle.ps_rules.specs.Runs.{is_running};
 ghost use Rattle.ps_rules.specs.Settled.{is_settled, places};
 ghost use Rattle.ps_ledger.specs.Ends.{outcome_of};
-ghost use Rattle.ps_board.specs.Core.{Stands, with_turn};
+ghost use Rattle.ps_board.specs.Core.{Covers, Spends, Stands, with_turn};
 ghost use Rattle.ps_board.specs.Ticks.{answer_of, asks_on, better, closed_answer, confirms_on, done_answer, ends_on, fails_of, fails_on, first_legal, first_of, idle_answer, IsEarliest, leaves_on, IsTickers, on_act, on_request, snapshot_of, starts_on, tick_of};
 ghost use Rattle.ps_board.specs.declared.ticks.AboutAct.TheVariants.{Ask as ToAsk, Begin as ToBegin, Finish as ToFinish};
 ghost use Rattle.ps_board.specs.declared.ticks.AboutRequest.TheVariants.{Confirm as ToConfirm, Leave as ToLeave};
@@ -550,6 +550,8 @@ impl Core {
         ensures its { IfSome (tick_of self.old) IsTickers }
         ensures err { OnErr result (self.new.entries.items ≡ self.old.entries.items) }
         ensures input { self.new.input ≡ self.old.input }
+        ensures spare { Spends self.old self.new }
+        ensures reserved { Covers self.old hand (tick_of self.old) → IsOk result }
     {
         match self.next_tick() {
             Some(event) => {

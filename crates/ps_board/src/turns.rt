@@ -1,9 +1,9 @@
 //! The turns of the terminal and of members.
-ghost use Rattle.std.specs.Prelude.{◌≡◌, ◌≤◌, ◌&&◌, nat_le, true, false, IsTrue, is_none, is_some, IfOk, IfSome, OnOk, OnErr, Some};
+ghost use Rattle.std.specs.Prelude.{◌≡◌, ◌≤◌, ◌&&◌, nat_le, true, false, IsTrue, is_none, is_some, IfOk, IfSome, IsOk, OnOk, OnErr, Some};
 ghost use Rattle.ps_rules.specs.Lines.{next_line};
 ghost use Rattle.ps_rules.specs.Runs.{is_running};
 ghost use Rattle.ps_board.specs.Board.{is_end, step_of};
-ghost use Rattle.ps_board.specs.Core.{line_answer, MayCome, observed_by, Stands, with_turn};
+ghost use Rattle.ps_board.specs.Core.{Covers, line_answer, MayCome, observed_by, Spends, Stands, with_turn};
 
 use super::commands::Next;
 use super::whole::Core;
@@ -50,6 +50,9 @@ impl Core {
             (IfSome (line_answer (S.says solver.now) self.old) (MayCome self.old)) }
         ensures err { OnErr result (self.new.entries.items ≡ self.old.entries.items) }
         ensures input { self.new.input ≡ self.old.input }
+        ensures spare { Spends self.old self.new }
+        ensures reserved { Covers self.old 0 (line_answer (S.says solver.now) self.old)
+            → IsOk result }
     {
         match self.next(alloc, solver)? {
             Next::End => Ok(Step::End),
@@ -77,6 +80,7 @@ impl Core {
             ≡ with_turn self.old hand (observed_by self.old name)) }
         ensures err { OnErr result (self.new.entries.items ≡ self.old.entries.items) }
         ensures input { self.new.input ≡ self.old.input }
+        ensures spare { Spends self.old self.new }
     {
         let next = match self.present.next_seen(&self.input, name) {
             Some(edit) => edit.copy(alloc)?,

@@ -1,6 +1,7 @@
 //! How an event changes what is watched.
-ghost use Rattle.std.specs.Prelude.{◌≡◌, ◌≤◌, length, OnOk, OnErr};
+ghost use Rattle.std.specs.Prelude.{◌≡◌, ◌≤◌, true, length, IsOk, OnOk, OnErr};
 ghost use Rattle.ps_monitor.specs.Watched.{watched};
+ghost use Rattle.ps_board.specs.Core.{takes_only_room};
 ghost use Rattle.ps_board.specs.Watching.{IsWatchedAs, StartsWithin, watched_after, watched_from, watched_without};
 
 use ps_action::GroundAction;
@@ -8,7 +9,8 @@ use ps_machine::Event;
 use ps_monitor::Monitor;
 use std::alloc::AllocError;
 
-/// Watches the act that an event starts, if it starts one. The only error is that memory ran out, and then nothing changes.
+/// Watches the act that an event starts, if it starts one. The only error is that memory ran out, and then nothing changes; other
+/// events take none.
 pub fn watch_started(
     monitor: &mut Monitor,
     grounds: &[GroundAction],
@@ -19,6 +21,7 @@ pub fn watch_started(
     ensures ok { OnOk result
         (IsWatchedAs monitor.new (watched_from what.now grounds.now monitor.old)) }
     ensures err { OnErr result (IsWatchedAs monitor.new (watched monitor.old)) }
+    ensures reserved { takes_only_room what.now ≡ true → IsOk result }
 {
     match what {
         Event::Start(act) => {

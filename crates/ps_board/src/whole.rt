@@ -1,9 +1,9 @@
 //! What a board is made of.
-ghost use Rattle.std.specs.Prelude.{◌≡◌, ◌≤◌, IsTrue, true, length, OnOk, OnErr};
+ghost use Rattle.std.specs.Prelude.{◌≡◌, ◌≤◌, IsTrue, true, false, max, IsOk, OnOk, OnErr, Some};
 ghost use Rattle.ps_rules.specs.Legal.{has_hand};
 ghost use Rattle.ps_rows.specs.Table.{MayBegin};
 ghost use Rattle.ps_board.specs.Kept.{IsShown};
-ghost use Rattle.ps_board.specs.Core.{edit_of, HasBlock, is_quiet, IsDue, MayCome, most_entries, Stands};
+ghost use Rattle.ps_board.specs.Core.{Covers, edit_of, HasBlock, HasPlaces, HasSpare, is_quiet, IsDue, IsGrown, makes_plan, MayCome, most_entries, Spends, Stands};
 
 use super::blocks::{cancel_all, is_fail, only_if, push, reserve};
 use super::watching::{unwatch_ended, unwatch_started, watch_started};
@@ -20,6 +20,8 @@ pub struct Core {
     pub entries: Vec<Entry>,
     pub present: Present,
     pub monitor: Monitor,
+    /// For how many entries more, and for what they tell, room is kept.
+    pub spare: usize,
 }
 
 /// Whether an event leaves what is known, the plan and the states of its acts.
@@ -38,12 +40,15 @@ fn is_quiet(what: &Event) -> bool
     }
 }
 
-/// How many entries the block of an event has at most.
-fn most_entries(what: &Event) -> usize
-    ensures most { result ≡ most_entries what.now }
-    ensures some { 1 ≤ result }
+/// Whether an event makes a plan.
+fn makes_plan(what: &Event) -> bool
+    ensures { result ≡ makes_plan what.now }
 {
-    if is_quiet(what) { 1 } else { 257 }
+    match what {
+        Event::Run { kind: _, acts: _ } => true,
+        Event::Replan(_) => true,
+        _ => false,
+    }
 }
 
 impl Core {
@@ -53,6 +58,7 @@ impl Core {
         ensures stands { Stands self.new }
         ensures entries { HasBlock self.old hand what self.new }
         ensures input { self.new.input ≡ self.old.input }
+        ensures spare { Spends self.old self.new }
     {
         if is_quiet(&what) {
             self.append_quiet(hand, what);
@@ -68,9 +74,11 @@ impl Core {
         ensures stands { Stands self.new }
         ensures entries { HasBlock self.old hand what self.new }
         ensures input { self.new.input ≡ self.old.input }
+        ensures spare { Spends self.old self.new }
     {
         self.present.ledger.take(&what);
         push(&mut self.entries, Entry { hand, what });
+        self.spare = self.spare.saturating_sub(1);
     }
 
     /// Appends the block of an event that may force cancels.
@@ -79,8 +87,10 @@ impl Core {
         ensures stands { Stands self.new }
         ensures entries { HasBlock self.old hand what self.new }
         ensures input { self.new.input ≡ self.old.input }
+        ensures spare { Spends self.old self.new }
     {
         let fails = is_fail(&what);
+        let before = self.entries.len();
         self.present.ledger.take(&what);
         push(&mut self.entries, Entry { hand, what });
         let broken = self
@@ -104,6 +114,56 @@ impl Core {
             CancelWhy::Stop,
             &stopped,
         );
+        self.spare = self.spare.saturating_sub(self.entries.len() - before);
+    }
+
+    /// How many entries the block of an event has at most.
+    fn most_entries(&self, what: &Event) -> usize
+        ensures { result ≡ most_entries self.now.present.ledger what.now }
+    {
+        if is_quiet(what) {
+            1
+        } else if is_fail(what) {
+            self.present.ledger.acts.count_active()
+        } else {
+            257
+        }
+    }
+
+    /// Makes room for the block of an event, which has at most so many entries, where it isn't kept already. The only error is that
+    /// memory ran out.
+    fn make_room(&mut self, what: &Event, most: usize) -> Result<(), AllocError>
+        requires some { 1 ≤ most }
+        requires room { HasSpare self.now.spare self.now }
+        ensures ok { OnOk result (HasPlaces what.now most self.new) }
+        ensures grown { IsGrown self.old self.new }
+        ensures plan { MayBegin what.now self.old.present → MayBegin what.now self.new.present }
+        ensures spare { self.new.spare ≡ self.old.spare }
+        ensures reserved { makes_plan what.now ≡ false → most ≤ self.old.spare → IsOk result }
+    {
+        if most <= self.spare && !makes_plan(what) {
+            let _capacity = self.entries.capacity();
+            return Ok(());
+        }
+        self.present.make_room(what)?;
+        reserve(&mut self.entries, most)
+    }
+
+    /// Makes room, so that at least so many entries are spare. The only error is that memory ran out.
+    pub fn reserve(&mut self, n: usize) -> Result<(), AllocError>
+        requires { Stands self.now }
+        ensures stands { Stands self.new }
+        ensures grown { IsGrown self.old self.new }
+        ensures shown { IsShown self.old → IsShown self.new }
+        ensures ok { OnOk result (self.new.spare ≡ max self.old.spare n) }
+        ensures err { OnErr result (self.new.spare ≡ self.old.spare) }
+    {
+        if self.spare < n {
+            self.present.reserve(n)?;
+            reserve(&mut self.entries, n)?;
+            self.spare = n;
+        }
+        Ok(())
     }
 
     /// Makes all that is kept ready for the block of a legal event: memory, what is watched, what is known and the plan. The only
@@ -117,9 +177,11 @@ impl Core {
         ensures err { OnErr result (Stands self.new) }
         ensures entries { self.new.entries.items ≡ self.old.entries.items }
         ensures input { self.new.input ≡ self.old.input }
+        ensures spare { self.new.spare ≡ self.old.spare }
+        ensures reserved { Covers self.old hand (Some what.now) → IsOk result }
     {
-        self.present.make_room(what)?;
-        reserve(&mut self.entries, most_entries(what))?;
+        let most = self.most_entries(what);
+        self.make_room(what, most)?;
         watch_started(&mut self.monitor, &self.present.grounds, what)?;
         match self.present.advance(alloc, what) {
             Ok(()) => {
@@ -133,7 +195,8 @@ impl Core {
         }
     }
 
-    /// Appends the block of a legal event. The only error is that memory ran out, and then no entry is appended.
+    /// Appends the block of a legal event. The only error is that memory ran out, and then no entry is appended; a block that is covered
+    /// takes none.
     pub fn put(&mut self, alloc: Global, hand: u8, what: Event) -> Result<(), AllocError>
         requires stands { Stands self.now }
         requires legal { MayCome self.now what }
@@ -143,6 +206,8 @@ impl Core {
         ensures ok { OnOk result (HasBlock self.old hand what self.new) }
         ensures err { OnErr result (self.new.entries.items ≡ self.old.entries.items) }
         ensures input { self.new.input ≡ self.old.input }
+        ensures spare { Spends self.old self.new }
+        ensures reserved { Covers self.old hand (Some what) → IsOk result }
     {
         self.prepare(alloc, hand, &what)?;
         self.append(hand, what);
@@ -159,9 +224,9 @@ impl Core {
         ensures ok { OnOk result (HasBlock self.old hand (edit_of self.old by edit) self.new) }
         ensures err { OnErr result (self.new.entries.items ≡ self.old.entries.items) }
         ensures input { self.new.input ≡ self.old.input }
+        ensures spare { Spends self.old self.new }
     {
-        self.present.make_room(&Event::Quit)?;
-        reserve(&mut self.entries, 257)?;
+        self.make_room(&Event::Quit, 257)?;
         match self.present.problem.edit(&self.present.expert, &edit) {
             Ok(_) => {
                 self.append(hand, Event::Edit { by, edit });
@@ -183,6 +248,7 @@ impl Core {
         ensures shown { IsShown self.new }
         ensures entries { self.new.entries.items ≡ self.old.entries.items }
         ensures input { self.new.input ≡ self.old.input }
+        ensures spare { self.new.spare ≡ self.old.spare }
     {
         self.present.tick_tree();
     }

@@ -1,5 +1,5 @@
 //! The turns of performers, and their work.
-ghost use Rattle.std.specs.Prelude.{◌≡◌, ◌≤◌, ◌&&◌, nat_le, true, IsTrue, IfOk, IfSome, OnOk, OnErr, Some};
+ghost use Rattle.std.specs.Prelude.{◌≡◌, ◌≤◌, ◌&&◌, nat_le, true, IsOk, IsTrue, IfOk, IfSome, OnOk, OnErr, Some};
 ghost use Rattle.std.specs.Option.{option_copied};
 ghost use Rattle.ps_machine.specs.declared.members.Unit.TheVariants.{Finish, Work};
 ghost use Rattle.ps_rules.specs.Auctions.{is_for_active, is_working};
@@ -9,8 +9,8 @@ ghost use Rattle.ps_rules.specs.Runs.{is_running};
 ghost use Rattle.ps_ends.specs.Working.{recorded, unit_due};
 ghost use Rattle.ps_choices.specs.Heard.{HasHeard};
 ghost use Rattle.ps_choices.specs.Turns.{is_choice_of};
-ghost use Rattle.ps_board.specs.Core.{Stands, with_turn};
-ghost use Rattle.ps_board.specs.Grants.{grant_for, performed_answer};
+ghost use Rattle.ps_board.specs.Core.{Covers, Spends, Stands, with_turn};
+ghost use Rattle.ps_board.specs.Grants.{grant_for, is_bare, performed_answer};
 
 use super::whole::Core;
 use ps_choices::{performed, work_of};
@@ -39,6 +39,19 @@ pub enum Turn {
     Work(Grant),
 }
 
+/// A copy of a unit. Only where it has a text or an edit it takes memory.
+fn copy_of(alloc: Global, unit: &Unit) -> Result<Unit, AllocError>
+    ensures copy { IfOk result (λ u. u ≡ unit.now) }
+    ensures reserved { is_bare unit.now ≡ true → IsOk result }
+{
+    match unit {
+        Unit::Work => Ok(Unit::Work),
+        Unit::Finish(ok) => Ok(Unit::Finish(*ok)),
+        Unit::Feedback(_, _) => unit.copy(alloc),
+        Unit::Edit(_) => unit.copy(alloc),
+    }
+}
+
 impl Core {
     /// The unit that stands next in the job of a performer, if it works on this request.
     pub fn unit_due(&self, r: u64, by: Name) -> Option<&Unit>
@@ -55,11 +68,13 @@ impl Core {
     fn copy_due(&self, alloc: Global, r: u64, by: Name) -> Result<Unit, AllocError>
         requires stands { Stands self.now }
         requires works { is_working r by self.now.entries.items ≡ true }
-        ensures { IfOk result
+        ensures next { IfOk result
             (λ u. unit_due self.now.input r by self.now.entries.items ≡ Some u) }
+        ensures reserved { IfSome (unit_due self.now.input r by self.now.entries.items)
+            (λ u. is_bare u ≡ true) → IsOk result }
     {
         match self.unit_due(r, by) {
-            Some(unit) => unit.copy(alloc),
+            Some(unit) => copy_of(alloc, unit),
             None => unreachable!(),
         }
     }
@@ -84,6 +99,9 @@ impl Core {
             (Some (unit_event self.old.input self.old.entries.items r by unit))) }
         ensures err { OnErr result (self.new.entries.items ≡ self.old.entries.items) }
         ensures input { self.new.input ≡ self.old.input }
+        ensures spare { Spends self.old self.new }
+        ensures reserved { Covers self.old hand
+            (Some (unit_event self.old.input self.old.entries.items r by unit)) → IsOk result }
     {
         match unit {
             Unit::Work => self.put(alloc, hand, Event::UnitWork { r, by }),
@@ -119,6 +137,9 @@ impl Core {
             (recorded self.old.input self.old.entries.items r by)) }
         ensures err { OnErr result (self.new.entries.items ≡ self.old.entries.items) }
         ensures input { self.new.input ≡ self.old.input }
+        ensures spare { Spends self.old self.new }
+        ensures reserved { Covers self.old hand
+            (recorded self.old.input self.old.entries.items r by) → IsOk result }
     {
         if self.present.ledger.is_for_active(r) {
             let unit = self.copy_due(alloc, r, by)?;
@@ -164,6 +185,9 @@ impl Core {
             (performed self.old.input name self.old.entries.items)) }
         ensures err { OnErr result (self.new.entries.items ≡ self.old.entries.items) }
         ensures input { self.new.input ≡ self.old.input }
+        ensures spare { Spends self.old self.new }
+        ensures reserved { Covers self.old hand
+            (performed self.old.input name self.old.entries.items) → IsOk result }
         ensures its { IfSome (performed self.old.input name self.old.entries.items)
             (λ e. is_choice_of name e ≡ true) }
     {

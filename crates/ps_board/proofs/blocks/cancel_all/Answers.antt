@@ -30,5 +30,6 @@ loop-act-preserved c =
       members = λ i h. c.cancel_if.ensures.members i (c.loop-act.invariant.members i h);
       len = omega (arith, c.cancel_if.ensures.len, c.loop-act.invariant.len, many, more);
       capacity = omega (arith, c.cancel_if.ensures.capacity, c.loop-act.invariant.capacity);
+      spare = λ n h. c.cancel_if.ensures.spare n (c.loop-act.invariant.spare n h);
       any = ap (λ b. b || c.has-is_due.result) c.loop-act.invariant.any ∙ ap (λ b. any_of (marked c.args.acts.now k) || b) c.has-is_due.ensures ∙ sym (any-more c.args.acts.now k);
     }

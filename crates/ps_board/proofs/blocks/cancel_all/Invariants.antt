@@ -4,7 +4,7 @@ use Rattle.ps_machine.specs.declared.journal.Entry.{Entry}
 use Rattle.ps_action.specs.declared.acts.GroundAction.{GroundAction}
 use Rattle.ps_rules.specs.History.{any_of, cancels}
 use Rattle.ps_machine.specs.declared.inputs.Input.{Input}
-use Rattle.ps_ledger.specs.Ledger.{TellsAll}
+use Rattle.ps_ledger.specs.Ledger.{KeepsSpare, TellsAll}
 use Rattle.ps_ledger.specs.Legal.{HasMembersOf}
 use Rattle.ps_monitor.specs.Watched.{marked}
 use Rattle.ps_board.specs.Core.{IsWatching}
@@ -19,5 +19,6 @@ invariant-loop-act l = record {
   members : (i : Input) → HasMembersOf i l.initial.ledger → HasMembersOf i l.ledger;
   len : length l.entries.items ≡ length l.initial.entries.items + length (marked l.acts l.act);
   capacity : vec_capacity l.initial.entries ≤ vec_capacity l.entries;
+  spare : KeepsSpare l.initial.ledger l.ledger;
   any : l.any ≡ any_of (marked l.acts l.act);
 }

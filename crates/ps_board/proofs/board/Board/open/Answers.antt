@@ -1,4 +1,4 @@
-use Rattle.std.proofs.Common.{◌≡◌, ℕ, false, None, length, replicate, rules, arith, ap, sym, subst, ◌∙◌}
+use Rattle.std.proofs.Common.{◌≡◌, ℕ, false, None, length, replicate, refl, rules, arith, ap, sym, subst, ◌∙◌}
 use Rattle.ps_rules.specs.Members.{performers}
 use Rattle.ps_board.specs.declared.whole.Core.{Core}
 use Rattle.ps_board.specs.Kept.{IsKept}
@@ -8,8 +8,8 @@ use Rattle.ps_board.proofs.board.Board.open.Goals as goal
 
 pub show-requires : goal.show-requires
 show-requires c =
-    let core : Core = record { input = c.args.input; entries = c.new-2.result; present = c.in_ok-present.present; monitor = c.new-3.result } in
-    stands-open core c.requires c.new-2.ensures.items c.in_ok-present.ensures c.new-3.ensures
+    let core : Core = record { input = c.args.input; entries = c.new-2.result; present = c.in_ok-present.present; monitor = c.new-3.result; spare = 0 } in
+    stands-open core c.requires c.new-2.ensures.items c.in_ok-present.ensures c.new-3.ensures refl
 
 pub invariant_of-result : goal.invariant_of-result
 invariant_of-result c =

@@ -84,7 +84,7 @@ returns-clause-out c =
     let view = view-lent c.deref_mut-core.ensures.value c.self.view_is in
     let name = c.performer_name-name.result in
     let at : slice_get (performer_names core.input) c.args.p ≡ Some name = ap (λ v. slice_get (performer_names v.input) c.args.p) view ∙ c.performer_name-name.ensures in
-    let old : Shown = record { input = core.input; entries = core.entries.items; grants = c.self.inside.grants.items; halted = c.self.inside.halted } in
+    let old : Shown = record { input = core.input; entries = core.entries.items; grants = c.self.inside.grants.items; halted = c.self.inside.halted; spare = core.spare } in
     out-is old _ c.args.hand c.args.p name c.in_ok-turn.turn held.core.sound
     (place-below core.input core.entries.items c.self.inside.grants.items held.out c.args.p name at) at c.in_ok-turn.ensures.answer
     (c.show.ensures.input ∙ c.perform-result.ensures.input) (c.show.ensures.entries ∙ c.in_ok-turn.ensures.ok) c.note_grant.ensures

@@ -38,7 +38,7 @@ returns-else-self-clause-answer c =
     let core : Core = c.deref_mut-core.result.now in
     let view = view-lent c.deref_mut-core.ensures.value c.self.view_is in
     let live : is_running core.entries.items ≡ true = ap (λ v. is_running v.entries) view ∙ sym c.is_running.ensures.running ∙ c.if-not-is_running.false in
-    let b : Shown = record { input = core.input; entries = core.entries.items; grants = c.self.inside.grants.items; halted = c.self.inside.halted } in
+    let b : Shown = record { input = core.input; entries = core.entries.items; grants = c.self.inside.grants.items; halted = c.self.inside.halted; spare = core.spare } in
     let same : answer_of core ≡ tick_answer b = sym (tick-answers b live c.if-self.false) in
     let told : answer_of core ≡ tick_answer c.args.self.now = same ∙ ap tick_answer view in
     IfOk-weaker c.tick-result.result (λ t. t ≡ answer_of core) (λ t. t ≡ tick_answer c.args.self.now) (λ t answer. answer ∙ told) c.tick-result.ensures.answer

@@ -1,6 +1,7 @@
-use Rattle.std.proofs.Common.{length, refl, arith}
+use Rattle.std.proofs.Common.{length, refl, ap, arith}
 use Rattle.ps_ledger.proofs.LegalEvents.{legal_events_speak_of_ledgers}
 use Rattle.ps_board.proofs.Forced.{block-long, broken-fit}
+use Rattle.ps_board.proofs.Sparing.{spare-left}
 use Rattle.ps_board.proofs.Quiet.{members-kept}
 use Rattle.ps_board.proofs.Due.{block-made, due-broken, due-stopped, due-watching, stands-after, told-made}
 use Rattle.ps_monitor.specs.Watched.{marked}
@@ -40,6 +41,7 @@ returns-clause-entries c =
 pub returns-clause-stands : goal.returns-clause-stands
 returns-clause-stands c =
     let told = c.take.ensures.told c.args.self.now.entries.items (record { hand = c.args.hand; what = c.args.what }) refl c.requires.kept.told in
+    let block = ap length (returns-clause-entries c) in
     stands-after c.args.self.now _ c.args.hand c.args.what c.requires refl refl (returns-clause-entries c)
     (told-made c.args.self.now c.args.hand c.args.what (marked c.broken-broken.result (length c.take.new.self.acts.states.items)) (marked c.only_if-stopped.result (length c.cancel_all-any.new.ledger.acts.states.items))
     c.push.new.entries.items c.cancel_all-any.new.entries.items c.cancel_all.new.entries.items c.take.new.self c.cancel_all-any.new.ledger c.cancel_all.new.ledger
@@ -47,3 +49,15 @@ returns-clause-stands c =
     (c.cancel_all.ensures.watching c.args.self.now.present.grounds.items (c.cancel_all-any.ensures.watching c.args.self.now.present.grounds.items (due-watching c.args.self.now c.args.hand c.args.what c.take.new.self c.requires told)))
     (c.cancel_all.ensures.members c.args.self.now.input (c.cancel_all-any.ensures.members c.args.self.now.input
     (members-kept c.args.self.now.input c.args.self.now.present.ledger c.take.new.self c.take.ensures.members c.requires.kept.members)))
+    (spare-left c.args.self.now
+    (record {
+      input = c.args.self.now.input;
+      entries = c.cancel_all.new.entries;
+      present = record c.args.self.now.present { ledger = c.cancel_all.new.ledger };
+      monitor = c.cancel_all.new.monitor;
+      spare = c.saturating_sub-self.result;
+    })
+    c.requires.spare (omega (arith, c.saturating_sub-self.ensures, c.len.ensures, c.len-before.ensures, c.cancel_all.new.entries.ok, c.args.self.now.entries.ok))
+    (omega (arith, c.push.ensures.len, c.cancel_all-any.ensures.len, c.cancel_all.ensures.len)) (omega (arith, block, c.requires.space))
+    (omega (arith, c.push.ensures.capacity, c.cancel_all-any.ensures.capacity, c.cancel_all.ensures.capacity))
+    (c.cancel_all.ensures.spare _ (c.cancel_all-any.ensures.spare _ (c.take.ensures.spare c.args.self.now.spare c.requires.spare.ledger))))

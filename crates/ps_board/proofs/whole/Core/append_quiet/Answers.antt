@@ -5,6 +5,8 @@ use Rattle.ps_ledger.specs.Ledger.{TellsAll}
 use Rattle.ps_ledger.proofs.LegalEvents.{legal_events_speak_of_ledgers}
 use Rattle.ps_board.proofs.Quiet.{members-kept, quiet-block}
 use Rattle.ps_board.proofs.Due.{due-watching, stands-after}
+use Rattle.ps_board.proofs.Lengths.{quiet-exact}
+use Rattle.ps_board.proofs.Sparing.{spare-left}
 use Rattle.ps_board.proofs.whole.Core.append_quiet.Goals as goal
 
 pub take-requires-clause-speaks : goal.take-requires-clause-speaks
@@ -31,7 +33,19 @@ returns-clause-entries c =
 pub returns-clause-stands : goal.returns-clause-stands
 returns-clause-stands c =
     let told = c.take.ensures.told c.args.self.now.entries.items (record { hand = c.args.hand; what = c.args.what }) refl c.requires.due.kept.told in
+    let exact = quiet-exact c.args.self.now.input c.args.self.now.entries.items c.args.hand c.args.what c.requires.due.history c.requires.quiet in
+    let space = c.requires.due.space in
     stands-after c.args.self.now _ c.args.hand c.args.what c.requires.due refl refl (returns-clause-entries c)
     (subst (λ es. TellsAll es c.take.new.self) (sym c.push.ensures.items) told)
     (due-watching c.args.self.now c.args.hand c.args.what c.take.new.self c.requires.due told)
     (members-kept c.args.self.now.input c.args.self.now.present.ledger c.take.new.self c.take.ensures.members c.requires.due.kept.members)
+    (spare-left c.args.self.now
+    (record {
+      input = c.args.self.now.input;
+      entries = c.push.new.entries;
+      present = record c.args.self.now.present { ledger = c.take.new.self };
+      monitor = c.args.self.now.monitor;
+      spare = c.saturating_sub-self.result;
+    })
+    c.requires.due.spare (omega (arith, c.saturating_sub-self.ensures, c.push.ensures.len)) (omega (arith, c.push.ensures.len))
+    (omega (arith, c.push.ensures.len, exact, space)) c.push.ensures.capacity (c.take.ensures.spare c.args.self.now.spare c.requires.due.spare.ledger))

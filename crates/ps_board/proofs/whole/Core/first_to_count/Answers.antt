@@ -20,15 +20,15 @@ loop-k-preserved c =
       none = one_more core.input core.entries.items c.args.at c.loop-k.k c.loop-k.invariant.none (λ x. true≢false (sym (c.in_ok-counts.ensures.counts.1 x) ∙ c.if-branch.false));
     }
 
-pub returns-then-branch : goal.returns-then-branch
-returns-then-branch c = record {
+pub returns-then-branch-clause-first : goal.returns-then-branch-clause-first
+returns-then-branch-clause-first c = record {
   after = c.loop-k.invariant.after;
   counts = c.in_ok-counts.ensures.counts.0 c.if-branch.true;
   none = c.loop-k.invariant.none;
 }
 
-pub returns : goal.returns
-returns c =
+pub returns-clause-first : goal.returns-clause-first
+returns-clause-first c =
     let core : Core = c.args.self.now in
     let past : length core.entries.items ≤ c.loop-k.k = omega (arith, c.loop-k-test.false, c.len-k-end.ensures) in
     none_to_end core.input core.entries.items c.args.at (λ j after lt. c.loop-k.invariant.none j after (omega (arith, lt, past)))

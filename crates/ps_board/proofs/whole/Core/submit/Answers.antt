@@ -10,12 +10,12 @@ pub follow-requires-clause-asked : goal.follow-requires-clause-asked
 follow-requires-clause-asked c =
     let core : Core = c.args.self.now in
     (still_asked core.input core.entries.items c.args.snapshot.at c.requires.stands.history c.requires.asked
-    (subst (IsFirstFrom core.input core.entries.items c.args.snapshot.at) c.in-None.is c.in_ok-at.ensures)).asks
+    (subst (IsFirstFrom core.input core.entries.items c.args.snapshot.at) c.in-None.is c.in_ok-at.ensures.first)).asks
 
 pub follow-requires-clause-fits : goal.follow-requires-clause-fits
 follow-requires-clause-fits c =
     let core : Core = c.args.self.now in
     let still : IsStillAsked core.input core.entries.items c.args.snapshot.at =
     still_asked core.input core.entries.items c.args.snapshot.at c.requires.stands.history c.requires.asked
-    (subst (IsFirstFrom core.input core.entries.items c.args.snapshot.at) c.in-None.is c.in_ok-at.ensures) in
+    (subst (IsFirstFrom core.input core.entries.items c.args.snapshot.at) c.in-None.is c.in_ok-at.ensures.first) in
     subst (λ k. Fits core.input.domain k core.input.budget c.args.answer) (c.requires.known ∙ sym still.known) c.requires.fits
