@@ -9,6 +9,8 @@ mod in_order;
 #[cfg(test)]
 mod replans;
 #[cfg(test)]
+mod reserves;
+#[cfg(test)]
 mod texts;
 #[cfg(test)]
 mod worlds;

@@ -1,14 +1,15 @@
 //! The texts of inputs: robots that move through rooms.
 
-/// The words that name what an input is read from, its script, and its members by their names. Its domain is `ROOMS`.
+/// The words that name what an input is read from, its domain, its script, and its members by their names.
 #[derive(Clone, Copy)]
 pub struct Texts {
     pub words: &'static str,
+    pub domain: &'static str,
     pub script: &'static str,
     pub members: &'static [(&'static str, &'static str)],
 }
 
-pub const ROOMS: &str = "(define (domain rooms) (:types robot room)
+const ROOMS: &str = "(define (domain rooms) (:types robot room)
 (:predicates (robot_at ?r - robot ?ro - room) (connected ?a ?b - room) (battery_full ?r - robot) (battery_low ?r - robot)
  (charging_point_at ?ro - room))
 (:durative-action move :parameters (?r - robot ?a ?b - room) :duration (= ?duration 5)
@@ -40,6 +41,7 @@ const WORKER: (&str, &str) = (
 /// Two robots and one mover.
 pub const KITCHEN: Texts = Texts {
     words: "replay --domain d --script s --journal j worker",
+    domain: ROOMS,
     script: BOTH,
     members: &[WORKER],
 };
@@ -53,6 +55,7 @@ when (not (robot_at r2 entrance))\nset predicate (battery_full r2)\nremove predi
 /// Two robots, two movers, and an observer that empties a battery on the way.
 pub const DRAINED: Texts = Texts {
     words: "replay --domain d --script s --journal j --replans 0 drain helper worker",
+    domain: ROOMS,
     script: BOTH,
     members: &[("drain", DRAIN), ("helper", HELPER), WORKER],
 };
@@ -77,6 +80,7 @@ const CLUMSY: &str =
 /// Three runs of a mover whose first job fails.
 pub const FAILING: Texts = Texts {
     words: "replay --domain d --script s --journal j clumsy",
+    domain: ROOMS,
     script: THRICE,
     members: &[("clumsy", CLUMSY)],
 };
@@ -109,6 +113,7 @@ const PORTER: &str =
 /// Three carts, two that move them, and an observer that may stop the last of them.
 pub const WAREHOUSE: Texts = Texts {
     words: "replay --domain d --script s --journal j porter carrier keeper",
+    domain: ROOMS,
     script: CARTS,
     members: &[("porter", PORTER), ("carrier", CARRIER), ("keeper", KEEPER)],
 };
@@ -132,6 +137,48 @@ const LATE: &str = "observer late\nset predicate (battery_low leia)\nend";
 /// A robot that nobody moves, and an observer that edits once.
 pub const UNMOVED: Texts = Texts {
     words: "replay --domain d --script s --journal j --replans 1 late charger",
+    domain: ROOMS,
     script: CALLED,
     members: &[("late", LATE), ("charger", CHARGER)],
+};
+
+const CHARGED: &str = "(define (domain rooms) (:types robot room)
+(:predicates (robot_at ?r - robot ?ro - room) (connected ?a ?b - room) (battery_full ?r - robot) (battery_low ?r - robot)
+ (charging_point_at ?ro - room))
+(:durative-action move :parameters (?r - robot ?a ?b - room) :duration (= ?duration 5)
+ :condition (and (at start (and (connected ?a ?b) (robot_at ?r ?a))) (over all (battery_full ?r)))
+ :effect (and (at start (not (robot_at ?r ?a))) (at end (robot_at ?r ?b))))
+(:durative-action askcharge :parameters (?r - robot ?a ?b - room) :duration (= ?duration 5)
+ :condition (at start (and (robot_at ?r ?a) (charging_point_at ?b)))
+ :effect (and (at start (not (robot_at ?r ?a))) (at end (robot_at ?r ?b))))
+(:durative-action charge :parameters (?r - robot ?ro - room) :duration (= ?duration 5)
+ :condition (at start (and (robot_at ?r ?ro) (charging_point_at ?ro)))
+ :effect (and (at end (not (battery_low ?r))) (at end (battery_full ?r)))))";
+
+const ROUND: &str = "set instance leia robot
+set instance entrance room
+set instance kitchen room
+set instance bedroom room
+set instance chargingroom room
+set predicate (robot_at leia entrance)
+set predicate (battery_low leia)
+set predicate (charging_point_at chargingroom)
+set predicate (connected entrance kitchen)
+set predicate (connected chargingroom kitchen)
+set predicate (connected kitchen bedroom)
+set goal (and (robot_at leia bedroom))
+get plan
+run";
+
+const ASKER: &str = "performer asker\naction askcharge\nargs _ _ _\njob\nwork\nfinish ok\nend";
+
+const MOVER: &str =
+    "performer mover\naction move\nargs _ _ _\njob\nfeedback 50 halfway\nfinish ok\nend";
+
+/// A robot that charges on its way.
+pub const CHARGING: Texts = Texts {
+    words: "replay --domain d --script s --journal j asker charger mover",
+    domain: CHARGED,
+    script: ROUND,
+    members: &[("asker", ASKER), ("charger", CHARGER), ("mover", MOVER)],
 };

@@ -2,7 +2,7 @@
 ghost use Rattle.std.specs.Prelude.{◌<◌, ◌&&◌, nat_le, IsTrue, length};
 ghost use Rattle.ps_rules.specs.Members.{observers};
 
-use super::texts::{ROOMS, Texts};
+use super::texts::Texts;
 use ps_board::{Board, Grant, Step, Ticked, Turn};
 use ps_inputs::{Replay, Work, load};
 use ps_machine::{Input, Member};
@@ -28,7 +28,7 @@ fn words_of(alloc: Global, line: &str) -> Result<Vec<String>, AllocError> {
 
 fn files_of(alloc: Global, texts: Texts) -> Result<MemFiles, AllocError> {
     let mut files = MemFiles::new(alloc);
-    files.put_text("d", ROOMS.as_bytes())?;
+    files.put_text("d", texts.domain.as_bytes())?;
     files.put_text("s", texts.script.as_bytes())?;
     files.put_text("j", b"")?;
     for (name, text) in texts.members {
