@@ -8,7 +8,7 @@ use Rattle.ps_rules.specs.Runs.{is_running}
 use Rattle.ps_board.specs.declared.board.Shown.{Shown}
 use Rattle.ps_turn.specs.Books.{Book}
 use Rattle.ps_turn.specs.Hands.{GoesOnByHands}
-use Rattle.ps_pool.specs.Workers.{EndedBy, WorkedBy}
+use Rattle.ps_pool.specs.Workers.{EndedBy, StoppedBy, WorkedBy}
 use Rattle.ps_pool.specs.declared.ordered.RunStop.{RunStop}
 use Rattle.ps_pool.proofs.Working.{ended, unworked, worked}
 
@@ -18,8 +18,9 @@ grown-book book workers old new seats opened grown =
     subst (λ n. GoesOnByHands n old new) seats (subst (λ es. GoesOnByHands book.seats es new) opened grown)
 
 -- a board that comes back as it was handed in
-pub back-worked : (workers : ℕ) (b back : Shown) → back ≡ b → IsHistory b.input b.entries → WorkedBy workers b.input b.entries back.entries
-back-worked workers b back is history = subst (λ (x : Shown). WorkedBy workers b.input b.entries x.entries) (sym is) (unworked workers b.input b.entries history)
+pub back-stopped : (workers : ℕ) (b back : Shown) → back ≡ b → IsHistory b.input b.entries → is_running b.entries ≡ true → StoppedBy workers b.input b.entries back.entries
+back-stopped workers b back is history live =
+    subst (λ (x : Shown). StoppedBy workers b.input b.entries x.entries) (sym is) record { worked = unworked workers b.input b.entries history; running = live }
 
 module _ (workers : ℕ) (i : Input) (old : List Entry) (b : Shown) (r : Result Shown RunStop) (history : IsHistory b.input b.entries) (same : b.input ≡ i)
     (grown : GoesOnByHands workers old b.entries) where
@@ -32,10 +33,13 @@ module _ (workers : ℕ) (i : Input) (old : List Entry) (b : Shown) (r : Result 
           (ended workers i old b.entries (subst (λ j. IsHistory j b.entries) same history) grown live (ap (λ (x : Shown). is_running x.entries) (sym is) ∙ closed))
       by_result (Err e) closed is = tt
 
-  pub settled-stopped : IfErr r (λ stop. stop.board ≡ b) → IfErr r (λ stop. WorkedBy workers i old stop.board.entries)
-  settled-stopped is = by_result r is
+  pub settled-stopped : IfErr r (λ stop. stop.board ≡ b) → IfErr r (λ stop. is_running stop.board.entries ≡ true) → IfErr r (λ stop. StoppedBy workers i old stop.board.entries)
+  settled-stopped is running = by_result r is running
     where
-      by_result : (r : Result Shown RunStop) → IfErr r (λ stop. stop.board ≡ b) → IfErr r (λ stop. WorkedBy workers i old stop.board.entries)
-      by_result (Ok s) is = tt
-      by_result (Err e) is =
-          subst (λ (x : Shown). WorkedBy workers i old x.entries) (sym is) (worked workers i old b.entries (subst (λ j. IsHistory j b.entries) same history) grown)
+      by_result : (r : Result Shown RunStop) → IfErr r (λ stop. stop.board ≡ b) → IfErr r (λ stop. is_running stop.board.entries ≡ true)
+          → IfErr r (λ stop. StoppedBy workers i old stop.board.entries)
+      by_result (Ok s) is running = tt
+      by_result (Err e) is running = record {
+        worked = subst (λ (x : Shown). WorkedBy workers i old x.entries) (sym is) (worked workers i old b.entries (subst (λ j. IsHistory j b.entries) same history) grown);
+        running = running;
+      }

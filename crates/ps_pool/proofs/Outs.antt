@@ -1,5 +1,5 @@
 -- What one call of a board adds has the hand.
-use Rattle.std.proofs.Common.{◌≡◌, ℕ, ◌+◌, ◌==◌, true, Option, Some, None, Result, Ok, Err, OnOk, OnErr, List, ◌++◌, length, take, refl, arith, ap, sym, ◌∙◌, subst, inl, inr, ◌⊎◌}
+use Rattle.std.proofs.Common.{◌≡◌, ℕ, ◌+◌, ◌==◌, true, false, Option, Some, None, Result, Ok, Err, OnOk, OnErr, List, ◌++◌, length, take, refl, arith, ap, sym, ◌∙◌, subst, inl, inr, ◌⊎◌}
 use Rattle.std.specs.Prelude.{IfOk}
 use Rattle.std.proofs.Math.Seq.{take-append_seam}
 use Rattle.std.proofs.lemmas.List.{length-append}
@@ -8,10 +8,12 @@ use Rattle.std.proofs.lemmas.Bool.Decides.{nat_tests}
 use Rattle.ps_action.specs.declared.answers.Answer.{Answer}
 use Rattle.ps_machine.specs.declared.inputs.Input.{Input}
 use Rattle.ps_machine.specs.declared.journal.Event.{Event}
+use Rattle.ps_machine.specs.declared.journal.Outcome.{Outcome}
 use Rattle.ps_machine.specs.declared.members.Unit.{Unit as Task}
 use Rattle.ps_machine.specs.declared.journal.Entry.{Entry}
 use Rattle.ps_rules.specs.Choices.{wants_plan}
 use Rattle.ps_rules.specs.Known.{know}
+use Rattle.ps_rules.specs.Runs.{is_running}
 use Rattle.ps_ends.specs.Working.{unit_due}
 use Rattle.ps_ends.proofs.Picking.{by_test, not_some, some_eq}
 use Rattle.ps_rows.specs.Same.{same_unit}
@@ -28,7 +30,7 @@ use Rattle.ps_board.specs.declared.works.Grant.{Grant}
 use Rattle.ps_turn.specs.Hands.{GoesOnBy}
 use Rattle.ps_pool.specs.Rounds.{IsWanted}
 use Rattle.ps_pool.specs.Workers.{WasWanted}
-use Rattle.ps_pool.proofs.TickerTurns.{asked-calm, asked-wanted, wanted-asks, wanted-is}
+use Rattle.ps_pool.proofs.TickerTurns.{asked-calm, asked-wanted, tick-shut, wanted-asks, wanted-is}
 use Rattle.ps_pool.proofs.Working.{did-by, nothing-by}
 
 -- ---- turns
@@ -42,6 +44,11 @@ pub tick-wanted : {E : Type 0} (r : Result Ticked E) (b : Shown) (hand : ℕ) (n
     → IfOk r (λ t. (s : Snapshot) → t ≡ tick.WantsPlan s → IsWanted b.input new s)
 tick-wanted (Ok t) b hand new is did = λ s asks. asked-wanted b (asked-calm b t s is asks) hand t s new is asks did
 tick-wanted (Err e) b hand new is did = tt
+
+pub tick-ended : {E : Type 0} (r : Result Ticked E) (b : Shown) (hand : ℕ) (new : List Entry) → IfOk r (λ t. t ≡ tick_answer b) → OnOk r (new ≡ with_done b hand (ticking b))
+    → IfOk r (λ t. (how : Outcome) → t ≡ tick.Over how → is_running new ≡ false)
+tick-ended (Ok t) b hand new is did = λ how over. tick-shut b hand t how new is over did
+tick-ended (Err e) b hand new is did = tt
 
 -- ---- answers of the solver
 

@@ -13,7 +13,7 @@ use Rattle.ps_rules.specs.Runs.{has_run, is_running}
 use Rattle.ps_rules.specs.Members.{as_observer, as_performer, observers, performers}
 use Rattle.ps_rules.specs.Choices.{actor_of, actors, after_turn, observer_turn, performer_turn, Says, turn, with_block}
 use Rattle.ps_board.specs.Grants.{performer_names}
-use Rattle.ps_pool.specs.Ordered.{EndsAs, ReachesBy}
+use Rattle.ps_pool.specs.Ordered.{EndsAs, ReachesBy, StopsAs}
 use Rattle.ps_pool.specs.Rounds.{after_observer, after_performer, after_ticker, IsTurnOf, LeadsTo, passed_before, StopsFrom}
 use Rattle.ps_pool.specs.Courses.{GrowsInRun}
 use Rattle.ps_pool.specs.declared.ordered.Passed.{Passed}
@@ -106,6 +106,9 @@ stops says i es new stopped = stopped es (beginning says i es)
 
 pub ends : (says : Says) (i : Input) (es new : List Entry) → ReachesBy says i es new → is_running new ≡ false → EndsAs says i es new
 ends says i es new r over = record { turns = r.turns; all = r.all; over = over }
+
+pub stops-running : (says : Says) (i : Input) (es new : List Entry) → ReachesBy says i es new → is_running new ≡ true → StopsAs says i es new
+stops-running says i es new r running = record { turns = r.turns; all = r.all; running = running }
 
 pub reached-in-run : (says : Says) (i : Input) (es new : List Entry) → ReachesBy says i es new → GrowsInRun es new
 reached-in-run says i es new r = subst (GrowsInRun es) (sym r.all) (grown says i es r.turns)

@@ -151,17 +151,17 @@ module _ (b : Shown) (calm : b.halted ≡ false) where
       ∙ ap (λ o. option_map_or (with_block b.input 1 b.entries) o b.entries) (sym turn)
 
   -- where it answers how the run ended no run is open after it
-  pub tick-over : (t : Ticked) (how : Outcome) (new : List Entry) → t ≡ tick_answer b → t ≡ tick.Over how → new ≡ with_done b 1 (ticking b) → is_running new ≡ false
-  tick-over t how new is over appended =
-      ap is_running (appended ∙ ap (λ o. option_map_or (with_block b.input 1 b.entries) o b.entries) ticking-so)
+  pub tick-over : (hand : ℕ) (t : Ticked) (how : Outcome) (new : List Entry) → t ≡ tick_answer b → t ≡ tick.Over how → new ≡ with_done b hand (ticking b) → is_running new ≡ false
+  tick-over hand t how new is over appended =
+      ap is_running (appended ∙ ap (λ o. option_map_or (with_block b.input hand b.entries) o b.entries) ticking-so)
       ∙ by_live (is_running b.entries) refl (sym (is ∙ answer-so) ∙ over)
     where
       by_live : (live : Bool) → is_running b.entries ≡ live → answer live (last_outcome b.entries) (snapshot_of b.input b.entries) (ticked b.input b.entries) ≡ tick.Over how
-          → is_running (option_map_or (with_block b.input 1 b.entries) (if live then ticked b.input b.entries else None) b.entries) ≡ false
+          → is_running (option_map_or (with_block b.input hand b.entries) (if live then ticked b.input b.entries else None) b.entries) ≡ false
       by_live false closed is = closed
       by_live true live is =
           let h = ticked-over (snapshot_of b.input b.entries) (ticked b.input b.entries) how is in
-          ap (λ o. is_running (option_map_or (with_block b.input 1 b.entries) o b.entries)) h.1 ∙ over-closes b.input 1 b.entries h.0
+          ap (λ o. is_running (option_map_or (with_block b.input hand b.entries) o b.entries)) h.1 ∙ over-closes b.input hand b.entries h.0
 
 -- it asks the solver only where the board isn't halted
 pub asked-calm : (b : Shown) (t : Ticked) (s : Snapshot) → t ≡ tick_answer b → t ≡ tick.WantsPlan s → b.halted ≡ false
@@ -176,6 +176,25 @@ asked-calm b t s is asks =
     by_live : (live : Bool) → is_asking (if not live then closed_answer (last_outcome b.entries) else tick.Halted) ≡ false
     by_live false = (closed-free (last_outcome b.entries)).1
     by_live true = refl
+
+-- it tells how the run ended only where none is open or the board isn't halted
+over-calm : (b : Shown) (t : Ticked) (how : Outcome) → t ≡ tick_answer b → t ≡ tick.Over how → is_running b.entries ≡ true → b.halted ≡ false
+over-calm b t how is over live =
+    by_test b.halted (λ h. absurd (true≢false (ap is_halted (sym (both h)) ∙ ap is_halted (sym is ∙ over)))) (λ h. h)
+  where
+    both : b.halted ≡ true → tick_answer b ≡ tick.Halted
+    both h =
+        ap (λ x. if not x then closed_answer (last_outcome b.entries)
+        else (if b.halted then tick.Halted else ticked_answer (snapshot_of b.input b.entries) (ticked b.input b.entries))) live
+        ∙ ap (λ x. if x then tick.Halted else ticked_answer (snapshot_of b.input b.entries) (ticked b.input b.entries)) h
+
+-- after which none is open, on any board
+pub tick-shut : (b : Shown) (hand : ℕ) (t : Ticked) (how : Outcome) (new : List Entry) → t ≡ tick_answer b → t ≡ tick.Over how → new ≡ with_done b hand (ticking b) → is_running new ≡ false
+tick-shut b hand t how new is over appended =
+    by_test (is_running b.entries)
+    (λ live. tick-over b (over-calm b t how is over live) hand t how new is over appended)
+    (λ closed.
+    ap is_running (appended ∙ ap (λ x. option_map_or (with_block b.input hand b.entries) (if x && not b.halted then ticked b.input b.entries else None) b.entries) closed) ∙ closed)
 
 -- ---- its turn is the last of a round
 

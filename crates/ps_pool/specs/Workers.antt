@@ -1,5 +1,5 @@
 -- What workers do, and what they make of a journal.
-use Rattle.std.specs.Prelude.{◌≡◌, ℕ, ◌<◌, ◌≤◌, nat_le, Bool, ◌&&◌, not, true, false, List, [], ◌∷◌, ◌++◌, ◌-◌, length, slice_get, take, IsTrue}
+use Rattle.std.specs.Prelude.{◌≡◌, ℕ, ◌<◌, ◌≤◌, nat_le, Bool, ◌&&◌, not, true, false, Option, Some, None, List, [], ◌∷◌, ◌++◌, ◌-◌, length, slice_get, take, IsTrue}
 use Rattle.std.specs.List.{All, list_any}
 use Rattle.std.specs.Option.{option_map_or}
 use Rattle.ps_world.specs.declared.domains.Domain.{Domain}
@@ -18,13 +18,18 @@ use Rattle.ps_rules.specs.Runs.{has_run, is_running}
 use Rattle.ps_asked.specs.Asked.{WasAsked}
 use Rattle.ps_board.specs.declared.ticks.Snapshot.{Snapshot}
 use Rattle.ps_turn.specs.Books.{Book, IsFree, Place}
-use Rattle.ps_turn.specs.Hands.{GoesOnByHands}
+use Rattle.ps_turn.specs.Hands.{GoesOnByHands, IsBeginning}
 use Rattle.ps_pool.specs.Courses.{GrowsInRun}
 use Rattle.ps_pool.specs.Rounds.{IsWanted}
-use Rattle.ps_pool.specs.declared.workers.Aside.{Aside}
-use Rattle.ps_pool.specs.declared.workers.Aside.TheVariants as aside
-use Rattle.ps_pool.specs.declared.workers.Who.{Who}
-use Rattle.ps_pool.specs.declared.workers.Who.TheVariants as who
+use Rattle.ps_pool.specs.declared.spot.Aside.{Aside}
+use Rattle.ps_pool.specs.declared.spot.Aside.TheVariants as aside
+use Rattle.ps_pool.specs.declared.outline.Outline.{Outline}
+use Rattle.ps_pool.specs.declared.spot.Stand.{Stand}
+use Rattle.ps_pool.specs.declared.spot.Stand.TheVariants as stand
+use Rattle.ps_pool.specs.declared.spot.Step.{Step}
+use Rattle.ps_pool.specs.declared.spot.Step.TheVariants as step
+use Rattle.ps_pool.specs.declared.outline.Who.{Who}
+use Rattle.ps_pool.specs.declared.outline.Who.TheVariants as who
 
 -- ---- a worker
 
@@ -53,13 +58,57 @@ pub record WasWanted (i : Input) (es : List Entry) (snapshot : Snapshot) : Type 
   pub asked : WasAsked i es snapshot.at
   pub known : snapshot.problem ≡ know i (take snapshot.at es)
 
+-- What workers are told of the board before they begin is so: its members, and its budget, which allows a search.
+pub record IsOutline (i : Input) (o : Outline) : Type 0 where
+  pub are_there : All (IsThere i) o.members.items
+  pub budget_is : o.budget ≡ i.budget
+  pub may_search : 1 ≤ o.budget
+
 -- after these entries this may be done aside: a snapshot was handed out then
 abbrev pub IsDue : Input → List Entry → Aside → Type 0
 IsDue i seen a = (s : Snapshot) → a ≡ aside.Search s → IsWanted i seen s
 
--- the seat has the same hand, and a worker may take the board with it still
-abbrev pub HasStayed : Book → Place → Place → Type 0
-HasStayed book old new = MayWork book new × (new.hand ≡ old.hand)
+-- The seat has the same hand, a worker may take the board with it still, and it has seen what it had seen and maybe more.
+pub record HasStayed (book : Book) (old new : Place) : Type 0 where
+  pub may : MayWork book new
+  pub hand : new.hand ≡ old.hand
+  pub seen : IsBeginning old.seen new.seen
+
+-- the seat has seen that no run is open any more
+abbrev pub HasSeenOver : Place → Type 0
+HasSeenOver seat = is_running seat.seen ≡ false
+
+-- the first of these seats is so
+abbrev pub FirstIs : (Place → Type 0) → List Place → Type 0
+FirstIs P [] = ⊥
+FirstIs P (seat ∷ seats) = P seat
+
+-- ---- how a worker stands
+
+-- A worker may take its next turn: its seat is free, and it hasn't met want of memory nor seen the run's end or that it was halted.
+pub record IsReady (book : Book) (seat : Place) (s : Stand) : Type 0 where
+  pub may : MayWork book seat
+  pub going : s ≡ stand.Going
+
+-- a worker that has seen this much has left: it saw that the run was over, as it is, or that it was halted
+abbrev pub HasLeft : List Entry → Stand → Type 0
+HasLeft seen stand.Over = is_running seen ≡ false
+HasLeft seen stand.Halted = Unit {0}
+HasLeft seen s = ⊥
+
+-- how a worker stands that has seen this much after a step that came to this: it has left, or it goes on
+abbrev pub StandsAfter : Step → List Entry → Stand → Type 0
+StandsAfter step.Left seen s = HasLeft seen s
+StandsAfter it seen s = s ≡ stand.Going
+
+-- a worker that has seen this much and stands so steps aside for this, and goes on then
+abbrev pub StepsFor : Input → List Entry → Stand → Aside → Type 0
+StepsFor i seen s a = IsDue i seen a × (s ≡ stand.Going)
+
+-- a worker that has seen this much and stands so steps aside for this, or has left where there is nothing
+abbrev pub StepsAside : Input → Option Aside → List Entry → Stand → Type 0
+StepsAside i (Some a) seen s = StepsFor i seen s a
+StepsAside i None seen s = HasLeft seen s
 
 -- ---- runs for one worker
 
@@ -97,6 +146,11 @@ pub record WorkedBy (workers : ℕ) (i : Input) (old new : List Entry) : Type 0 
   pub by_hands : GoesOnByHands workers old new
   pub in_run : GrowsInRun old new
   pub history : IsHistory i new
+
+-- So many workers went on with an open run, which is still open.
+pub record StoppedBy (workers : ℕ) (i : Input) (old new : List Entry) : Type 0 where
+  pub worked : WorkedBy workers i old new
+  pub running : is_running new ≡ true
 
 -- So many workers went on with an open run until it ended, which is the last entry.
 pub record EndedBy (workers : ℕ) (i : Input) (old new : List Entry) : Type 0 where

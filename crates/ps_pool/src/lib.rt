@@ -2,13 +2,17 @@
 //! workers, each in a thread of its own.
 #![tactic(auto)]
 
+mod crew;
 mod gate;
+mod holds;
 mod laws;
 mod lead;
 mod ordered;
+mod outline;
+mod spot;
 mod workers;
 
 pub use gate::{Gate, NoGate};
 pub use laws::{a_good_plan_goes_well, one_end};
 pub use ordered::{RunStop, go_on, run_ordered};
-pub use workers::run_workers;
+pub use workers::{run_workers, work};

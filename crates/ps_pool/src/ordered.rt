@@ -7,7 +7,7 @@ ghost use Rattle.ps_rules.specs.Runs.{has_run, is_running};
 ghost use Rattle.ps_rules.specs.Sound.{IsSound};
 ghost use Rattle.ps_board.specs.Board.{grants_without, IsAtRest, IsOut, recording, with_done};
 ghost use Rattle.ps_pool.specs.Courses.{GrowsInRun};
-ghost use Rattle.ps_pool.specs.Ordered.{EndsAs, ReachesBy};
+ghost use Rattle.ps_pool.specs.Ordered.{EndsAs, StopsAs};
 ghost use Rattle.ps_pool.specs.Rounds.{after_answer, after_observer, after_performer, after_ticker, IsWanted, LeadsTo, passed_before, StopsFrom};
 
 use crate::gate::Gate;
@@ -18,7 +18,7 @@ use ps_plan::Solver;
 use std::alloc::AllocError;
 use std::sync::Wait;
 
-/// A run that stopped since memory ran out. The entries of its board go on from those handed in.
+/// A run that stopped since memory ran out, and is still open. The entries of its board go on from those handed in.
 #[derive(Drop)]
 pub struct RunStop {
     pub board: Board,
@@ -230,10 +230,23 @@ fn take_round<R: Wait, S: Solver, G: Gate>(
     take_tick(board, solver)
 }
 
+/// What a run has come to in which memory ran out in a turn: that is an error unless the run is over already.
+fn stop(board: &Board) -> Result<(), AllocError>
+    ensures over { OnOk result (is_running board.now.entries ≡ false) }
+    ensures rest { OnOk result (IsAtRest board.now) }
+    ensures running { OnErr result (is_running board.now.entries ≡ true) }
+{
+    if board.is_running() {
+        Err(AllocError)
+    } else {
+        Ok(())
+    }
+}
+
 /// Goes on with the open run until it is over: each member takes its turn, in their order, and then the ticker, again
 /// and again, all with hand 1. A unit of work is done in its performer's turn, and the gate is called once for it. It
-/// promises no return. On an error the run is as far as it came, and the grant of a unit that couldn't be handed in may
-/// be out.
+/// promises no return. On an error the run is still open and as far as it came, and the grant of a unit that couldn't be
+/// handed in may be out.
 pub fn go_on<R: Wait, S: Solver, G: Gate>(
     rt: &R,
     board: &mut Board,
@@ -246,15 +259,15 @@ pub fn go_on<R: Wait, S: Solver, G: Gate>(
         board.new.entries) }
     ensures in_run { GrowsInRun board.old.entries board.new.entries }
     ensures rest { OnOk result (IsAtRest board.new) }
-    ensures stops { OnErr result (ReachesBy (S.says solver.now) board.old.input
-        board.old.entries board.new.entries) }
+    ensures stops { OnErr result (StopsAs (S.says solver.now) board.old.input board.old.entries
+        board.new.entries) }
     ensures input { board.new.input ≡ board.old.input }
 {
     for _ in rt.forever() {
         match take_round(rt, board, solver, gate) {
             Ok(true) => return Ok(()),
             Ok(false) => {}
-            Err(AllocError) => return Err(AllocError),
+            Err(AllocError) => return stop(board),
         }
     }
     unreachable!()
@@ -274,8 +287,8 @@ pub fn run_ordered<R: Wait, S: Solver, G: Gate>(
     ensures in_run { IfOk result (λ b. GrowsInRun board.entries b.entries) }
     ensures rest { IfOk result IsAtRest }
     ensures input { IfOk result (λ b. b.input ≡ board.input) }
-    ensures stops { IfErr result (λ stop. ReachesBy (S.says solver.now) board.input
-        board.entries stop.board.entries) }
+    ensures stops { IfErr result
+        (λ stop. StopsAs (S.says solver.now) board.input board.entries stop.board.entries) }
     ensures stops_in_run { IfErr result (λ stop. GrowsInRun board.entries stop.board.entries) }
     ensures stops_input { IfErr result (λ stop. stop.board.input ≡ board.input) }
 {

@@ -9,7 +9,7 @@ unreachable-requires g c = never-halted c.args.board.now c.requires.rest.halted 
 
 pub returns-in-Over-clause-over : goal.returns-in-Over-clause-over
 returns-in-Over-clause-over g c = λ over.
-    tick-over c.args.board.now c.requires.rest.halted c.in_ok-tick.field-0 c.in-Over.field-0 c.tick.new.self.entries c.in_ok-tick.ensures.answer c.in-Over.is c.in_ok-tick.ensures.entries
+    tick-over c.args.board.now c.requires.rest.halted 1 c.in_ok-tick.field-0 c.in-Over.field-0 c.tick.new.self.entries c.in_ok-tick.ensures.answer c.in-Over.is c.in_ok-tick.ensures.entries
 
 pub returns-in-Over-clause-ok : goal.returns-in-Over-clause-ok
 returns-in-Over-clause-ok g c =

@@ -1,4 +1,3 @@
-use Rattle.std.proofs.Common.{rules, ◌∙◌}
 use denote.Param.Send.{IsSend, IsSync, sendable}
 use Rattle.std.proofs.Crossing.{crosses}
 use Rattle.std.specs.contracts.option.Option as Option
@@ -10,7 +9,6 @@ use Rattle.ps_turn.specs.contracts.view.View as View
 use Rattle.ps_turn.proofs.book.TurnBook.TheSendSync as book
 use Rattle.ps_board.specs.contracts.board.Board as Board
 use Rattle.ps_board.specs.contracts.board.BoardGrows.TheImpl.{ghosts}
-use Rattle.ps_pool.proofs.Seated.{first-stayed}
 use Rattle.ps_pool.proofs.Sends.{board_send}
 use Rattle.ps_pool.proofs.workers.+seats.Goals as goal
 
@@ -26,11 +24,6 @@ seat_send = search (sendable, crosses, token_send) depth 20 fits 8000
 
 book_sync : IsSync (TurnBook.the_row Board.the_row ghosts)
 book_sync = book.the_sync Board.the_row ghosts board_send
-
-pub work_all-returns-then-is_for_one : goal.work_all-returns-then-is_for_one
-work_all-returns-then-is_for_one g t c =
-    first-stayed c.args.book.now c.in-Some.seat.now c.go_on.new.seat c.in-Some.rest.now c.args.seats.now (search rules) c.requires.seats
-    (c.go_on.ensures.0, c.go_on.ensures.1 ∙ c.begin-aside.ensures.seat.1)
 
 pub work_beside-join_mut-requires-send-F : goal.work_beside-join_mut-requires-send-F
 work_beside-join_mut-requires-send-F g t c κs within = search (sendable, seat_send, book_sync) depth 14

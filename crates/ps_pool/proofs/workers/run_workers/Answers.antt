@@ -1,22 +1,23 @@
-use mir.Syntax.{named}
-use denote.Ref.{NamedLft}
-use denote.RattleType.{RattleType}
-use denote.Param.Send.{IsSync, sendable}
-use Rattle.std.proofs.Crossing.{crosses}
-use Rattle.ps_pool.specs.contracts.workers.Crew as Crew
-use Rattle.ps_pool.proofs.Sends.{expert_sync}
-use Rattle.ps_pool.proofs.Working.{unworked}
-use Rattle.ps_pool.proofs.workers.Who.TheSendSync as who
+use Rattle.std.proofs.Common.{ap, ◌∙◌}
+use Rattle.ps_rules.specs.Runs.{has_run}
+use Rattle.ps_pool.proofs.Closing.{back-stopped, grown-book, settled-ended, settled-stopped}
+use Rattle.ps_pool.proofs.Ran.{running-ran}
 use Rattle.ps_pool.proofs.workers.run_workers.Goals as goal
 
--- what the workers of a run share may be shared where the solver and the gate may be
-crew_sync : (ℓ : NamedLft) (S G : RattleType) → IsSync S → IsSync G → IsSync (Crew.the_row ℓ S G)
-crew_sync ℓ S G s g = search (sendable, crosses, expert_sync, who.the_field_sync) depth 20 fits 8000
+pub work_book-requires-clause-opened : goal.work_book-requires-clause-opened
+work_book-requires-clause-opened g c κs within = ap has_run c.in-Ok.ensures.book.1 ∙ running-ran c.args.board.entries c.requires.opened
 
-pub run_crew-requires-sync-C : goal.run_crew-requires-sync-C
-run_crew-requires-sync-C g c κs within =
-    let ℓ : NamedLft = record { mir = named 3; lft = κs.1.1.1.0 } in
-    record { shared = (crew_sync ℓ _ _ c.type_bounds.sync-S c.type_bounds.sync-G).shared }
+pub returns-in-Ok-clause-ended : goal.returns-in-Ok-clause-ended
+returns-in-Ok-clause-ended g c =
+    settled-ended c.args.workers c.args.board.input c.args.board.entries c.work_book.result c.settle.result c.settle.ensures.history (c.work_book.ensures.input ∙ c.in-Ok.ensures.book.2)
+    (grown-book c.in-Ok.book c.args.workers c.args.board.entries c.work_book.result.entries c.in-Ok.ensures.book.0 c.in-Ok.ensures.book.1 c.work_book.ensures.grows)
+    c.requires.opened c.settle.ensures.closed c.settle.ensures.same
 
-pub returns-in_default-clause-stopped : goal.returns-in_default-clause-stopped
-returns-in_default-clause-stopped g c = unworked c.args.workers c.args.board.input c.args.board.entries c.entries-history.ensures.history
+pub returns-in-Ok-clause-stopped : goal.returns-in-Ok-clause-stopped
+returns-in-Ok-clause-stopped g c =
+    settled-stopped c.args.workers c.args.board.input c.args.board.entries c.work_book.result c.settle.result c.settle.ensures.history (c.work_book.ensures.input ∙ c.in-Ok.ensures.book.2)
+    (grown-book c.in-Ok.book c.args.workers c.args.board.entries c.work_book.result.entries c.in-Ok.ensures.book.0 c.in-Ok.ensures.book.1 c.work_book.ensures.grows)
+    c.settle.ensures.stopped c.settle.ensures.running
+
+pub returns-in-Err-clause-stopped : goal.returns-in-Err-clause-stopped
+returns-in-Err-clause-stopped g c = back-stopped c.args.workers c.args.board c.stopped.result.board (c.stopped.ensures ∙ c.in-Err.ensures.err) c.entries-history.ensures.history c.requires.opened

@@ -3,11 +3,11 @@ use Rattle.ps_turn.proofs.Returns.{come_back}
 use Rattle.ps_pool.proofs.Seated.{seated}
 use Rattle.ps_pool.proofs.workers.work_book.Goals as goal
 
-pub work_all-requires-clause-seats : goal.work_all-requires-clause-seats
-work_all-requires-clause-seats g c κs within =
-    seated c.args.book c.args.book.seats c.args.seats.items c.as_mut_slice.result.now c.requires.opened c.requires.few c.requires.seats c.as_mut_slice.ensures.value
+pub work-over-requires-clause-seats : goal.work-over-requires-clause-seats
+work-over-requires-clause-seats g c κs within =
+    seated c.args.book c.args.book.seats c.args.seats.items c.as_mut_slice.result.now c.requires.opened c.requires.few.1 c.requires.seats c.as_mut_slice.ensures.value
 
 pub close-requires : goal.close-requires
 close-requires g c =
-    come_back c.args.book c.args.book.seats c.args.seats.items c.as_mut_slice.result.now c.work_all.new.seats c.args.seats.len refl c.requires.seats c.as_mut_slice.ensures.value
-    c.as_mut_slice.ensures.len c.work_all.auto.seats (λ i d less. let h = c.work_all.ensures i d less in (h.0.free, h.1))
+    come_back c.args.book c.args.book.seats c.args.seats.items c.as_mut_slice.result.now c.work-over.new.seats c.args.seats.len refl c.requires.seats c.as_mut_slice.ensures.value
+    c.as_mut_slice.ensures.len c.work-over.auto.seats (λ i d less. let h = c.work-over.ensures.seats i d less in (h.may.free, h.hand))

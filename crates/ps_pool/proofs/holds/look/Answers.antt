@@ -1,0 +1,13 @@
+use Rattle.std.proofs.Common.{refl}
+use Rattle.ps_pool.proofs.Seated.{gives-same, stays}
+use Rattle.ps_pool.proofs.Working.{nothing-by}
+use Rattle.ps_pool.proofs.holds.look.Goals as goal
+
+pub give-requires-clause-grows : goal.give-requires-clause-grows
+give-requires-clause-grows g c =
+    gives-same c.args.seat.now c.take-board.new.seat c.take-board.result.entries c.take-board.result.entries c.take-board.ensures.seat refl
+
+pub returns-clause-seat : goal.returns-clause-seat
+returns-clause-seat g c =
+    stays c.args.book.now c.args.seat.now c.take-board.new.seat c.give.new.seat c.args.seat.now.hand c.take-board.result.entries c.take-board.result.entries c.requires c.take-board.ensures.seat
+    c.take-board.ensures.begins (nothing-by c.args.seat.now.hand c.take-board.result.entries c.take-board.result.entries refl) c.give.ensures

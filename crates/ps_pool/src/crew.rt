@@ -1,0 +1,321 @@
+//! What one worker does with its seat.
+ghost use Rattle.std.specs.Prelude.{◌≡◌, ◌==◌, ◌+◌, ◌%◌, ◌≤◌, None, IfOk, IfSome, OnErr};
+ghost use Rattle.ps_pool.specs.declared.spot.Stand.TheVariants.{Failed, Going};
+ghost use Rattle.ps_pool.specs.Rounds.{IsWanted};
+ghost use Rattle.ps_pool.specs.Workers.{HasLeft, HasStayed, IsCrew, IsDue, IsReady, IsThere, MayWork, StandsAfter, StepsAside, StepsFor};
+
+use crate::gate::Gate;
+use crate::holds::{answer, halt, hand_in, take_tick, take_turn};
+use crate::lead::Lead;
+use crate::outline::Who;
+use crate::spot::{Aside, Spot, Stand, Step, noted};
+use ps_board::{Board, Snapshot, Ticked, Turn};
+use ps_domain::Expert;
+use ps_plan::Solver;
+use ps_turn::{Seat, TurnBook};
+use std::alloc::AllocError;
+use std::sync::Wait;
+use std::thread;
+
+/// What all workers of a run know.
+#[derive(Drop)]
+pub(crate) struct Crew<'a, S: Solver, G: Gate> {
+    pub(crate) members: &'a [Who],
+    pub(crate) expert: &'a Expert,
+    pub(crate) solver: &'a S,
+    pub(crate) gate: &'a G,
+    pub(crate) budget: u32,
+    pub(crate) workers: usize,
+    /// Nothing is to be done beside a unit of work.
+    pub(crate) is_for_one: bool,
+    pub(crate) lead: Lead,
+}
+
+impl<'a, S: Solver, G: Gate> Crew<'a, S, G> {
+    /// Whether the member at this place is at home with the worker of this hand.
+    fn is_home(&self, place: usize, hand: u8) -> bool
+        requires { 1 ≤ self.now.workers }
+        ensures { result ≡ (place % self.now.workers + 1 == hand) }
+    {
+        place % self.workers + 1 == usize::from(hand)
+    }
+
+    /// Takes the turn of a member. What is then to be done aside is put into `due`, so that each step hands on little.
+    fn do_member<R: Wait>(
+        &self,
+        rt: &R,
+        book: &TurnBook<Board>,
+        seat: &mut Seat<Board>,
+        who: Who,
+        due: &mut Option<Aside>,
+    ) -> Result<Step, AllocError>
+        requires none { due.old ≡ None }
+        requires seat { MayWork book.now seat.old }
+        requires there { IsThere book.now.input who }
+        ensures due { IfSome due.new (IsDue book.now.input seat.new.seen) }
+        ensures goes { IfOk result (λ step. StandsAfter step seat.new.seen Going) }
+        ensures err { OnErr result (due.new ≡ None) }
+        ensures seat { HasStayed book.now seat.old seat.new }
+    {
+        match take_turn(rt, book, seat, who)? {
+            Turn::Work(grant) => {
+                *due = Some(Aside::Unit(grant));
+                Ok(Step::Did)
+            }
+            Turn::Did => Ok(Step::Did),
+            Turn::Nothing => Ok(Step::Nothing),
+        }
+    }
+
+    /// Takes the turn of the ticker.
+    fn tick<R: Wait>(
+        &self,
+        rt: &R,
+        book: &TurnBook<Board>,
+        seat: &mut Seat<Board>,
+        spot: &mut Spot,
+        due: &mut Option<Aside>,
+    ) -> Result<Step, AllocError>
+        requires none { due.old ≡ None }
+        requires ready { IsReady book.now seat.old spot.old.stand }
+        ensures due { IfSome due.new (StepsFor book.now.input seat.new.seen spot.new.stand) }
+        ensures stand { IfOk result (λ step. StandsAfter step seat.new.seen spot.new.stand) }
+        ensures err { OnErr result (due.new ≡ None) }
+        ensures seat { HasStayed book.now seat.old seat.new }
+    {
+        match take_tick(rt, book, seat)? {
+            Ticked::Over(_) => {
+                spot.stand = Stand::Over;
+                Ok(Step::Left)
+            }
+            Ticked::Halted => {
+                spot.stand = Stand::Halted;
+                Ok(Step::Left)
+            }
+            Ticked::Did => Ok(Step::Did),
+            Ticked::Nothing => Ok(Step::Nothing),
+            Ticked::WantsPlan(snapshot) => {
+                *due = Some(Aside::Search(snapshot));
+                Ok(Step::Did)
+            }
+        }
+    }
+
+    /// Takes the next turn of a round, where there is one: of the member here, if it is at home with the worker or isn't,
+    /// as the part of the round has it, or else of the ticker.
+    fn take_next<R: Wait>(
+        &self,
+        rt: &R,
+        book: &TurnBook<Board>,
+        seat: &mut Seat<Board>,
+        spot: &mut Spot,
+        due: &mut Option<Aside>,
+    ) -> Result<Step, AllocError>
+        requires none { due.old ≡ None }
+        requires ready { IsReady book.now seat.old spot.old.stand }
+        requires crew { IsCrew book.now.input self.now.members.now self.now.expert.now
+            self.now.budget self.now.workers }
+        ensures due { IfSome due.new (StepsFor book.now.input seat.new.seen spot.new.stand) }
+        ensures stand { IfOk result (λ step. StandsAfter step seat.new.seen spot.new.stand) }
+        ensures err { OnErr result (due.new ≡ None) }
+        ensures seat { HasStayed book.now seat.old seat.new }
+    {
+        let place = spot.place;
+        if place < self.members.len() {
+            spot.place = place + 1;
+            if self.is_home(place, seat.hand()) == spot.home {
+                self.do_member(rt, book, seat, self.members[place], due)
+            } else {
+                Ok(Step::Nothing)
+            }
+        } else if spot.home {
+            spot.home = false;
+            spot.place = 0;
+            self.tick(rt, book, seat, spot, due)
+        } else {
+            spot.home = true;
+            spot.place = 0;
+            Ok(Step::Ended)
+        }
+    }
+
+    /// Goes one step on in a round in which nothing was done so far or something was. Before another round after an idle
+    /// one it lets others go first.
+    fn do_step<R: Wait>(
+        &self,
+        rt: &R,
+        book: &TurnBook<Board>,
+        seat: &mut Seat<Board>,
+        spot: &mut Spot,
+        due: &mut Option<Aside>,
+        idle: bool,
+    ) -> Result<Step, AllocError>
+        requires none { due.old ≡ None }
+        requires ready { IsReady book.now seat.old spot.old.stand }
+        requires crew { IsCrew book.now.input self.now.members.now self.now.expert.now
+            self.now.budget self.now.workers }
+        ensures due { IfSome due.new (StepsFor book.now.input seat.new.seen spot.new.stand) }
+        ensures stand { IfOk result (λ step. StandsAfter step seat.new.seen spot.new.stand) }
+        ensures failed { OnErr result (spot.new.stand ≡ Failed) }
+        ensures seat { HasStayed book.now seat.old seat.new }
+    {
+        match self.take_next(rt, book, seat, spot, due) {
+            Ok(step) => {
+                if let (Step::Ended, true) = (step, idle) {
+                    thread::yield_now();
+                }
+                Ok(step)
+            }
+            Err(AllocError) => {
+                spot.stand = Stand::Failed;
+                Err(AllocError)
+            }
+        }
+    }
+
+    /// Does rounds until something is to be done aside, or until the run is seen to be over or halted. Where memory runs
+    /// out it halts the run, which it then sees.
+    fn do_rounds<R: Wait>(
+        &self,
+        rt: &R,
+        book: &TurnBook<Board>,
+        seat: &mut Seat<Board>,
+        spot: &mut Spot,
+    ) -> Option<Aside>
+        requires ready { IsReady book.now seat.old spot.old.stand }
+        requires crew { IsCrew book.now.input self.now.members.now self.now.expert.now
+            self.now.budget self.now.workers }
+        ensures aside { StepsAside book.now.input result seat.new.seen spot.new.stand }
+        ensures seat { HasStayed book.now seat.old seat.new }
+    {
+        let mut idle = false;
+        let mut due = None;
+        for _ in rt.forever() {
+            let step = self.do_step(rt, book, seat, spot, &mut due, idle);
+            if due.is_some() {
+                return due;
+            }
+            match step {
+                Ok(Step::Left) => return None,
+                Ok(Step::Did) => idle = false,
+                Ok(Step::Ended) => idle = true,
+                Ok(Step::Nothing) => {}
+                Err(AllocError) => halt(rt, book, seat, spot),
+            }
+        }
+        unreachable!()
+    }
+
+    /// Waits for the lead, and does rounds with it.
+    pub(crate) fn lead_on<R: Wait>(
+        &self,
+        rt: &R,
+        book: &TurnBook<Board>,
+        seat: &mut Seat<Board>,
+        spot: &mut Spot,
+    ) -> Option<Aside>
+        requires ready { IsReady book.now seat.old spot.old.stand }
+        requires crew { IsCrew book.now.input self.now.members.now self.now.expert.now
+            self.now.budget self.now.workers }
+        ensures aside { StepsAside book.now.input result seat.new.seen spot.new.stand }
+        ensures seat { HasStayed book.now seat.old seat.new }
+    {
+        self.lead.take(rt);
+        let aside = self.do_rounds(rt, book, seat, spot);
+        self.lead.give(rt);
+        aside
+    }
+
+    /// Does what is to be done aside, and hands it in.
+    fn do_aside<R: Wait>(
+        &self,
+        rt: &R,
+        book: &TurnBook<Board>,
+        seat: &mut Seat<Board>,
+        aside: Aside,
+    ) -> Result<(), AllocError>
+        requires seat { MayWork book.now seat.old }
+        requires due { IsDue book.now.input seat.old.seen aside }
+        requires crew { IsCrew book.now.input self.now.members.now self.now.expert.now
+            self.now.budget self.now.workers }
+        ensures { HasStayed book.now seat.old seat.new }
+    {
+        match aside {
+            Aside::Unit(grant) => {
+                self.gate.unit(rt, &grant);
+                hand_in(rt, book, seat, grant)
+            }
+            Aside::Search(snapshot) => self.answer_wanted(rt, book, seat, snapshot),
+        }
+    }
+
+    /// Asks the solver between turns, and hands its answer in.
+    fn answer_wanted<R: Wait>(
+        &self,
+        rt: &R,
+        book: &TurnBook<Board>,
+        seat: &mut Seat<Board>,
+        snapshot: Snapshot,
+    ) -> Result<(), AllocError>
+        requires seat { MayWork book.now seat.old }
+        requires asked { IsWanted book.now.input seat.old.seen snapshot }
+        requires crew { IsCrew book.now.input self.now.members.now self.now.expert.now
+            self.now.budget self.now.workers }
+        ensures { HasStayed book.now seat.old seat.new }
+    {
+        let alloc = snapshot.problem.allocator();
+        let found = self
+            .solver
+            .solve(alloc, self.expert, &snapshot.problem, self.budget)?;
+        answer(rt, book, seat, snapshot, found)
+    }
+
+    /// Does what is to be done aside, and goes on with rounds until there is such again, or until the run is seen to be
+    /// over or halted.
+    fn work_once<R: Wait>(
+        &self,
+        rt: &R,
+        book: &TurnBook<Board>,
+        seat: &mut Seat<Board>,
+        spot: &mut Spot,
+        aside: Aside,
+    ) -> Option<Aside>
+        requires ready { IsReady book.now seat.old spot.old.stand }
+        requires due { IsDue book.now.input seat.old.seen aside }
+        requires crew { IsCrew book.now.input self.now.members.now self.now.expert.now
+            self.now.budget self.now.workers }
+        ensures aside { StepsAside book.now.input result seat.new.seen spot.new.stand }
+        ensures seat { HasStayed book.now seat.old seat.new }
+    {
+        let done = self.do_aside(rt, book, seat, aside);
+        if let Err(AllocError) = noted(spot, done) {
+            halt(rt, book, seat, spot);
+        }
+        self.lead_on(rt, book, seat, spot)
+    }
+
+    /// Does what is to be done aside, if anything, and then rounds until there is such again, and so on until the run is
+    /// seen to be over or halted.
+    pub(crate) fn work_on<R: Wait>(
+        &self,
+        rt: &R,
+        book: &TurnBook<Board>,
+        seat: &mut Seat<Board>,
+        spot: &mut Spot,
+        aside: Option<Aside>,
+    )
+        requires seat { MayWork book.now seat.old }
+        requires aside { StepsAside book.now.input aside seat.old.seen spot.old.stand }
+        requires crew { IsCrew book.now.input self.now.members.now self.now.expert.now
+            self.now.budget self.now.workers }
+        ensures left { HasLeft seat.new.seen spot.new.stand }
+        ensures seat { HasStayed book.now seat.old seat.new }
+    {
+        let mut next = aside;
+        for _ in rt.forever() {
+            let Some(aside) = next else { return };
+            next = self.work_once(rt, book, seat, spot, aside);
+        }
+        unreachable!()
+    }
+}
