@@ -2,6 +2,7 @@
 use Rattle.std.proofs.Common.{◌≡◌, ℕ, ◌-◌, ◌^◌, Bool, true, false, List, [], ◌∷◌, ◌++◌, codes, length, map, Option, Some, refl, ap, ◌∙◌, arith}
 use Rattle.std.proofs.lemmas.Bool.{and_parts}
 use Rattle.std.specs.Fmt.{decimal}
+use Rattle.std.specs.List.{list_all}
 use Rattle.std.specs.Option.{option_and_then, option_map}
 use Rattle.ps_world.specs.Names.{Table, name_text}
 use Rattle.ps_world.specs.declared.names.Name.{Name}
@@ -26,7 +27,7 @@ use Rattle.ps_text.specs.Names.{AreNames}
 use Rattle.ps_text.specs.Words.{goes_on, words}
 use Rattle.ps_print.proofs.Writing.{is_run}
 use Rattle.ps_entries.specs.Words.{name_of, up_to, whole_number}
-use Rattle.ps_entries.specs.Forms.{is_by, is_cause, is_event, is_known, is_long, is_on_request, is_short}
+use Rattle.ps_entries.specs.Forms.{is_act, is_by, is_cause, is_event, is_known, is_long, is_on_request, is_short, may_run}
 use Rattle.ps_entries.specs.Events.{by_of, place_after, plain_event, refused_by}
 use Rattle.ps_entries.specs.Causes.{cause_at}
 use Rattle.ps_entries.proofs.KnownNames.{name_of-text}
@@ -120,7 +121,7 @@ module _ (t : Table) (names : AreNames t) (hand : List ℕ) where
   apart-acts [] = refl
   apart-acts (act ∷ acts) = refl
 
-  told-run : (for : RunKind) (acts : List Act) → is_event (length t) (event.Run for acts) ≡ true → told (event_text t (event.Run for acts)) ≡ Some (event.Run for acts)
+  told-run : (for : RunKind) (acts : List Act) → list_all (is_act (length t)) acts ≡ true → told (event_text t (event.Run for acts)) ≡ Some (event.Run for acts)
   told-run kind.Goal acts h =
       let here : words (event_text t (event.Run kind.Goal acts)) ≡ codes "run" ∷ codes "goal" ∷ words (acts_text t acts) =
       ap (λ ws. codes "run" ∷ ws) (words-before (codes "goal") (acts_text t acts) refl (apart-acts acts)) in
@@ -206,7 +207,7 @@ module _ (t : Table) (names : AreNames t) (hand : List ℕ) where
   told-event (event.Edit who change) p h = absurd (cc)
   told-event (event.Refused who why) p h = told-refused who why h
   told-event (event.Ask q) p h = absurd (cc)
-  told-event (event.Run for acts) p h = told-run for acts h
+  told-event (event.Run for acts) p h = told-run for acts (and_parts (may_run for acts) (list_all (is_act (length t)) acts) h).1
   told-event event.Quit p h = refl
   told-event (event.Start act) p h = rw (word-short act h, act-number act h, act-short act h) refl
   told-event (event.Request r act) p h = told-request r act h

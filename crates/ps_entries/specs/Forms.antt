@@ -1,5 +1,5 @@
 -- What stands in an entry that has a line: numbers that their types hold, names of a table with so many names, and texts in form.
-use Rattle.std.specs.Prelude.{ℕ, ◌^◌, Bool, true, false, ◌&&◌, nat_le, nat_lt, List, length}
+use Rattle.std.specs.Prelude.{ℕ, ◌^◌, Bool, true, false, ◌&&◌, nat_eq, nat_le, nat_lt, List, length}
 use Rattle.std.specs.List.{list_all}
 use Rattle.ps_world.specs.declared.names.Name.{Name}
 use Rattle.ps_world.specs.declared.edits.EditRefusal.{EditRefusal}
@@ -20,6 +20,8 @@ use Rattle.ps_machine.specs.declared.journal.By.{By}
 use Rattle.ps_machine.specs.declared.journal.By.TheVariants as by
 use Rattle.ps_machine.specs.declared.journal.Refusal.{Refusal}
 use Rattle.ps_machine.specs.declared.journal.Refusal.TheVariants as refusal
+use Rattle.ps_machine.specs.declared.journal.RunKind.{RunKind}
+use Rattle.ps_machine.specs.declared.journal.RunKind.TheVariants as kind
 use Rattle.ps_machine.specs.declared.journal.Outcome.{Outcome}
 use Rattle.ps_machine.specs.declared.journal.Outcome.TheVariants as outcome
 use Rattle.ps_machine.specs.declared.journal.Event.{Event}
@@ -110,6 +112,11 @@ is_by count (by.Observer o) = is_known count o
 abbrev pub is_act : ℕ → Act → Bool
 is_act count act = (is_known count act.action && list_all (is_known count) act.args) && nat_le (length act.args) 6
 
+-- a run of an action has one act; another run may have any number
+abbrev pub may_run : RunKind → List Act → Bool
+may_run kind.Action acts = nat_eq (length acts) 1
+may_run for acts = true
+
 abbrev pub is_outcome : Outcome → Bool
 is_outcome (outcome.Spent depth) = is_short depth
 is_outcome how = true
@@ -123,7 +130,7 @@ abbrev pub is_event : ℕ → Event → Bool
 is_event count (event.Edit who change) = is_by count who
 is_event count (event.Refused who why) = is_by count who && is_cause count why
 is_event count (event.Ask q) = true
-is_event count (event.Run for acts) = list_all (is_act count) acts
+is_event count (event.Run for acts) = may_run for acts && list_all (is_act count) acts
 is_event count event.Quit = true
 is_event count (event.Start act) = is_short act
 is_event count (event.Request r act) = is_long r && is_short act

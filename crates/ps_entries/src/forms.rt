@@ -2,10 +2,10 @@
 ghost use Rattle.std.specs.Prelude.{◌≡◌};
 ghost use Rattle.std.specs.List.{list_all};
 ghost use Rattle.ps_machine.specs.Tables.{is_note, is_printable};
-ghost use Rattle.ps_entries.specs.Forms.{is_act, is_by, is_byte, is_cause, is_edit_cause, is_effect_cause, is_entry, is_event, is_ground_cause, is_known, is_line_cause, is_long, is_no_action, is_on_request, is_outcome, is_plan_cause, is_short, is_text_cause};
+ghost use Rattle.ps_entries.specs.Forms.{is_act, is_by, is_byte, is_cause, is_edit_cause, is_effect_cause, is_entry, is_event, is_ground_cause, is_known, is_line_cause, is_long, is_no_action, is_on_request, is_outcome, is_plan_cause, is_short, is_text_cause, may_run};
 
 use ps_action::{Act, EffectRefusal, GroundRefusal, PlanRefusal, PlanTextRefusal};
-use ps_machine::{By, Entry, Event, LineCause, Outcome, Refusal};
+use ps_machine::{By, Entry, Event, LineCause, Outcome, Refusal, RunKind};
 use ps_world::{EditRefusal, Name};
 
 /// The most bytes of a note.
@@ -170,6 +170,16 @@ fn are_acts(count: usize, acts: &[Act]) -> bool
     acts.iter().all(|act| is_act(count, act))
 }
 
+/// Whether a run of a kind may have these acts: a run of an action has one.
+fn may_run(kind: RunKind, acts: &[Act]) -> bool
+    ensures { result ≡ may_run kind acts.now }
+{
+    match kind {
+        RunKind::Action => acts.len() == 1,
+        _ => true,
+    }
+}
+
 fn is_outcome(how: Outcome) -> bool
     ensures { result ≡ is_outcome how }
 {
@@ -216,7 +226,9 @@ fn is_event(count: usize, event: &Event) -> bool
         Event::Edit { by, edit: _ } => is_by(count, *by),
         Event::Refused { by, why } => is_by(count, *by) && is_cause(count, *why),
         Event::Ask(_) => true,
-        Event::Run { kind: _, acts } => are_acts(count, acts.as_slice()),
+        Event::Run { kind, acts } => {
+            may_run(*kind, acts.as_slice()) && are_acts(count, acts.as_slice())
+        }
         Event::Quit => true,
         Event::Start(act) => is_short(*act),
         Event::Request { r, act } => is_long(*r) && is_short(*act),

@@ -40,7 +40,7 @@ use Rattle.ps_machine.specs.declared.journal.Refusal.TheVariants as refusal
 use Rattle.ps_text.specs.Names.{Keeps}
 use Rattle.ps_print.specs.CanonicalWords.{AreCondsOf, IsCondOf, IsExprOf, IsLiftedOf, IsNameOf, IsTermOf}
 use Rattle.ps_script_laws.specs.Sayable.{IsEditOf, IsFactOf, IsQueryOf}
-use Rattle.ps_entries.specs.Forms.{is_act, is_by, is_byte, is_cause, is_edit_cause, is_entry, is_event, is_ground_cause, is_known, is_long, is_on_request, is_plan_cause, is_short}
+use Rattle.ps_entries.specs.Forms.{is_act, is_by, is_byte, is_cause, is_edit_cause, is_entry, is_event, is_ground_cause, is_known, is_long, is_on_request, is_plan_cause, is_short, may_run}
 use Rattle.ps_entries.proofs.PrintedCauses.{known-of}
 use Rattle.ps_entry_laws.specs.Laws.{IsSayable}
 
@@ -253,7 +253,8 @@ module _ (t u : Table) (keeps : Keeps t u) where
       ap (λ x. codes "refused " ++ (x ++ (codes " " ++ refusal_text u why))) (by-kept who parts.0)
       ∙ ap (λ x. codes "refused " ++ (by_text t who ++ (codes " " ++ x))) (cause-kept why parts.1)
   event-kept (event.Ask q) h s = ap (λ x. codes "ask " ++ x) (query-kept q s)
-  event-kept (event.Run for acts) h s = ap (λ x. codes "run " ++ (kind_text for ++ x)) (acts-kept acts h)
+  event-kept (event.Run for acts) h s =
+      ap (λ x. codes "run " ++ (kind_text for ++ x)) (acts-kept acts (and_parts (may_run for acts) (list_all (is_act (length t)) acts) h).1)
   event-kept (event.Offer r p) h s = call-kept (codes "offer ") r p h
   event-kept (event.Pass r p why) h s = ap (λ x. x ++ (codes " " ++ pass_text why)) (call-kept (codes "pass ") r p h)
   event-kept (event.Confirm r p) h s = call-kept (codes "confirm ") r p h
@@ -272,7 +273,9 @@ module _ (t u : Table) (keeps : Keeps t u) where
   event-in (event.Refused who why) h =
       let parts = and_parts (is_by (length t) who) (is_cause (length t) why) h in
       and_from (is_by (length u) who) (is_cause (length u) why) (by-in who parts.0) (cause-in why parts.1)
-  event-in (event.Run for acts) h = acts-in acts h
+  event-in (event.Run for acts) h =
+      let parts = and_parts (may_run for acts) (list_all (is_act (length t)) acts) h in
+      and_from (may_run for acts) (list_all (is_act (length u)) acts) parts.0 (acts-in acts parts.1)
   event-in (event.Offer r p) h = call-in r p h
   event-in (event.Pass r p why) h = call-in r p h
   event-in (event.Confirm r p) h = call-in r p h

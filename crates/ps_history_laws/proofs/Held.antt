@@ -24,7 +24,7 @@ use Rattle.ps_machine.specs.declared.journal.Refusal.{Refusal}
 use Rattle.ps_machine.specs.declared.journal.Refusal.TheVariants as refusal
 use Rattle.ps_rules.specs.Same.{first_alike}
 use Rattle.ps_script_laws.specs.Sayable.{IsActOf}
-use Rattle.ps_entries.specs.Forms.{is_act, is_by, is_byte, is_cause, is_edit_cause, is_event, is_ground_cause, is_known, is_long, is_on_request, is_plan_cause, is_short}
+use Rattle.ps_entries.specs.Forms.{is_act, is_by, is_byte, is_cause, is_edit_cause, is_event, is_ground_cause, is_known, is_long, is_on_request, is_plan_cause, is_short, may_run}
 use Rattle.ps_entry_laws.specs.Laws.{IsEntryOf, IsSayable}
 use Rattle.ps_history_laws.specs.Entries.{first_entry, first_event, IsHeld, is_held_by, is_held_cause, is_held_edit_cause, is_held_event, is_held_ground_cause, is_held_plan_cause}
 use Rattle.ps_history_laws.proofs.Said.{IsSaid}
@@ -99,7 +99,7 @@ event-form names (event.Edit who change) held h = by-form (length names) who hel
 event-form names (event.Refused who why) held h =
     let parts = and_parts (is_held_by who) (is_held_cause why) held in
     and_from (is_by (length names) who) (is_cause (length names) (first_alike why)) (by-form (length names) who parts.0 h.0) (cause-form (length names) why parts.1 h.1)
-event-form names (event.Run for acts) held h = acts-form (length names) acts h
+event-form names (event.Run for acts) held h = and_from (may_run for acts) (list_all (is_act (length names)) acts) h.0 (acts-form (length names) acts h.1)
 event-form names (event.Offer r p) held h = call-form (length names) r p held h
 event-form names (event.Pass r p why) held h = call-form (length names) r p held h
 event-form names (event.Confirm r p) held h = call-form (length names) r p held h

@@ -47,6 +47,7 @@ use Rattle.ps_rules.specs.Sound.{IsSound, IsSoundUnit}
 use Rattle.ps_rules.proofs.Kept.{both, name_eq}
 use Rattle.ps_rules.proofs.SameThings.{same_acts-decides, same_cause-decides, same_edit-decides, same_query-decides}
 use Rattle.ps_script_laws.specs.Sayable.{IsActOf, IsEditOf, IsQueryOf}
+use Rattle.ps_entries.specs.Forms.{may_run}
 use Rattle.ps_history_laws.specs.Inputs.{IsSayableInput, IsSayableLine, IsSayableUnit}
 use Rattle.ps_history_laws.proofs.Acts.{act-said, plan-said}
 use Rattle.ps_history_laws.proofs.Faults.{AreInstancesOf, edited-gives}
@@ -121,16 +122,17 @@ module _ (names : Table) (i : Input) (sound : IsSound i) (sayable : IsSayableInp
   plan-is k acts named passed =
       plan-said (length names) i.domain sayable.domain k acts named (both (is_ok (judged i.domain k acts)) (is_as_long acts (answered_by i.domain k i.budget)) passed).0
 
-  -- the acts that open a run can be said
+  -- the acts that open a run can be said, and are one where it is of an action
   acts-are : (es : List Entry) → AreInstancesOf (length names) (know i es).instances → (for : RunKind) (acts : List Act) (line : Option Line)
-      → opens_with i es for acts line ≡ true → All (IsActOf (length names)) acts
-  acts-are es named run.Goal acts (Some (Good command.Run)) passed = plan-is (know i es) acts named passed
+      → opens_with i es for acts line ≡ true → (may_run for acts ≡ true) × All (IsActOf (length names)) acts
+  acts-are es named run.Goal acts (Some (Good command.Run)) passed = (refl, plan-is (know i es) acts named passed)
   acts-are es named run.Plan acts (Some (Good (command.RunPlan (Ok steps)))) passed =
-      plan-said (length names) i.domain sayable.domain (know i es) acts named (both (same_acts acts (acts_of steps)) (is_ok (judged i.domain (know i es) acts)) passed).1
+      (refl, plan-said (length names) i.domain sayable.domain (know i es) acts named (both (same_acts acts (acts_of steps)) (is_ok (judged i.domain (know i es) acts)) passed).1)
   acts-are es named run.Action acts (Some (Good (command.RunAction act))) passed =
       let parts = both (same_acts acts (act ∷ [])) (is_ok (ground_act i.domain (know i es).instances act)) passed in
       let one : IsActOf (length names) act = act-said (length names) i.domain sayable.domain (know i es).instances named act parts.1 in
-      subst (All (IsActOf (length names))) (sym ((same_acts-decides acts (act ∷ [])).0 parts.0)) (All-cons (IsActOf (length names)) act [] one (All-nil (IsActOf (length names))))
+      subst (λ (all : List Act). (may_run run.Action all ≡ true) × All (IsActOf (length names)) all) (sym ((same_acts-decides acts (act ∷ [])).0 parts.0))
+      (refl, All-cons (IsActOf (length names)) act [] one (All-nil (IsActOf (length names))))
   acts-are es named for acts line passed = absurd (cc)
 
   -- ---- the table of events

@@ -15,14 +15,15 @@ use Rattle.ps_rules.specs.Reading.{latest, only_if, read, with_last}
 use Rattle.ps_rules.specs.Same.{first_alike}
 use Rattle.ps_rules.proofs.Kept.{both, name_eq}
 use Rattle.ps_script_laws.specs.Sayable.{IsActOf, IsEditOf, IsQueryOf}
+use Rattle.ps_entries.specs.Forms.{may_run}
 
--- an event's names are of the table, an edit or a query in it is one that a line can say, its acts have at most 6 arguments each, and what
--- a performer tells is a percentage with a note
+-- an event's names are of the table, an edit or a query in it is one that a line can say, its acts have at most 6 arguments each, a run of an
+-- action has one act, and what a performer tells is a percentage with a note
 abbrev pub IsSaid : Table → Event → Type 0
 IsSaid names (event.Edit who edit) = IsByOf (length names) who × IsEditOf names edit
 IsSaid names (event.Refused who why) = IsByOf (length names) who × IsRefusalOf (length names) (first_alike why)
 IsSaid names (event.Ask q) = IsQueryOf names q
-IsSaid names (event.Run for acts) = All (IsActOf (length names)) acts
+IsSaid names (event.Run for acts) = (may_run for acts ≡ true) × All (IsActOf (length names)) acts
 IsSaid names (event.Offer r p) = IsOf (length names) p
 IsSaid names (event.Pass r p why) = IsOf (length names) p
 IsSaid names (event.Confirm r p) = IsOf (length names) p
