@@ -1,6 +1,7 @@
 //! The entries of a journal.
-ghost use Rattle.std.specs.Prelude.{◌≡◌, ◌<◌, ◌≤◌, ◌-◌, ◌^◌, IfOk, IfSome, false, length};
+ghost use Rattle.std.specs.Prelude.{◌≡◌, ◌<◌, ◌≤◌, ◌-◌, ◌^◌, Err, IfOk, IfSome, false, length};
 ghost use Rattle.ps_world.specs.Failures.{refusal_of};
+ghost use Rattle.ps_world.specs.declared.failures.Failure.TheVariants.{OutOfMemory};
 ghost use Rattle.ps_world.specs.Lines.{same_text};
 ghost use Rattle.ps_text.specs.Names.{Keeps};
 ghost use Rattle.ps_text.specs.Words.{AreWithin, pieces};
@@ -107,8 +108,28 @@ fn read_lines(
 /// entry's nor a reply line. Lines end at LF, and the last one needs none; no CR is dropped.
 ///
 /// The names of the entries' lines, but for those of a note, are put into the table, in order. Old names keep their numbers and texts,
-/// after an error too.
+/// after an error too. Where memory runs out the table is as it was.
 pub fn read_journal(
+    alloc: Global,
+    names: &mut Names,
+    bytes: &[u8],
+) -> Result<Vec<(u32, Entry)>, Failure<JournalRefusal>>
+    requires { length bytes.now < 2 ^ 32 }
+    ensures entries { IfOk result (λ v. IsJournal names.old bytes.now v.items names.new) }
+    ensures refused { IfSome (refusal_of result) (IsFault names.old bytes.now) }
+    ensures kept { Keeps names.old names.new }
+    ensures starved { result ≡ Err OutOfMemory → names.new ≡ names.old }
+{
+    let known = names.len();
+    let read = read_known(alloc, names, bytes);
+    if let Err(Failure::OutOfMemory) = read {
+        names.cut_back(known);
+    }
+    read
+}
+
+/// Reads a journal, as `read_journal` does, but where memory runs out the table may have new names too.
+fn read_known(
     alloc: Global,
     names: &mut Names,
     bytes: &[u8],
