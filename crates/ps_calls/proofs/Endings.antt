@@ -1,5 +1,5 @@
 -- What follows for the status of a call, by the ways in which it can end.
-use Rattle.std.proofs.Common.{◌≡◌, ◌≢◌, ℕ, ◌≤◌, Bool, true, false, Option, Some, None, Err, List, inl, inr, refl, sym, ap, ◌∙◌, subst, arith}
+use Rattle.std.proofs.Common.{◌≡◌, ◌≢◌, ℕ, ◌≤◌, Bool, true, false, Option, Some, None, Err, List, [], ◌∷◌, inl, inr, refl, sym, ap, ◌∙◌, subst, arith}
 use Rattle.ps_world.specs.declared.failures.Failure.TheVariants as failure
 use Rattle.ps_text.specs.Outside.{FilesView, SinkView, next}
 use Rattle.ps_validate.specs.declared.verdicts.Invalid.{Invalid}
@@ -7,7 +7,7 @@ use Rattle.ps_words.specs.Words.{Request, asked_of}
 use Rattle.ps_words.specs.Words.Request.{a_generation, a_session, a_check, a_validation, a_replay}
 use Rattle.ps_inputs.specs.Faults.{IsDue, IsLoaded, failed_after, fault_status}
 use Rattle.ps_inputs.specs.Input.{HasFault, IsAsked, IsWork, Material, is_quiet, reading_of, texts_of}
-use Rattle.ps_inputs.specs.Reading.{MayFail, MayGive, Reading}
+use Rattle.ps_inputs.specs.Reading.{MayFail, MayGive, MayReadNext, Reading}
 use Rattle.ps_inputs.specs.Reading.FileFault.{no_file, too_long, too_many}
 use Rattle.ps_inputs.specs.Reading.Reading.{gives, faulty, unknown}
 use Rattle.ps_inputs.specs.declared.faults.Fault.{Fault}
@@ -20,7 +20,7 @@ use Rattle.ps_audit.specs.declared.findings.Finding.TheVariants.{Legal, Illegal}
 use Rattle.ps_calls.specs.Headline.{Reports, verdict_of}
 use Rattle.ps_calls.specs.Headline.Answers.{done, at_fault, cannot_write, starved_at_work, starved_before}
 use Rattle.ps_calls.specs.Headline.Reports.{told, unwritten, starved, wordless}
-use Rattle.ps_calls.specs.Laws.{FailedReadsAreTold, FailedWritesAreTold, FaultsWriteNothing, FirstWordsDecide, IsBroken, IsOfFault, IsOfWork, IsStatusOf, IsToJudge, IsToRun, LeadsTo, ModesDecide, RefusedWritesAreTold, StatusesAreFew, TextsDecide, UnreadIsCounted, WordsDecide, WorkIsDoneInSilence}
+use Rattle.ps_calls.specs.Laws.{FailedReadsAreTold, FailedWritesAreTold, FaultsWriteNothing, FirstWordsDecide, IsBroken, IsOfFault, IsOfWork, IsStatusOf, IsToJudge, IsToRun, LeadsTo, ModesDecide, RefusedWritesAreTold, StatusesAreFew, TextsDecide, UnreadIsCounted, UnwrittenIsCounted, WordsDecide, WorkIsDoneInSilence}
 use Rattle.ps_calls.specs.Verdicts.{verdict_status}
 use Rattle.ps_calls.proofs.Modes.{judging-quiet, running-loud}
 use Rattle.ps_calls.proofs.Statuses.{no_fault-broken, no_work-broken, no_work-fault, status-of_fault, status-of_work, status-performed, status-reported}
@@ -122,6 +122,21 @@ unread_is_counted c _ (cannot_write w l p s) h = absurd (omega arith)
 unread_is_counted c _ (starved_at_work w l p s) h = absurd (omega arith)
 unread_is_counted c _ (starved_before l o s) h = absurd (omega arith)
 
+-- a fault is answered with 5 only where its line couldn't be written
+reported-unwritten : (f : Fault) (old new : SinkView) (status : ℕ) → Reports f old new status → status ≡ 5 → new.failed ≡ next old.failed
+reported-unwritten f old new _ (told p) h = absurd (no_fault-broken (fault_status f) (status-of_fault f) (inl h))
+reported-unwritten f old new _ (unwritten p) h = p.counted.0
+reported-unwritten f old new _ (starved p) h = absurd (omega arith)
+reported-unwritten f old new _ (wordless p) h = absurd (omega arith)
+
+pub unwritten_is_counted : UnwrittenIsCounted
+unwritten_is_counted c _ (done w status l p s) h =
+    absurd (no_work-broken status (status-of_work w status (status-performed w _ _ status p)) (inl h))
+unwritten_is_counted c _ (at_fault f status l o r) h = inr (o, reported-unwritten f _ _ status r h)
+unwritten_is_counted c _ (cannot_write w l p s) h = inl p.counted.0
+unwritten_is_counted c _ (starved_at_work w l p s) h = absurd (omega arith)
+unwritten_is_counted c _ (starved_before l o s) h = absurd (omega arith)
+
 -- ---- what the words decide
 
 two-of_fault : (status : ℕ) → status ≡ 2 → IsOfFault status
@@ -201,12 +216,13 @@ leads-too_many (faulty files (too_long other k)) n is = inr refl
 leads-too_many (faulty files (too_many k)) n is = inr refl
 leads-too_many (unknown files) n is = tt
 
-leads-unread : (part : Reading Material) → LeadsTo part 4
-leads-unread (gives files m) = inl refl
-leads-unread (faulty files (no_file file)) = refl
-leads-unread (faulty files (too_long file n)) = inl refl
-leads-unread (faulty files (too_many n)) = inl refl
-leads-unread (unknown files) = tt
+leads-unread : (part : Reading Material) (n : ℕ) (file : List ℕ) → MayReadNext part n file → LeadsTo part 4
+leads-unread (gives [] m) n file named = absurd (cc)
+leads-unread (gives (other ∷ files) m) n file named = inl (tt, refl)
+leads-unread (faulty files (no_file other)) n file named = refl
+leads-unread (faulty files (too_long other k)) n file named = inl refl
+leads-unread (faulty files (too_many k)) n file named = inl refl
+leads-unread (unknown files) n file named = tt
 
 module _ (ws : List (List ℕ)) (old new : FilesView) (r : Request) (asked : asked_of ws ≡ Some r) where
   here : (s : Request) → asked_of ws ≡ Some s → (claim : Reading Material → Type 0) → claim (reading_of old.told s) → claim (reading_of old.told r)
@@ -223,7 +239,8 @@ module _ (ws : List (List ℕ)) (old new : FilesView) (r : Request) (asked : ask
   leads-due (Twice name) due = here due.0 due.1 (λ part. LeadsTo part 3) (leads-fault (reading_of old.told due.0) (Twice name) due.2)
   leads-due (TooLong file) due = here due.0 due.1 (λ part. LeadsTo part 3) (leads-too_long (reading_of old.told due.0) file.items due.2.length due.2.told)
   leads-due Lines due = here due.0 due.1 (λ part. LeadsTo part 3) (leads-too_many (reading_of old.told due.0) _ due.2)
-  leads-due (Unread file) due = leads-unread (reading_of old.told r)
+  leads-due (Unread file) due =
+      here due.0 due.1 (λ part. LeadsTo part 4) (leads-unread (reading_of old.told due.0) due.2.before file.items due.2.named)
 
 pub texts_decide : TextsDecide
 texts_decide c _ (done w status l p s) r asked = inr (leads-loaded c.words c.before.files c.after.files r asked w status l.loaded (status-performed w _ _ status p))

@@ -1,5 +1,5 @@
 -- How a call ends, by what its work came to.
-use Rattle.std.proofs.Common.{◌≡◌, ℕ, true, false, Some, Result, Ok, Err, List, sym, subst, ◌∙◌}
+use Rattle.std.proofs.Common.{◌≡◌, ℕ, true, Some, Result, Ok, Err, List, sym, subst, ◌∙◌}
 use Rattle.std.proofs.lemmas.Bool.{true≢false}
 use Rattle.ps_world.specs.declared.failures.Failure.{Failure}
 use Rattle.ps_world.specs.declared.failures.Failure.TheVariants as failure
@@ -7,7 +7,7 @@ use Rattle.ps_text.specs.Outside.{FilesView}
 use Rattle.ps_text.specs.declared.sinks.SinkRefusal.{SinkRefusal}
 use Rattle.ps_text.specs.declared.sinks.SinkRefusal.TheVariants.{Failed, OutOfMemory}
 use Rattle.ps_words.specs.Words.{asked_of, Request}
-use Rattle.ps_words.specs.Words.Request.{a_check, a_generation, a_replay, a_session, a_validation}
+use Rattle.ps_words.specs.Words.Request.{a_generation, a_session}
 use Rattle.ps_inputs.specs.Faults.{IsLoaded}
 use Rattle.ps_inputs.specs.Input.{IsAsked, is_quiet}
 use Rattle.ps_inputs.specs.declared.faults.Fault.{Fault}

@@ -79,20 +79,21 @@ IsWorkDone (work.Validation v) old new status =
 IsWorkDone (work.Replay r) old new status =
     (f : Finding) × IsFound r f × (status ≡ finding_status f) × Appends old new (finding_line f)
 
--- The work is broken off: what it wrote is a prefix of the text of a history, of a journal's counts, of the domain's text, or of the line
--- of a plan or of a journal; before a journal is made that is counted, or it is found what a journal is, nothing is written.
-abbrev pub IsWorkCut : Work → Option (List ℕ) → Option (List ℕ) → Type 0
-IsWorkCut (work.Session s) old new = IsCut s.input s.names old new
-IsWorkCut (work.Generation g) old new = IsCountCut g.input g.carts old new
-IsWorkCut (work.Check names d) old new = AppendsPrefix old new (domain_text names d)
-IsWorkCut (work.Validation v) old new = AppendsPrefix old new (answer_line (verdict_of v))
+-- The work is broken off: what it wrote is a prefix of the text of a beginning of a session's journal, of a journal's counts, of the domain's
+-- text, or of the line of a plan or of a journal; before a journal is made that is counted, or it is found what a journal is, nothing is
+-- written.
+abbrev pub IsWorkCut : Work → SinkView → SinkView → Type 0
+IsWorkCut (work.Session s) old new = IsCut (turns_of s) s.input s.names old new
+IsWorkCut (work.Generation g) old new = IsCountCut g.input g.carts old.bytes new.bytes
+IsWorkCut (work.Check names d) old new = AppendsPrefix old.bytes new.bytes (domain_text names d)
+IsWorkCut (work.Validation v) old new = AppendsPrefix old.bytes new.bytes (answer_line (verdict_of v))
 IsWorkCut (work.Replay r) old new =
-    AppendsPrefix old new [] ⊎ ((f : Finding) × IsFound r f × AppendsPrefix old new (finding_line f))
+    AppendsPrefix old.bytes new.bytes [] ⊎ ((f : Finding) × IsFound r f × AppendsPrefix old.bytes new.bytes (finding_line f))
 
 -- Doing the work: it is done, with the status that is answered, or broken off, where a write was refused or memory ran out.
 pub record Performs (w : Work) (old new : SinkView) (r : Result ℕ SinkRefusal) : Type 0 where
   pub done : IfOk r (IsWorkDone w old.bytes new.bytes)
-  pub cut : OnErr r (IsWorkCut w old.bytes new.bytes)
+  pub cut : OnErr r (IsWorkCut w old new)
   pub counted : CountsWork old new r
 
 -- doing the session of an input in memory, and writing the counts of its journal

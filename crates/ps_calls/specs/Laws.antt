@@ -1,5 +1,5 @@
 -- What follows for the status of a call.
-use Rattle.std.specs.Prelude.{◌≡◌, ◌≢◌, ℕ, ◌<◌, ◌≤◌, ◌⊎◌, true, false, None, Some, List}
+use Rattle.std.specs.Prelude.{◌≡◌, ◌≢◌, ℕ, ◌<◌, ◌≤◌, ◌⊎◌, true, false, None, Some, List, [], ◌∷◌}
 use Rattle.ps_text.specs.Outside.{next}
 use Rattle.ps_words.specs.Words.{ReplayRequest, Request, SessionRequest, asked_of}
 use Rattle.ps_words.specs.Words.Request.{a_generation, a_session, a_validation, a_replay}
@@ -64,6 +64,11 @@ FaultsWriteNothing = OfEachCall (λ c status. IsOfFault status → c.after.out �
 abbrev pub UnreadIsCounted : Type 0
 UnreadIsCounted = OfEachCall (λ c status. status ≡ 4 → c.after.files.failed ≡ next c.before.files.failed)
 
+-- the answer 5 comes only where a write to `out` failed, or where one to `err` did and nothing was written to `out`
+abbrev pub UnwrittenIsCounted : Type 0
+UnwrittenIsCounted = OfEachCall (λ c status. status ≡ 5
+    → (c.after.out.failed ≡ next c.before.out.failed) ⊎ ((c.after.out ≡ c.before.out) × (c.after.err.failed ≡ next c.before.err.failed)))
+
 -- ---- what decides the status
 
 -- the answer 2 comes only where the words aren't in the grammar, and nothing else but 5 or 6 comes there
@@ -86,10 +91,15 @@ ComesTo m status =
     ((w : Work) × IsWork m w × IsStatusOf w status)
     ⊎ ((fault : Fault) × HasFault (texts_of m) fault × (status ≡ 3))
 
--- What reading the files comes to: what their texts come to, or 4 where a read fails; 4 where there is no such file; 3 where a file is
--- too long or lines are too many, or 4 where a read before that fails.
+-- there are files among these
+abbrev pub AreSome : List (List ℕ) → Type 0
+AreSome [] = ⊥
+AreSome (file ∷ files) = Unit {0}
+
+-- What reading the files comes to: what their texts come to, or, where there are files, 4 where a read fails; 4 where there is no such file;
+-- 3 where a file is too long or lines are too many, or 4 where a read before that fails.
 abbrev pub LeadsTo : Reading Material → ℕ → Type 0
-LeadsTo (gives files m) status = (status ≡ 4) ⊎ ComesTo m status
+LeadsTo (gives files m) status = (AreSome files × (status ≡ 4)) ⊎ ComesTo m status
 LeadsTo (faulty files (no_file file)) status = status ≡ 4
 LeadsTo (faulty files (too_long file n)) status = (status ≡ 4) ⊎ (status ≡ 3)
 LeadsTo (faulty files (too_many n)) status = (status ≡ 4) ⊎ (status ≡ 3)

@@ -33,9 +33,13 @@ use std::thread::Threads;
 /// A session that is done has one journal, however its workers' turns came: what `out` took is the text of that journal and nothing else. It
 /// is a legal history of the input, in which each line has its entry and no run is left open. Each entry's hand is 0, that of the terminal,
 /// or that of a worker, from 1 to as many as there are; each worker's entries stand in it once and in the order in which it made them, by
-/// the contract of the seats at which workers take turns. A run is told to have succeeded exactly where its goal then holds, and the status
-/// is a function of the journal. With `--ordered` there is one worker, the members take turns in the order of the words, and the journal is a
-/// function of the input.
+/// the contract of the seats at which workers take turns. `run` opens a run of the plan that `get plan` would tell then. A run is told to have
+/// succeeded exactly where its goal then holds, and the status is a function of the journal. With `--ordered` there is one worker, the members
+/// take turns in the order of the words, and the journal is a function of the input.
+///
+/// Of a session that is broken off, with status 5 or 6, `out` took a prefix of the text of entries that may begin such a journal, up to the end of
+/// a line and of the run that it opens; where no write was refused, all of that text or nothing. So of a run in which memory runs out nothing
+/// is written.
 ///
 /// The gate is called once for each unit of work of a session's members. It promises no return: a session may go on for ever.
 pub fn plansys<R: Threads + Wait + Sync, F: Files, O: Sink, E: Sink, G: Gate + Sync>(

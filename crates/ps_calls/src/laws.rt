@@ -1,5 +1,5 @@
 //! Laws of the headline: each is the contract of a function that does nothing.
-ghost use Rattle.ps_calls.specs.Laws.{FailedReadsAreTold, FailedWritesAreTold, FaultsWriteNothing, FirstWordsDecide, ModesDecide, OrderedSessionsAreOne, RefusedWritesAreTold, StatusesAreFew, TextsDecide, UnreadIsCounted, WordsDecide, WorkIsDoneInSilence};
+ghost use Rattle.ps_calls.specs.Laws.{FailedReadsAreTold, FailedWritesAreTold, FaultsWriteNothing, FirstWordsDecide, ModesDecide, OrderedSessionsAreOne, RefusedWritesAreTold, StatusesAreFew, TextsDecide, UnreadIsCounted, UnwrittenIsCounted, WordsDecide, WorkIsDoneInSilence};
 
 use ps_session::one_journal;
 
@@ -31,6 +31,11 @@ pub fn faults_write_nothing()
 /// The answer 4 comes only where a read failed.
 pub fn unread_is_counted()
     ensures { UnreadIsCounted }
+{}
+
+/// The answer 5 comes only where a write to `out` failed, or where one to `err` did and nothing was written to `out`.
+pub fn unwritten_is_counted()
+    ensures { UnwrittenIsCounted }
 {}
 
 /// The answer 2 comes only where the words aren't in the grammar, and there comes nothing else but 5 or 6.

@@ -11,5 +11,5 @@ pub use calls::{plansys, plansys_quiet};
 pub use laws::{
     failed_reads_are_told, failed_writes_are_told, faults_write_nothing, first_words_decide,
     modes_decide, ordered_sessions_are_one, refused_writes_are_told, statuses_are_few,
-    texts_decide, unread_is_counted, words_decide, work_is_done_in_silence,
+    texts_decide, unread_is_counted, unwritten_is_counted, words_decide, work_is_done_in_silence,
 };

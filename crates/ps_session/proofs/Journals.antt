@@ -1,5 +1,5 @@
 -- The journal of a session is one.
-use Rattle.std.proofs.Common.{◌≡◌, ℕ, None, ◌≤◌, ◌⊎◌, inl, inr, Bool, true, false, if◌then◌else◌, List, [], ◌∷◌, All, fold, refl, ap, sym, ◌∙◌, subst, arith}
+use Rattle.std.proofs.Common.{◌≡◌, ℕ, None, ◌≤◌, ◌⊎◌, inl, inr, Bool, true, false, if◌then◌else◌, List, [], ◌∷◌, fold, refl, ap, sym, ◌∙◌, arith}
 use Rattle.std.proofs.lemmas.Bool.{true≢false}
 use Rattle.ps_action.specs.Search.{answer}
 use Rattle.ps_machine.specs.declared.inputs.Line.{Line}
@@ -15,7 +15,7 @@ use Rattle.ps_session.specs.Laws.{OneJournal}
 use Rattle.ps_session.specs.Lines.{IsBegun}
 use Rattle.ps_session.specs.Session.{IsJournal, IsOrdered}
 use Rattle.ps_session.specs.declared.ways.Turns.{Turns}
-use Rattle.ps_session.proofs.Begun.{ordered-of, whole-of}
+use Rattle.ps_session.proofs.Begun.{ordered-of, runs-answered, whole-of}
 use Rattle.ps_session.proofs.Success.{histories_tell_success}
 
 -- what a session that is done comes to
@@ -25,6 +25,7 @@ journal-of how says i es gives b history none closed = record {
   history = history;
   whole = whole-of how says i es b none closed;
   hands = b.hands;
+  runs = runs-answered says i es gives b.runs;
   success = histories_tell_success i es history;
   ordered = λ inOrder. ordered-of how says i es gives b (b.ordered inOrder) none;
 }

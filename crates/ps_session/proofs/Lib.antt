@@ -2,6 +2,7 @@ pub mod AddedTexts
 pub mod Advancing
 pub mod Asking
 pub mod Begun
+pub mod Each
 pub mod Hands
 pub mod Journals
 pub mod Queries

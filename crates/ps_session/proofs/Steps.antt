@@ -1,5 +1,5 @@
 -- What answering a line does, and the run that it opens.
-use Rattle.std.proofs.Common.{◌≡◌, ℕ, ◌+◌, ◌≤◌, Bool, true, false, not, ◌&&◌, ◌||◌, if◌then◌else◌, Option, Some, None, is_none, IfSome, IsTrue, Ok, Err, List, [], ◌∷◌, ◌++◌, map, refl, ap, sym, ◌∙◌, subst, arith, append_assoc}
+use Rattle.std.proofs.Common.{◌≡◌, ℕ, ◌+◌, ◌≤◌, Bool, true, false, not, ◌&&◌, if◌then◌else◌, Option, Some, None, is_none, IfSome, IsTrue, Ok, Err, List, [], ◌∷◌, ◌++◌, refl, ap, sym, ◌∙◌, subst, arith, append_assoc}
 use Rattle.std.specs.Option.{option_map_or, unwrap_or}
 use Rattle.std.proofs.lemmas.Bool.{true≢false}
 use Rattle.std.proofs.lemmas.Grind.{fold-append}
@@ -11,14 +11,12 @@ use Rattle.ps_machine.specs.declared.inputs.Line.{Line}
 use Rattle.ps_machine.specs.declared.inputs.Line.TheVariants.{Good, Bad}
 use Rattle.ps_machine.specs.declared.inputs.Input.{Input}
 use Rattle.ps_machine.specs.declared.inputs.Query.{Query}
-use Rattle.ps_machine.specs.declared.journal.CancelWhy.{CancelWhy}
-use Rattle.ps_machine.specs.declared.journal.CancelWhy.TheVariants as cancel
 use Rattle.ps_machine.specs.declared.journal.Refusal.{Refusal}
 use Rattle.ps_machine.specs.declared.journal.Event.{Event}
 use Rattle.ps_machine.specs.declared.journal.Event.TheVariants as event
 use Rattle.ps_machine.specs.declared.journal.Entry.{Entry}
 use Rattle.ps_rules.specs.Choices.{after_line, answer_event, line_event, ordered, run_by, Says, with_block, with_line}
-use Rattle.ps_rules.specs.History.{any_of, broken, cancels, forced, is_fail, IsHistory, sound}
+use Rattle.ps_rules.specs.History.{forced, IsHistory}
 use Rattle.ps_rules.specs.Known.{know}
 use Rattle.ps_rules.specs.Legal.{fits, is_accepted, is_legal, is_query}
 use Rattle.ps_rules.specs.Lines.{answered, answers_line, next_line, refusal_of}
@@ -34,11 +32,13 @@ use Rattle.ps_pool.specs.Courses.{GrowsInRun}
 use Rattle.ps_pool.specs.Ordered.{EndsAs}
 use Rattle.ps_pool.specs.Workers.{EndedBy}
 use Rattle.ps_pool.proofs.Ending.{closed-turns}
+use Rattle.ps_pool.proofs.Forcing.{each-forced}
 use Rattle.ps_session.specs.Answers.{AskAtEnd, is_ask}
-use Rattle.ps_session.specs.Lines.{HasHands, IsAnswered}
+use Rattle.ps_session.specs.Lines.{EachAfter, HasHands, IsAnswered, IsRunBy}
 use Rattle.ps_session.specs.Session.{hands_of}
 use Rattle.ps_session.specs.declared.ways.Turns.{Turns}
 use Rattle.ps_session.specs.declared.ways.Turns.TheVariants.{InOrder, Workers}
+use Rattle.ps_session.proofs.Each.{each-join}
 use Rattle.ps_session.proofs.Hands.{block-below, ordered-below}
 
 -- ---- the block of an event
@@ -96,24 +96,12 @@ own-event says i es (Bad cause) None = tt
 
 -- ---- which entries ask
 
-cancels-ask-nothing : (hand : ℕ) (why : CancelWhy) (acts : List ℕ) → NoneIs is_ask (map (cancels hand why) acts)
-cancels-ask-nothing hand why [] = tt
-cancels-ask-nothing hand why (act ∷ acts) = (refl, cancels-ask-nothing hand why acts)
-
 none-append : (test : Event → Bool) (es fs : List Entry) → NoneIs test es → NoneIs test fs → NoneIs test (es ++ fs)
 none-append test [] fs h g = g
 none-append test (e ∷ es) fs h g = (h.0, none-append test es fs h.1 g)
 
-none-if : (b : Bool) (es : List Entry) → NoneIs is_ask es → NoneIs is_ask (if b then es else [])
-none-if true es h = h
-none-if false es h = tt
-
-forced-asks-nothing : (i : Input) (es : List Entry) (e : Entry) → NoneIs is_ask (forced i es e)
-forced-asks-nothing i es e =
-    let all = es ++ e ∷ [] in
-    none-append is_ask (map (cancels e.hand cancel.OverAll) (broken i all)) (if is_fail e.what || any_of (broken i all) then map (cancels e.hand cancel.Stop) (sound i all) else [])
-    (cancels-ask-nothing e.hand cancel.OverAll (broken i all))
-    (none-if (is_fail e.what || any_of (broken i all)) (map (cancels e.hand cancel.Stop) (sound i all)) (cancels-ask-nothing e.hand cancel.Stop (sound i all)))
+forced-answers-none : (i : Input) (es : List Entry) (e : Entry) → NoneIs answers_line (forced i es e)
+forced-answers-none i es e = each-forced (λ c. answers_line c.what ≡ false) e.hand (λ why act. refl) i (es ++ e ∷ []) e.what
 
 -- an event that answers no line asks nothing
 asks-answers : (e : Event) → answers_line e ≡ false → is_ask e ≡ false
@@ -124,10 +112,42 @@ none-asks : (es : List Entry) → NoneIs answers_line es → NoneIs is_ask es
 none-asks [] h = tt
 none-asks (e ∷ es) h = (asks-answers e.what h.0, none-asks es h.1)
 
+forced-asks-nothing : (i : Input) (es : List Entry) (e : Entry) → NoneIs is_ask (forced i es e)
+forced-asks-nothing i es e = none-asks (forced i es e) (forced-answers-none i es e)
+
 ask-at-end : (es : List Entry) → NoneIs is_ask es → AskAtEnd es
 ask-at-end [] h = tt
 ask-at-end (e ∷ []) h = tt
 ask-at-end (e ∷ f ∷ es) h = (h.0, ask-at-end (f ∷ es) h.1)
+
+-- ---- which plan a run for the goal has
+
+-- a run that a solver's answer opens has the plan that is the answer
+answer-run : (says : Says) (i : Input) (es : List Entry) (a : Answer) → says i.domain (know i es) i.budget ≡ a → IfSome (run_by a) (IsRunBy says i es)
+answer-run says i es (answer.Plan plan) is = is
+answer-run says i es answer.NoPlan is = tt
+answer-run says i es (answer.Spent depth) is = tt
+answer-run says i es answer.TooMany is = tt
+
+line-run : (says : Says) (i : Input) (es : List Entry) (line : Line) (why : Option Refusal) → IfSome (answer_event says i es line why) (IsRunBy says i es)
+line-run says i es line (Some why) = tt
+line-run says i es (Good (command.Edit edit)) None = tt
+line-run says i es (Good (command.Ask q)) None = tt
+line-run says i es (Good command.Run) None = answer-run says i es (says i.domain (know i es) i.budget) refl
+line-run says i es (Good (command.RunAction act)) None = tt
+line-run says i es (Good (command.RunPlan (Ok steps))) None = tt
+line-run says i es (Good (command.RunPlan (Err why))) None = tt
+line-run says i es (Good command.Quit) None = tt
+line-run says i es (Bad cause) None = tt
+
+-- what answers no line opens no run
+quiet-run : (says : Says) (i : Input) (es : List Entry) (e : Event) → answers_line e ≡ false → IsRunBy says i es e
+quiet-run says i es (event.Run for plan) h = absurd (true≢false h)
+quiet-run says i es e h = tt
+
+quiet-runs : (says : Says) (i : Input) (before es : List Entry) → NoneIs answers_line es → EachAfter (IsRunBy says i) before es
+quiet-runs says i before [] h = tt
+quiet-runs says i before (e ∷ es) h = (quiet-run says i before e.what h.0, quiet-runs says i (before ++ e ∷ []) es h.1)
 
 -- ---- runs
 
@@ -206,6 +226,15 @@ module _ (says : Says) (i : Input) (es : List Entry) (line : Line) (h : IsHistor
   own : (e : Event) → line_event says i es line ≡ Some e → answers_line e ≡ true
   own e made = subst (λ o. IfSome o (λ e. answers_line e ≡ true)) made (own-event says i es line (refusal_of i es line))
 
+  -- of the entries that answer a line only the first may open a run
+  block-runs : (e : Event) → line_event says i es line ≡ Some e
+      → EachAfter (IsRunBy says i) es (record { hand = 0; what = e } ∷ forced i es (record { hand = 0; what = e }))
+  block-runs e made =
+      let entry : Entry = record { hand = 0; what = e } in (
+        subst (λ o. IfSome o (IsRunBy says i es)) made (line-run says i es line (refusal_of i es line)),
+        quiet-runs says i (es ++ entry ∷ []) (forced i es entry) (forced-answers-none i es entry),
+      )
+
   after-is : (e : Event) (n : ℕ) → line_event says i es line ≡ Some e → after_line says i n es line ≡ ordered says i (with_block i 0 es e) n
   after-is e n made =
       ap (λ b. if b then es else ordered says i (with_line says i es line) n) closed
@@ -220,6 +249,7 @@ module _ (says : Says) (i : Input) (es : List Entry) (line : Line) (h : IsHistor
     since = record { hand = 0; what = e } ∷ forced i es (record { hand = 0; what = e });
     grown = refl;
     asks = block-asks e (is_ask e) refl made;
+    runs = block-runs e made;
     hands = block-below (hands_of how) i 0 es e (omega arith);
     ordered = λ inOrder. record {
       turns = 0;
@@ -251,6 +281,7 @@ module _ (says : Says) (i : Input) (es : List Entry) (line : Line) (h : IsHistor
         counted = ap answered grows.all ∙ answered-more mid grows.since grows.no_line ∙ answered-block i es e (own e made);
         since = first ++ grows.since;
         grown = grows.all ∙ append_assoc es first grows.since;
+        runs = each-join (IsRunBy says i) es first grows.since (block-runs e made) (quiet-runs says i mid grows.since grows.no_line);
         asks = ask-at-end (first ++ grows.since)
             (none-append is_ask first grows.since (opens-asks e opened, forced-asks-nothing i es entry) (none-asks grows.since grows.no_line));
       }

@@ -25,8 +25,9 @@ use Rattle.ps_session.proofs.Writing.{counts-work, cut-between, cut-header, cut-
 -- ---- one line
 
 -- memory ran out before an entry of the line was written
-pub starved-line : (how : Turns) (says : Says) (i : Input) (names : Table) (b new : Shown) (now : SinkView) → WritesLine how says i names b new now now (Err sink.OutOfMemory)
-starved-line how says i names b new now = λ start w. record { written = tt; more = tt; cut = cut-between how says i names b start now w; counted = w.failures }
+pub starved-line : (how : Turns) (says : Says) (i : Input) (names : Table) (b new : Shown) (now : SinkView) → GivesLeast says
+    → WritesLine how says i names b new now now (Err sink.OutOfMemory)
+starved-line how says i names b new now gives = λ start w. record { written = tt; more = tt; cut = cut-between how says i names b start now gives w; counted = w.failures }
 
 module _ (how : Turns) (says : Says) (i : Input) (names : Table) (b new : Shown) (from : ℕ) (old now : SinkView) (went : Advances how says i b new from) (history : IsHistory new.input new.entries) where
   here : IsHistory i new.entries
@@ -36,11 +37,11 @@ module _ (how : Turns) (says : Says) (i : Input) (names : Table) (b new : Shown)
   there r put = subst (λ j. PutsWork (text_from names j new.entries from) old now r) went.idle.input put
 
   -- a write of the line's entries was refused, or memory ran out
-  pub cut-line : (why : SinkRefusal) → PutsWork (text_from names new.input new.entries from) old now (Err why) → WritesLine how says i names b new old now (Err why)
-  cut-line why put = λ start w. record {
+  pub cut-line : GivesLeast says → (why : SinkRefusal) → PutsWork (text_from names new.input new.entries from) old now (Err why) → WritesLine how says i names b new old now (Err why)
+  cut-line gives why put = λ start w. record {
     written = tt;
     more = tt;
-    cut = cut-on how says i b new from went names start old now w here why (there (Err why) put);
+    cut = cut-on how says i b new from went names start old now w here gives why (there (Err why) put);
     counted = work-since (Unit {0}) Bool start old now why w.failures w.refusals put.counted;
   }
 
@@ -51,15 +52,15 @@ module _ (how : Turns) (says : Says) (i : Input) (names : Table) (b new : Shown)
       record { written = done; more = no-more how says i b new from went; cut = tt; counted = (done.failures, done.refusals) }
 
 -- the line's entries were written or cut off
-pub line-written : (how : Turns) (says : Says) (i : Input) (names : Table) (b new : Shown) (from : ℕ) (old now : SinkView) → Advances how says i b new from
-    → IsHistory new.input new.entries → (r : Result Bool SinkRefusal) → PutsMore (text_from names new.input new.entries from) old now r
+pub line-written : (how : Turns) (says : Says) (i : Input) (names : Table) (b new : Shown) (from : ℕ) (old now : SinkView) → GivesLeast says
+    → Advances how says i b new from → IsHistory new.input new.entries → (r : Result Bool SinkRefusal) → PutsMore (text_from names new.input new.entries from) old now r
     → IfOk r (λ more. more ≡ nat_lt from (length new.entries)) → WritesLine how says i names b new old now r
-line-written how says i names b new from old now went history (Ok more) put is =
+line-written how says i names b new from old now gives went history (Ok more) put is =
     subst (λ m. WritesLine how says i names b new old now (Ok m)) (sym is)
-    (written-line how says i names b new from old now went history (record { whole = put.whole; prefix = tt; counted = put.counted }))
-line-written how says i names b new from old now went history (Err why) put is =
-    cut-line how says i names b new from old now went history why
-    (record { whole = tt; prefix = put.prefix; counted = work-since Bool (Unit {0}) old old now why refl refl put.counted })
+    (written-line how says i names b new from old now went history (record { whole = put.whole; prefix = tt; stop = tt; counted = put.counted }))
+line-written how says i names b new from old now gives went history (Err why) put is =
+    cut-line how says i names b new from old now went history gives why
+    (record { whole = tt; prefix = put.prefix; stop = put.stop; counted = work-since Bool (Unit {0}) old old now why refl refl put.counted })
 
 -- ---- all lines
 
@@ -74,7 +75,7 @@ line-of how says i names b new start old now r w line = subst (λ j. WritesLine 
 
 module _ (how : Turns) (i : Input) (names : Table) (b : Shown) (start now : SinkView) where
   pub header-cut : (why : SinkRefusal) → Puts header start now (Err why) → WritesLines how i names b start now (Err why)
-  header-cut why put = record { journal = tt; text = tt; cut = cut-header i names start now why put; counted = counts-work (Unit {0}) (Unit {0}) start now why put.counted }
+  header-cut why put = record { journal = tt; text = tt; cut = cut-header how i names start now why put; counted = counts-work (Unit {0}) (Unit {0}) start now why put.counted }
 
   pub line-cut : (says : Says) (why : SinkRefusal) → WritesOn how says i names b start now (Err why) → WritesLines how i names b start now (Err why)
   line-cut says why on = record { journal = tt; text = tt; cut = on.cut; counted = work-since Bool (Unit {0}) start start now why refl refl on.counted }
@@ -109,4 +110,4 @@ lines-begun how says i names b start now fresh put = written-first how says i na
 
 -- memory ran out before anything was written
 pub unrun : (how : Turns) (i : Input) (names : Table) (s : SinkView) → Runs how i names s s (Err sink.OutOfMemory)
-unrun how i names s = record { done = tt; cut = cut-nothing i names s; counted = refl }
+unrun how i names s = record { done = tt; cut = cut-nothing how i names s; counted = refl }

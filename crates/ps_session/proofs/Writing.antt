@@ -12,16 +12,19 @@ use Rattle.ps_rules.specs.History.{IsHistory}
 use Rattle.ps_rules.specs.History.IsHistory.{nothing}
 use Rattle.ps_rules.specs.Journal.{header, journal_text}
 use Rattle.ps_rules.specs.Lines.{next_line}
+use Rattle.ps_rules.specs.Runs.{is_running}
 use Rattle.ps_rules.proofs.JournalTexts.{journal_text-append}
 use Rattle.ps_text.specs.Outside.{AppendsPrefix, Counts, CountsWork, next, Puts, SinkView}
 use Rattle.ps_text.specs.declared.sinks.SinkRefusal.{SinkRefusal}
 use Rattle.ps_text.specs.declared.sinks.SinkRefusal.TheVariants as sink
 use Rattle.ps_board.specs.declared.board.Shown.{Shown}
+use Rattle.ps_replies.specs.Plans.{GivesLeast}
 use Rattle.ps_session.specs.Answers.{AskAtEnd}
 use Rattle.ps_session.specs.Lines.{Advances, IsBegun, IsIdle, IsWritten, PutsWork, text_from}
 use Rattle.ps_session.specs.Session.{IsCut}
+use Rattle.ps_session.specs.Session.Stops.{at_end, at_refusal, at_start}
 use Rattle.ps_session.specs.declared.ways.Turns.{Turns}
-use Rattle.ps_session.proofs.Begun.{begun-next, begun-start}
+use Rattle.ps_session.proofs.Begun.{beginning-first, beginning-of, begun-next, begun-start}
 use Rattle.ps_session.proofs.Taken.{AppendsPrefix-all, AppendsPrefix-append, AppendsPrefix-nil}
 use Rattle.ps_session.proofs.AddedTexts.{since-dropped, text-since}
 
@@ -37,14 +40,41 @@ pub work-since : (A B : Type 0) (a b c : SinkView) (why : SinkRefusal) → b.fai
 work-since A B a b c sink.Failed f r h = (h.0 ∙ ap next f, h.1 ∙ ap next r)
 work-since A B a b c sink.OutOfMemory f r h = h ∙ f
 
+-- a refused write is counted
+refused-once : (A : Type 0) (old new : SinkView) (why : SinkRefusal) → Counts {A = A} old new (Err why) → new.refused ≡ next old.refused
+refused-once A old new sink.Failed h = h.1
+refused-once A old new sink.OutOfMemory h = h.1
+
 -- a text that was put
 pub put-work : (text : List ℕ) (old new : SinkView) (r : Result (Unit {0}) SinkRefusal) → Puts text old new r → PutsWork text old new r
-put-work text old new (Ok u) p = record { whole = p.whole; prefix = tt; counted = p.counted }
-put-work text old new (Err why) p = record { whole = tt; prefix = p.prefix; counted = counts-work (Unit {0}) (Unit {0}) old new why p.counted }
+put-work text old new (Ok u) p = record { whole = p.whole; prefix = tt; stop = tt; counted = p.counted }
+put-work text old new (Err why) p = record {
+  whole = tt;
+  prefix = p.prefix;
+  stop = inl (refused-once (Unit {0}) old new why p.counted);
+  counted = counts-work (Unit {0}) (Unit {0}) old new why p.counted;
+}
 
 -- memory ran out before there was a text
 pub textless : (text : List ℕ) (s : SinkView) → PutsWork text s s (Err sink.OutOfMemory)
-textless text s = record { whole = tt; prefix = AppendsPrefix-nil s.bytes text; counted = refl }
+textless text s = record { whole = tt; prefix = AppendsPrefix-nil s.bytes text; stop = inr refl; counted = refl }
+
+-- ---- what is broken off
+
+-- the whole text of a journal was written by then
+pub cut-after : (how : Turns) (says : Says) (i : Input) (names : Table) (b : Shown) (start now : SinkView) → GivesLeast says → IsBegun how says i b.entries
+    → IsHistory i b.entries → is_running b.entries ≡ false → Appends start.bytes now.bytes (journal_text names i b.entries) → IsCut how i names start now
+cut-after how says i names b start now gives begun history closed text = record {
+  journal = b.entries;
+  begins = beginning-of how says i b.entries gives begun history closed;
+  text = AppendsPrefix-all start.bytes now.bytes (journal_text names i b.entries) text;
+  stop = at_end text;
+}
+
+-- memory ran out between lines
+pub cut-between : (how : Turns) (says : Says) (i : Input) (names : Table) (b : Shown) (start now : SinkView) → GivesLeast says
+    → IsWritten how says i names b start now → IsCut how i names start now
+cut-between how says i names b start now gives w = cut-after how says i names b start now gives w.begun w.history w.idle.closed w.text
 
 -- ---- one line
 
@@ -113,23 +143,22 @@ module _ (how : Turns) (says : Says) (i : Input) (b new : Shown) (from : ℕ) (w
       refusals = put.counted.1 ∙ w.refusals;
     }
 
-    -- it is cut off
-    pub cut-on : (why : SinkRefusal) → PutsWork (text_from names i new.entries from) old now (Err why) → IsCut i names start.bytes now.bytes
-    cut-on why put = record {
-      journal = new.entries;
-      history = history;
-      text = subst (AppendsPrefix start.bytes now.bytes) (sym text-grown)
-          (AppendsPrefix-append start.bytes old.bytes now.bytes (journal_text names i b.entries) (text_from names i new.entries from) w.text put.prefix);
-    }
-
--- memory ran out between lines
-pub cut-between : (how : Turns) (says : Says) (i : Input) (names : Table) (b : Shown) (start now : SinkView) → IsWritten how says i names b start now
-    → IsCut i names start.bytes now.bytes
-cut-between how says i names b start now w = record {
-  journal = b.entries;
-  history = w.history;
-  text = AppendsPrefix-all start.bytes now.bytes (journal_text names i b.entries) w.text;
-}
+    -- it is cut off: a write of the line's entries was refused, or memory ran out before
+    pub cut-on : GivesLeast says → (why : SinkRefusal) → PutsWork (text_from names i new.entries from) old now (Err why) → IsCut how i names start now
+    cut-on gives why put =
+        elim put.stop [
+          | inl once ↦
+              record {
+                journal = new.entries;
+                begins = beginning-of how says i new.entries gives (begun-on w.begun) history went.idle.closed;
+                text = subst (AppendsPrefix start.bytes now.bytes) (sym text-grown)
+                    (AppendsPrefix-append start.bytes old.bytes now.bytes (journal_text names i b.entries) (text_from names i new.entries from) w.text put.prefix);
+                stop = at_refusal (once ∙ ap next w.refusals);
+              }
+          | inr same ↦
+              cut-after how says i names b start now gives w.begun w.history w.idle.closed
+              (subst (λ bytes. Appends start.bytes bytes (journal_text names i b.entries)) (sym same) w.text)
+        ]
 
 -- ---- the beginning
 
@@ -146,9 +175,14 @@ written-first how says i names b start now idle none put = record {
 }
 
 -- nothing is written
-pub cut-nothing : (i : Input) (names : Table) (s : SinkView) → IsCut i names s.bytes s.bytes
-cut-nothing i names s = record { journal = []; history = nothing; text = AppendsPrefix-nil s.bytes _ }
+pub cut-nothing : (how : Turns) (i : Input) (names : Table) (s : SinkView) → IsCut how i names s s
+cut-nothing how i names s = record { journal = []; begins = beginning-first how i; text = AppendsPrefix-nil s.bytes _; stop = at_start refl }
 
 -- the header is cut off
-pub cut-header : (i : Input) (names : Table) (start now : SinkView) (why : SinkRefusal) → Puts header start now (Err why) → IsCut i names start.bytes now.bytes
-cut-header i names start now why put = record { journal = []; history = nothing; text = put.prefix }
+pub cut-header : (how : Turns) (i : Input) (names : Table) (start now : SinkView) (why : SinkRefusal) → Puts header start now (Err why) → IsCut how i names start now
+cut-header how i names start now why put = record {
+  journal = [];
+  begins = beginning-first how i;
+  text = put.prefix;
+  stop = at_refusal (refused-once (Unit {0}) start now why put.counted);
+}

@@ -1,17 +1,22 @@
 -- How a session goes on, line by line.
-use Rattle.std.specs.Prelude.{◌≡◌, ◌≢◌, ℕ, ◌+◌, ◌≤◌, Bool, true, false, None, Some, List, [], ◌++◌, Result, IfOk, OnOk, OnErr, drop, fold, length, slice_get, take, All}
+use Rattle.std.specs.Prelude.{◌≡◌, ◌≢◌, ℕ, ◌+◌, ◌≤◌, ◌⊎◌, Bool, true, false, None, Some, List, [], ◌∷◌, ◌++◌, Result, IfOk, OnOk, OnErr, drop, fold, length, slice_get, take, All}
 use Rattle.std.specs.Option.{option_map_or}
 use Rattle.std.specs.Io.KnownBytes.{Appends}
 use Rattle.ps_world.specs.Names.{Table}
+use Rattle.ps_action.specs.declared.answers.Answer.TheVariants.{Plan}
 use Rattle.ps_rules.specs.Choices.{after_line, Says}
 use Rattle.ps_rules.specs.History.{IsHistory}
 use Rattle.ps_rules.specs.Journal.{entry_text, journal_text, text_after}
+use Rattle.ps_rules.specs.Known.{know}
 use Rattle.ps_rules.specs.Lines.{answered, due_lines, next_line}
 use Rattle.ps_rules.specs.Runs.{is_running}
 use Rattle.ps_machine.specs.declared.inputs.Input.{Input}
 use Rattle.ps_machine.specs.declared.inputs.Line.{Line}
+use Rattle.ps_machine.specs.declared.journal.RunKind.TheVariants as run
+use Rattle.ps_machine.specs.declared.journal.Event.{Event}
+use Rattle.ps_machine.specs.declared.journal.Event.TheVariants as event
 use Rattle.ps_machine.specs.declared.journal.Entry.{Entry}
-use Rattle.ps_text.specs.Outside.{AppendsPrefix, CountsWork, SinkView}
+use Rattle.ps_text.specs.Outside.{AppendsPrefix, CountsWork, next, SinkView}
 use Rattle.ps_text.specs.declared.sinks.SinkRefusal.{SinkRefusal}
 use Rattle.ps_board.specs.declared.board.Shown.{Shown}
 use Rattle.ps_board.specs.Board.{IsAtRest}
@@ -32,6 +37,16 @@ pub record EndsInOrder (says : Says) (i : Input) (line : Line) (old new : List E
 abbrev pub HasHands : Turns → List Entry → Type 0
 HasHands how es = All (λ e. e.hand ≤ hands_of how) es
 
+-- a run for the goal that an event opens after these entries has the plan that this solver answers then
+abbrev pub IsRunBy : Says → Input → List Entry → Event → Type 0
+IsRunBy says i es (event.Run run.Goal plan) = says i.domain (know i es) i.budget ≡ Plan plan
+IsRunBy says i es e = Unit {0}
+
+-- this is so of the event of each of these entries, after those before it
+abbrev pub EachAfter : (List Entry → Event → Type 0) → List Entry → List Entry → Type 0
+EachAfter P before [] = Unit {0}
+EachAfter P before (e ∷ es) = P before e.what × EachAfter P (before ++ e ∷ []) es
+
 -- The next line was answered, and where it opened a run, that has ended.
 pub record IsAnswered (how : Turns) (says : Says) (i : Input) (old new : List Entry) : Type 0 where
   pub line : Line
@@ -40,6 +55,7 @@ pub record IsAnswered (how : Turns) (says : Says) (i : Input) (old new : List En
   pub since : List Entry
   pub grown : new ≡ old ++ since
   pub asks : AskAtEnd since
+  pub runs : EachAfter (IsRunBy says i) old since
   pub hands : HasHands how old → HasHands how new
   pub ordered : how ≡ InOrder → EndsInOrder says i line old new
 
@@ -66,21 +82,28 @@ pub record GoesInOrder (says : Says) (i : Input) (es : List Entry) : Type 0 wher
 -- These entries are those of the first lines of a session, as many as they answer, whose runs have ended.
 pub record IsBegun (how : Turns) (says : Says) (i : Input) (es : List Entry) : Type 0 where
   pub few : answered es ≤ length (due_lines i.lines)
+  pub runs : EachAfter (IsRunBy says i) [] es
   pub hands : HasHands how es
   pub ordered : how ≡ InOrder → GoesInOrder says i es
 
 -- ---- text
 
--- A sink takes a text, or, where a write was refused or memory ran out, a prefix of it.
+-- a write was refused, or nothing was written
+abbrev pub IsRefusedOrUnwritten : SinkView → SinkView → Type 0
+IsRefusedOrUnwritten old new = (new.refused ≡ next old.refused) ⊎ (new.bytes ≡ old.bytes)
+
+-- A sink takes a text, or, where a write was refused, a prefix of it, or nothing, where memory ran out before a write.
 pub record PutsWork (text : List ℕ) (old new : SinkView) (r : Result (Unit {0}) SinkRefusal) : Type 0 where
   pub whole : OnOk r (Appends old.bytes new.bytes text)
   pub prefix : OnErr r (AppendsPrefix old.bytes new.bytes text)
+  pub stop : OnErr r (IsRefusedOrUnwritten old new)
   pub counted : CountsWork old new r
 
 -- The same, and answering something then.
 pub record PutsMore (text : List ℕ) (old new : SinkView) (r : Result Bool SinkRefusal) : Type 0 where
   pub whole : OnOk r (Appends old.bytes new.bytes text)
   pub prefix : OnErr r (AppendsPrefix old.bytes new.bytes text)
+  pub stop : OnErr r (IsRefusedOrUnwritten old new)
   pub counted : CountsWork old new r
 
 -- the text of the entry at this place, if there is one
@@ -109,7 +132,7 @@ pub record IsWritten (how : Turns) (says : Says) (i : Input) (names : Table) (b 
 pub record WritesOn (how : Turns) (says : Says) (i : Input) (names : Table) (new : Shown) (start now : SinkView) (r : Result Bool SinkRefusal) : Type 0 where
   pub written : OnOk r (IsWritten how says i names new start now)
   pub more : IfOk r (λ more. more ≡ false → next_line i new.entries ≡ None)
-  pub cut : OnErr r (IsCut i names start.bytes now.bytes)
+  pub cut : OnErr r (IsCut how i names start now)
   pub counted : CountsWork start now r
 
 -- going on by a line with a session, wherever it was begun and written up to here
@@ -121,5 +144,5 @@ WritesLine how says i names old new before after r =
 pub record WritesLines (how : Turns) (i : Input) (names : Table) (b : Shown) (start now : SinkView) (r : Result (Unit {0}) SinkRefusal) : Type 0 where
   pub journal : OnOk r (IsJournal how i b.entries)
   pub text : OnOk r (Appends start.bytes now.bytes (journal_text names i b.entries))
-  pub cut : OnErr r (IsCut i names start.bytes now.bytes)
+  pub cut : OnErr r (IsCut how i names start now)
   pub counted : CountsWork start now r

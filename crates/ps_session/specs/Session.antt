@@ -1,20 +1,24 @@
 -- What a session does, and what it writes.
-use Rattle.std.specs.Prelude.{◌≡◌, ℕ, ◌≤◌, List, ◌∷◌, ◌++◌, Option, All, Result, IfOk, OnErr}
+use Rattle.std.specs.Prelude.{◌≡◌, ℕ, ◌≤◌, false, List, ◌∷◌, ◌++◌, Option, All, Result, IfOk, OnErr}
 use Rattle.std.specs.Bool.{Decides}
 use Rattle.std.specs.Io.KnownBytes.{Appends}
 use Rattle.ps_world.specs.Names.{Table}
 use Rattle.ps_action.specs.Search.{answer}
+use Rattle.ps_action.specs.declared.acts.Act.{Act}
+use Rattle.ps_action.specs.declared.answers.Answer.TheVariants.{Plan}
 use Rattle.ps_rules.specs.Choices.{session_ordered}
 use Rattle.ps_rules.specs.History.{IsHistory, IsWhole, status_of}
 use Rattle.ps_rules.specs.Journal.{AreEntriesIn, journal_text}
-use Rattle.ps_rules.specs.Runs.{kind}
+use Rattle.ps_rules.specs.Known.{know}
+use Rattle.ps_rules.specs.Runs.{is_running, kind}
 use Rattle.ps_rules.specs.Settled.{is_reached}
 use Rattle.ps_machine.specs.declared.inputs.Input.{Input}
 use Rattle.ps_machine.specs.declared.journal.Outcome.{Outcome}
 use Rattle.ps_machine.specs.declared.journal.Outcome.TheVariants as outcome
+use Rattle.ps_machine.specs.declared.journal.RunKind.TheVariants as run
 use Rattle.ps_machine.specs.declared.journal.Event.TheVariants as event
 use Rattle.ps_machine.specs.declared.journal.Entry.{Entry}
-use Rattle.ps_text.specs.Outside.{AppendsPrefix, CountsWork, SinkView}
+use Rattle.ps_text.specs.Outside.{AppendsPrefix, CountsWork, next, SinkView}
 use Rattle.ps_text.specs.declared.sinks.SinkRefusal.{SinkRefusal}
 use Rattle.ps_session.specs.declared.ways.Turns.{Turns}
 use Rattle.ps_session.specs.declared.ways.Turns.TheVariants.{InOrder, Workers}
@@ -46,13 +50,24 @@ TellSuccess i es =
     (before after : List Entry) (hand : ℕ) (how : Outcome) → es ≡ before ++ over hand how ∷ after
     → Decides (is_reached i before (kind before)) (how ≡ outcome.Success)
 
+-- an entry that opens a run for the goal with this plan
+abbrev pub opened : ℕ → List Act → Entry
+opened hand plan = record { hand = hand; what = event.Run run.Goal plan }
+
+-- a run for the goal that is opened has the plan that the solver is to answer for what is known then, as `get plan` tells it
+abbrev pub RunsAnswered : Input → List Entry → Type 0
+RunsAnswered i es =
+    (before after : List Entry) (hand : ℕ) (plan : List Act) → es ≡ before ++ opened hand plan ∷ after
+    → answer i.domain (know i before) i.budget ≡ Plan plan
+
 -- The entries are the journal of a session of this input: a legal history, in which each line of the terminal has its entry and no run is
--- left open. Each is by the terminal or by one of the workers, and success is told just where it is. Where the members take turns in
--- order, it is the one journal of that.
+-- left open. Each is by the terminal or by one of the workers, each run for the goal has the solver's plan, and success is told just where
+-- it is. Where the members take turns in order, it is the one journal of that.
 pub record IsJournal (how : Turns) (i : Input) (es : List Entry) : Type 0 where
   pub history : IsHistory i es
   pub whole : IsWhole i es
   pub hands : All (λ e. e.hand ≤ hands_of how) es
+  pub runs : RunsAnswered i es
   pub success : TellSuccess i es
   pub ordered : how ≡ InOrder → IsOrdered i es
 
@@ -71,15 +86,41 @@ pub record IsSession (how : Turns) (i : Input) (names : Table) (bytes : List ℕ
 abbrev pub IsDone : Turns → Input → Table → Option (List ℕ) → Option (List ℕ) → ℕ → Type 0
 IsDone how i names old new status = (bytes : List ℕ) × Appends old new bytes × IsSession how i names bytes status
 
--- what a sink took is a prefix of the text of a history
-pub record IsCut (i : Input) (names : Table) (old new : Option (List ℕ)) : Type 0 where
+-- ---- what is broken off
+
+-- The journal of the session whose members take turns in order, so many in each run, begins with these entries.
+pub record BeginsInOrder (i : Input) (es : List Entry) : Type 0 where
+  pub turns : ℕ
+  pub rest : List Entry
+  pub all : session_ordered answer i turns ≡ es ++ rest
+
+-- The entries may begin a journal of a session of this input, and end where a line is answered and the run that it opens is over: they are a
+-- legal history that leaves no run open, each is by the terminal or by one of the workers, and each run for the goal has the solver's plan.
+-- Where the members take turns in order, the one journal of that begins with them.
+pub record BeginsJournal (how : Turns) (i : Input) (es : List Entry) : Type 0 where
+  pub history : IsHistory i es
+  pub closed : is_running es ≡ false
+  pub hands : All (λ e. e.hand ≤ hands_of how) es
+  pub runs : RunsAnswered i es
+  pub ordered : how ≡ InOrder → BeginsInOrder i es
+
+-- where the writing of a text stopped: at a write that was refused, at its end, or before anything was written
+pub data Stops (text : List ℕ) (old new : SinkView) : Type 0 where
+  at_refusal : new.refused ≡ next old.refused → Stops text old new
+  at_end : Appends old.bytes new.bytes text → Stops text old new
+  at_start : new.bytes ≡ old.bytes → Stops text old new
+
+-- What a sink took of a session that was broken off: a prefix of the text of entries that may begin its journal; and where no write was
+-- refused, it is all of that text or nothing. So of a run in which memory runs out nothing is written.
+pub record IsCut (how : Turns) (i : Input) (names : Table) (old new : SinkView) : Type 0 where
   pub journal : List Entry
-  pub history : IsHistory i journal
-  pub text : AppendsPrefix old new (journal_text names i journal)
+  pub begins : BeginsJournal how i journal
+  pub text : AppendsPrefix old.bytes new.bytes (journal_text names i journal)
+  pub stop : Stops (journal_text names i journal) old new
 
 -- Doing a session: the sink took a whole one, which ends with the status that is answered, or, where a write was refused or memory
--- ran out, a prefix of the text of a history.
+-- ran out, a prefix of the text of a beginning of one.
 pub record Runs (how : Turns) (i : Input) (names : Table) (old new : SinkView) (r : Result ℕ SinkRefusal) : Type 0 where
   pub done : IfOk r (IsDone how i names old.bytes new.bytes)
-  pub cut : OnErr r (IsCut i names old.bytes new.bytes)
+  pub cut : OnErr r (IsCut how i names old new)
   pub counted : CountsWork old new r

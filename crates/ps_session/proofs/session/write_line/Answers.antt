@@ -19,8 +19,8 @@ returns-in-Ok g c =
     let went : Advances c.args.turns says c.args.board.input c.args.board new c.in-Ok.from =
     subst (λ r. IfOk r (Advances c.args.turns says c.args.board.input c.args.board new)) c.in-Ok.is c.advance_by-board.ensures in
     line-written c.args.turns says c.args.board.input c.args.names.now c.args.board new c.in-Ok.from (g.O.Sink.shown c.args.out.now) (g.O.Sink.shown c.write_more-more.new.out)
-    went c.write_more-more.ensures.history c.write_more-more.result c.write_more-more.ensures.text c.write_more-more.ensures.more
+    c.requires.solver went c.write_more-more.ensures.history c.write_more-more.result c.write_more-more.ensures.text c.write_more-more.ensures.more
 
 pub returns-in-Err : goal.returns-in-Err
 returns-in-Err g c =
-    starved-line c.args.turns (g.S.Solver.says c.args.solver.now) c.args.board.input c.args.names.now c.args.board c.advance_by-board.result.0 (g.O.Sink.shown c.args.out.now)
+    starved-line c.args.turns (g.S.Solver.says c.args.solver.now) c.args.board.input c.args.names.now c.args.board c.advance_by-board.result.0 (g.O.Sink.shown c.args.out.now) c.requires.solver

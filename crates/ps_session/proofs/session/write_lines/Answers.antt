@@ -1,4 +1,4 @@
-use Rattle.std.proofs.Common.{Ok, Err, false, subst}
+use Rattle.std.proofs.Common.{subst}
 use Rattle.ps_session.specs.Lines.{WritesOn}
 use Rattle.ps_session.proofs.Whole.{line-cut, line-of, lines-begun, lines-done}
 use Rattle.ps_session.proofs.session.write_lines.Goals as goal
