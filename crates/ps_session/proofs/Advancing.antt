@@ -9,7 +9,7 @@ use Rattle.ps_rules.specs.Choices.{line_event, Says, with_block}
 use Rattle.ps_rules.specs.History.{IsHistory}
 use Rattle.ps_rules.specs.Lines.{answered, next_line}
 use Rattle.ps_rules.specs.Runs.{is_running, opens}
-use Rattle.ps_board.specs.Board.{commanded, is_end, nothing_done, step_of, with_done}
+use Rattle.ps_board.specs.Board.{commanded, is_end, nothing_done, spare_after, step_of, with_done}
 use Rattle.ps_board.specs.Grants.{granted}
 use Rattle.ps_board.specs.declared.board.Shown.{Shown}
 use Rattle.ps_board.specs.declared.turns.Step.{Step}
@@ -53,6 +53,7 @@ pub record Commanded (says : Says) (old new : Shown) (s : Step) : Type 0 where
   pub input : new.input ≡ old.input
   pub grants : new.grants ≡ old.grants
   pub halted : new.halted ≡ old.halted
+  pub spare : new.spare ≡ spare_after old new.entries
 
 module _ (how : Turns) (says : Says) (old new : Shown) (s : Step) (c : Commanded says old new s) (idle : IsIdle old.input old) where
   abbrev i : Input
@@ -146,7 +147,9 @@ module _ (how : Turns) (says : Says) (old new : Shown) (s : Step) (c : Commanded
       let none : next_line i old.entries ≡ None = no-line (next_line i old.entries) (sym (ap is_end is) ∙ c.end) in
       let undone : commanded says old ≡ None = ap (option_and_then (line_event says i old.entries)) none in
       let entries : new.entries ≡ old.entries = c.entries ∙ ap (λ o. option_map_or (with_block i 0 old.entries) o old.entries) undone in
-      let all : new ≡ old = λ t. record { input = c.input t; entries = entries t; grants = c.grants t; halted = c.halted t } in
+      let len : length new.entries ≡ length old.entries = ap length entries in
+      let spare : new.spare ≡ old.spare = c.spare ∙ omega (arith, len) in
+      let all : new ≡ old = λ t. record { input = c.input t; entries = entries t; grants = c.grants t; halted = c.halted t; spare = spare t } in
       record {
         idle = subst (IsIdle i) (sym all) idle;
         place = same;
@@ -159,14 +162,15 @@ module _ (how : Turns) (says : Says) (old new : Shown) (s : Step) (c : Commanded
 -- a call that answered something
 pub commanded-so : {E : Type 0} → (says : Says) (old new : Shown) (r : Result Step E) (s : Step) → r ≡ Ok s → IfOk r (λ t. t ≡ step_of (commanded says old))
     → IfOk r (λ t. is_end t ≡ is_none (next_line old.input old.entries)) → OnOk r (new.entries ≡ with_done old 0 (commanded says old)) → new.input ≡ old.input
-    → new.grants ≡ old.grants → new.halted ≡ old.halted → Commanded says old new s
-commanded-so says old new r s is answer end entries input grants halted = record {
+    → new.grants ≡ old.grants → new.halted ≡ old.halted → new.spare ≡ spare_after old new.entries → Commanded says old new s
+commanded-so says old new r s is answer end entries input grants halted spare = record {
   answer = subst (λ x. IfOk x (λ t. t ≡ step_of (commanded says old))) is answer;
   end = subst (λ x. IfOk x (λ t. is_end t ≡ is_none (next_line old.input old.entries))) is end;
   entries = subst (λ x. OnOk x (new.entries ≡ with_done old 0 (commanded says old))) is entries;
   input = input;
   grants = grants;
   halted = halted;
+  spare = spare;
 }
 
 -- workers went on with the run that a line opened

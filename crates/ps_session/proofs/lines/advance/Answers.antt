@@ -9,7 +9,7 @@ go_on-requires-clause-opened g c =
     let did = c.in_ok-command.ensures in
     let says = g.S.Solver.says c.args.solver.now in
     let did : Commanded says c.args.board.now c.command.new.self c.in_ok-command.field-0 =
-    record { answer = did.answer; end = did.end; entries = did.entries; input = did.input; grants = did.grants; halted = did.halted } in
+    record { answer = did.answer; end = did.end; entries = did.entries; input = did.input; grants = did.grants; halted = did.halted; spare = did.spare } in
     now-running InOrder says c.args.board.now c.command.new.self c.in_ok-command.field-0 did c.requires.idle c.in-Opened.is
 
 pub returns-in-End : goal.returns-in-End
@@ -17,7 +17,7 @@ returns-in-End g c =
     let did = c.in_ok-command.ensures in
     let says = g.S.Solver.says c.args.solver.now in
     let did : Commanded says c.args.board.now c.command.new.self c.in_ok-command.field-0 =
-    record { answer = did.answer; end = did.end; entries = did.entries; input = did.input; grants = did.grants; halted = did.halted } in
+    record { answer = did.answer; end = did.end; entries = did.entries; input = did.input; grants = did.grants; halted = did.halted; spare = did.spare } in
     let place = ap length c.entries-from.ensures.entries in
     elim c.in-End.is [
       | inl end ↦ advances-end InOrder says c.args.board.now c.command.new.self c.in_ok-command.field-0 did c.requires.idle (length c.entries-from.result.now) place end
@@ -30,7 +30,7 @@ returns-in_ok-go_on-in-Opened g c =
     let did = c.in_ok-command.ensures in
     let says = g.S.Solver.says c.args.solver.now in
     let did : Commanded says c.args.board.now c.command.new.self c.in_ok-command.field-0 =
-    record { answer = did.answer; end = did.end; entries = did.entries; input = did.input; grants = did.grants; halted = did.halted } in
+    record { answer = did.answer; end = did.end; entries = did.entries; input = did.input; grants = did.grants; halted = did.halted; spare = did.spare } in
     let place = ap length c.entries-from.ensures.entries in
     let ran = c.in_ok-go_on-in-Opened.ensures in
     advances-run InOrder says c.args.board.now c.command.new.self c.in_ok-command.field-0 did c.requires.idle (length c.entries-from.result.now) c.go_on.new.board

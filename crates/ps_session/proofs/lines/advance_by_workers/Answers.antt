@@ -8,7 +8,7 @@ work_on-requires-clause-opened g c κs within =
     let says = g.S.Solver.says c.args.solver.now in
     let e = c.command-step.ensures in
     let did : Commanded says c.args.board c.command-step.new.self c.in-Ok.step =
-    commanded-so says c.args.board c.command-step.new.self c.command-step.result c.in-Ok.step c.in-Ok.is e.answer e.end e.entries e.input e.grants e.halted in
+    commanded-so says c.args.board c.command-step.new.self c.command-step.result c.in-Ok.step c.in-Ok.is e.answer e.end e.entries e.input e.grants e.halted e.spare in
     now-running (Workers c.args.workers) says c.args.board c.command-step.new.self c.in-Ok.step did c.requires.idle c.in-Opened.is
 
 pub returns-in-End : goal.returns-in-End
@@ -16,7 +16,7 @@ returns-in-End g c =
     let says = g.S.Solver.says c.args.solver.now in
     let e = c.command-step.ensures in
     let did : Commanded says c.args.board c.command-step.new.self c.in-Ok.step =
-    commanded-so says c.args.board c.command-step.new.self c.command-step.result c.in-Ok.step c.in-Ok.is e.answer e.end e.entries e.input e.grants e.halted in
+    commanded-so says c.args.board c.command-step.new.self c.command-step.result c.in-Ok.step c.in-Ok.is e.answer e.end e.entries e.input e.grants e.halted e.spare in
     advances-end (Workers c.args.workers) says c.args.board c.command-step.new.self c.in-Ok.step did c.requires.idle (length c.entries-from.result.now)
     (ap length c.entries-from.ensures.entries) c.in-End.is
 
@@ -25,7 +25,7 @@ returns-in-Said g c =
     let says = g.S.Solver.says c.args.solver.now in
     let e = c.command-step.ensures in
     let did : Commanded says c.args.board c.command-step.new.self c.in-Ok.step =
-    commanded-so says c.args.board c.command-step.new.self c.command-step.result c.in-Ok.step c.in-Ok.is e.answer e.end e.entries e.input e.grants e.halted in
+    commanded-so says c.args.board c.command-step.new.self c.command-step.result c.in-Ok.step c.in-Ok.is e.answer e.end e.entries e.input e.grants e.halted e.spare in
     advances-said (Workers c.args.workers) says c.args.board c.command-step.new.self c.in-Ok.step did c.requires.idle (length c.entries-from.result.now)
     (ap length c.entries-from.ensures.entries) c.entries-from.ensures.history c.in-Said.is
 
@@ -34,7 +34,7 @@ returns-in-Opened g c =
     let says = g.S.Solver.says c.args.solver.now in
     let e = c.command-step.ensures in
     let did : Commanded says c.args.board c.command-step.new.self c.in-Ok.step =
-    commanded-so says c.args.board c.command-step.new.self c.command-step.result c.in-Ok.step c.in-Ok.is e.answer e.end e.entries e.input e.grants e.halted in
+    commanded-so says c.args.board c.command-step.new.self c.command-step.result c.in-Ok.step c.in-Ok.is e.answer e.end e.entries e.input e.grants e.halted e.spare in
     let w = c.work_on.ensures in
     advances-worked c.args.workers says c.args.board c.command-step.new.self c.in-Ok.step did c.requires.idle c.work_on.result.1 (length c.entries-from.result.now) c.work_on.result.0
     (ap length c.entries-from.ensures.entries) c.entries-from.ensures.history c.in-Opened.is w.place w.ended w.rest w.input
