@@ -20,7 +20,7 @@ use Rattle.ps_rules.proofs.Pushed.{read-push}
 use Rattle.ps_ends.proofs.Picking.{by_test, clash}
 use Rattle.ps_ledger.specs.Ends.{last_outcome, outcome_of}
 use Rattle.ps_course.specs.Segments.{ends_plan, is_given_up, is_own_fault, IsOfOnePlan, makes_good_plan, NoEditCounts, NoneIs}
-use Rattle.ps_course.proofs.Walking.{in_the_journal}
+use Rattle.ps_course.proofs.Walking.{journals_go_well}
 use Rattle.ps_pool.specs.Courses.{GoodPlansGoWell}
 use Rattle.ps_pool.proofs.Ways.{ends-last, EndsLast, is_over, step, way-from}
 
@@ -72,6 +72,12 @@ replan-makes e h = absurd (true≢false (sym h))
 -- no fault of the plan's own is told, and where no act failed it isn't given up
 abbrev AreFine : List Entry → Type 0
 AreFine es = NoneIs is_own_fault es × (NoneIs is_fail es → NoneIs is_given_up es)
+
+in_the_journal : (i : Input) (before es rest : List Entry) (e : Entry) → IsHistory i (before ++ e ∷ (es ++ rest)) → IsTrue (makes_good_plan e.what)
+    → IsOfOnePlan es → NoEditCounts i (before ++ e ∷ []) es → AreFine es
+in_the_journal i before es rest e h made one edits =
+    let well = (journals_go_well i (before ++ e ∷ (es ++ rest)) h).each before es rest e refl made one edits in
+    (well.no_fault, well.success)
 
 -- what follows a replan is of the next plan, which is good too
 fine : (i : Input) (before front rest : List Entry) (e : Entry) → IsHistory i (before ++ e ∷ (front ++ rest)) → IsTrue (makes_good_plan e.what)
