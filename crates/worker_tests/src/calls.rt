@@ -1,6 +1,7 @@
 //! Calls of the program over files and sinks in memory.
 use super::texts::ROOMS;
 use ps_calls::plansys;
+use ps_inputs::{Session, Work, load};
 use ps_pool::{Gate, NoGate};
 use ps_text::{MemFiles, MemSink};
 use std::alloc::{AllocError, Global};
@@ -23,7 +24,7 @@ pub struct Texts {
     pub members: Vec<(String, String)>,
 }
 
-pub fn words_of(alloc: Global, line: &str) -> Result<Vec<String>, AllocError> {
+fn words_of(alloc: Global, line: &str) -> Result<Vec<String>, AllocError> {
     let mut words = Vec::new(alloc);
     for word in line.split(' ') {
         words.push(String::from_str(alloc, word)?)?;
@@ -31,7 +32,7 @@ pub fn words_of(alloc: Global, line: &str) -> Result<Vec<String>, AllocError> {
     Ok(words)
 }
 
-pub fn files_of(alloc: Global, texts: &Texts, journal: &str) -> Result<MemFiles, AllocError> {
+fn files_of(alloc: Global, texts: &Texts, journal: &str) -> Result<MemFiles, AllocError> {
     let mut files = MemFiles::new(alloc);
     files.put_text("domain", ROOMS.as_bytes())?;
     files.put_text("script", texts.script.as_bytes())?;
@@ -40,6 +41,16 @@ pub fn files_of(alloc: Global, texts: &Texts, journal: &str) -> Result<MemFiles,
         files.put_text(name.as_str(), text.as_bytes())?;
     }
     Ok(files)
+}
+
+/// What the words of a session, with the files of these texts, ask for.
+pub fn session_of(alloc: Global, texts: &Texts, line: &str) -> Result<Session, Fail> {
+    let words = words_of(alloc, line)?;
+    let mut files = files_of(alloc, texts, "")?;
+    match load(alloc, &words, &mut files)? {
+        Work::Session(session) => Ok(session),
+        _ => Err(Fail::from("no session")),
+    }
 }
 
 /// The first words of a call, and then the names of the members' files.

@@ -1,4 +1,5 @@
-//! Tests of sessions whose runs workers do, with threads: journals judged by replay, units of work and searches that go on at the same time.
+//! Tests of sessions whose runs workers do, with threads: journals judged by replay, units of work and searches that go on at the same time,
+//! runs that stop where memory runs out.
 #![tactic(auto)]
 
 #[cfg(test)]
@@ -9,5 +10,7 @@ mod calls;
 mod meeting;
 #[cfg(test)]
 mod searching;
+#[cfg(test)]
+mod stopping;
 #[cfg(test)]
 mod texts;

@@ -14,10 +14,47 @@ use std::test::Fail;
 /// How often a unit looks whether the other has come.
 const TURNS: u32 = 400_000_000;
 
-/// Counts the units that it is called with, and holds each unit of plain work until two have come.
+/// Counts the calls of the units of one request, and of any other unit.
+#[derive(Drop)]
+struct Calls {
+    work: AtomicU32,
+    finish: AtomicU32,
+    others: AtomicU32,
+}
+
+impl Calls {
+    fn new() -> Calls {
+        Calls {
+            work: AtomicU32::new(0),
+            finish: AtomicU32::new(0),
+            others: AtomicU32::new(0),
+        }
+    }
+
+    fn count(&self, unit: &Unit) {
+        let calls = match unit {
+            Unit::Work => &self.work,
+            Unit::Finish(_) => &self.finish,
+            _ => &self.others,
+        };
+        calls.fetch_add(1, SeqCst);
+    }
+
+    /// Whether each unit was called once, and no other.
+    fn are_once(&self) -> bool {
+        self.work.load(SeqCst) == 1
+            && self.finish.load(SeqCst) == 1
+            && self.others.load(SeqCst) == 0
+    }
+}
+
+/// Counts the calls of each unit of the first two requests, and holds each unit of plain work until two have come.
 #[derive(Drop)]
 struct Meeting {
-    units: AtomicU32,
+    first: Calls,
+    second: Calls,
+    /// Units of any other request.
+    others: AtomicU32,
     works: AtomicU32,
     met: AtomicU32,
 }
@@ -25,10 +62,27 @@ struct Meeting {
 impl Meeting {
     fn new() -> Meeting {
         Meeting {
-            units: AtomicU32::new(0),
+            first: Calls::new(),
+            second: Calls::new(),
+            others: AtomicU32::new(0),
             works: AtomicU32::new(0),
             met: AtomicU32::new(0),
         }
+    }
+
+    fn count(&self, grant: &Grant) {
+        match grant.r {
+            0 => self.first.count(&grant.unit),
+            1 => self.second.count(&grant.unit),
+            _ => {
+                self.others.fetch_add(1, SeqCst);
+            }
+        }
+    }
+
+    /// Whether each of the two requests' units was called once, and no other.
+    fn called_each_once(&self) -> bool {
+        self.first.are_once() && self.second.are_once() && self.others.load(SeqCst) == 0
     }
 
     /// Waits until two have come, for so many turns.
@@ -45,7 +99,7 @@ impl Meeting {
 
 impl Gate for Meeting {
     fn unit<R: Wait>(&self, _rt: &R, grant: &Grant) {
-        self.units.fetch_add(1, SeqCst);
+        self.count(grant);
         if let Unit::Work = grant.unit {
             self.meet();
         }
@@ -80,7 +134,7 @@ fn hand_of<'a>(journal: &'a str, member: &str) -> Option<&'a str> {
 fn assert_met(rt: &impl Abort, meeting: &Meeting, answer: &Answer) -> Result<(), Fail> {
     let journal = answer.out.as_str();
     assert_eq!(rt; answer.status, 0, "{journal}");
-    assert_eq!(rt; meeting.units.load(SeqCst), 4);
+    assert!(rt; meeting.called_each_once(), "{journal}");
     assert_eq!(rt; meeting.met.load(SeqCst), 2, "{journal}");
     let first = hand_of(journal, "first").ok_or("no work")?;
     let second = hand_of(journal, "second").ok_or("no work")?;

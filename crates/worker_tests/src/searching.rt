@@ -2,11 +2,11 @@
 ghost use Rattle.std.specs.Prelude.{◌≡◌, IfOk, IsSome, ◌≤◌};
 ghost use Rattle.ps_action.specs.Search.{answer, Fits};
 
-use super::calls::{Texts, files_of, words_of};
+use super::calls::{Texts, session_of};
 use super::texts::CHARGING;
 use ps_action::Answer;
 use ps_domain::Expert;
-use ps_inputs::{Session, Work, load};
+use ps_inputs::Session;
 use ps_plan::Solver;
 use ps_pool::NoGate;
 use ps_problem::Problem;
@@ -73,20 +73,12 @@ fn texts(alloc: Global) -> Result<Texts, AllocError> {
     Ok(Texts { script, members })
 }
 
-fn session_of(alloc: Global) -> Result<Session, Fail> {
-    let line = "session --domain domain --script script --replans 1 charger";
-    let words = words_of(alloc, line)?;
-    let mut files = files_of(alloc, &texts(alloc)?, "")?;
-    match load(alloc, &words, &mut files)? {
-        Work::Session(session) => Ok(session),
-        _ => Err(Fail::from("no session")),
-    }
-}
+const LINE: &str = "session --domain domain --script script --replans 1 charger";
 
 #[test]
 fn two_workers_search_at_the_same_time(rt: HostRuntime) -> Result<(), Fail> {
     let alloc = rt.alloc();
-    let Session { names, input, .. } = session_of(alloc)?;
+    let Session { names, input, .. } = session_of(alloc, &texts(alloc)?, LINE)?;
     let mut out = MemSink::new(alloc, usize::MAX);
     let solver = Searching {
         forward: Forward::new(),
