@@ -40,6 +40,11 @@ pub call-by : {A E : Type 0} (r : Result A E) (b new : Shown) (hand : ℕ) (done
 call-by (Ok a) b new hand done did left = did-by b.input hand b.entries new.entries done did
 call-by (Err e) b new hand done did left = nothing-by hand b.entries new.entries (ap (λ (s : Shown). s.entries) left)
 
+pub tick-by : {A E : Type 0} (r : Result A E) (b new : Shown) (hand : ℕ) (done : Option Event) → OnOk r (new.entries ≡ with_done b hand done) → OnErr r (new.entries ≡ b.entries)
+    → GoesOnBy hand b.entries new.entries
+tick-by (Ok a) b new hand done did left = did-by b.input hand b.entries new.entries done did
+tick-by (Err e) b new hand done did left = nothing-by hand b.entries new.entries left
+
 pub tick-wanted : {E : Type 0} (r : Result Ticked E) (b : Shown) (hand : ℕ) (new : List Entry) → IfOk r (λ t. t ≡ tick_answer b) → OnOk r (new ≡ with_done b hand (ticking b))
     → IfOk r (λ t. (s : Snapshot) → t ≡ tick.WantsPlan s → IsWanted b.input new s)
 tick-wanted (Ok t) b hand new is did = λ s asks. asked-wanted b (asked-calm b t s is asks) hand t s new is asks did

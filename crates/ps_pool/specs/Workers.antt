@@ -85,7 +85,7 @@ FirstIs P (seat ∷ seats) = P seat
 
 -- ---- how a worker stands
 
--- A worker may take its next turn: its seat is free, and it hasn't met want of memory nor seen the run's end or that it was halted.
+-- A worker may take its next turn: its seat is free, memory didn't run out in its last turn, and it hasn't seen that the run is over or halted.
 pub record IsReady (book : Book) (seat : Place) (s : Stand) : Type 0 where
   pub may : MayWork book seat
   pub going : s ≡ stand.Going

@@ -10,6 +10,7 @@ ghost use Rattle.ps_pool.specs.declared.spot.Stand.TheVariants.{Failed, Going};
 ghost use Rattle.ps_pool.specs.Rounds.{IsWanted};
 ghost use Rattle.ps_pool.specs.Workers.{HasStayed, IsOutline, IsThere, MayWork, WasWanted};
 
+use crate::ordered::tick_with_room;
 use crate::outline::{Outline, Who, outline_of};
 use crate::spot::{Spot, Stand};
 use ps_action::Answer;
@@ -31,7 +32,7 @@ fn do_turn(board: &mut Board, hand: u8, who: Who) -> Result<Turn, AllocError>
     }
 }
 
-/// Does the turn of the ticker. Where it asks the solver, nothing was appended.
+/// Does the turn of the ticker, with room for its block. Where it asks the solver, nothing was appended.
 fn do_tick(board: &mut Board, hand: u8) -> Result<Ticked, AllocError>
     requires hand { IsTrue (nat_le 1 hand && nat_le hand 16) }
     requires ran { has_run board.old.entries ≡ true }
@@ -42,7 +43,7 @@ fn do_tick(board: &mut Board, hand: u8) -> Result<Ticked, AllocError>
     ensures grows { GoesOnBy hand board.old.entries board.new.entries }
     ensures input { board.new.input ≡ board.old.input }
 {
-    board.tick(hand)
+    tick_with_room(board, hand)
 }
 
 /// Hands in a grant. On an error nothing changes, and the grant stays out.

@@ -1,11 +1,11 @@
 //! Runs whose members take turns in order.
-ghost use Rattle.std.specs.Prelude.{◌≡◌, ◌+◌, ◌<◌, true, false, length, slice_get, Some, IfErr, IfOk, OnErr, OnOk};
+ghost use Rattle.std.specs.Prelude.{◌≡◌, ◌+◌, ◌<◌, ◌&&◌, nat_le, true, false, length, slice_get, Some, IfErr, IfOk, IsTrue, OnErr, OnOk};
 ghost use Rattle.ps_action.specs.Search.{Fits};
 ghost use Rattle.ps_rules.specs.Choices.{Says};
 ghost use Rattle.ps_rules.specs.Members.{observers, performers};
 ghost use Rattle.ps_rules.specs.Runs.{has_run, is_running};
 ghost use Rattle.ps_rules.specs.Sound.{IsSound};
-ghost use Rattle.ps_board.specs.Board.{grants_without, IsAtRest, IsOut, recording, with_done};
+ghost use Rattle.ps_board.specs.Board.{grants_without, IsAtRest, IsOut, recording, tick_answer, ticking, with_done};
 ghost use Rattle.ps_pool.specs.Courses.{GrowsInRun};
 ghost use Rattle.ps_pool.specs.Ordered.{EndsAs, StopsAs};
 ghost use Rattle.ps_pool.specs.Rounds.{after_answer, after_observer, after_performer, after_ticker, IsWanted, LeadsTo, passed_before, StopsFrom};
@@ -184,6 +184,25 @@ fn replan<S: Solver>(board: &mut Board, solver: &S, snapshot: Snapshot) -> Resul
     }
 }
 
+/// As many entries as a block has at most: that of an event, and a cancel of each act of a plan but one.
+const MOST_ENTRIES: u64 = 257;
+
+/// Does a tick with room kept for its block, so that one which takes only room, as the run's end does, can't fail after
+/// it. On an error nothing changes but that more may be spare.
+pub(crate) fn tick_with_room(board: &mut Board, hand: u8) -> Result<Ticked, AllocError>
+    requires hand { IsTrue (nat_le 1 hand && nat_le hand 16) }
+    requires ran { has_run board.old.entries ≡ true }
+    ensures answer { IfOk result (λ t. t ≡ tick_answer board.old) }
+    ensures entries { OnOk result
+        (board.new.entries ≡ with_done board.old hand (ticking board.old)) }
+    ensures input { board.new.input ≡ board.old.input }
+    ensures kept { (board.new.grants ≡ board.old.grants) × (board.new.halted ≡ board.old.halted) }
+    ensures err { OnErr result (board.new.entries ≡ board.old.entries) }
+{
+    board.reserve(MOST_ENTRIES)?;
+    board.tick(hand)
+}
+
 /// Does the turn of the ticker, in which the solver answers at once. Answers whether the run was found to be over. On
 /// an error nothing changes.
 fn take_tick<S: Solver>(board: &mut Board, solver: &S) -> Result<bool, AllocError>
@@ -196,7 +215,7 @@ fn take_tick<S: Solver>(board: &mut Board, solver: &S) -> Result<bool, AllocErro
     ensures err { OnErr result (board.new.entries ≡ board.old.entries) }
     ensures input { board.new.input ≡ board.old.input }
 {
-    match board.tick(1)? {
+    match tick_with_room(board, 1)? {
         Ticked::Over(_) => Ok(true),
         Ticked::Did => Ok(false),
         Ticked::Nothing => Ok(false),
