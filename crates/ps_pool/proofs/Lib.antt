@@ -2,7 +2,6 @@ pub mod Asking
 pub mod Closing
 pub mod Ending
 pub mod Forcing
-pub mod GoingWell
 pub mod Outs
 pub mod OwnTurns
 pub mod Ran

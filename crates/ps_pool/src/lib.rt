@@ -13,6 +13,6 @@ mod spot;
 mod workers;
 
 pub use gate::{Gate, NoGate};
-pub use laws::{a_good_plan_goes_well, one_end};
+pub use laws::{one_end, plans_go_well};
 pub use ordered::{RunStop, go_on, run_ordered};
 pub use workers::{run_workers, work};
