@@ -13,6 +13,8 @@ use Rattle.ps_inputs.specs.declared.works.Work.{Work}
 use Rattle.ps_inputs.specs.declared.works.Work.TheVariants as work
 use Rattle.ps_audit.specs.Findings.{finding_status}
 use Rattle.ps_audit.specs.declared.findings.Finding.{Finding}
+use Rattle.ps_course.specs.Beginnings.{GoInOrder}
+use Rattle.ps_course.specs.Segments.{GoWell}
 use Rattle.ps_session.specs.Session.{IsSession}
 use Rattle.ps_calls.specs.Headline.{Answers, Call, IsFound, turns_of, verdict_of}
 use Rattle.ps_calls.specs.Verdicts.{verdict_status}
@@ -133,7 +135,13 @@ FirstWordsDecide = OfEachCall (λ c status.
 abbrev pub StatusesAreFew : Type 0
 StatusesAreFew = OfEachCall (λ c status. status ≤ 7)
 
--- ---- sessions in order
+-- ---- sessions
+
+-- in the journal that the bytes of a session are the text of, good plans go well, and the starts and ends of each plan follow an order that
+-- its arcs allow, wherever the plan stands and however workers came to their turns
+abbrev pub WrittenSessionsGoWell : Type 0
+WrittenSessionsGoWell = (s : Session) (bytes : List ℕ) (status : ℕ) (is : IsSession (turns_of s) s.input s.names bytes status)
+    → GoWell s.input is.journal × GoInOrder s.input is.journal
 
 -- two sessions of one input, with one table of names, write the same bytes and end with the same status, where their turns are ordered
 abbrev pub OrderedSessionsAreOne : Type 0

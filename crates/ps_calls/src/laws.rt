@@ -1,7 +1,7 @@
 //! Laws of the headline: each is the contract of a function that does nothing.
-ghost use Rattle.ps_calls.specs.Laws.{FailedReadsAreTold, FailedWritesAreTold, FaultsWriteNothing, FirstWordsDecide, ModesDecide, OrderedSessionsAreOne, RefusedWritesAreTold, StatusesAreFew, TextsDecide, UnreadIsCounted, UnwrittenIsCounted, WordsDecide, WorkIsDoneInSilence};
+ghost use Rattle.ps_calls.specs.Laws.{FailedReadsAreTold, FailedWritesAreTold, FaultsWriteNothing, FirstWordsDecide, ModesDecide, OrderedSessionsAreOne, RefusedWritesAreTold, StatusesAreFew, TextsDecide, UnreadIsCounted, UnwrittenIsCounted, WordsDecide, WorkIsDoneInSilence, WrittenSessionsGoWell};
 
-use ps_session::one_journal;
+use ps_session::{one_journal, sessions_go_well};
 
 /// Where the count of failed reads changes, the answer is 4, 5 or 6.
 pub fn failed_reads_are_told()
@@ -68,4 +68,11 @@ pub fn ordered_sessions_are_one()
     ensures { OrderedSessionsAreOne }
 {
     one_journal();
+}
+
+/// In the journal that a session writes good plans go well, and the starts and ends of each plan follow an order that its arcs allow.
+pub fn written_sessions_go_well()
+    ensures { WrittenSessionsGoWell }
+{
+    sessions_go_well();
 }

@@ -12,4 +12,5 @@ pub use laws::{
     failed_reads_are_told, failed_writes_are_told, faults_write_nothing, first_words_decide,
     modes_decide, ordered_sessions_are_one, refused_writes_are_told, statuses_are_few,
     texts_decide, unread_is_counted, unwritten_is_counted, words_decide, work_is_done_in_silence,
+    written_sessions_go_well,
 };

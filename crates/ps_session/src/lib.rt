@@ -8,6 +8,6 @@ mod session;
 mod texts;
 mod ways;
 
-pub use laws::{histories_tell_success, one_journal};
+pub use laws::{histories_tell_success, one_journal, sessions_go_well};
 pub use session::{run, run_unwritten, status_of};
 pub use ways::Turns;
