@@ -3,42 +3,49 @@
 
 mod real;
 
-use ps_calls::plansys;
+use ps_calls::{give_up, plansys, tell, told_of_itself};
 use ps_pool::NoGate;
-use ps_words::{USAGE, VERSION};
+use ps_text::{Sink, SinkRefusal};
 use real::{RealFiles, RealSink};
+use std::alloc::{AllocError, Global};
 use std::io::ErrorKind;
 use std::process::ExitCode;
-use std::{env, io};
+use std::sync::Wait;
+use std::thread::Threads;
+use std::{env, rt};
 
 /// The words after the program's name. Words of which one isn't UTF-8 are read as none, which is a faulty command line.
-fn words(rt: &HostRuntime) -> io::Result<Vec<String>> {
+fn words(rt: &HostRuntime) -> Result<Vec<String>, AllocError> {
     match env::args(rt) {
-        Ok(all) => Ok(all.skip(1).collect(rt.alloc())?),
+        Ok(all) => all.skip(1).collect(rt.alloc()),
         Err(error) if error.kind() == ErrorKind::InvalidData => Ok(Vec::new(rt.alloc())),
-        Err(error) => Err(error),
+        Err(_) => Err(AllocError),
     }
 }
 
-/// What the program says of itself, if it is asked.
-fn answer_of(words: &[String]) -> Option<&'static str> {
-    match words {
-        [word] if word.as_str() == "--help" => Some(USAGE),
-        [word] if word.as_str() == "--version" => Some(VERSION),
-        _ => None,
+/// Says what the program is asked of itself, or makes the call that the words ask for, and gives the status.
+fn run<R: Threads + Wait + Sync + rt::Files, O: Sink, E: Sink>(
+    rt: &R,
+    alloc: Global,
+    words: &[String],
+    out: &mut O,
+    err: &mut E,
+) -> u8 {
+    match told_of_itself(words) {
+        Some(answer) => tell(answer.as_bytes(), out, err),
+        None => {
+            let mut files = RealFiles::new(rt);
+            plansys(rt, alloc, words, &mut files, out, err, &NoGate)
+        }
     }
 }
 
-fn main(rt: HostRuntime) -> io::Result<ExitCode> {
-    let words = words(&rt)?;
-    if let Some(answer) = answer_of(&words) {
-        print!(rt; "{answer}")?;
-        return Ok(ExitCode::SUCCESS);
-    }
-    let alloc = rt.alloc();
+fn main(rt: HostRuntime) -> ExitCode {
     let mut out = RealSink::new(rt.stdout());
     let mut err = RealSink::new(rt.stderr());
-    let mut files = RealFiles::new(&rt);
-    let status = plansys(&rt, alloc, &words, &mut files, &mut out, &mut err, &NoGate);
-    Ok(ExitCode::from(status))
+    let status = match words(&rt) {
+        Ok(words) => run(&rt, rt.alloc(), words.as_slice(), &mut out, &mut err),
+        Err(_) => give_up(&mut err, SinkRefusal::OutOfMemory),
+    };
+    ExitCode::from(status)
 }

@@ -5,6 +5,7 @@ mod calls;
 mod laws;
 mod performing;
 mod reporting;
+mod telling;
 mod verdicts;
 
 pub use calls::{plansys, plansys_quiet};
@@ -14,3 +15,5 @@ pub use laws::{
     texts_decide, unread_is_counted, unwritten_is_counted, words_decide, work_is_done_in_silence,
     written_sessions_go_well,
 };
+pub use reporting::give_up;
+pub use telling::{tell, told_of_itself};
