@@ -9,8 +9,8 @@ mod calls;
 #[cfg(test)]
 mod meeting;
 #[cfg(test)]
-mod searching;
+mod runs;
 #[cfg(test)]
-mod stopping;
+mod searching;
 #[cfg(test)]
 mod texts;

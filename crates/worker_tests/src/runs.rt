@@ -1,8 +1,9 @@
-//! Runs stop where memory runs out as a new plan is looked for.
-ghost use Rattle.std.specs.Prelude.{◌≡◌, true, IfOk, OnOk};
+//! Runs of a board, which stop where memory runs out as a new plan is looked for.
+ghost use Rattle.std.specs.Prelude.{◌≡◌, ◌≤◌, true, map, IfOk, OnOk};
 ghost use Rattle.ps_action.specs.Search.{answer};
 ghost use Rattle.ps_board.specs.Board.{IsAtRest};
-ghost use Rattle.ps_rules.specs.Runs.{is_running};
+ghost use Rattle.ps_rules.specs.Runs.{has_run, is_running};
+ghost use Rattle.ps_turn.specs.Books.{hands, new_place};
 
 use super::calls::{Texts, session_of};
 use super::texts::CHARGING;
@@ -12,11 +13,12 @@ use ps_domain::Expert;
 use ps_inputs::Session;
 use ps_journal::print_entry;
 use ps_plan::Solver;
-use ps_pool::{NoGate, RunStop, run_ordered, run_workers};
+use ps_pool::{NoGate, RunStop, run_ordered, run_workers, work};
 use ps_problem::Problem;
 use ps_replay::{Verdict, replay};
 use ps_solve::Forward;
 use ps_text::Names;
+use ps_turn::{Seat, TurnBook};
 use ps_world::Duplicate;
 use std::alloc::{AllocError, Global};
 use std::process::Abort;
@@ -44,8 +46,14 @@ impl Solver for Exhausted {
 
 /// The members, each of whose files has its name.
 const MEMBERS: &[(&str, &str)] = &[
-    ("asker", "performer asker\naction askcharge\nargs _ _ _\njob\nwork\nfinish ok\nend\n"),
-    ("charger", "performer charger\naction charge\nargs _ _\njob\nwork\nfinish ok\nend\n"),
+    (
+        "asker",
+        "performer asker\naction askcharge\nargs _ _ _\njob\nwork\nfinish ok\nend\n",
+    ),
+    (
+        "charger",
+        "performer charger\naction charge\nargs _ _\njob\nwork\nfinish ok\nend\n",
+    ),
     (
         "weak",
         "performer weak\naction move\nargs _ _ _\njob\nset predicate (robot_at leia entrance)\nremove predicate (battery_full leia)\nfinish ok\njob\nfinish ok\nend\n",
@@ -58,7 +66,10 @@ const LINE: &str = "session --domain domain --script script asker charger weak";
 fn texts(alloc: Global) -> Result<Texts, AllocError> {
     let mut members = Vec::new(alloc);
     for (name, text) in MEMBERS {
-        members.push((String::from_str(alloc, name)?, String::from_str(alloc, text)?))?;
+        members.push((
+            String::from_str(alloc, name)?,
+            String::from_str(alloc, text)?,
+        ))?;
     }
     let script = String::from_str(alloc, CHARGING)?;
     Ok(Texts { script, members })
@@ -155,6 +166,50 @@ fn stop_workers<R: Threads + Wait + Sync + Abort>(
     }
 }
 
+/// Has workers at all seats of a book go on with its run, and asserts that it is over then, and was seen to be.
+fn assert_over<R: Threads + Wait + Sync + Abort>(
+    rt: &R,
+    alloc: Global,
+    book: TurnBook<Board>,
+    mut seats: Vec<Seat<Board>>,
+    expert: &Expert,
+) -> Result<(), Fail>
+    requires opened { has_run book.opened ≡ true }
+    requires few { (1 ≤ book.seats) × (book.seats ≤ 16) }
+    requires seats { seats.items ≡ map (new_place book) (hands book.seats) }
+    requires expert { expert.now ≡ book.input.domain }
+{
+    let solver = Forward::new();
+    let seen = work(
+        rt,
+        alloc,
+        &book,
+        seats.as_mut_slice(),
+        expert,
+        &solver,
+        &NoGate,
+    );
+    let board = book.close(seats);
+    assert!(rt; seen.is_ok());
+    assert!(rt; !board.is_running());
+    Ok(())
+}
+
+fn work_at_seats<R: Threads + Wait + Sync + Abort>(
+    rt: &R,
+    alloc: Global,
+    board: Board,
+    expert: &Expert,
+) -> Result<(), Fail>
+    requires opened { is_running board.entries ≡ true }
+    requires expert { expert.now ≡ board.input.domain }
+{
+    match TurnBook::open(alloc, board, 2) {
+        Ok((book, seats)) => assert_over(rt, alloc, book, seats, expert),
+        Err(_) => Err(Fail::from("no book")),
+    }
+}
+
 #[test]
 fn a_run_in_order_stops(rt: HostRuntime) -> Result<(), Fail> {
     let (names, mut board) = board_of(rt.alloc())?;
@@ -169,4 +224,13 @@ fn workers_stop(rt: HostRuntime) -> Result<(), Fail> {
     let domain = board.input().domain.copy(rt.alloc())?;
     let expert = Box::new(rt.alloc(), Expert::new(rt.alloc(), domain)?)?;
     stop_workers(&rt, rt.alloc(), Box::into_inner(board), &expert)
+}
+
+#[test]
+fn workers_at_seats_see_the_end(rt: HostRuntime) -> Result<(), Fail> {
+    let (_, mut board) = board_of(rt.alloc())?;
+    open_run(&mut board)?;
+    let domain = board.input().domain.copy(rt.alloc())?;
+    let expert = Box::new(rt.alloc(), Expert::new(rt.alloc(), domain)?)?;
+    work_at_seats(&rt, rt.alloc(), Box::into_inner(board), &expert)
 }
