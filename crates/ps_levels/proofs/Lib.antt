@@ -1,0 +1,3 @@
+pub mod Depths
+pub mod Nexts
+pub mod Walks
