@@ -1,0 +1,4 @@
+pub mod Numbered
+pub mod SameUnits
+pub mod Summed
+pub mod Telling
