@@ -187,8 +187,16 @@ fn replan<S: Solver>(board: &mut Board, solver: &S, snapshot: Snapshot) -> Resul
 /// As many entries as a block has at most: that of an event, and a cancel of each act of a plan but one.
 const MOST_ENTRIES: u64 = 257;
 
+/// Keeps room for a block where memory allows.
+fn make_room(board: &mut Board)
+    ensures { board.new ≡ record board.old { spare = board.new.spare } }
+{
+    let _kept = board.reserve(MOST_ENTRIES);
+}
+
 /// Does a tick with room kept for its block, so that one which takes only room, as the run's end does, can't fail after
-/// it. On an error nothing changes but that more may be spare.
+/// it. Where memory has no such room the tick is done without: a halted run, say, is seen to be halted also then. On an
+/// error nothing changes but that more may be spare.
 pub(crate) fn tick_with_room(board: &mut Board, hand: u8) -> Result<Ticked, AllocError>
     requires hand { IsTrue (nat_le 1 hand && nat_le hand 16) }
     requires ran { has_run board.old.entries ≡ true }
@@ -199,7 +207,7 @@ pub(crate) fn tick_with_room(board: &mut Board, hand: u8) -> Result<Ticked, Allo
     ensures kept { (board.new.grants ≡ board.old.grants) × (board.new.halted ≡ board.old.halted) }
     ensures err { OnErr result (board.new.entries ≡ board.old.entries) }
 {
-    board.reserve(MOST_ENTRIES)?;
+    make_room(board);
     board.tick(hand)
 }
 
