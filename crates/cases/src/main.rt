@@ -18,7 +18,8 @@
 //! takes 7
 //! status 1
 //! out
-//! |plansys-journal 1
+//! |plansys-journal 2
+//! |settings budget 20000 replans 3
 //! err
 //! ```
 //!

@@ -1,5 +1,5 @@
 -- What the text of a journal is found to be.
-use Rattle.std.specs.Prelude.{◌≡◌, ℕ, suc, ◌==◌, if◌then◌else◌, List, [], ◌++◌, codes, count_by, decimal, length, map, nat_eq, slice_get, take}
+use Rattle.std.specs.Prelude.{◌≡◌, ℕ, suc, ◌==◌, if◌then◌else◌, List, [], ◌++◌, codes, count_by, decimal, length, map, nat_eq, slice_get, take, Some, None}
 use Rattle.std.specs.List.{common_prefix_len}
 use Rattle.std.specs.Option.{unwrap_or}
 use Rattle.ps_world.specs.Lines.{line_end, lines_of, same_text}
@@ -7,10 +7,13 @@ use Rattle.ps_world.specs.Names.{Table}
 use Rattle.ps_machine.specs.declared.inputs.Input.{Input}
 use Rattle.ps_machine.specs.declared.journal.Entry.{Entry}
 use Rattle.ps_rules.specs.History.{IsHistory, IsWhole}
-use Rattle.ps_rules.specs.Journal.{journal_text}
+use Rattle.ps_rules.specs.Heads.{Head, settings_of}
+use Rattle.ps_rules.specs.Journal.{text_with}
 use Rattle.ps_rules.specs.Prefixes.{good_length}
 use Rattle.ps_entries.specs.Journals.{IsFault, IsJournal}
 use Rattle.ps_entries.specs.declared.journals.JournalRefusal.{JournalRefusal}
+use Rattle.ps_entries.specs.declared.journals.JournalText.{JournalText}
+use Rattle.ps_audit.specs.declared.parts.Parts.{Parts}
 use Rattle.ps_entries.specs.declared.journals.JournalRefusal.TheVariants as refusal
 use Rattle.ps_audit.specs.declared.findings.Finding.{Finding}
 use Rattle.ps_audit.specs.declared.findings.Finding.TheVariants.{Legal, Illegal}
@@ -43,6 +46,11 @@ lines_in es = map (λ e. e.0) es
 abbrev pub line_of : List ℕ → List ℕ → ℕ → ℕ
 line_of text lines at = unwrap_or (slice_get lines at) (suc (length (lines_of text)))
 
+-- the head that the text of entries is to have where theirs has this one: in version 2 it says the settings of the input
+abbrev pub due_head : Head → Input → Head
+due_head None i = None
+due_head (Some s) i = Some (settings_of i)
+
 -- what the text of a whole history is found to be, which should be this one
 abbrev pub compared : List ℕ → List ℕ → Finding
 compared text due = if same_text text due then Legal else Illegal (line_of_difference text due)
@@ -59,19 +67,24 @@ good_entries i es = good_length i [] [] (entries_of es)
 
 -- What the text of a journal is found to be, with a table of names before it: it has a line that is out of the grammar; or its entries
 -- are none of a whole history, and then the first one that may not stand there is told, or the line after the last; or they are, and
--- then it is compared with their text.
+-- then it is compared with their text, in its version.
 pub data Finds (i : Input) (names : Table) (text : List ℕ) : Finding → Type 0 where
   unread : (why : JournalRefusal) → IsFault names text why → Finds i names text (Illegal (line_of_fault why))
-  broken : (es : List (ℕ × Entry)) (after : Table) → IsJournal names text es after → ¬ (IsLegal i es)
+  broken : (head : Head) (es : List (ℕ × Entry)) (after : Table) → IsJournal names text head es after → ¬ (IsLegal i es)
       → Finds i names text (Illegal (line_of text (lines_in es) (good_entries i es)))
-  whole : (es : List (ℕ × Entry)) (after : Table) → IsJournal names text es after → IsLegal i es
-      → Finds i names text (compared text (journal_text after i (entries_of es)))
+  whole : (head : Head) (es : List (ℕ × Entry)) (after : Table) → IsJournal names text head es after → IsLegal i es
+      → Finds i names text (compared text (text_with (due_head head i) after i (entries_of es)))
 
--- a text with these entries, at these lines, is found to be this, where this is the table after it
-abbrev pub FindsOf : Input → Table → List ℕ → List ℕ → List Entry → Finding → Type 0
-FindsOf i after text lines es f =
-    (names : Table) (read : List (ℕ × Entry)) → lines_in read ≡ lines → entries_of read ≡ es → IsJournal names text read after
-    → Finds i names text f
+-- these are the parts of what a text says
+pub record AreParts (t : JournalText) (p : Parts) : Type 0 where
+  pub head : p.head ≡ t.settings
+  pub lines : p.lines.items ≡ lines_in t.entries.items
+  pub entries : p.entries.items ≡ entries_of t.entries.items
+
+-- a text that has these parts is found to be this, where this is the table after it
+abbrev pub FindsOf : Input → Table → List ℕ → Parts → Finding → Type 0
+FindsOf i after text p f =
+    (names : Table) (t : JournalText) → AreParts t p → IsJournal names text t.settings t.entries.items after → Finds i names text f
 
 -- ---- what is said of it
 

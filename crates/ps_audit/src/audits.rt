@@ -3,32 +3,19 @@ ghost use Rattle.std.specs.Prelude.{◌≡◌, ◌<◌, ◌^◌, length, IfOk};
 ghost use Rattle.ps_rules.specs.Sound.{IsSound};
 ghost use Rattle.ps_text.specs.Names.{Keeps};
 ghost use Rattle.ps_replies.specs.Plans.{GivesLeast};
-ghost use Rattle.ps_audit.specs.Findings.{compared, entries_of, Finds, FindsOf, line_of, line_of_fault, lines_in};
+ghost use Rattle.ps_audit.specs.Findings.{compared, Finds, FindsOf, line_of, line_of_fault};
 
 use super::differences::line_of_difference;
 use super::findings::Finding;
+use super::parts::{Parts, due_head, parts_of};
 use super::texts::judge_text;
 use ps_entries::{JournalRefusal, read_journal};
-use ps_machine::{Entry, Input};
+use ps_machine::Input;
 use ps_plan::Solver;
 use ps_replay::Verdict;
 use ps_text::{Names, lines};
 use ps_world::Failure;
 use std::alloc::{AllocError, Global};
-
-/// The lines and the entries of a journal, apart.
-fn apart(alloc: Global, journal: Vec<(u32, Entry)>) -> Result<(Vec<u32>, Vec<Entry>), AllocError>
-    ensures lines { IfOk result (λ v. v.0.items ≡ lines_in journal.items) }
-    ensures entries { IfOk result (λ v. v.1.items ≡ entries_of journal.items) }
-{
-    let mut lines = Vec::new(alloc);
-    let mut entries = Vec::new(alloc);
-    for (line, entry) in journal {
-        lines.push(line)?;
-        entries.push(entry)?;
-    }
-    Ok((lines, entries))
-}
 
 /// The line of a text's first fault.
 fn line_of_fault(refusal: JournalRefusal) -> usize
@@ -66,34 +53,34 @@ fn compare(text: &[u8], due: &[u8]) -> Finding
     }
 }
 
-/// What a text is found to be that has these entries at these lines.
+/// What a text is found to be that has these parts.
 fn judge<S: Solver>(
     alloc: Global,
     names: &Names,
     input: &Input,
     journal: &[u8],
-    lines_of: &[u32],
-    entries: &[Entry],
+    parts: &Parts,
     solver: &S,
 ) -> Result<Finding, AllocError>
     requires sound { IsSound input.now }
     requires solver { GivesLeast (S.says solver.now) }
     requires few { length journal.now < 2 ^ 32 }
-    ensures { IfOk result (FindsOf input.now names.now journal.now lines_of.now entries.now) }
+    ensures { IfOk result (FindsOf input.now names.now journal.now parts.now) }
 {
     let mut due = Vec::new(alloc);
-    match judge_text(alloc, names, input, entries, solver, &mut due)? {
+    let head = due_head(parts.head, input);
+    match judge_text(alloc, names, input, head, &parts.entries, solver, &mut due)? {
         Verdict::Legal => Ok(compare(journal, &due)),
         Verdict::Illegal { at } => {
-            let line = line_at(alloc, journal, lines_of, at)?;
+            let line = line_at(alloc, journal, &parts.lines, at)?;
             Ok(Finding::Illegal { line })
         }
     }
 }
 
-/// Judges the text of a journal: whether it is the text of a whole history of an input, or the line at which it isn't. The names of
-/// its lines are put into the table; old names keep their numbers and texts, after an error too. The text has fewer than 2^32 bytes.
-/// The only error is out of memory.
+/// Judges the text of a journal: whether it is the text, in its version, of a whole history of an input, or the line at which it isn't.
+/// The settings that it says aren't looked at but to be compared with those of the input. The names of its lines are put into the table;
+/// old names keep their numbers and texts, after an error too. The text has fewer than 2^32 bytes. The only error is out of memory.
 pub fn audit<S: Solver>(
     alloc: Global,
     names: &mut Names,
@@ -109,8 +96,8 @@ pub fn audit<S: Solver>(
 {
     match read_journal(alloc, names, journal) {
         Ok(read) => {
-            let (lines_of, entries) = apart(alloc, read)?;
-            judge(alloc, names, input, journal, &lines_of, &entries, solver)
+            let parts = parts_of(alloc, read)?;
+            judge(alloc, names, input, journal, &parts, solver)
         }
         Err(Failure::Refused(refusal)) => {
             let line = line_of_fault(refusal);

@@ -4,6 +4,7 @@
 mod audits;
 mod differences;
 mod findings;
+mod parts;
 mod replies;
 mod texts;
 mod trees;

@@ -1,3 +1,5 @@
+pub mod FaultLines
+pub mod HeadLines
 pub mod HeadWords
 pub mod JournalLines
 pub mod KnownNames

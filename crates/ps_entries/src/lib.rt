@@ -6,10 +6,12 @@ mod causes;
 mod entries;
 mod events;
 mod forms;
+mod heads;
 mod journals;
 mod laws;
 mod words;
 
 pub use entries::read_entry;
-pub use journals::{JournalRefusal, read_journal};
+pub use heads::settings_in;
+pub use journals::{JournalRefusal, JournalText, read_journal};
 pub use laws::lines_are_one_entry;

@@ -8,14 +8,16 @@ use Rattle.ps_machine.specs.declared.inputs.Line.TheVariants.{Good}
 use Rattle.ps_machine.specs.declared.journal.Event.{Event}
 use Rattle.ps_machine.specs.declared.journal.Event.TheVariants as event
 use Rattle.ps_machine.specs.declared.journal.Entry.{Entry}
-use Rattle.ps_rules.specs.Journal.{journal_text}
+use Rattle.ps_rules.specs.Heads.{Head, line_after}
+use Rattle.ps_rules.specs.Journal.{text_with}
 use Rattle.ps_text.specs.Names.{AreNames}
 use Rattle.ps_text.specs.Words.{words}
 use Rattle.ps_script.specs.declared.reading.Read.TheVariants.{Line}
 use Rattle.ps_entries.specs.Words.{with_words}
 use Rattle.ps_entries.specs.EntryLines.{IsEntryLine, IsTold, head_text}
-use Rattle.ps_entries.specs.Journals.{AreEntries, is_reply, title}
+use Rattle.ps_entries.specs.Journals.{AreEntries, is_reply}
 use Rattle.ps_entries.specs.Journals.AreEntries.{none_left, reply, entry}
+use Rattle.ps_entries.proofs.HeadLines.{heads_one}
 use Rattle.ps_entries.proofs.KnownNames.{names_words}
 use Rattle.ps_entries.proofs.OneEntry.{line-once}
 use Rattle.ps_entries.proofs.ReadTables.{Goes, goes_nowhere, goes_read}
@@ -47,22 +49,22 @@ entries_one _ _ _ _ _ _ _ known (entry n table middle after line lines e es r z 
     let first : (n, e) ∷ es ≡ (n, f) ∷ es = ap (λ (d : Entry). (n, d) ∷ es) one.0 in
     (first ∙ ap (λ l. (n, f) ∷ l) rest.0, rest.1)
 
-pub same_rest : (xs ys : List (List ℕ)) → title ∷ xs ≡ title ∷ ys → xs ≡ ys
-same_rest xs ys e = cc
-
 pub texts_are_one_journal : TextsAreOneJournal
-texts_are_one_journal table after other text es fs known x y =
-    let lines : y.lines ≡ x.lines = same_rest y.lines x.lines (sym y.titled ∙ x.titled) in
-    entries_one 2 table x.lines es fs after other known x.entries (subst (λ (ls : List (List ℕ)). AreEntries 2 table ls fs other) lines y.entries)
+texts_are_one_journal table after other text g h es fs known x y =
+    let heads = heads_one g h x.lines y.lines x.good y.good (sym x.headed ∙ y.headed) in
+    let lines : AreEntries (line_after h) table x.lines fs other = subst (λ (ls : List (List ℕ)). AreEntries (line_after h) table ls fs other) (sym heads.1) y.entries in
+    let here : AreEntries (line_after g) table x.lines fs other = subst (λ k. AreEntries (line_after k) table x.lines fs other) (sym heads.0) lines in
+    (heads.0, entries_one (line_after g) table x.lines es fs after other known x.entries here)
 
--- a text is a journal of one list of entries
-pub entries_are_one : (table : Table) (text : List ℕ) (es fs : List Entry) → AreNames table → IsJournalOf table text es → IsJournalOf table text fs → es ≡ fs
-entries_are_one table text es fs known x y =
-    let one = texts_are_one_journal table x.after y.after text x.numbered y.numbered known x.read y.read in
-    sym x.same ∙ ap (map (λ z. z.1)) one.0 ∙ y.same
+-- a text is a journal with one head and of one list of entries
+pub entries_are_one : (table : Table) (text : List ℕ) (g h : Head) (es fs : List Entry) → AreNames table → IsJournalOf table text g es
+    → IsJournalOf table text h fs → (g ≡ h) × (es ≡ fs)
+entries_are_one table text g h es fs known x y =
+    let one = texts_are_one_journal table x.after y.after text g h x.numbered y.numbered known x.read y.read in
+    (one.0, sym x.same ∙ ap (map (λ z. z.1)) one.1.0 ∙ y.same)
 
 pub histories_are_printed_apart : HistoriesArePrintedApart
-histories_are_printed_apart names i j es fs named si sj hi hj ei ej same =
-    let x = printed_journals_are_read names names i es named named (λ n lt. refl) si hi ei in
-    let y = printed_journals_are_read names names j fs named named (λ n lt. refl) sj hj ej in
-    entries_are_one names (journal_text names i es) es fs named x (subst (λ (text : List ℕ). IsJournalOf names text fs) (sym same) y)
+histories_are_printed_apart g h names i j es fs gg gh named si sj hi hj ei ej same =
+    let x = printed_journals_are_read g names names i es gg named named (λ n lt. refl) si hi ei in
+    let y = printed_journals_are_read h names names j fs gh named named (λ n lt. refl) sj hj ej in
+    entries_are_one names (text_with g names i es) g h es fs named x (subst (λ (text : List ℕ). IsJournalOf names text h fs) (sym same) y)

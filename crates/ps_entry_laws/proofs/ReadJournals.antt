@@ -1,5 +1,5 @@
 -- The texts of histories are read as journals.
-use Rattle.std.proofs.Common.{◌≡◌, ℕ, suc, true, false, not, nat_eq, List, [], ◌∷◌, map, filter, All, refl, sym, ap, subst, inl, inr}
+use Rattle.std.proofs.Common.{◌≡◌, ℕ, suc, true, false, not, nat_eq, List, [], ◌∷◌, ◌++◌, map, filter, drop, All, Some, None, refl, sym, ap, ◌∙◌, subst, inl, inr}
 use Rattle.std.proofs.lemmas.Bool.{cases_Bool}
 use Rattle.std.proofs.lemmas.List.Elements.{All-head, All-tail}
 use Rattle.std.specs.List.{starts_with}
@@ -8,8 +8,10 @@ use Rattle.ps_world.specs.Names.{Table}
 use Rattle.ps_machine.specs.Texts.{entry_line}
 use Rattle.ps_machine.specs.declared.inputs.Input.{Input}
 use Rattle.ps_machine.specs.declared.journal.Entry.{Entry}
-use Rattle.ps_rules.specs.Journal.{AreEntriesIn, journal_text, reply_mark, text_after}
+use Rattle.ps_rules.specs.Heads.{Head, IsHead, head_lines, line_after}
+use Rattle.ps_rules.specs.Journal.{AreEntriesIn, reply_mark, text_after, text_with}
 use Rattle.ps_rules.proofs.Notes.{histories_are_read_back}
+use Rattle.ps_rules.proofs.ReadBack.{lines_of-head}
 use Rattle.ps_text.specs.Names.{AreNames, Keeps}
 use Rattle.ps_journal.proofs.NameLines.{AreLines-names}
 use Rattle.ps_entries.specs.EntryLines.{IsEntryLine}
@@ -18,7 +20,7 @@ use Rattle.ps_entries.specs.Journals.AreEntries.{none_left, reply, entry}
 use Rattle.ps_entry_laws.specs.Laws.{IsEntryOf, IsJournalOf, PrintedJournalsAreRead}
 use Rattle.ps_entry_laws.proofs.ReadBack.{printed_entries_are_read}
 
-one_list : {A : Type 0} (x y : A) (xs ys : List A) → x ∷ xs ≡ y ∷ ys → (x ≡ y) × (xs ≡ ys)
+pub one_list : {A : Type 0} (x y : A) (xs ys : List A) → x ∷ xs ≡ y ∷ ys → (x ≡ y) × (xs ≡ ys)
 one_list x y xs ys e = (cc, cc)
 
 -- the lines that aren't replies
@@ -71,18 +73,28 @@ module _ (names : Table) (named : AreNames names) where
         | inr r ↦ after_entry line lines es n table r (all_read lines) known keeps all (rw r at h)
       ]
 
+-- what is left of the lines of a text after a head
+left-of : (head : Head) (names : Table) (text : List ℕ) (lines : List (List ℕ)) (fs : List Entry) → lines_of text ≡ head_lines head ++ lines
+    → AreEntriesIn head names text fs → kept lines ≡ map (entry_line names) fs
+left-of None names text lines fs e are = sym (ap (λ ls. kept (drop 1 ls)) e) ∙ are
+left-of (Some s) names text lines fs e are = sym (ap (λ ls. kept (drop 2 ls)) e) ∙ are
+
 -- a journal's text whose entry lines are those of entries in form is read as a journal of these
-pub entries_are_read : (names table : Table) (i : Input) (es fs : List Entry) → AreNames names → AreNames table → Keeps names table → AreEntriesIn names (journal_text names i es) fs → All (IsEntryOf names) fs → IsJournalOf table (journal_text names i es) fs
-entries_are_read names table i es fs named known keeps are all =
-    let lines = lines_of (text_after names i [] es) in
-    let x = all_read names named lines fs 2 table known keeps all are in
+pub entries_are_read : (head : Head) (names table : Table) (i : Input) (es fs : List Entry) → IsHead head → AreNames names → AreNames table → Keeps names table
+    → AreEntriesIn head names (text_with head names i es) fs → All (IsEntryOf names) fs → IsJournalOf table (text_with head names i es) head fs
+entries_are_read head names table i es fs good named known keeps are all =
+    let rest = text_after names i [] es in
+    let lines = lines_of rest in
+    let headed : lines_of (text_with head names i es) ≡ head_lines head ++ lines = lines_of-head head rest in
+    let left = left-of head names (text_with head names i es) lines fs headed are in
+    let x = all_read names named lines fs (line_after head) table known keeps all left in
     record {
       numbered = x.numbered;
       after = x.after;
-      read = record { lines = lines; titled = refl; entries = x.read };
+      read = record { lines = lines; good = good; headed = headed; entries = x.read };
       same = x.same;
     }
 
 pub printed_journals_are_read : PrintedJournalsAreRead
-printed_journals_are_read names table i es named known keeps sound history all =
-    entries_are_read names table i es es named known keeps (histories_are_read_back names i es (AreLines-names names named) sound history) all
+printed_journals_are_read head names table i es good named known keeps sound history all =
+    entries_are_read head names table i es es good named known keeps (histories_are_read_back head names i es (AreLines-names names named) sound history) all

@@ -6,7 +6,8 @@ use Rattle.ps_machine.specs.declared.inputs.Input.{Input}
 use Rattle.ps_machine.specs.declared.journal.Event.{Event}
 use Rattle.ps_machine.specs.declared.journal.Event.TheVariants as event
 use Rattle.ps_machine.specs.declared.journal.Entry.{Entry}
-use Rattle.ps_rules.specs.Journal.{journal_text}
+use Rattle.ps_rules.specs.Heads.{Head, IsHead}
+use Rattle.ps_rules.specs.Journal.{text_with}
 use Rattle.ps_rules.specs.Sound.{IsSound}
 use Rattle.ps_rules.specs.History.{IsHistory}
 use Rattle.ps_text.specs.Names.{AreNames, Keeps}
@@ -39,29 +40,39 @@ pub record IsReadAs (names table : Table) (line : List ℕ) (e : Entry) : Type 0
 abbrev pub PrintedEntriesAreRead : Type 0
 PrintedEntriesAreRead = (names table : Table) (e : Entry) → AreNames names → AreNames table → Keeps names table → IsEntryOf names e → IsReadAs names table (entry_line names e) e
 
--- a text is a journal of these entries, each with its line, with a table before it
-pub record IsJournalOf (table : Table) (text : List ℕ) (es : List Entry) : Type 0 where
+-- a text is a journal with this head and of these entries, each with its line, with a table before it
+pub record IsJournalOf (table : Table) (text : List ℕ) (head : Head) (es : List Entry) : Type 0 where
   pub numbered : List (ℕ × Entry)
   pub after : Table
-  pub read : IsJournal table text numbered after
+  pub read : IsJournal table text head numbered after
   pub same : map (λ x. x.1) numbered ≡ es
 
--- The text of a history of a sound input is read as a journal of its entries, with a table that keeps the names it was printed with, where
--- the entries are in form.
+-- The text of a history of a sound input, in either version, is read as a journal with its head and of its entries, with a table that keeps
+-- the names it was printed with, where the entries are in form.
 abbrev pub PrintedJournalsAreRead : Type 0
-PrintedJournalsAreRead = (names table : Table) (i : Input) (es : List Entry) → AreNames names → AreNames table → Keeps names table → IsSound i → IsHistory i es → All (IsEntryOf names) es → IsJournalOf table (journal_text names i es) es
+PrintedJournalsAreRead =
+    (head : Head) (names table : Table) (i : Input) (es : List Entry) → IsHead head → AreNames names → AreNames table → Keeps names table
+    → IsSound i → IsHistory i es → All (IsEntryOf names) es → IsJournalOf table (text_with head names i es) head es
 
--- A text is a journal of one list of entries at most, each with its line, with one table after it.
+-- A text is a journal with one head and of one list of entries at most, each with its line, with one table after it.
 abbrev pub TextsAreOneJournal : Type 0
-TextsAreOneJournal = (table after other : Table) (text : List ℕ) (es fs : List (ℕ × Entry)) → AreNames table → IsJournal table text es after → IsJournal table text fs other → (es ≡ fs) × (after ≡ other)
+TextsAreOneJournal =
+    (table after other : Table) (text : List ℕ) (g h : Head) (es fs : List (ℕ × Entry)) → AreNames table
+    → IsJournal table text g es after → IsJournal table text h fs other → (g ≡ h) × ((es ≡ fs) × (after ≡ other))
 
--- Two histories of sound inputs that are printed with the same text are the same, where their entries are in form.
+-- Two histories of sound inputs that are printed with the same text, in either version, have the same head and are the same, where their
+-- entries are in form.
 abbrev pub HistoriesArePrintedApart : Type 0
-HistoriesArePrintedApart = (names : Table) (i j : Input) (es fs : List Entry) → AreNames names → IsSound i → IsSound j → IsHistory i es → IsHistory j fs → All (IsEntryOf names) es → All (IsEntryOf names) fs → journal_text names i es ≡ journal_text names j fs → es ≡ fs
+HistoriesArePrintedApart =
+    (g h : Head) (names : Table) (i j : Input) (es fs : List Entry) → IsHead g → IsHead h → AreNames names → IsSound i → IsSound j
+    → IsHistory i es → IsHistory j fs → All (IsEntryOf names) es → All (IsEntryOf names) fs
+    → text_with g names i es ≡ text_with h names j fs → (g ≡ h) × (es ≡ fs)
 
 -- A text that is a journal has no fault.
 abbrev pub JournalsHaveNoFault : Type 0
-JournalsHaveNoFault = (table after : Table) (text : List ℕ) (es : List (ℕ × Entry)) (r : JournalRefusal) → AreNames table → IsJournal table text es after → ¬ (IsFault table text r)
+JournalsHaveNoFault =
+    (table after : Table) (text : List ℕ) (head : Head) (es : List (ℕ × Entry)) (r : JournalRefusal) → AreNames table
+    → IsJournal table text head es after → ¬ (IsFault table text r)
 
 -- A text has one fault at most.
 abbrev pub FaultsAreOne : Type 0

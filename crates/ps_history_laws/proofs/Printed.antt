@@ -7,7 +7,7 @@ use Rattle.ps_machine.specs.Texts.{by_text, entry_line, event_text}
 use Rattle.ps_machine.specs.declared.journal.Event.{Event}
 use Rattle.ps_machine.specs.declared.journal.Event.TheVariants as event
 use Rattle.ps_machine.specs.declared.journal.Entry.{Entry}
-use Rattle.ps_rules.specs.Journal.{AreEntriesIn, journal_text}
+use Rattle.ps_rules.specs.Journal.{AreEntriesIn, text_with}
 use Rattle.ps_rules.proofs.Notes.{histories_are_read_back}
 use Rattle.ps_rules.proofs.SameThings.{sameness_decides}
 use Rattle.ps_journal.proofs.NameLines.{AreLines-names}
@@ -31,14 +31,15 @@ lines-alike names (e ∷ es) =
     ap (λ line. line ∷ map (entry_line names) (map first_entry es)) (first_entries_print_alike names e) ∙ ap (λ lines. entry_line names e ∷ lines) (lines-alike names es)
 
 pub printed_histories_are_read : PrintedHistoriesAreRead
-printed_histories_are_read names table i es named known keeps h =
-    let lines : AreEntriesIn names (journal_text names i es) (map first_entry es) =
-    histories_are_read_back names i es (AreLines-names names named) h.sound h.history ∙ sym (lines-alike names es) in
-    entries_are_read names table i es (map first_entry es) named known keeps lines
+printed_histories_are_read head names table i es good named known keeps h =
+    let lines : AreEntriesIn head names (text_with head names i es) (map first_entry es) =
+    histories_are_read_back head names i es (AreLines-names names named) h.sound h.history ∙ sym (lines-alike names es) in
+    entries_are_read head names table i es (map first_entry es) good named known keeps lines
     (All-map (IsEntryOf names) first_entry es (histories_are_in_form names i es h))
 
 pub printed_histories_are_one : PrintedHistoriesAreOne
-printed_histories_are_one names i j es fs named h g same =
-    let x = printed_histories_are_read names names i es named named (λ n lt. refl) h in
-    let y = printed_histories_are_read names names j fs named named (λ n lt. refl) g in
-    entries_are_one names (journal_text names i es) (map first_entry es) (map first_entry fs) named x (subst (λ (text : List ℕ). IsJournalOf names text (map first_entry fs)) (sym same) y)
+printed_histories_are_one g h names i j es fs gg gh named said too same =
+    let x = printed_histories_are_read g names names i es gg named named (λ n lt. refl) said in
+    let y = printed_histories_are_read h names names j fs gh named named (λ n lt. refl) too in
+    entries_are_one names (text_with g names i es) g h (map first_entry es) (map first_entry fs) named x
+    (subst (λ (text : List ℕ). IsJournalOf names text h (map first_entry fs)) (sym same) y)

@@ -11,7 +11,8 @@ use Rattle.ps_machine.specs.declared.inputs.Line.TheVariants.{Good}
 use Rattle.ps_machine.specs.declared.members.Member.{Member}
 use Rattle.ps_machine.specs.declared.journal.Entry.{Entry}
 use Rattle.ps_rules.specs.History.{IsHistory}
-use Rattle.ps_rules.specs.Journal.{journal_text}
+use Rattle.ps_rules.specs.Heads.{Head, IsHead}
+use Rattle.ps_rules.specs.Journal.{text_with}
 use Rattle.ps_rules.specs.Sound.{IsSound}
 use Rattle.ps_text.specs.Names.{AreNames, Keeps}
 use Rattle.ps_script.specs.Lines.{IsRead}
@@ -40,18 +41,19 @@ abbrev pub HistoriesAreInForm : Type 0
 HistoriesAreInForm =
     (names : Table) (i : Input) (es : List Entry) → IsSaidHistory names i es → All (λ e. IsEntryOf names (first_entry e)) es
 
--- The text of such a history is read as a journal of its entries, each with its line and with the first of the causes that print as its
--- own does, with a table that keeps the names that the text was printed with.
+-- The text of such a history, in either version, is read as a journal with its head and of its entries, each with its line and with the
+-- first of the causes that print as its own does, with a table that keeps the names that the text was printed with.
 abbrev pub PrintedHistoriesAreRead : Type 0
 PrintedHistoriesAreRead =
-    (names table : Table) (i : Input) (es : List Entry) → AreNames names → AreNames table → Keeps names table → IsSaidHistory names i es
-    → IsJournalOf table (journal_text names i es) (map first_entry es)
+    (head : Head) (names table : Table) (i : Input) (es : List Entry) → IsHead head → AreNames names → AreNames table → Keeps names table
+    → IsSaidHistory names i es → IsJournalOf table (text_with head names i es) head (map first_entry es)
 
--- Two such histories that are printed with the same text have the same entries, but for causes that print alike.
+-- Two such histories that are printed with the same text, in either version, have the same head and the same entries, but for causes that
+-- print alike.
 abbrev pub PrintedHistoriesAreOne : Type 0
 PrintedHistoriesAreOne =
-    (names : Table) (i j : Input) (es fs : List Entry) → AreNames names → IsSaidHistory names i es → IsSaidHistory names j fs
-    → journal_text names i es ≡ journal_text names j fs → map first_entry es ≡ map first_entry fs
+    (g h : Head) (names : Table) (i j : Input) (es fs : List Entry) → IsHead g → IsHead h → AreNames names → IsSaidHistory names i es
+    → IsSaidHistory names j fs → text_with g names i es ≡ text_with h names j fs → (g ≡ h) × (map first_entry es ≡ map first_entry fs)
 
 -- ---- what is read
 

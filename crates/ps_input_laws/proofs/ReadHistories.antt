@@ -30,9 +30,9 @@ module _ (names : Table) (i : Input) where
   }
 
 pub read_histories_are_read : ReadHistoriesAreRead
-read_histories_are_read names table i es known keeps h =
-    printed_histories_are_read names table i es (read_names names i h.input) known keeps (read_said names i es h)
+read_histories_are_read head names table i es good known keeps h =
+    printed_histories_are_read head names table i es good (read_names names i h.input) known keeps (read_said names i es h)
 
 pub read_histories_are_one : ReadHistoriesAreOne
-read_histories_are_one names i j es fs h g same =
-    printed_histories_are_one names i j es fs (read_names names i h.input) (read_said names i es h) (read_said names j fs g) same
+read_histories_are_one g h names i j es fs gg gh x y same =
+    printed_histories_are_one g h names i j es fs gg gh (read_names names i x.input) (read_said names i es x) (read_said names j fs y) same

@@ -4,7 +4,8 @@ use Rattle.ps_world.specs.Names.{Table}
 use Rattle.ps_machine.specs.declared.inputs.Input.{Input}
 use Rattle.ps_machine.specs.declared.journal.Entry.{Entry}
 use Rattle.ps_rules.specs.History.{IsHistory}
-use Rattle.ps_rules.specs.Journal.{journal_text}
+use Rattle.ps_rules.specs.Heads.{Head, IsHead}
+use Rattle.ps_rules.specs.Journal.{text_with}
 use Rattle.ps_text.specs.Names.{AreNames, Keeps}
 use Rattle.ps_entry_laws.specs.Laws.{IsJournalOf}
 use Rattle.ps_history_laws.specs.Entries.{first_entry, IsHeld}
@@ -35,16 +36,17 @@ pub record IsReadHistory (names : Table) (i : Input) (es : List Entry) : Type 0 
   pub history : IsHistory i es
   pub held : All IsHeld es
 
--- The text of such a history, printed with the table after its input's texts, is read as a journal of its entries, each with its line and
--- with the first of the causes that print as its own does, with a table that keeps the names of that one.
+-- The text of such a history, printed in either version with the table after its input's texts, is read as a journal with its head and of
+-- its entries, each with its line and with the first of the causes that print as its own does, with a table that keeps the names of that
+-- one.
 abbrev pub ReadHistoriesAreRead : Type 0
 ReadHistoriesAreRead =
-    (names table : Table) (i : Input) (es : List Entry) → AreNames table → Keeps names table → IsReadHistory names i es
-    → IsJournalOf table (journal_text names i es) (map first_entry es)
+    (head : Head) (names table : Table) (i : Input) (es : List Entry) → IsHead head → AreNames table → Keeps names table
+    → IsReadHistory names i es → IsJournalOf table (text_with head names i es) head (map first_entry es)
 
--- Two such histories, whose inputs were read with the same table after them, and that are printed with the same text, have the same
--- entries, but for causes that print alike.
+-- Two such histories, whose inputs were read with the same table after them, and that are printed with the same text, in either version,
+-- have the same head and the same entries, but for causes that print alike.
 abbrev pub ReadHistoriesAreOne : Type 0
 ReadHistoriesAreOne =
-    (names : Table) (i j : Input) (es fs : List Entry) → IsReadHistory names i es → IsReadHistory names j fs
-    → journal_text names i es ≡ journal_text names j fs → map first_entry es ≡ map first_entry fs
+    (g h : Head) (names : Table) (i j : Input) (es fs : List Entry) → IsHead g → IsHead h → IsReadHistory names i es
+    → IsReadHistory names j fs → text_with g names i es ≡ text_with h names j fs → (g ≡ h) × (map first_entry es ≡ map first_entry fs)

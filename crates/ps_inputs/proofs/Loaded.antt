@@ -15,7 +15,8 @@ use Rattle.ps_inputs.specs.Reading.Reading.{gives}
 use Rattle.ps_inputs.specs.Flats.{Flat, script_in}
 use Rattle.ps_inputs.specs.Scripts.{IsScript}
 use Rattle.ps_inputs.specs.Members.{AreAtFault, AreMembers, NamedText}
-use Rattle.ps_inputs.specs.Input.{HasBadMembers, InputTexts, IsBegun, IsDomain, IsInput, Material, domain_in, domain_text_of, generated, named_texts, reading_of, texts_in, texts_of}
+use Rattle.ps_inputs.specs.Input.{GoesBy, HasBadMembers, InputTexts, IsBegun, IsDomain, IsInput, Material, domain_in, domain_text_of, generated, named_texts, reading_of, texts_in, texts_of}
+use Rattle.ps_rules.specs.Heads.{Settings}
 use Rattle.ps_inputs.specs.Input.Material.{for_session, for_check, for_validation, for_replay, for_generation}
 use Rattle.ps_inputs.specs.Faults.{ReadsPart}
 use Rattle.ps_inputs.specs.Parts.{Generates, IsAnswered, IsGenerated, IsJudged, IsJudgedAs, IsJudgedInput, IsScriptFrom, IsUnjudged, Joins, Judges, LoadsRequest, ReadsDomainFile, ReadsInput, ReadsMembers, ReadsScript, ReadsText, named}
@@ -314,22 +315,27 @@ module _ (s : ReplayRequest) (old : FilesView) where
       unfolding reading_of
       replay_read r f = last_read (a_replay s) s.domain s.script s.journal s.members (for_replay s.budget s.replans) old middle new u first journal h r f
 
-      pub replay_good : (l : Loaded) (w : Replay) → w.names ≡ l.names → w.input ≡ l.input → w.journal ≡ journal → Judges u s.budget s.replans (Ok l) → LoadsRequest (a_replay s) old new (Ok (Ok (work.Replay w)))
-      replay_good l w names input same judges =
+      pub replay_good : (t : Settings) → GoesBy (s.budget, s.replans) journal.items t → (l : Loaded) (w : Replay) → w.names ≡ l.names → w.input ≡ l.input → w.journal ≡ journal
+          → Judges u t.0 t.1 (Ok l) → LoadsRequest (a_replay s) old new (Ok (Ok (work.Replay w)))
+      replay_good t goes l w names input same judges =
           replay_read (Ok (work.Replay w))
           (λ texts is. (
             tt,
             (
-              subst (λ (t : Table). IsInput s.budget s.replans texts w.input t) (sym names)
-                  (subst (λ (i : Input). IsInput s.budget s.replans texts i l.names) (sym input) (judges (read_file old.told s.domain) texts is).0),
+              (
+                t,
+                goes,
+                subst (λ (n : Table). IsInput t.0 t.1 texts w.input n) (sym names)
+                    (subst (λ (i : Input). IsInput t.0 t.1 texts i l.names) (sym input) (judges (read_file old.told s.domain) texts is).0),
+              ),
               ap (λ (v : Vec ℕ). v.items) same,
             ),
           ))
 
-      pub replay_bad : (fault : Fault) → Judges u s.budget s.replans (Err (Refused fault)) → LoadsRequest (a_replay s) old new (Ok (Err fault))
-      replay_bad fault judges =
+      pub replay_bad : (t : Settings) (fault : Fault) → Judges u t.0 t.1 (Err (Refused fault)) → LoadsRequest (a_replay s) old new (Ok (Err fault))
+      replay_bad t fault judges =
           replay_read (Err fault)
-          (λ texts is. answered_fault old.told (a_replay s) (for_replay s.budget s.replans texts journal.items) s.budget s.replans fault (judges (read_file old.told s.domain) texts is))
+          (λ texts is. answered_fault old.told (a_replay s) (for_replay s.budget s.replans texts journal.items) t.0 t.1 fault (judges (read_file old.told s.domain) texts is))
 
       -- memory runs out after all files are read
       pub replay_starved : LoadsRequest (a_replay s) old new (Err OutOfMemory)

@@ -1,5 +1,5 @@
 -- The input of a call: what its words and the texts of its files say.
-use Rattle.std.specs.Prelude.{◌≡◌, ℕ, Bool, false, ◌||◌, None, Ok, Err, List, [], ◌∷◌, ◌++◌, codes, map, slice_index_or}
+use Rattle.std.specs.Prelude.{◌≡◌, ℕ, Bool, false, ◌||◌, ◌⊎◌, Some, None, Ok, Err, List, [], ◌∷◌, ◌++◌, codes, map, slice_index_or}
 use Rattle.ps_world.specs.Names.{Table}
 use Rattle.ps_world.specs.Lines.{same_text, line_end}
 use Rattle.ps_world.specs.declared.domains.Domain.{Domain}
@@ -7,6 +7,8 @@ use Rattle.ps_machine.specs.declared.inputs.Input.{Input}
 use Rattle.ps_machine.specs.declared.inputs.Line.{Line}
 use Rattle.ps_words.specs.Words.{Request, SessionRequest}
 use Rattle.ps_words.specs.Words.Request.{a_session, a_check, a_validation, a_replay, a_generation}
+use Rattle.ps_rules.specs.Heads.{Settings}
+use Rattle.ps_entries.specs.Journals.{HasSettings}
 use Rattle.ps_gen.specs.Texts as generator
 use Rattle.ps_pddl.specs.Reading.{IsRead}
 use Rattle.ps_pddl.specs.declared.refusals.DomainRefusal.{DomainRefusal}
@@ -140,6 +142,11 @@ usual_budget = 20000
 abbrev pub usual_replans : ℕ
 usual_replans = 3
 
+-- a replay goes by these settings, where the words say those: by those that the head of its journal says, or by those of the words where
+-- it says none
+abbrev pub GoesBy : Settings → List ℕ → Settings → Type 0
+GoesBy words journal s = HasSettings journal (Some s) ⊎ (HasSettings journal None × (s ≡ words))
+
 -- the texts are read as this work; a session has so many workers as are asked for, and its turns are ordered where that is asked for
 abbrev pub IsWork : Material → Work → Type 0
 IsWork (for_session asked input) (Session s) =
@@ -147,7 +154,7 @@ IsWork (for_session asked input) (Session s) =
 IsWork (for_check domain) (Check names d) = IsDomain domain d names
 IsWork (for_validation input plan) (Validation v) = IsInput 0 0 input v.input v.names × (v.plan.items ≡ plan)
 IsWork (for_replay budget replans input journal) (Replay r) =
-    IsInput budget replans input r.input r.names × (r.journal.items ≡ journal)
+    ((s : Settings) × GoesBy (budget, replans) journal s × IsInput s.0 s.1 input r.input r.names) × (r.journal.items ≡ journal)
 IsWork (for_generation carts) (Generation g) =
     IsInput usual_budget usual_replans (generated carts) g.input g.names × (g.carts ≡ carts)
 IsWork m w = ⊥

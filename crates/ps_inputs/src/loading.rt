@@ -1,17 +1,21 @@
 //! Loading: the work that words and files give.
 ghost use Rattle.ps_words.specs.Words.{IsInRange, replay_said, said, settings_said};
 ghost use Rattle.ps_words.specs.Words.Request.{a_check, a_generation, a_replay, a_session, a_validation};
+ghost use Rattle.std.specs.Prelude.{IfOk};
+ghost use Rattle.ps_rules.specs.Heads.{AreSettings};
 ghost use Rattle.ps_inputs.specs.Faults.{Loads, word_texts};
+ghost use Rattle.ps_inputs.specs.Input.{GoesBy};
 ghost use Rattle.ps_inputs.specs.Parts.{Generates, LoadsRequest};
 
 use crate::faults::Fault;
 use crate::judging::{Loaded, judge};
 use crate::reading::{Judged, generate, read_domain_file, read_input, read_text};
 use crate::works::{Generation, Replay, Session, Validation, Work};
+use ps_entries::settings_in;
 use ps_text::Files;
 use ps_words::{Asked, ReplaySettings, Settings, read_words};
 use ps_world::Failure;
-use std::alloc::Global;
+use std::alloc::{AllocError, Global};
 
 /// How many states a search may reach where the words don't say.
 const USUAL_BUDGET: u32 = 20_000;
@@ -80,8 +84,20 @@ fn load_validation<F: Files>(
     }
 }
 
+/// The settings that a replay goes by: those that the head of its journal says, or these where it says none.
+fn settings_for(alloc: Global, asked: (u32, u8), journal: &[u8]) -> Result<(u32, u8), AllocError>
+    requires { AreSettings asked }
+    ensures goes { IfOk result (GoesBy asked journal.now) }
+    ensures ranged { IfOk result AreSettings }
+{
+    match settings_in(alloc, journal)? {
+        Some(own) => Ok(own),
+        None => Ok(asked),
+    }
+}
+
 /// Reads the files of a replay: the domain's, the script's with the files that it names, the members', and the journal's. Texts that are at
-/// fault are told after all files are read.
+/// fault are told after all files are read. Where the journal says its settings, those of the words aren't used.
 fn load_replay<'a, F: Files>(
     alloc: Global,
     settings: &ReplaySettings<'a>,
@@ -94,7 +110,9 @@ fn load_replay<'a, F: Files>(
     let members = settings.members.as_slice();
     let read = read_input(alloc, settings.domain, settings.script, members, files)?;
     let journal = read_text(alloc, settings.journal, files)?;
-    match judge(alloc, read, settings.budget, settings.replans as u8) {
+    let asked = (settings.budget, settings.replans as u8);
+    let own = settings_for(alloc, asked, &journal)?;
+    match judge(alloc, read, own.0, own.1) {
         Ok(Loaded { names, input }) => Ok(Ok(Work::Replay(Replay {
             names,
             input,

@@ -1,3 +1,4 @@
+pub mod HeadTexts
 pub mod InOrder
 pub mod NameLines
 pub mod ReplyLines

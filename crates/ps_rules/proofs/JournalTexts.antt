@@ -1,9 +1,10 @@
 -- What one more entry adds to the text of a journal.
-use Rattle.std.proofs.Common.{◌≡◌, List, [], ◌∷◌, ◌++◌, ap, sym, ◌∙◌, append_assoc, append-nil}
+use Rattle.std.proofs.Common.{◌≡◌, List, [], ◌∷◌, ◌++◌, Some, ap, sym, ◌∙◌, append_assoc, append-nil}
 use Rattle.ps_world.specs.Names.{Table}
 use Rattle.ps_machine.specs.declared.inputs.Input.{Input}
 use Rattle.ps_machine.specs.declared.journal.Entry.{Entry}
-use Rattle.ps_rules.specs.Journal.{entry_text, header, journal_text, text_after}
+use Rattle.ps_rules.specs.Heads.{head_text, settings_of}
+use Rattle.ps_rules.specs.Journal.{entry_text, journal_text, text_after}
 
 -- the text of two stretches of entries is that of the one, and then that of the other after it
 pub text_after-append : (names : Table) (i : Input) (before es fs : List Entry)
@@ -18,8 +19,9 @@ text_after-append names i before (e ∷ es) fs =
 pub journal_text-append : (names : Table) (i : Input) (es fs : List Entry)
     → journal_text names i (es ++ fs) ≡ journal_text names i es ++ text_after names i es fs
 journal_text-append names i es fs =
-    ap (λ text. header ++ text) (text_after-append names i [] es fs)
-    ∙ sym (append_assoc header (text_after names i [] es) (text_after names i es fs))
+    let head = head_text (Some (settings_of i)) in
+    ap (λ text. head ++ text) (text_after-append names i [] es fs)
+    ∙ sym (append_assoc head (text_after names i [] es) (text_after names i es fs))
 
 -- the text of one more entry stands at the end
 pub journal_text-push : (names : Table) (i : Input) (es : List Entry) (e : Entry)

@@ -79,7 +79,7 @@ note-step i es (event.Feedback r p percent text) sound legal =
 note-step i es e sound legal = tt
 
 pub histories_are_read_back : HistoriesAreReadBack
-histories_are_read_back names i es lines sound h =
-    AreEntriesIn-noted names i es lines
+histories_are_read_back head names i es lines sound h =
+    AreEntriesIn-noted head names i es lines
     (by-entry i (λ es. All (λ e. HasNote e.what) es) (λ k d below. absurd (omega (arith, below)))
     (λ es e kept legal. All-push (λ x. HasNote x.what) es e kept (note-step i es e.what sound legal)) es h)

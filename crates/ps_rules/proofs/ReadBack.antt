@@ -23,8 +23,9 @@ use Rattle.ps_action.specs.Texts.{step_line}
 use Rattle.ps_action.specs.declared.acts.PlanStep.{PlanStep}
 use Rattle.ps_action.specs.declared.answers.Answer.{Answer}
 use Rattle.ps_action.specs.declared.answers.Answer.TheVariants as answer
+use Rattle.ps_rules.specs.Heads.{Head, Settings, bare_title, head_lines, head_text, settings_line, title}
 use Rattle.ps_rules.specs.Known.{know}
-use Rattle.ps_rules.specs.Journal.{in_order, instance_text, goal_line, plan_lines, answer_lines, reply_lines, reply_mark, reply_text, entry_text, text_after, tree_of, journal_text, AreEntriesIn}
+use Rattle.ps_rules.specs.Journal.{in_order, instance_text, goal_line, plan_lines, answer_lines, reply_lines, reply_mark, reply_text, entry_text, text_after, tree_of, text_with, AreEntriesIn}
 use Rattle.ps_world.specs.Lines.{AreLines}
 use Rattle.ps_world.specs.declared.conditions.Cond.{Cond}
 use Rattle.ps_world.specs.declared.domains.Decl.{Decl}
@@ -38,7 +39,7 @@ use Rattle.ps_machine.specs.declared.journal.Event.{Event}
 use Rattle.ps_machine.specs.declared.journal.Event.TheVariants as event
 use Rattle.ps_machine.specs.declared.journal.Entry.{Entry}
 use Rattle.ps_world.proofs.Digits.{is_ink, is_inked, is_inked-decimal}
-use Rattle.ps_world.proofs.OneLine.{are_lines, are_lines-map, is_line-append, is_line-name, is_line-fact, is_line-value, is_line-goal, is_line-number, is_line-args, is_line-decl, are_lines-action, are_lines-domain}
+use Rattle.ps_world.proofs.OneLine.{are_lines, are_lines-map, is_line-append, is_line-name, is_line-fact, is_line-value, is_line-goal, is_line-number, is_line-decimal, is_line-args, is_line-decl, are_lines-action, are_lines-domain}
 use Rattle.ps_machine.proofs.EntryLines.{HasNote, is_line-noted, noted-of}
 use Rattle.ps_action.specs.Trees.{tree_text}
 use Rattle.ps_rules.specs.Laws.{EntriesAreReadBack}
@@ -188,12 +189,27 @@ kept-text_after names i before (e ∷ es) h noted =
     kept-entry names i before e (text_after names i (before ++ e ∷ []) es) h here
     ∙ ap (λ more. entry_line names e ∷ more) (kept-text_after names i (before ++ e ∷ []) es h later)
 
+is_line-settings : (s : Settings) → is_line (settings_line s) ≡ true
+is_line-settings s =
+    let last = codes " replans " ++ decimal s.1 in
+    is_line-append (codes "settings budget ") (decimal s.0 ++ last) refl
+    (is_line-append (decimal s.0) last (is_line-decimal s.0) (is_line-append (codes " replans ") (decimal s.1) refl (is_line-decimal s.1)))
+
+-- the lines of a head stand before those of the text after it
+pub lines_of-head : (head : Head) (rest : List ℕ) → lines_of (head_text head ++ rest) ≡ head_lines head ++ lines_of rest
+lines_of-head None rest = lines_of-line bare_title rest refl
+lines_of-head (Some s) rest =
+    ap (λ text. lines_of (title ++ 10 ∷ text)) (append_assoc (settings_line s) (10 ∷ []) rest)
+    ∙ lines_of-line title (settings_line s ++ 10 ∷ rest) refl
+    ∙ ap (λ lines. title ∷ lines) (lines_of-line (settings_line s) rest (is_line-settings s))
+
 -- where all notes are in form
-pub AreEntriesIn-noted : (names : Table) (i : Input) (es : List Entry) → AreLines names → All (λ e. HasNote e.what) es → AreEntriesIn names (journal_text names i es) es
-AreEntriesIn-noted names i es h noted =
-    ap (λ lines. kept (drop 1 lines)) (lines_of-line (codes "plansys-journal 1") (text_after names i [] es) refl)
-    ∙ kept-text_after names i [] es h noted
+pub AreEntriesIn-noted : (head : Head) (names : Table) (i : Input) (es : List Entry) → AreLines names → All (λ e. HasNote e.what) es
+    → AreEntriesIn head names (text_with head names i es) es
+AreEntriesIn-noted None names i es h noted = ap (λ lines. kept (drop 1 lines)) (lines_of-head None (text_after names i [] es)) ∙ kept-text_after names i [] es h noted
+AreEntriesIn-noted (Some s) names i es h noted =
+    ap (λ lines. kept (drop 2 lines)) (lines_of-head (Some s) (text_after names i [] es)) ∙ kept-text_after names i [] es h noted
 
 pub AreEntriesIn-journal_text : EntriesAreReadBack
-AreEntriesIn-journal_text names count i es h of =
-    AreEntriesIn-noted names i es h (λ k d below. noted-of count (get_or es k d).what (of k d below))
+AreEntriesIn-journal_text head names count i es h of =
+    AreEntriesIn-noted head names i es h (λ k d below. noted-of count (get_or es k d).what (of k d below))

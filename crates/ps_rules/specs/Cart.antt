@@ -149,7 +149,8 @@ cart_entries =
 -- its journal, line by line
 abbrev pub cart_text : List ℕ
 cart_text =
-    codes "plansys-journal 1" ++ (10 ∷ codes "0 edit terminal 1 set instance c1 cart")
+    codes "plansys-journal 2" ++ (10 ∷ codes "settings budget 20000 replans 3")
+    ++ (10 ∷ codes "0 edit terminal 1 set instance c1 cart")
     ++ (10 ∷ codes "0 edit terminal 2 set predicate (ready c1)")
     ++ (10 ∷ codes "0 edit terminal 3 set function (= (load c1) 999999999999.999)")
     ++ (10 ∷ codes "0 edit terminal 4 set function (= (cap) 0.001)")

@@ -1,5 +1,5 @@
 -- The text of a journal, and the entries that a text has.
-use Rattle.std.specs.Prelude.{◌≡◌, ℕ, not, Option, Some, None, List, [], ◌∷◌, ◌++◌, codes, fold, map, filter, drop, nat_eq}
+use Rattle.std.specs.Prelude.{◌≡◌, ℕ, not, Option, Some, None, List, [], ◌∷◌, ◌++◌, codes, fold, length, map, filter, drop, nat_eq}
 use Rattle.std.specs.List.{flat_map, range_with_len, starts_with}
 use Rattle.std.specs.Option.{option_map_or}
 use Rattle.std.specs.BTreeSet.{insert_key}
@@ -17,6 +17,7 @@ use Rattle.ps_action.specs.Texts.{step_line}
 use Rattle.ps_action.specs.declared.answers.Answer.{Answer}
 use Rattle.ps_action.specs.declared.answers.Answer.TheVariants as answer
 use Rattle.ps_action.specs.Arcs.{is_arc}
+use Rattle.ps_rules.specs.Heads.{Head, head_lines, head_text, settings_of}
 use Rattle.ps_rules.specs.Known.{grounds, know}
 use Rattle.ps_rules.specs.Runs.{plan, state}
 use Rattle.ps_rules.specs.Settled.{places}
@@ -91,23 +92,27 @@ reply_text lines = flat_map (λ line. reply_mark ++ (line ++ line_end)) lines
 abbrev pub entry_text : Table → Input → List Entry → Entry → List ℕ
 entry_text names i es e = entry_line names e ++ (line_end ++ reply_text (reply_lines names i es e.what))
 
--- the first line of a journal
-abbrev pub header : List ℕ
-header = codes "plansys-journal 1" ++ line_end
-
 -- the text of entries that come after those before them
 abbrev pub text_after : Table → Input → List Entry → List Entry → List ℕ
 text_after names i before [] = []
 text_after names i before (e ∷ es) = entry_text names i before e ++ text_after names i (before ++ e ∷ []) es
 
--- the text of a journal
+-- the text of a journal with this head
+abbrev pub text_with : Head → Table → Input → List Entry → List ℕ
+text_with head names i es = head_text head ++ text_after names i [] es
+
+-- the text of a journal, which begins with the settings of its input
 abbrev pub journal_text : Table → Input → List Entry → List ℕ
-journal_text names i es = header ++ text_after names i [] es
+journal_text names i es = text_with (Some (settings_of i)) names i es
 
--- the entry lines of a text: all but the header and the lines that begin with two spaces
-abbrev pub entry_lines : List ℕ → List (List ℕ)
-entry_lines text = filter (λ line. not (starts_with nat_eq line reply_mark)) (drop 1 (lines_of text))
+-- its text in version 1, which doesn't say them
+abbrev pub bare_text : Table → Input → List Entry → List ℕ
+bare_text names i es = text_with None names i es
 
--- These are the entries of the text: its entry lines are their lines, one for one.
-abbrev pub AreEntriesIn : Table → List ℕ → List Entry → Type 0
-AreEntriesIn names text es = entry_lines text ≡ map (entry_line names) es
+-- the entry lines of a text with this head: all lines but those of the head and those that begin with two spaces
+abbrev pub entry_lines : Head → List ℕ → List (List ℕ)
+entry_lines head text = filter (λ line. not (starts_with nat_eq line reply_mark)) (drop (length (head_lines head)) (lines_of text))
+
+-- These are the entries of the text with this head: its entry lines are their lines, one for one.
+abbrev pub AreEntriesIn : Head → Table → List ℕ → List Entry → Type 0
+AreEntriesIn head names text es = entry_lines head text ≡ map (entry_line names) es

@@ -32,7 +32,8 @@ use Rattle.ps_rules.specs.History.{forced, IsHistory, IsWhole}
 use Rattle.ps_rules.specs.Same.{first_alike, same_acts, same_cause, same_edit, same_outcome, same_query}
 use Rattle.ps_rules.specs.Choices.{Actor, Says, session_ordered, turn}
 use Rattle.ps_rules.specs.Sound.{IsSound}
-use Rattle.ps_rules.specs.Journal.{AreEntriesIn, journal_text}
+use Rattle.ps_rules.specs.Heads.{Head}
+use Rattle.ps_rules.specs.Journal.{AreEntriesIn, text_with}
 
 -- whether an event may change what is known
 abbrev pub is_change : Event → Bool
@@ -184,19 +185,19 @@ LegalEventsSpeak =
 
 -- ---- the journal's text
 
--- The entries that stand in the text of a journal are those of the journal, where no name of the table has a line feed in it, and the
--- names and the notes of the entries are in form.
+-- The entries that stand in the text of a journal, in either version, are those of the journal, where no name of the table has a line
+-- feed in it, and the names and the notes of the entries are in form.
 abbrev pub EntriesAreReadBack : Type 0
 EntriesAreReadBack =
-    (names : Table) (count : ℕ) (i : Input) (es : List Entry) → AreLines names → All (λ e. IsEventOf count e.what) es
-    → AreEntriesIn names (journal_text names i es) es
+    (head : Head) (names : Table) (count : ℕ) (i : Input) (es : List Entry) → AreLines names → All (λ e. IsEventOf count e.what) es
+    → AreEntriesIn head names (text_with head names i es) es
 
--- The entries that stand in the text of a history of a sound input are those of the history, where no name of the table has a line feed
--- in it.
+-- The entries that stand in the text of a history of a sound input, in either version, are those of the history, where no name of the
+-- table has a line feed in it.
 abbrev pub HistoriesAreReadBack : Type 0
 HistoriesAreReadBack =
-    (names : Table) (i : Input) (es : List Entry) → AreLines names → IsSound i → IsHistory i es
-    → AreEntriesIn names (journal_text names i es) es
+    (head : Head) (names : Table) (i : Input) (es : List Entry) → AreLines names → IsSound i → IsHistory i es
+    → AreEntriesIn head names (text_with head names i es) es
 
 -- ---- sameness
 

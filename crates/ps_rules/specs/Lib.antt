@@ -1,6 +1,7 @@
 pub mod Auctions
 pub mod Cart
 pub mod Choices
+pub mod Heads
 pub mod History
 pub mod Journal
 pub mod Known

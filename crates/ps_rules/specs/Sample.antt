@@ -81,7 +81,8 @@ sample_entries =
 -- its journal, line by line
 abbrev pub sample_text : List ℕ
 sample_text =
-    codes "plansys-journal 1" ++ (10 ∷ codes "0 edit terminal 1 set instance leia robot")
+    codes "plansys-journal 2" ++ (10 ∷ codes "settings budget 20000 replans 3")
+    ++ (10 ∷ codes "0 edit terminal 1 set instance leia robot")
     ++ (10 ∷ codes "0 edit terminal 2 set instance hall room")
     ++ (10 ∷ codes "0 edit terminal 3 set predicate (robot_at leia hall)")
     ++ (10 ∷ codes "0 refused terminal 4 WrongType 0")

@@ -1,10 +1,11 @@
 -- What calls that write a session come to.
-use Rattle.std.proofs.Common.{◌≡◌, ℕ, nat_lt, Bool, false, IfOk, Result, Ok, Err, length, refl, ap, sym, subst}
+use Rattle.std.proofs.Common.{◌≡◌, ℕ, nat_lt, Bool, false, IfOk, Some, Result, Ok, Err, length, refl, ap, sym, subst}
 use Rattle.ps_world.specs.Names.{Table}
 use Rattle.ps_machine.specs.declared.inputs.Input.{Input}
 use Rattle.ps_rules.specs.Choices.{Says}
 use Rattle.ps_rules.specs.History.{IsHistory, status_of}
-use Rattle.ps_rules.specs.Journal.{header, journal_text}
+use Rattle.ps_rules.specs.Heads.{head_text, settings_of}
+use Rattle.ps_rules.specs.Journal.{journal_text}
 use Rattle.ps_rules.specs.Sound.{IsSound}
 use Rattle.ps_rules.proofs.Notes.{histories_are_read_back}
 use Rattle.ps_text.specs.Names.{AreNames}
@@ -20,7 +21,7 @@ use Rattle.ps_session.specs.Session.{IsSession, Runs}
 use Rattle.ps_session.specs.declared.ways.Turns.{Turns}
 use Rattle.ps_session.proofs.Advancing.{idle-first}
 use Rattle.ps_session.proofs.Journals.{journal-of}
-use Rattle.ps_session.proofs.Writing.{counts-work, cut-between, cut-header, cut-nothing, cut-on, no-more, work-since, written-first, written-on}
+use Rattle.ps_session.proofs.Writing.{counts-work, cut-between, cut-head, cut-nothing, cut-on, no-more, work-since, written-first, written-on}
 
 -- ---- one line
 
@@ -74,8 +75,8 @@ pub line-of : (how : Turns) (says : Says) (i : Input) (names : Table) (b new : S
 line-of how says i names b new start old now r w line = subst (λ j. WritesLine how says j names b new old now r) w.idle.input line start w
 
 module _ (how : Turns) (i : Input) (names : Table) (b : Shown) (start now : SinkView) where
-  pub header-cut : (why : SinkRefusal) → Puts header start now (Err why) → WritesLines how i names b start now (Err why)
-  header-cut why put = record { journal = tt; text = tt; cut = cut-header how i names start now why put; counted = counts-work (Unit {0}) (Unit {0}) start now why put.counted }
+  pub head-cut : (why : SinkRefusal) → PutsWork (head_text (Some (settings_of i))) start now (Err why) → WritesLines how i names b start now (Err why)
+  head-cut why put = record { journal = tt; text = tt; cut = cut-head how i names start now why put; counted = work-since (Unit {0}) (Unit {0}) start start now why refl refl put.counted }
 
   pub line-cut : (says : Says) (why : SinkRefusal) → WritesOn how says i names b start now (Err why) → WritesLines how i names b start now (Err why)
   line-cut says why on = record { journal = tt; text = tt; cut = on.cut; counted = work-since Bool (Unit {0}) start start now why refl refl on.counted }
@@ -97,15 +98,15 @@ module _ (how : Turns) (i : Input) (names : Table) (b : Shown) (start now : Sink
   session-done status table sound answer w =
       let session : IsSession how i names (journal_text names i b.entries) status = record {
         journal = b.entries;
-        entries = histories_are_read_back names i b.entries (AreLines-names names table) sound w.journal.history;
+        entries = histories_are_read_back (Some (settings_of i)) names i b.entries (AreLines-names names table) sound w.journal.history;
         text = refl;
         is = w.journal;
         answer = answer;
       } in
       record { done = (journal_text names i b.entries, w.text, session); cut = tt; counted = w.counted }
 
--- the header was written of a session of which nothing was done
-pub lines-begun : (how : Turns) (says : Says) (i : Input) (names : Table) (b : Shown) (start now : SinkView) → b ≡ nothing_done i → Puts header start now (Ok tt) → IsWritten how says i names b start now
+-- the head was written of a session of which nothing was done
+pub lines-begun : (how : Turns) (says : Says) (i : Input) (names : Table) (b : Shown) (start now : SinkView) → b ≡ nothing_done i → PutsWork (head_text (Some (settings_of i))) start now (Ok tt) → IsWritten how says i names b start now
 lines-begun how says i names b start now fresh put = written-first how says i names b start now (idle-first i b fresh) (ap (λ (s : Shown). s.entries) fresh) put
 
 -- memory ran out before anything was written

@@ -1,5 +1,5 @@
 -- A session that is written as it goes on.
-use Rattle.std.proofs.Common.{◌≡◌, ◌≢◌, ℕ, ◌==◌, ◌⊎◌, inl, inr, Bool, true, false, None, Result, Ok, Err, List, [], ◌++◌, drop, length, length-append, nat_lt, ◌+◌, ◌≤◌, refl, arith, ap, sym, ◌∙◌, subst, append-nil}
+use Rattle.std.proofs.Common.{◌≡◌, ◌≢◌, ℕ, ◌==◌, ◌⊎◌, inl, inr, Bool, true, false, Some, None, Result, Ok, Err, List, [], ◌++◌, drop, length, length-append, nat_lt, ◌+◌, ◌≤◌, refl, arith, ap, sym, ◌∙◌, subst, append-nil}
 use Rattle.std.specs.Io.KnownBytes.{Appends}
 use Rattle.std.proofs.KnownBytes.{Appends-trans}
 use Rattle.std.proofs.lemmas.Bool.Decides.{nat_tests}
@@ -10,7 +10,8 @@ use Rattle.ps_machine.specs.declared.journal.Entry.{Entry}
 use Rattle.ps_rules.specs.Choices.{Says}
 use Rattle.ps_rules.specs.History.{IsHistory}
 use Rattle.ps_rules.specs.History.IsHistory.{nothing}
-use Rattle.ps_rules.specs.Journal.{header, journal_text}
+use Rattle.ps_rules.specs.Heads.{head_text, settings_of}
+use Rattle.ps_rules.specs.Journal.{journal_text}
 use Rattle.ps_rules.specs.Lines.{next_line}
 use Rattle.ps_rules.specs.Runs.{is_running}
 use Rattle.ps_rules.proofs.JournalTexts.{journal_text-append}
@@ -162,14 +163,15 @@ module _ (how : Turns) (says : Says) (i : Input) (b new : Shown) (from : ℕ) (w
 
 -- ---- the beginning
 
--- the header is written
+-- the head is written
 pub written-first : (how : Turns) (says : Says) (i : Input) (names : Table) (b : Shown) (start now : SinkView) → IsIdle i b → b.entries ≡ []
-    → Puts header start now (Ok tt) → IsWritten how says i names b start now
+    → PutsWork (head_text (Some (settings_of i))) start now (Ok tt) → IsWritten how says i names b start now
 written-first how says i names b start now idle none put = record {
   idle = idle;
   begun = subst (IsBegun how says i) (sym none) (begun-start how says i);
   history = subst (IsHistory i) (sym none) nothing;
-  text = subst (λ es. Appends start.bytes now.bytes (journal_text names i es)) (sym none) put.whole;
+  text = subst (λ es. Appends start.bytes now.bytes (journal_text names i es)) (sym none)
+      (subst (Appends start.bytes now.bytes) (sym (append-nil (head_text (Some (settings_of i))))) put.whole);
   failures = put.counted.0;
   refusals = put.counted.1;
 }
@@ -178,11 +180,12 @@ written-first how says i names b start now idle none put = record {
 pub cut-nothing : (how : Turns) (i : Input) (names : Table) (s : SinkView) → IsCut how i names s s
 cut-nothing how i names s = record { journal = []; begins = beginning-first how i; text = AppendsPrefix-nil s.bytes _; stop = at_start refl }
 
--- the header is cut off
-pub cut-header : (how : Turns) (i : Input) (names : Table) (start now : SinkView) (why : SinkRefusal) → Puts header start now (Err why) → IsCut how i names start now
-cut-header how i names start now why put = record {
+-- the head is cut off: its write was refused, or memory ran out before
+pub cut-head : (how : Turns) (i : Input) (names : Table) (start now : SinkView) (why : SinkRefusal) → PutsWork (head_text (Some (settings_of i))) start now (Err why)
+    → IsCut how i names start now
+cut-head how i names start now why put = record {
   journal = [];
   begins = beginning-first how i;
-  text = put.prefix;
-  stop = at_refusal (refused-once (Unit {0}) start now why put.counted);
+  text = subst (AppendsPrefix start.bytes now.bytes) (sym (append-nil (head_text (Some (settings_of i))))) put.prefix;
+  stop = elim put.stop [ inl once ↦ at_refusal once | inr same ↦ at_start same ];
 }

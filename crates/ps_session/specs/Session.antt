@@ -1,5 +1,5 @@
 -- What a session does, and what it writes.
-use Rattle.std.specs.Prelude.{◌≡◌, ℕ, ◌≤◌, false, List, ◌∷◌, ◌++◌, Option, All, Result, IfOk, OnErr}
+use Rattle.std.specs.Prelude.{◌≡◌, ℕ, ◌≤◌, false, List, ◌∷◌, ◌++◌, Option, Some, All, Result, IfOk, OnErr}
 use Rattle.std.specs.Bool.{Decides}
 use Rattle.std.specs.Io.KnownBytes.{Appends}
 use Rattle.ps_world.specs.Names.{Table}
@@ -7,6 +7,7 @@ use Rattle.ps_action.specs.Search.{answer}
 use Rattle.ps_action.specs.declared.acts.Act.{Act}
 use Rattle.ps_action.specs.declared.answers.Answer.TheVariants.{Plan}
 use Rattle.ps_rules.specs.Choices.{session_ordered}
+use Rattle.ps_rules.specs.Heads.{settings_of}
 use Rattle.ps_rules.specs.History.{IsHistory, IsWhole, status_of}
 use Rattle.ps_rules.specs.Journal.{AreEntriesIn, journal_text}
 use Rattle.ps_rules.specs.Known.{know}
@@ -77,7 +78,7 @@ pub record IsJournal (how : Turns) (i : Input) (es : List Entry) : Type 0 where
 -- journal, the bytes are just the text of that journal, and the status is a function of it.
 pub record IsSession (how : Turns) (i : Input) (names : Table) (bytes : List ℕ) (status : ℕ) : Type 0 where
   pub journal : List Entry
-  pub entries : AreEntriesIn names bytes journal
+  pub entries : AreEntriesIn (Some (settings_of i)) names bytes journal
   pub text : journal_text names i journal ≡ bytes
   pub is : IsJournal how i journal
   pub answer : status ≡ status_of journal

@@ -11,7 +11,7 @@ ghost use Rattle.ps_session.specs.Session.{AreTurns, IsJournal, Runs};
 ghost use Rattle.ps_session.specs.declared.ways.Turns.TheVariants.{InOrder};
 
 use super::lines::{advance, advance_by};
-use super::texts::write_entries;
+use super::texts::{write_entries, write_head};
 use super::ways::Turns;
 use ps_board::Board;
 use ps_domain::Expert;
@@ -118,7 +118,7 @@ fn write_lines<R: Threads + Wait + Sync, S: Solver + Sync, G: Gate + Sync, O: Si
     ensures { WritesLines turns board.input names.now result.0 (O.shown out.old) (O.shown out.new)
         result.1 }
 {
-    match put(out, b"plansys-journal 1\n") {
+    match write_head(alloc, board.input(), out) {
         Ok(()) => {}
         Err(why) => return (board, Err(why)),
     }

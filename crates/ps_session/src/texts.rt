@@ -1,5 +1,6 @@
 //! The text of entries with their replies.
-ghost use Rattle.std.specs.Prelude.{◌≡◌, ◌<◌, ◌≤◌, ◌++◌, drop, length, OnOk};
+ghost use Rattle.std.specs.Prelude.{◌≡◌, ◌<◌, ◌≤◌, ◌++◌, drop, length, OnOk, Some};
+ghost use Rattle.ps_rules.specs.Heads.{head_text, settings_of};
 ghost use Rattle.ps_rules.specs.History.{IsHistory};
 ghost use Rattle.ps_replies.specs.Plans.{GivesLeast};
 ghost use Rattle.ps_session.specs.Answers.{AskAtEnd};
@@ -7,8 +8,8 @@ ghost use Rattle.ps_session.specs.Lines.{AsksLast, PutsWork, text_at, text_from}
 
 use super::replies::told;
 use ps_board::Board;
-use ps_journal::{Printed, entry_text};
-use ps_machine::{Entry, Event};
+use ps_journal::{Printed, entry_text, push_head};
+use ps_machine::{Entry, Event, Input};
 use ps_plan::Solver;
 use ps_text::{Names, Sink, SinkRefusal, put};
 use std::alloc::{AllocError, Global};
@@ -41,6 +42,16 @@ fn push_entry<S: Solver>(
             Ok(())
         }
     }
+}
+
+/// Writes the lines that the journal of a session of this input begins with, by one `put`.
+pub fn write_head<O: Sink>(alloc: Global, input: &Input, out: &mut O) -> Result<(), SinkRefusal>
+    ensures { PutsWork (head_text (Some (settings_of input.now))) (O.shown out.old)
+        (O.shown out.new) result }
+{
+    let mut head = Vec::new(alloc);
+    push_head(Some((input.budget, input.replans)), &mut head)?;
+    put(out, &head)
 }
 
 /// Writes the text of the entries from a place on, of which none but the last asks, by one `put`.

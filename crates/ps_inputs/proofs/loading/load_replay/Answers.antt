@@ -3,9 +3,10 @@ use Rattle.std.specs.Borrow.{Bor}
 use Rattle.std.proofs.lemmas.Result.{err_from_is_err_and}
 use Rattle.ps_world.specs.declared.failures.Failure.TheVariants.{Refused}
 use Rattle.ps_words.specs.Words.{replay_said}
+use Rattle.ps_inputs.specs.Input.{GoesBy}
 use Rattle.ps_inputs.specs.Parts.{Judges, ReadsInput}
 use Rattle.ps_inputs.specs.Reading.{read_file}
-use Rattle.ps_inputs.proofs.Loaded.{replay_bad, replay_good, replay_unread, replay_unrecorded}
+use Rattle.ps_inputs.proofs.Loaded.{replay_bad, replay_good, replay_starved, replay_unread, replay_unrecorded}
 use Rattle.ps_inputs.proofs.SoundInput.{input_sound}
 use Rattle.ps_inputs.proofs.loading.load_replay.Goals as goal
 
@@ -24,27 +25,40 @@ returns-in_err-journal g c =
     rw (p.1, p.2)
     (replay_unrecorded s (g.F.Files.shown c.args.files.now) (g.F.Files.shown c.read_input.new.files) (g.F.Files.shown c.read_text.new.files) c.in_ok-read.read h c.in_err-journal.field-0.0 c.in_err-journal.ensures.reads)
 
+pub returns-in_err-own : goal.returns-in_err-own
+returns-in_err-own g c =
+    let p = err_from_is_err_and c.from_residual-in_err-own.result c.from_residual-in_err-own.ensures.1 in
+    let s = replay_said c.args.settings.now in
+    let h = subst (λ (ms : List (Bor (List ℕ))). ReadsInput s.domain s.script (map (λ m. m.now) ms) (g.F.Files.shown c.args.files.now) (g.F.Files.shown c.read_input.new.files) (Ok c.in_ok-read.read)) c.as_slice-members.ensures.value c.in_ok-read.ensures in
+    rw (p.1, p.2)
+    (replay_starved s (g.F.Files.shown c.args.files.now) (g.F.Files.shown c.read_input.new.files) (g.F.Files.shown c.read_text.new.files) c.in_ok-read.read h c.in_ok-journal.journal c.in_ok-journal.ensures.reads)
+
 pub invariant_of-result : goal.invariant_of-result
 invariant_of-result g c =
     let s = replay_said c.args.settings.now in
-    let judges : Judges c.in_ok-read.read s.budget s.replans (Ok c.in-Ok.field-0) = subst (Judges c.in_ok-read.read s.budget s.replans) c.in-Ok.is c.judge.ensures in
+    let t = c.in_ok-own.own in
+    let r = c.in_ok-own.ensures.ranged in
+    let judges : Judges c.in_ok-read.read t.0 t.1 (Ok c.in-Ok.field-0) = subst (Judges c.in_ok-read.read t.0 t.1) c.in-Ok.is c.judge.ensures in
     let judged = judges (read_file (g.F.Files.shown c.args.files.now).told s.domain) c.in_ok-read.ensures.given.1 c.in_ok-read.ensures.given.4 in
     record {
-      sound = input_sound s.budget s.replans c.in_ok-read.ensures.given.1 c.in-Ok.field-0.input c.in-Ok.field-0.names judged.0 judged.1 c.requires.0 c.requires.1 c.requires.2;
+      sound = input_sound t.0 t.1 c.in_ok-read.ensures.given.1 c.in-Ok.field-0.input c.in-Ok.field-0.names judged.0 judged.1 r.0 r.1 r.2;
       short = omega (arith, c.in_ok-journal.ensures.short);
     }
 
 pub returns-in-Ok : goal.returns-in-Ok
 returns-in-Ok g c =
     let s = replay_said c.args.settings.now in
+    let t = c.in_ok-own.own in
     let h = subst (λ (ms : List (Bor (List ℕ))). ReadsInput s.domain s.script (map (λ m. m.now) ms) (g.F.Files.shown c.args.files.now) (g.F.Files.shown c.read_input.new.files) (Ok c.in_ok-read.read)) c.as_slice-members.ensures.value c.in_ok-read.ensures in
+    let goes : GoesBy (s.budget, s.replans) c.in_ok-journal.journal.items t = subst (λ l. GoesBy (s.budget, s.replans) l t) c.deref.ensures.value c.in_ok-own.ensures.goes in
     replay_good s (g.F.Files.shown c.args.files.now) (g.F.Files.shown c.read_input.new.files) (g.F.Files.shown c.read_text.new.files) c.in_ok-read.read h c.in_ok-journal.journal c.in_ok-journal.ensures.reads
-    c.in-Ok.field-0 _ refl refl refl (subst (Judges c.in_ok-read.read s.budget s.replans) c.in-Ok.is c.judge.ensures)
+    t goes c.in-Ok.field-0 _ refl refl refl (subst (Judges c.in_ok-read.read t.0 t.1) c.in-Ok.is c.judge.ensures)
 
 pub returns-in-Err-Refused : goal.returns-in-Err-Refused
 returns-in-Err-Refused g c =
     let s = replay_said c.args.settings.now in
+    let t = c.in_ok-own.own in
     let l : c.judge.result ≡ Err (Refused c.in-Err-Refused.fault) = cc in
     let h = subst (λ (ms : List (Bor (List ℕ))). ReadsInput s.domain s.script (map (λ m. m.now) ms) (g.F.Files.shown c.args.files.now) (g.F.Files.shown c.read_input.new.files) (Ok c.in_ok-read.read)) c.as_slice-members.ensures.value c.in_ok-read.ensures in
     replay_bad s (g.F.Files.shown c.args.files.now) (g.F.Files.shown c.read_input.new.files) (g.F.Files.shown c.read_text.new.files) c.in_ok-read.read h c.in_ok-journal.journal c.in_ok-journal.ensures.reads
-    c.in-Err-Refused.fault (subst (Judges c.in_ok-read.read s.budget s.replans) l c.judge.ensures)
+    t c.in-Err-Refused.fault (subst (Judges c.in_ok-read.read t.0 t.1) l c.judge.ensures)

@@ -1,14 +1,28 @@
-use Rattle.std.proofs.Common.{subst}
-use Rattle.ps_session.specs.Lines.{WritesOn}
-use Rattle.ps_session.proofs.Whole.{line-cut, line-of, lines-begun, lines-done}
+use Rattle.std.proofs.Common.{Some, Ok, Err, subst}
+use Rattle.ps_rules.specs.Heads.{head_text, settings_of}
+use Rattle.ps_session.specs.Lines.{PutsWork, WritesOn}
+use Rattle.ps_session.proofs.Whole.{head-cut, line-cut, line-of, lines-begun, lines-done}
 use Rattle.ps_session.proofs.session.write_lines.Goals as goal
 
+pub returns-in-Err : goal.returns-in-Err
+returns-in-Err g c =
+    let start = g.O.Sink.shown c.args.out.now in
+    let now = g.O.Sink.shown c.write_head.new.out in
+    let put : PutsWork (head_text (Some (settings_of c.args.board.input))) start now (Err c.in-Err.why) =
+    subst (λ i. PutsWork (head_text (Some (settings_of i))) start now (Err c.in-Err.why)) c.input.ensures.input c.in-Err.ensures in
+    head-cut c.args.turns c.args.board.input c.args.names.now c.args.board start now c.in-Err.why put
+
 pub loop-init : goal.loop-init
-loop-init g c = record {
-  next = tt;
-  finite = tt;
-  written = lines-begun c.args.turns (g.S.Solver.says c.args.solver.now) c.args.board.input c.args.names.now c.args.board (g.O.Sink.shown c.args.out.now) (g.O.Sink.shown c.put.new.sink) c.requires.fresh c.in-Ok.ensures;
-}
+loop-init g c =
+    let start = g.O.Sink.shown c.args.out.now in
+    let now = g.O.Sink.shown c.write_head.new.out in
+    let put : PutsWork (head_text (Some (settings_of c.args.board.input))) start now (Ok tt) =
+    subst (λ i. PutsWork (head_text (Some (settings_of i))) start now (Ok tt)) c.input.ensures.input c.in-Ok.ensures in
+    record {
+      next = tt;
+      finite = tt;
+      written = lines-begun c.args.turns (g.S.Solver.says c.args.solver.now) c.args.board.input c.args.names.now c.args.board start now c.requires.fresh put;
+    }
 
 pub returns-in-Ok-false : goal.returns-in-Ok-false
 returns-in-Ok-false g c =

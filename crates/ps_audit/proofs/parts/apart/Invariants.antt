@@ -1,7 +1,7 @@
 use Rattle.std.proofs.Common.{◌≡◌, ◌++◌}
 use Rattle.std.specs.Vec.Iter.{into_iter_items}
 use Rattle.ps_audit.specs.Findings.{entries_of, lines_in}
-use Rattle.ps_audit.proofs.audits.apart.Given as goal
+use Rattle.ps_audit.proofs.parts.apart.Given as goal
 
 abbrev pub invariant-loop-line : goal.invariant-loop-line
 invariant-loop-line l = record {
