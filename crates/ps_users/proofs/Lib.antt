@@ -1,0 +1,3 @@
+pub mod Growing
+pub mod Noted
+pub mod Things
