@@ -1,14 +1,16 @@
 //! What active acts need while they run.
-ghost use Rattle.std.specs.Prelude.{◌≡◌, ℕ, not, ◌≢◌, ◌<◌, ◌≤◌, length, Some, None, false, slice_index_or, OnOk, OnErr};
-ghost use Rattle.ps_action.specs.Truth.{all_true};
-ghost use Rattle.ps_monitor.specs.Watched.{broken, is_false, marked, others, watched};
+ghost use Rattle.std.specs.Prelude.{◌≡◌, ◌≢◌, ℕ, ◌+◌, ◌<◌, ◌≤◌, not, is_some, ◌&&◌, length, Some, None, false, true, if◌then◌else◌, slice_index_or, OnOk, OnErr};
+ghost use Rattle.ps_monitor.specs.Watched.{broken, is_false, is_other, marked, others, watched};
+ghost use Rattle.ps_monitor.specs.Hits.{HeldBefore, hit, is_hit};
 
 use super::acts::Acts;
+use super::judge::{Judge, Judging};
+use super::watch::Watch;
+use super::watches::Watches;
 use ps_action::Touched;
 use ps_domain::Expert;
-use ps_eval::holds_all;
 use ps_problem::Problem;
-use ps_world::{Conds, Duplicate};
+use ps_world::Conds;
 use std::alloc::{AllocError, Global};
 
 /// The watched acts with their over-all conditions.
@@ -16,14 +18,7 @@ use std::alloc::{AllocError, Global};
 pub struct Monitor {
     alloc: Global,
     /// For each act below 256 its condition, if it is watched.
-    pub watches: Vec<Option<Conds>>,
-}
-
-/// Whether a condition is false. What has changed since it was true makes no difference to the answer.
-fn is_false(problem: &Problem, expert: &Expert, over: &Conds, _changed: &[Touched]) -> bool
-    ensures { result ≡ not (all_true expert.now problem.now over.now) }
-{
-    !holds_all(problem, expert, over)
+    pub watches: Watches,
 }
 
 impl Monitor {
@@ -33,7 +28,7 @@ impl Monitor {
     {
         Monitor {
             alloc,
-            watches: Vec::new(alloc),
+            watches: Watches::new(alloc),
         }
     }
 
@@ -44,23 +39,8 @@ impl Monitor {
         ensures others { (other : ℕ) → other ≢ act → watched self.new other ≡ watched self.old other }
         ensures err { OnErr result ((other : ℕ) → watched self.new other ≡ watched self.old other) }
     {
-        let place = act as usize;
-        let over = over.copy(self.alloc)?;
-        self.make_place(place)?;
-        self.watches[place] = Some(over);
-        Ok(())
-    }
-
-    /// Makes sure that there is a place. The only error is running out of memory.
-    fn make_place(&mut self, place: usize) -> Result<(), AllocError>
-        requires { place < 256 }
-        ensures same { (other : ℕ) → watched self.new other ≡ watched self.old other }
-        ensures ok { OnOk result (place < length self.new.watches.items) }
-    {
-        for next in self.watches.len()..place + 1 {
-            self.watches.push(None)?;
-        }
-        Ok(())
+        let watch = Watch::of(self.alloc, over)?;
+        self.watches.put(act, watch)
     }
 
     /// Watches an act no longer.
@@ -68,10 +48,14 @@ impl Monitor {
         ensures same { watched self.new act ≡ None }
         ensures others { (other : ℕ) → other ≢ act → watched self.new other ≡ watched self.old other }
     {
-        let place = act as usize;
-        if place < self.watches.len() {
-            self.watches[place] = None;
-        }
+        self.watches.remove(act);
+    }
+
+    /// Watches nothing any longer.
+    pub fn clear(&mut self)
+        ensures { (act : ℕ) → watched self.new act ≡ None }
+    {
+        self.watches.clear();
     }
 
     /// The number from which on no act is watched.
@@ -83,20 +67,89 @@ impl Monitor {
     }
 
     /// The watched acts whose condition is false, in rising order. `changed` names what has changed since each of them was
-    /// true. The answer is exact whatever it names, for each watched condition is judged: it is handed in so that a monitor may
-    /// look only at those that read what changed. It takes no memory.
-    pub fn broken(&self, problem: &Problem, expert: &Expert, changed: &[Touched]) -> Acts
+    /// true. The answer is exact whatever it names, for each watched condition is judged; `broken_by` judges those alone that read
+    /// what changed. It takes no memory.
+    pub fn broken(&self, problem: &Problem, expert: &Expert, _changed: &[Touched]) -> Acts
         ensures list { (n : ℕ) → n ≤ 256 → marked result n ≡ broken expert.now problem.now self.now n }
         ensures each { (act : ℕ) → act < 256 → slice_index_or result.marks act false
             ≡ is_false expert.now problem.now (watched self.now act) }
     {
+        let mut judge = Judging::new(problem, expert);
         let mut all = Acts::none();
         for act in 0..self.count() {
-            if let Some(Some(over)) = self.watches.get(act as usize) {
-                if is_false(problem, expert, over, changed) {
-                    all.add(act);
-                }
-            }
+            all.set(act, self.watches.is_false(&mut judge, act));
+        }
+        all
+    }
+
+    /// Whether an act is watched and something in a list hits it: a fact or a value that its condition reads, or an instance that it
+    /// names.
+    pub fn is_hit(&self, changed: &[Touched], act: u32) -> bool
+        ensures { result ≡ is_hit changed.now (watched self.now act) }
+    {
+        self.watches.is_hit(changed, act)
+    }
+
+    /// Whether an act is watched, one of these things hits it, and its condition is false. It judges only an act that is hit.
+    fn is_broken<J: Judge>(&self, judge: &mut J, changed: &[Touched], act: u32) -> bool
+        requires { J.count judge.old < 9223372036854775808 }
+        ensures hit { is_hit changed.now (watched self.now act) ≡ true
+            → result ≡ is_false (J.domain judge.old) (J.known judge.old) (watched self.now act) }
+        ensures unhit { is_hit changed.now (watched self.now act) ≡ false → result ≡ false }
+        ensures count { J.count judge.new ≤ J.count judge.old
+            + (if is_hit changed.now (watched self.now act) then 1 else 0) }
+        ensures domain { J.domain judge.new ≡ J.domain judge.old }
+        ensures known { J.known judge.new ≡ J.known judge.old }
+    {
+        if !self.is_hit(changed, act) {
+            return false;
+        }
+        self.watches.is_false(judge, act)
+    }
+
+    /// Whether an act is watched and its condition is false. It judges only an act that is hit.
+    fn judge_act<J: Judge>(
+        &self,
+        judge: &mut J,
+        changed: &[Touched],
+        candidates: &Acts,
+        act: u32,
+    ) -> bool
+        requires act { act < 256 }
+        requires count { J.count judge.old < 9223372036854775808 }
+        requires candidates { (a : ℕ) → a < 256 → is_hit changed.now (watched self.now a) ≡ true
+            → slice_index_or candidates.now.marks a false ≡ true }
+        requires held { HeldBefore (J.domain judge.old) (J.known judge.old) (watched self.now) changed.now }
+        ensures same { result ≡ is_false (J.domain judge.old) (J.known judge.old) (watched self.now act) }
+        ensures count { J.count judge.new ≤ J.count judge.old
+            + (if is_hit changed.now (watched self.now act) then 1 else 0) }
+        ensures domain { J.domain judge.new ≡ J.domain judge.old }
+        ensures known { J.known judge.new ≡ J.known judge.old }
+    {
+        if !candidates.has(act) {
+            return false;
+        }
+        self.is_broken(judge, changed, act)
+    }
+
+    /// The watched acts whose condition is false, where before a change that the list names none was false but of those acts that
+    /// something in the list hits. It judges those alone, and takes no memory.
+    pub fn broken_by<J: Judge>(&self, judge: &mut J, changed: &[Touched]) -> Acts
+        requires count { J.count judge.old ≤ 4611686018427387904 }
+        requires held { HeldBefore (J.domain judge.old) (J.known judge.old) (watched self.now) changed.now }
+        ensures list { (n : ℕ) → n ≤ 256 → marked result n
+            ≡ broken (J.domain judge.old) (J.known judge.old) self.now n }
+        ensures each { (act : ℕ) → act < 256 → slice_index_or result.marks act false
+            ≡ is_false (J.domain judge.old) (J.known judge.old) (watched self.now act) }
+        ensures count { J.count judge.new ≤ J.count judge.old
+            + length (hit changed.now (watched self.now) 256) }
+        ensures domain { J.domain judge.new ≡ J.domain judge.old }
+        ensures known { J.known judge.new ≡ J.known judge.old }
+    {
+        let candidates = self.watches.candidates(changed);
+        let mut all = Acts::none();
+        for act in 0..256 {
+            all.set(act, self.judge_act(judge, changed, &candidates, act));
         }
         all
     }
@@ -107,19 +160,16 @@ impl Monitor {
     {
         let mut all = Acts::none();
         for act in 0..self.count() {
-            if let Some(Some(_)) = self.watches.get(act as usize) {
-                if !these.has(act) {
-                    all.add(act);
-                }
-            }
+            all.set(act, self.is_other(these, act));
         }
         all
     }
 
-    /// Watches nothing any longer.
-    pub fn clear(&mut self)
-        ensures { (act : ℕ) → watched self.new act ≡ None }
+    /// Whether an act is watched and isn't among these.
+    fn is_other(&self, these: &Acts, act: u32) -> bool
+        requires { act < 256 }
+        ensures { result ≡ is_other self.now these.now act }
     {
-        self.watches.clear();
+        self.watches.is_watched(act) && !these.has(act)
     }
 }

@@ -1,0 +1,45 @@
+use Rattle.std.proofs.Common.{◌≡◌, ◌<◌, ◌&&◌, ◌∷◌, [], ℕ, Bool, true, false, if◌then◌else◌, nat_lt, length, slice_index_or, refl, ap, ◌∙◌, arith, length-append}
+use Rattle.std.proofs.lemmas.Bool.Decides.{nat_tests}
+use Rattle.ps_monitor.specs.Hits.{hit, is_hit}
+use Rattle.ps_monitor.specs.Watched.{is_false, watched}
+use Rattle.ps_monitor.proofs.Lists.{few, filter-more, filter-same, one_set, set_length}
+use Rattle.ps_monitor.proofs.monitor.Monitor.broken_by.Goals as goal
+
+one_or_none : (n : ℕ) (b : Bool) → length (if b then n ∷ [] else []) ≡ (if b then 1 else 0)
+one_or_none n true = refl
+one_or_none n false = refl
+
+pub loop-act-preserved : goal.loop-act-preserved
+loop-act-preserved g c =
+    let d = g.J.Judge.domain c.args.judge.now in
+    let k = g.J.Judge.known c.args.judge.now in
+    let inv = c.loop-act.invariant in
+    let n = c.loop-act.act in
+    let over : ℕ → Bool = λ i. is_false d k (watched c.args.self.now i) in
+    let p : ℕ → Bool = λ i. is_hit c.args.changed.now (watched c.args.self.now i) in
+    let more = ap length (filter-more p n) ∙ length-append (hit c.args.changed.now (watched c.args.self.now) n) (if p n then n ∷ [] else []) in
+    let one = one_or_none n (p n) in
+    let is : c.judge_act.result ≡ over n = c.judge_act.ensures.same ∙ (λ i. is_false (inv.domain i) (inv.known i) (watched c.args.self.now n)) in
+    record {
+      domain = c.judge_act.ensures.domain ∙ inv.domain;
+      known = c.judge_act.ensures.known ∙ inv.known;
+      many = ap length c.set.ensures ∙ set_length c.loop-act.all.marks n c.judge_act.result ∙ inv.many;
+      same = λ i. ap (λ l. slice_index_or l i false) c.set.ensures ∙ one_set c.loop-act.all.marks n c.judge_act.result over (omega (arith, inv.many, c.loop-act-test.true)) is inv.same i;
+      count = omega (arith, c.judge_act.ensures.count, inv.count, more, one);
+    }
+
+pub judge_act-requires-clause-count : goal.judge_act-requires-clause-count
+judge_act-requires-clause-count g c =
+    let low = few (λ i. is_hit c.args.changed.now (watched c.args.self.now i)) c.loop-act.act in
+    omega (arith, c.loop-act.invariant.count, c.requires.count, low, c.loop-act-test.true)
+
+pub returns-clause-list : goal.returns-clause-list
+returns-clause-list g c = λ n low.
+    let d = g.J.Judge.domain c.args.judge.now in
+    let k = g.J.Judge.known c.args.judge.now in
+    let over : ℕ → Bool = λ i. is_false d k (watched c.args.self.now i) in
+    filter-same (λ i. slice_index_or c.loop-act.all.marks i false) over 0 n
+    (λ i above below.
+    let high : i < c.loop-act.act = omega (arith, below, low, c.loop-act-test.false) in
+    let lt : nat_lt i c.loop-act.act ≡ true = grind (arith, nat_tests, high) in
+    c.loop-act.invariant.same i ∙ ap (λ b. b && over i) lt)
