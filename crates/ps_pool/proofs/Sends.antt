@@ -25,6 +25,8 @@ use Rattle.ps_world.proofs.lists.Seq.TheSendSync as seq
 use Rattle.ps_action.specs.contracts.acts.GroundAction as GroundAction
 use Rattle.ps_action.proofs.acts.Act.TheSendSync as act
 use Rattle.ps_action.proofs.arcs.Arcs.TheSendSync as arcs
+use Rattle.ps_action.proofs.touched.Touched.TheSendSync as touched
+use Rattle.ps_users.proofs.users.Users.TheSendSync as users
 use Rattle.ps_domain.specs.contracts.declared.Declared as Declared
 use Rattle.ps_domain.specs.contracts.expert.Expert as Expert
 use Rattle.ps_domain.proofs.index.Index.TheSendSync as index
@@ -34,6 +36,8 @@ use Rattle.ps_problem.proofs.problem.values.Values.TheSendSync as values
 use Rattle.ps_ledger.proofs.ledger.Ledger.TheSendSync as ledger
 use Rattle.ps_tree.proofs.tree.Tree.TheSendSync as tree
 use Rattle.ps_monitor.specs.contracts.monitor.Monitor as Monitor
+use Rattle.ps_monitor.specs.contracts.watch.Watch as Watch
+use Rattle.ps_monitor.specs.contracts.watches.Watches as Watches
 use Rattle.ps_rows.specs.contracts.present.Present as Present
 use Rattle.ps_board.specs.contracts.board.Board as Board
 use Rattle.ps_board.specs.contracts.whole.Core as Core
@@ -117,8 +121,14 @@ problem_send = search (sendable, crosses, maps, name.the_field_send, cond_send, 
 instance_send : IsSend GroundAction.the_field.row
 instance_send = search (parts, expr_send, conditions_send, effects_send, act.the_field_send) depth 12
 
+watch_send : IsSend Watch.the_row
+watch_send = search (parts, conds_send, touched.the_send) depth 12
+
+watches_send : IsSend Watches.the_row
+watches_send = search (sendable, crosses, watch_send, users.the_send) depth 12
+
 monitor_send : IsSend Monitor.the_field.row
-monitor_send = search (parts, conds_send) depth 12
+monitor_send = search (sendable, crosses, watches_send) depth 12
 
 present_send : IsSend Present.the_field.row
 present_send = search (sendable, crosses, expert_send, problem_send, instance_send, ledger.the_field_send, arcs.the_send, tree.the_send) depth 20 fits 8000
