@@ -12,4 +12,6 @@ mod touching;
 #[cfg(test)]
 mod trees;
 #[cfg(test)]
+mod watching;
+#[cfg(test)]
 mod worlds;
