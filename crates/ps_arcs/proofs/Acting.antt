@@ -18,7 +18,7 @@ use Rattle.ps_action.specs.Arcs.{changes, is_arc, reads, same_thing}
 use Rattle.ps_arcs.specs.Laws.{EndAlike, LeavesAlone, LeavesOthers}
 use Rattle.ps_arcs.proofs.Alike.{conditions_read_things, effects_leave_others, effects_read_things}
 use Rattle.ps_arcs.proofs.Alone.{no_arc_leaves_alone}
-use Rattle.ps_arcs.proofs.Things.{absent, among, thing_itself, thing_same, true_false}
+use Rattle.ps_users.proofs.Things.{absent, among, thing_itself, thing_same, true_false}
 
 -- ---- what is read and changed
 

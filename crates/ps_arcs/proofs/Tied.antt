@@ -11,7 +11,8 @@ use Rattle.ps_action.specs.declared.acts.GroundAction.{GroundAction}
 use Rattle.ps_action.specs.declared.touched.Touched.{Touched}
 use Rattle.ps_action.specs.Arcs.{are_tied, changes, is_arc, meet, reads, same_thing}
 use Rattle.ps_arcs.specs.Listing.{are_met, touching}
-use Rattle.ps_arcs.specs.Users.{AreTied, AreUses, Marks, Users, is_tied, uses}
+use Rattle.ps_users.specs.Users.{Marks, Users, uses}
+use Rattle.ps_arcs.specs.Indexed.{AreTied, AreUses, is_tied}
 
 -- ---- which acts use one of several things
 

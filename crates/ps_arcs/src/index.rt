@@ -2,11 +2,12 @@
 ghost use Rattle.std.specs.Prelude.{◌≡◌, ◌≤◌, ◌<◌, nat_eq, [], length, All, IfOk, OnOk};
 ghost use Rattle.std.specs.List.{list_all, list_any};
 ghost use Rattle.ps_action.specs.Arcs.{changes, reads};
-ghost use Rattle.ps_arcs.specs.Users.{AreTied, AreWithin, Enters, IsIndexed, Marks, is_tied, uses};
+ghost use Rattle.ps_users.specs.Users.{AreWithin, Enters, Marks, uses};
+ghost use Rattle.ps_arcs.specs.Indexed.{AreTied, IsIndexed, is_tied};
 
 use super::touching::Touching;
-use super::users::Users;
 use ps_action::{GroundAction, Touched};
+use ps_users::Users;
 use std::alloc::{AllocError, Global};
 use std::marker::Model;
 
@@ -24,7 +25,7 @@ impl<'a> Model for Index<'a> {
     ghost use Rattle.std.specs.Coded.{coded_list};
     ghost use Rattle.ps_action.specs.declared.acts.GroundAction.{GroundAction};
     ghost use Rattle.ps_action.specs.contracts.acts.GroundAction.{the_row};
-    ghost use Rattle.ps_arcs.specs.Users.{IsIndexed};
+    ghost use Rattle.ps_arcs.specs.Indexed.{IsIndexed};
 
     ghost Value = { List GroundAction };
 

@@ -5,7 +5,6 @@ mod arcs;
 mod index;
 mod laws;
 mod touching;
-mod users;
 
 pub use arcs::arcs_of;
 pub use laws::{

@@ -1,5 +1,5 @@
 use Rattle.std.proofs.Common.{take}
-use Rattle.ps_arcs.specs.Users.{IsIndexed}
+use Rattle.ps_arcs.specs.Indexed.{IsIndexed}
 use Rattle.ps_arcs.proofs.index.enter_actions.Given as goal
 
 abbrev pub invariant-loop-place : goal.invariant-loop-place

@@ -1,6 +1,6 @@
 use Rattle.std.proofs.Common.{nat_eq, take}
 use Rattle.std.specs.List.{list_any}
-use Rattle.ps_arcs.specs.Users.{Marks}
+use Rattle.ps_users.specs.Users.{Marks}
 use Rattle.ps_arcs.proofs.index.mark.Given as goal
 
 abbrev pub invariant-loop-place : goal.invariant-loop-place

@@ -1,4 +1,4 @@
-use Rattle.ps_arcs.proofs.Noted.{places_within}
+use Rattle.ps_users.proofs.Noted.{places_within}
 use Rattle.std.proofs.Common.{length, sym, ◌∙◌}
 use Rattle.ps_arcs.proofs.Tied.{all_marked}
 use Rattle.ps_arcs.proofs.index.mark_all.Goals as goal

@@ -1,6 +1,6 @@
 use Rattle.std.proofs.Common.{take}
 use Rattle.std.specs.List.{list_any}
-use Rattle.ps_arcs.specs.Users.{Marks, uses}
+use Rattle.ps_users.specs.Users.{Marks, uses}
 use Rattle.ps_arcs.proofs.index.mark_all.Given as goal
 
 abbrev pub invariant-loop-thing : goal.invariant-loop-thing

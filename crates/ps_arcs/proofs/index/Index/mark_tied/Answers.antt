@@ -2,7 +2,8 @@ use Rattle.std.proofs.Common.{List, length, ap, sym, ◌∙◌, subst}
 use Rattle.std.specs.List.{list_any}
 use Rattle.ps_action.specs.declared.acts.GroundAction.{GroundAction}
 use Rattle.ps_action.specs.Arcs.{changes, reads}
-use Rattle.ps_arcs.specs.Users.{Marks, is_tied, uses}
+use Rattle.ps_users.specs.Users.{Marks, uses}
+use Rattle.ps_arcs.specs.Indexed.{is_tied}
 use Rattle.ps_arcs.proofs.Noted.{users_within}
 use Rattle.ps_arcs.proofs.Tied.{tied_marked}
 use Rattle.ps_arcs.proofs.index.Index.mark_tied.Goals as goal

@@ -4,7 +4,7 @@ use Rattle.std.proofs.lemmas.List.{get_or-replicate, take_at}
 use Rattle.std.proofs.lemmas.Option.{slice_get_read}
 use Rattle.ps_action.specs.declared.acts.GroundAction.{GroundAction}
 use Rattle.ps_arcs.specs.Listing.{touching}
-use Rattle.ps_arcs.specs.Users.{AreTied}
+use Rattle.ps_arcs.specs.Indexed.{AreTied}
 use Rattle.ps_arcs.proofs.Tied.{tied_told}
 use Rattle.ps_arcs.proofs.index.Index.tied.Goals as goal
 
