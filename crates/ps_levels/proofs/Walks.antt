@@ -75,3 +75,30 @@ any_default (x ∷ xs) (suc i) a b h = any_default xs i a b (omega (arith, h))
 pub last-push : (o : Option ℕ) (xs : List ℕ) (x : ℕ) → last_or o (xs ++ x ∷ []) ≡ Some x
 last-push o [] x = refl
 last-push o (y ∷ xs) x = last-push (Some y) xs x
+
+-- ---- how many nodes there are
+
+length-paths_after : (done : List (List ℕ)) (steps : Steps) → length (paths_after done steps) ≡ length done + length steps
+length-paths_after done [] = omega arith
+length-paths_after done (s ∷ steps) =
+    let x = at done s.0 ++ s.1 ∷ [] in
+    let more = length-paths_after (done ++ x ∷ []) steps in
+    let long = one_longer done x in
+    omega (arith, more, long)
+
+-- one more than there are steps
+pub length-paths : (steps : Steps) → length (paths steps) ≡ suc (length steps)
+length-paths steps = let more = length-paths_after ([] ∷ []) steps in omega (arith, more)
+
+-- the first steps are a trail
+pub trail-first : (steps : Steps) (s : ℕ × ℕ) → IsTrail (steps ++ s ∷ []) → IsTrail steps
+trail-first steps s trail i h =
+    let long = length-append steps (s ∷ []) in
+    let low = trail i (omega (arith, h, long)) in
+    let same = ap (λ (p : ℕ × ℕ). p.0) (first_there steps i (s ∷ []) h) in
+    omega (arith, low, same)
+  where
+    first_there : (xs : Steps) (i : ℕ) (ys : Steps) → i < length xs → slice_index_or (xs ++ ys) i (0, 0) ≡ slice_index_or xs i (0, 0)
+    first_there [] i ys h = absurd (omega (arith, h))
+    first_there (x ∷ xs) zero ys h = refl
+    first_there (x ∷ xs) (suc i) ys h = first_there xs i ys (omega (arith, h))

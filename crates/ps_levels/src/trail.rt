@@ -1,5 +1,5 @@
 //! How the nodes of a search were reached.
-ghost use Rattle.std.specs.Prelude.{◌≡◌, ◌≤◌, ◌∷◌, ◌++◌, [], length, slice_index_or, None, IfOk, OnOk, OnErr};
+ghost use Rattle.std.specs.Prelude.{◌≡◌, ◌<◌, ◌≤◌, ℕ, ◌∷◌, ◌++◌, [], length, slice_index_or, None, IfOk, OnOk, OnErr};
 ghost use Rattle.std.specs.List.{last_or};
 ghost use Rattle.ps_levels.specs.Paths.{paths};
 
@@ -44,6 +44,14 @@ impl Trail {
     {
         self.steps.push((from, act))?;
         Ok(())
+    }
+
+    /// Takes the last node off.
+    pub fn pop(&mut self)
+        requires { 0 < length self.old }
+        ensures { (s : ℕ × ℕ) × (self.old ≡ self.new ++ s ∷ []) }
+    {
+        let _step = self.steps.pop();
     }
 
     /// The act that led to the node at a place. None at the first node, which none led to.
