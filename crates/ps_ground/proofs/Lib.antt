@@ -1,0 +1,16 @@
+pub mod Below
+pub mod Bits
+pub mod Distinct
+pub mod Fitted
+pub mod Fixedness
+pub mod Gathering
+pub mod IndependentActions
+pub mod Listing
+pub mod Lists
+pub mod Places
+pub mod Preparing
+pub mod PuttingIn
+pub mod Removed
+pub mod Rising
+pub mod Settled
+pub mod Thinning

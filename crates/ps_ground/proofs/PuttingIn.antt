@@ -1,0 +1,151 @@
+-- Conditions and effects with arguments put in.
+use Rattle.std.proofs.Common.{◌≡◌, ℕ, ◌+◌, Bool, true, false, ◌&&◌, ◌||◌, List, [], ◌∷◌, ◌++◌, Some, drop, length, map, nat_eq, refl, ap, sym, ◌∙◌, arith, eqb-true}
+use Rattle.std.specs.Prelude.{slice_get}
+use Rattle.std.specs.List.{list_all, list_any}
+use Rattle.std.specs.Option.{option_map_or}
+use Rattle.std.proofs.lemmas.List.{drop-map}
+use Rattle.std.proofs.lemmas.List.Folds.{list_all-append}
+use Rattle.ps_world.specs.Bound.{ground_in}
+use Rattle.ps_world.specs.Knowledge.{same_fact}
+use Rattle.ps_world.specs.Trees.{ExprTree, number, value_of, negated, operated, CondTree, CondTrees, all_of, no, holds, same, compares, is_a, none, more}
+use Rattle.ps_world.specs.declared.actions.ActionDef.{ActionDef}
+use Rattle.ps_world.specs.declared.actions.Effect.{Effect}
+use Rattle.ps_world.specs.declared.actions.Effect.TheVariants.{Add, Delete, Number}
+use Rattle.ps_world.specs.declared.domains.Domain.{Domain}
+use Rattle.ps_world.specs.declared.expressions.Expr.{Expr}
+use Rattle.ps_world.specs.declared.expressions.Expr.TheVariants.{Num, Fun, Neg, Bin}
+use Rattle.ps_world.specs.declared.facts.Fact.{Fact}
+use Rattle.ps_world.specs.declared.known.Knowledge.{Knowledge}
+use Rattle.ps_world.specs.declared.names.Name.{Name}
+use Rattle.ps_world.specs.declared.schemas.Lifted.{Lifted}
+use Rattle.ps_world.specs.declared.schemas.Term.{Term}
+use Rattle.ps_world.specs.declared.schemas.Term.TheVariants.{Var, Const}
+use Rattle.ps_action.specs.Grounding.{fitting, grounded, put_cond, put_conds, put_effect, put_expr, put_lifted, put_term, put_tree}
+use Rattle.ps_action.specs.Truth.{all_true, is_true}
+use Rattle.ps_action.specs.declared.acts.Act.{Act}
+use Rattle.ps_action.specs.declared.acts.GroundAction.{GroundAction}
+use Rattle.ps_ground.specs.Fitting.{parts_with}
+use Rattle.ps_ground.specs.Prepared.{is_number, known_at, passes}
+use Rattle.ps_ground.specs.States.{State, at, stepped}
+use Rattle.ps_ground.specs.declared.prepared.Test.{Test}
+use Rattle.ps_ground.proofs.Fixedness.{fact_put_in}
+use Rattle.ps_ground.proofs.Settled.{alike_steps, both_true}
+
+-- ---- no arguments
+
+no_term : (t : Term) → put_term [] t ≡ t
+no_term (Var i) = refl
+no_term (Const n) = refl
+
+no_terms : (ts : List Term) → map (put_term []) ts ≡ ts
+no_terms [] = refl
+no_terms (t ∷ ts) = λ i. no_term t i ∷ no_terms ts i
+
+no_lifted : (l : Lifted) → put_lifted [] l ≡ l
+no_lifted l = λ i. record { head = l.head; terms = no_terms l.terms i }
+
+no_tree : (x : ExprTree) → put_tree [] x ≡ x
+no_tree (number n) = refl
+no_tree (value_of l) = ap value_of (no_lifted l)
+no_tree (negated x) = ap negated (no_tree x)
+no_tree (operated op x y) = λ i. operated op (no_tree x i) (no_tree y i)
+
+no_expr : (x : Expr) → put_expr [] x ≡ x
+no_expr (Num n) = refl
+no_expr (Fun l) = ap Fun (no_lifted l)
+no_expr (Neg x) = ap Neg (no_tree x)
+no_expr (Bin op x y) = λ i. Bin op (no_tree x i) (no_tree y i)
+
+no_effect : (e : Effect) → put_effect [] e ≡ e
+no_effect (Add l) = ap Add (no_lifted l)
+no_effect (Delete l) = ap Delete (no_lifted l)
+no_effect (Number how l x) = λ i. Number how (no_lifted l i) (no_expr x i)
+
+pub no_effects : (es : List Effect) → map (put_effect []) es ≡ es
+no_effects [] = refl
+no_effects (e ∷ es) = λ i. no_effect e i ∷ no_effects es i
+
+mutual
+  pub no_cond : (c : CondTree) → put_cond [] c ≡ c
+  no_cond (all_of cs) = ap all_of (no_conds cs)
+  no_cond (no c) = ap no (no_cond c)
+  no_cond (holds l) = ap holds (no_lifted l)
+  no_cond (same s t) = λ i. same (no_term s i) (no_term t i)
+  no_cond (compares rel x y) = λ i. compares rel (no_tree x i) (no_tree y i)
+  no_cond (is_a t kind) = λ i. is_a (no_term t i) kind
+
+  no_conds : (cs : CondTrees) → put_conds [] cs ≡ cs
+  no_conds none = refl
+  no_conds (more c cs) = λ i. more (no_cond c i) (no_conds cs i)
+
+pub no_list : (cs : List CondTree) → map (put_cond []) cs ≡ cs
+no_list [] = refl
+no_list (c ∷ cs) = λ i. no_cond c i ∷ no_list cs i
+
+-- an empty list is that of no items
+pub none_of : {A : Type 0} (xs : List A) (b : Bool) → b ≡ nat_eq (length xs) 0 → b ≡ true → xs ≡ []
+none_of [] b e h = refl
+none_of (x ∷ xs) b e h =
+    let none : length (x ∷ xs) ≡ 0 = eqb-true (length (x ∷ xs)) 0 (sym e ∙ h) in
+    absurd (omega arith)
+
+-- ---- tests
+
+move_in : (a p o : Bool) → ((a && (p && true)) && o) ≡ ((a && o) && p)
+move_in true true true = refl
+move_in true true false = refl
+move_in true false true = refl
+move_in true false false = refl
+move_in false p o = refl
+
+module _ (d : Domain) (k : Knowledge) (s : State) (args : List Name) (l : Lifted) where
+  -- whether a fact with arguments put in is known
+  pub known_in : is_true d (at k s) (put_cond args (holds l)) ≡ list_any (same_fact (ground_in args l)) s.facts
+  known_in = ap (λ f. list_any (same_fact f) s.facts) (fact_put_in args l)
+
+  -- one more place is tested
+  pub taken_fact : (atoms : List Fact) (old : Test) (others : List CondTree) (wanted : List ℕ) (i : ℕ) → wanted ≡ old.wanted.items ++ i ∷ [] → others ≡ old.others → slice_get atoms i ≡ Some (ground_in args l) → (list_all (known_at atoms s) wanted && all_true d (at k s) others) ≡ (passes d k atoms old s && is_true d (at k s) (put_cond args (holds l)))
+  taken_fact atoms old others wanted i w o there =
+      let known : known_at atoms s i ≡ is_true d (at k s) (put_cond args (holds l)) = ap (λ f. option_map_or (λ f. list_any (same_fact f) s.facts) f false) there ∙ sym known_in in
+      (λ j. list_all (known_at atoms s) (w j) && all_true d (at k s) (o j))
+      ∙ ap (λ b. b && all_true d (at k s) old.others) (list_all-append (known_at atoms s) old.wanted.items (i ∷ []))
+      ∙ move_in (list_all (known_at atoms s) old.wanted.items) (known_at atoms s i) (all_true d (at k s) old.others)
+      ∙ ap (λ b. passes d k atoms old s && b) known
+
+-- ---- effects
+
+same_kind : (args : List Name) (e : Effect) → is_number (put_effect args e) ≡ is_number e
+same_kind args (Add l) = refl
+same_kind args (Delete l) = refl
+same_kind args (Number how l x) = refl
+
+-- arguments make no effect one that gives a number
+pub same_kinds : (args : List Name) (es : List Effect) → list_any is_number (map (put_effect args) es) ≡ list_any is_number es
+same_kinds args [] = refl
+same_kinds args (e ∷ es) = λ i. same_kind args e i || same_kinds args es i
+
+-- the first of what is left of a list, where something is made of each
+pub mapped_split : {A B : Type 0} (f : A → B) (xs : List A) (x : A) (i : ℕ) → drop i xs ≡ x ∷ drop (i + 1) xs → drop i (map f xs) ≡ f x ∷ drop (i + 1) (map f xs)
+mapped_split f xs x i e = drop-map f i xs ∙ ap (map f) e ∙ ap (λ l. f x ∷ l) (sym (drop-map f (i + 1) xs))
+
+pub mapped_none : {A B : Type 0} (f : A → B) (xs : List A) (i : ℕ) → drop i xs ≡ [] → drop i (map f xs) ≡ []
+mapped_none f xs i e = drop-map f i xs ∙ ap (map f) e
+
+-- ---- ground actions
+
+-- a ground action by its own conditions and effects, with nothing to put in
+pub no_parts : (d : Domain) (k : Knowledge) (s : State) (g : GroundAction) → stepped d k s (parts_with [] g.conditions g.effects) ≡ stepped d k s g
+no_parts d k s g =
+    alike_steps d k (parts_with [] g.conditions g.effects) g
+    (λ t. ap (all_true d (at k t)) (no_list g.conditions.at_start)) (λ t. ap (all_true d (at k t)) (no_list g.conditions.over_all)) (λ t. ap (all_true d (at k t)) (no_list g.conditions.at_end))
+    (no_effects g.effects.at_start) (no_effects g.effects.at_end) s
+
+module _ (d : Domain) (k : Knowledge) (a : ActionDef) (act : Act) (fit : (s : State) → all_true d (at k s) (fitting a.params act.args) ≡ true) where
+  fitted : (cs : List CondTree) (s : State) → all_true d (at k s) (map (put_cond act.args) cs) ≡ all_true d (at k s) (fitting a.params act.args ++ map (put_cond act.args) cs)
+  fitted cs s = ap (λ b. b && all_true d (at k s) (map (put_cond act.args) cs)) (sym (fit s)) ∙ sym (both_true d (at k s) (fitting a.params act.args) (map (put_cond act.args) cs))
+
+  -- where the arguments fit, a ground action is its conditions and effects with arguments put in
+  pub fit_parts : (s : State) → stepped d k s (parts_with act.args a.conditions a.effects) ≡ stepped d k s (grounded a act)
+  fit_parts s =
+      alike_steps d k (parts_with act.args a.conditions a.effects) (grounded a act)
+      (fitted a.conditions.at_start) (fitted a.conditions.over_all) (fitted a.conditions.at_end) refl refl s

@@ -1,0 +1,12 @@
+pub mod Acts
+pub mod Atoms
+pub mod Fitting
+pub mod Fixed
+pub mod Goals
+pub mod Grounded
+pub mod Independence
+pub mod Moves
+pub mod Orders
+pub mod Prepared
+pub mod States
+pub mod Thinned
