@@ -20,9 +20,10 @@ use Rattle.ps_action.specs.Grounding.{first_unfit, ground_act, ground_by, ground
 use Rattle.ps_action.specs.Plans.{after_steps, and_then, judged, judged_by, where_true}
 use Rattle.ps_action.specs.Search.{after, ends, least_plan, plans_of, possible_acts}
 use Rattle.ps_action.specs.Truth.{is_true}
-use Rattle.ps_solve.specs.States.{State, at, state_of, stepped}
-use Rattle.ps_solve.specs.Nodes.{Node, grounds, move, moves, root}
-use Rattle.ps_solve.proofs.Lists.{filter_map-filter_map, filter_map-flat_map, filter_map-map, flat_map-filter_map, lengthened_by, lists_more, map-filter_map, none_given}
+use Rattle.ps_ground.specs.States.{State, at, state_of, stepped}
+use Rattle.ps_ground.specs.Moves.{Node, grounds, move, moves}
+use Rattle.ps_solve.specs.Nodes.{root}
+use Rattle.ps_ground.proofs.Lists.{filter_map-filter_map, filter_map-flat_map, filter_map-map, flat_map-filter_map, lengthened_by, lists_more, map-filter_map, none_given}
 use Rattle.ps_solve.proofs.Stepping.{next, run, run-append, run_at}
 
 -- ---- the act of a ground action

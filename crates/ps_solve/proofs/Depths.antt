@@ -10,8 +10,9 @@ use Rattle.ps_action.specs.declared.answers.Answer.TheVariants.{Plan, Spent}
 use Rattle.ps_action.specs.Plans.{most_acts}
 use Rattle.ps_action.specs.Search.{answer_from, at_depth, least_plan, level, reach, unplanned}
 use Rattle.ps_solve.specs.Endings.{ending, searched, unfinished}
-use Rattle.ps_solve.specs.States.{State, at, state_of}
-use Rattle.ps_solve.specs.Nodes.{Node, firsts, grounds, met, moves}
+use Rattle.ps_ground.specs.States.{State, at, state_of}
+use Rattle.ps_ground.specs.Moves.{Node, grounds, moves}
+use Rattle.ps_solve.specs.Nodes.{firsts, met}
 use Rattle.ps_solve.proofs.Levels.{NoneBefore, found, least_at, level_is, nodes, none_after, reach_length, reached}
 
 -- ---- from one depth to the next

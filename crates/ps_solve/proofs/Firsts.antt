@@ -2,9 +2,10 @@
 use Rattle.std.proofs.Common.{◌≡◌, ◌+◌, Bool, true, false, cond, ◌||◌, List, [], ◌∷◌, ◌++◌, Option, Some, None, map, find, flat_map, length, refl, ap, sym, ◌∙◌, subst, inl, inr, ◌⊎◌, arith}
 use Rattle.std.specs.List.{list_any}
 use Rattle.std.proofs.lemmas.List.{length-append}
-use Rattle.ps_solve.specs.Nodes.{Node, firsts, is_met, met, same_state, with_state}
+use Rattle.ps_ground.specs.Moves.{Node}
+use Rattle.ps_solve.specs.Nodes.{firsts, is_met, met, same_state, with_state}
 use Rattle.ps_solve.proofs.SameStates.{met_more, state_itself, state_same}
-use Rattle.ps_solve.specs.States.{State}
+use Rattle.ps_ground.specs.States.{State}
 
 -- the states of nodes
 abbrev pub states : List Node → List State

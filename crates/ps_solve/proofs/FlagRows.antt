@@ -1,11 +1,11 @@
 -- The facts that flags stand for: where one is found, and what a flag that is cleared or set changes.
 use Rattle.std.proofs.Common.{◌≡◌, ℕ, zero, suc, ◌≤◌, ◌<◌, Bool, true, false, not, ◌||◌, List, [], ◌∷◌, Option, Some, None, filter, length, get_or, replicate, set, refl, ap, sym, ◌∙◌, arith, inl, inr}
 use Rattle.std.specs.Prelude.{slice_get}
-use Rattle.std.specs.List.{AllByRecursion, list_any}
+use Rattle.std.specs.List.{list_any}
 use Rattle.std.specs.List.Sorted.{IsStrictlySortedBy}
 use Rattle.std.specs.Option.{option_map_or}
 use Rattle.std.specs.BTreeSet.{insert_key}
-use Rattle.std.specs.Ordering.{is_eq, ordering_reverse}
+use Rattle.std.specs.Ordering.{is_eq}
 use Rattle.std.specs.declared.cmp.Ordering.{Ordering}
 use Rattle.std.specs.declared.cmp.Ordering.TheVariants.{Less, Equal, Greater}
 use Rattle.std.proofs.lemmas.Bool.{cases_lt}
@@ -14,14 +14,13 @@ use Rattle.std.proofs.lemmas.Option.{slice_get_past}
 use Rattle.ps_world.specs.Facts.{fact_cmp}
 use Rattle.ps_world.specs.Knowledge.{same_fact}
 use Rattle.ps_world.specs.declared.facts.Fact.{Fact}
-use Rattle.ps_solve.specs.Orders.{facts_total}
-use Rattle.ps_solve.specs.Rows.{facts_of}
+use Rattle.ps_ground.specs.Orders.{facts_total}
+use Rattle.ps_ground.specs.Atoms.{IsOver}
+use Rattle.ps_ground.proofs.Below.{IsBelow, above, none_filtered}
+use Rattle.ps_solve.specs.Rows.{facts_of, plain_state}
+use Rattle.ps_solve.specs.declared.rows.Row.{Row}
 
 -- ---- facts and those above them
-
--- a fact is below each of these
-abbrev pub IsBelow : Fact → List Fact → Type 0
-IsBelow f gs = AllByRecursion (λ g. fact_cmp f g ≡ Less) gs
 
 itself : (f : Fact) → same_fact f f ≡ true
 itself f = (eq_by_cmp_equiv facts_total).refl f
@@ -33,9 +32,6 @@ tied f Greater e t = absurd (cc)
 
 equal : (f : Fact) → fact_cmp f f ≡ Equal
 equal f = tied f (fact_cmp f f) refl (itself f)
-
-pub above : (f g : Fact) → fact_cmp f g ≡ Less → fact_cmp g f ≡ Greater
-above f g e = facts_total.antisymm g f ∙ ap ordering_reverse e
 
 other : (f g : Fact) → fact_cmp f g ≡ Less → same_fact f g ≡ false
 other f g e = ap is_eq e
@@ -77,6 +73,14 @@ or_parts : (a b : Bool) → (a || b) ≡ false → (a ≡ false) × (b ≡ false
 or_parts true b e = absurd (cc)
 or_parts false b e = (refl, e)
 
+-- they rise as their atoms do
+pub facts_rise : (atoms : List Fact) (flags : List Bool) → IsStrictlySortedBy fact_cmp atoms → IsStrictlySortedBy fact_cmp (facts_of atoms flags)
+unfolding IsStrictlySortedBy
+facts_rise [] flags s = tt
+facts_rise (a ∷ atoms) [] s = tt
+facts_rise (a ∷ atoms) (true ∷ flags) s = (below_facts a atoms flags s.0, facts_rise atoms flags s.1)
+facts_rise (a ∷ atoms) (false ∷ flags) s = facts_rise atoms flags s.1
+
 -- what no atom passes, no fact passes
 pub none_known : (p : Fact → Bool) (atoms : List Fact) (flags : List Bool) → list_any p atoms ≡ false → list_any p (facts_of atoms flags) ≡ false
 none_known p [] flags e = refl
@@ -86,11 +90,9 @@ none_known p (a ∷ atoms) (true ∷ flags) e =
     rw w.0 (none_known p atoms flags w.1)
 none_known p (a ∷ atoms) (false ∷ flags) e = none_known p atoms flags (or_parts (p a) (list_any p atoms) e).1
 
-pub none_filtered : (p : Fact → Bool) (fs : List Fact) → list_any p fs ≡ false → filter (λ f. not (p f)) fs ≡ fs
-none_filtered p [] e = refl
-none_filtered p (f ∷ fs) e =
-    let w = or_parts (p f) (list_any p fs) e in
-    rw w.0 (ap (λ l. f ∷ l) (none_filtered p fs w.1))
+-- a row is over the atoms
+pub row_over : (atoms : List Fact) (r : Row) → IsOver atoms (plain_state atoms r)
+row_over atoms r f e = none_known (same_fact f) atoms r.flags e
 
 -- what is no atom needs not be taken out
 pub none_cleared : (f : Fact) (atoms : List Fact) (flags : List Bool) → list_any (same_fact f) atoms ≡ false → facts_of atoms flags ≡ filter (λ g. not (same_fact f g)) (facts_of atoms flags)

@@ -11,11 +11,10 @@ use Rattle.indexmap.specs.IndexSet.{insert_key}
 use Rattle.ps_world.specs.Facts.{fact_cmp}
 use Rattle.ps_world.specs.declared.facts.Fact.{Fact}
 use Rattle.ps_solve.specs.Orders.{exact_values, values_cmp}
-use Rattle.ps_solve.specs.States.{State}
+use Rattle.ps_ground.specs.States.{State}
 use Rattle.ps_solve.specs.Nodes.{is_met, same_state}
 use Rattle.ps_solve.specs.Flags.{same_flags}
-use Rattle.ps_solve.specs.Rows.{AreWide, HaveWide, facts_of, plain_state, rows_equiv, same_row}
-use Rattle.ps_solve.specs.declared.nodes.Reached.{Reached}
+use Rattle.ps_solve.specs.Rows.{AreWide, facts_of, plain_state, rows_equiv, same_row}
 use Rattle.ps_solve.specs.declared.rows.Row.{Row}
 use Rattle.ps_solve.proofs.FlagRows.{flags_told}
 use Rattle.ps_solve.proofs.SameStates.{state_itself, state_same}
@@ -27,6 +26,10 @@ alike r s flags values = (λ i. pointwise beq r.flags (sym flags i) && eq_by_cmp
 -- a row is found where one with its flags and values is
 found_alike : (r c : Row) (rows : List Row) → c.flags ≡ r.flags → c.values ≡ r.values → list_any (same_row c) rows ≡ list_any (same_row r) rows
 found_alike r c rows flags values = λ i. list_any (λ s. pointwise beq (flags i) s.flags && eq_by_cmp values_cmp (values i) s.values) rows
+
+-- a row is told by its flags and values
+pub row_told : (r s : Row) → r.flags ≡ s.flags → r.values ≡ s.values → r ≡ s
+row_told r s flags values = λ i. record { flags = flags i; values = values i }
 
 -- rows that are the same have as many flags
 pub wide_of_same : (r s : Row) → same_row r s ≡ true → length r.flags ≡ length s.flags
@@ -55,10 +58,6 @@ module _ (atoms : List Fact) where
   pub wide_more : (rows : List Row) (c : Row) → AreWide atoms rows → length c.flags ≡ length atoms → AreWide atoms (rows ++ c ∷ [])
   wide_more [] c w h = (h, tt)
   wide_more (r ∷ rows) c w h = (w.0, wide_more rows c w.1 h)
-
-  pub have_more : (ns : List Reached) (n : Reached) → HaveWide atoms ns → length n.row.flags ≡ length atoms → HaveWide atoms (ns ++ n ∷ [])
-  have_more [] n w h = (h, tt)
-  have_more (m ∷ ns) n w h = (w.0, have_more ns n w.1 h)
 
   module _ (rise : IsStrictlySortedBy fact_cmp atoms) where
     same_rows : (r s : Row) → length r.flags ≡ length atoms → length s.flags ≡ length atoms → same_row r s ≡ same_state (plain_state atoms r) (plain_state atoms s)

@@ -11,8 +11,9 @@ use Rattle.ps_world.specs.Facts.{fact_cmp}
 use Rattle.ps_world.specs.declared.known.Knowledge.{Knowledge}
 use Rattle.ps_action.specs.Search.{same_known}
 use Rattle.ps_action.proofs.Facts.{exact_facts}
-use Rattle.ps_solve.specs.Orders.{exact_values, facts_total, value_cmp, values_cmp, values_total}
-use Rattle.ps_solve.specs.States.{State, at}
+use Rattle.ps_ground.specs.Orders.{facts_total}
+use Rattle.ps_solve.specs.Orders.{exact_values, value_cmp, values_cmp, values_total}
+use Rattle.ps_ground.specs.States.{State, at}
 use Rattle.ps_solve.specs.Nodes.{is_met, same_state, state_cmp, with_state}
 
 pub states_total : IsTotalOrder state_cmp

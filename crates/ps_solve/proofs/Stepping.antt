@@ -16,7 +16,7 @@ use Rattle.ps_action.specs.Effects.{effect, fault_of_effects, flat, made, unless
 use Rattle.ps_action.specs.Grounding.{ground_act}
 use Rattle.ps_action.specs.Plans.{after_steps, and_then, step, step_of, where_true}
 use Rattle.ps_action.specs.Truth.{all_true}
-use Rattle.ps_solve.specs.States.{State, at, changed, ended, state_of, stepped, where_so}
+use Rattle.ps_ground.specs.States.{State, at, changed, ended, state_of, stepped, where_so}
 
 module _ (k : Knowledge) where
   effect_at : (s : State) (es : List Effect) (ready : List (Fact × Num)) (fault : Option EffectRefusal) → result_ok (unless fault (made (at k s) es ready)) ≡ option_map (at k) (option_map state_of (result_ok (unless fault (made (at k s) es ready))))

@@ -1,5 +1,5 @@
 -- The whole answer, where there are too many ground actions and where there aren't.
-use Rattle.std.proofs.Common.{◌≡◌, ℕ, ◌<◌, ◌≤◌, Bool, true, false, cond, nat_lt, Result, Ok, Err, IfOk, length, refl, ap, sym, ◌∙◌, arith}
+use Rattle.std.proofs.Common.{◌≡◌, ℕ, ◌<◌, ◌≤◌, Bool, true, false, cond, nat_lt, Result, Ok, Err, IfOk, length, refl, ap, sym, ◌∙◌, subst, arith}
 use Rattle.std.proofs.lemmas.Bool.{lt-ltb, ltb-true}
 use Rattle.ps_world.specs.declared.domains.Domain.{Domain}
 use Rattle.ps_world.specs.declared.known.Knowledge.{Knowledge}
@@ -9,6 +9,7 @@ use Rattle.ps_action.specs.Grounding.{all_ground, most_ground}
 use Rattle.ps_action.specs.Plans.{most_acts}
 use Rattle.ps_action.specs.Search.{answer, answer_from}
 use Rattle.ps_solve.specs.Endings.{searched}
+use Rattle.ps_solve.specs.declared.task.Task.{Task}
 
 not_below : (m n : ℕ) (b : Bool) → nat_lt m n ≡ b → n ≤ m → b ≡ false
 not_below m n true e h = absurd (omega (arith, ltb-true m n e))
@@ -31,3 +32,10 @@ module _ (d : Domain) (k : Knowledge) (budget : ℕ) where
   pub answered : {E : Type 0} (r : Result Answer E) → length (all_ground d k.instances) ≤ most_ground → IfOk r (λ a. a ≡ searched d k budget) → IfOk r (λ a. a ≡ answer d k budget)
   answered (Ok a) h e = e ∙ few_enough h
   answered (Err w) h e = e
+
+-- what is searched for a task is the answer
+pub answered_for : {E : Type 0} (t : Task) (d : Domain) (k : Knowledge) (budget : ℕ) (r : Result Answer E) → t.expert.now ≡ d → t.problem.now ≡ k → IfOk r (λ a. a ≡ searched t.expert.now t.problem.now budget) → IfOk r (λ a. a ≡ answer d k budget)
+answered_for t d k budget r domain known e =
+    let P : Domain → Type 0 = λ d. IfOk r (λ a. a ≡ answer d t.problem.now budget) in
+    let Q : Knowledge → Type 0 = λ k. IfOk r (λ a. a ≡ answer d k budget) in
+    subst Q known (subst P domain (answered t.expert.now t.problem.now budget r t.prepared.grounded.counted e))

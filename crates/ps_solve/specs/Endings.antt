@@ -7,7 +7,7 @@ use Rattle.ps_action.specs.Search.{answer_from}
 use Rattle.ps_action.specs.declared.acts.Act.{Act}
 use Rattle.ps_action.specs.declared.answers.Answer.{Answer}
 use Rattle.ps_action.specs.declared.answers.Answer.TheVariants.{Plan, NoPlan, Spent}
-use Rattle.ps_solve.specs.Nodes.{Node}
+use Rattle.ps_ground.specs.Moves.{Node}
 
 -- the answer at a depth where no node meets the goal, if the search ends there
 abbrev pub unfinished : List Node → ℕ → ℕ → ℕ → Option Answer

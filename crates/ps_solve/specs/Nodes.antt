@@ -1,26 +1,16 @@
--- Nodes: states, each with the acts that lead to it.
-use Rattle.std.specs.Prelude.{ℕ, zero, suc, Bool, if◌then◌else◌, Option, option_map, List, [], ◌∷◌, ◌++◌, filter_map, flat_map}
+-- States that are met, level by level.
+use Rattle.std.specs.Prelude.{ℕ, zero, suc, Bool, if◌then◌else◌, List, [], ◌∷◌, ◌++◌, flat_map}
 use Rattle.std.specs.List.{list_any}
-use Rattle.std.specs.Result.{result_ok}
 use Rattle.std.specs.Ordering.{eq_by_cmp, on, then_cmp}
 use Rattle.std.specs.declared.cmp.Ordering.{Ordering}
 use Rattle.std.specs.Cmp.Lexicographic.{slice_cmp}
 use Rattle.ps_world.specs.Facts.{fact_cmp}
 use Rattle.ps_world.specs.declared.domains.Domain.{Domain}
 use Rattle.ps_world.specs.declared.known.Knowledge.{Knowledge}
-use Rattle.ps_action.specs.Grounding.{ground_act}
-use Rattle.ps_action.specs.Search.{possible_acts}
-use Rattle.ps_action.specs.declared.acts.Act.{Act}
 use Rattle.ps_action.specs.declared.acts.GroundAction.{GroundAction}
+use Rattle.ps_ground.specs.Moves.{Node, moves}
 use Rattle.ps_solve.specs.Orders.{values_cmp}
-use Rattle.ps_solve.specs.States.{State, state_of, stepped}
-
--- a state, with the acts that lead to it
-pub record Node : Type 0 where
-  pub state : State
-  pub path : List Act
-
--- ---- states that were met
+use Rattle.ps_ground.specs.States.{State, state_of}
 
 -- the order of states: by facts, then by values
 abbrev pub state_cmp : State → State → Ordering
@@ -47,20 +37,6 @@ firsts seen (n ∷ ns) = if is_met seen n.state then firsts seen ns else n ∷ f
 abbrev pub met : List State → List Node → List State
 met seen [] = seen
 met seen (n ∷ ns) = if is_met seen n.state then met seen ns else met (with_state seen n.state) ns
-
--- ---- moves
-
--- the ground actions of the possible acts: an act says its action by its name alone, so that it means the first of that name
-abbrev pub grounds : Domain → Knowledge → List GroundAction
-grounds d k = filter_map (λ act. result_ok (ground_act d k.instances act)) (possible_acts d k)
-
--- the node that a ground action leads to from a node, if no part of its step fails
-abbrev pub move : Domain → Knowledge → Node → GroundAction → Option Node
-move d k n g = option_map (λ s. record { state = s; path = n.path ++ g.act ∷ [] }) (stepped d k n.state g)
-
--- the nodes that these ground actions lead to from a node, in order
-abbrev pub moves : Domain → Knowledge → List GroundAction → Node → List Node
-moves d k gs n = filter_map (move d k n) gs
 
 -- what is known, with no acts before it
 abbrev pub root : Knowledge → Node

@@ -1,7 +1,8 @@
-//! Flags, packed 64 in a word, so that to copy, compare and hash many is little work.
+//! Flags, packed 64 in a word, so that to copy, compare and hash many is little work. Up to 128 of them need no memory of their own.
 ghost use Rattle.std.specs.Prelude.{◌≡◌, false, true, fold, length, replicate, slice_index_or, slice_set, IfOk};
 ghost use Rattle.ps_solve.specs.Flags.{with_word};
 
+use smallvec::SmallVec;
 use std::alloc::{AllocError, Global};
 use std::hash::{Hash, Hasher};
 use std::marker::Model;
@@ -13,7 +14,7 @@ const MIX: u64 = 0x9E37_79B9_7F4A_7C15;
 #[derive(Drop)]
 pub struct Flags {
     /// The flag at a place is the bit `place % 64` of the word at `place / 64`. Bits past the last flag are clear.
-    words: Vec<u64>,
+    words: SmallVec<u64, 2>,
     len: usize,
 }
 
@@ -34,7 +35,7 @@ impl Flags {
         ensures { IfOk result (λ flags. flags ≡ replicate len false) }
     {
         Ok(Flags {
-            words: vec![in alloc; 0; len.div_ceil(64)]?,
+            words: SmallVec::from_elem(alloc, 0, len.div_ceil(64))?,
             len,
         })
     }
@@ -44,9 +45,17 @@ impl Flags {
         ensures { IfOk result (λ copied. copied ≡ self.now) }
     {
         Ok(Flags {
-            words: Vec::from_slice(alloc, &self.words)?,
+            words: SmallVec::from_slice(alloc, &self.words)?,
             len: self.len,
         })
+    }
+
+    /// Makes the flags equal to others, of which there are as many.
+    pub fn set_to(&mut self, other: &Flags)
+        requires { length self.old ≡ length other.now }
+        ensures { self.new ≡ other.now }
+    {
+        self.words.copy_from_slice(&other.words);
     }
 
     /// Whether the flag at a place is set; false where there is none.

@@ -7,13 +7,14 @@ ghost use Rattle.std.specs.Map.{keys_of};
 ghost use Rattle.ps_world.specs.Facts.{fact_cmp};
 ghost use Rattle.ps_world.specs.Knowledge.{same_fact};
 ghost use Rattle.ps_action.specs.Effects.{added_by, deletes};
-ghost use Rattle.ps_solve.specs.States.{made_state};
-ghost use Rattle.ps_solve.specs.Rows.{AddAtoms, AreAtoms, facts_of, plain_state};
-ghost use Rattle.ps_solve.specs.Prepared.{known_at, with_at, without_at};
+ghost use Rattle.ps_ground.specs.States.{made_state};
+ghost use Rattle.ps_ground.specs.Atoms.{AddAtoms, AreAtoms};
+ghost use Rattle.ps_solve.specs.Rows.{facts_of, plain_state};
+ghost use Rattle.ps_ground.specs.Prepared.{known_at, with_at, without_at};
 
-use super::atoms::Atoms;
 use super::flags::Flags;
 use super::values::Values;
+use ps_ground::Atoms;
 use ps_world::{Effect, Fact, Num};
 use std::alloc::{AllocError, Global};
 use std::hash::{Hash, Hasher};
@@ -89,10 +90,21 @@ impl Row {
         })
     }
 
-    /// Makes the deletes of a list of effects, then its adds, and then gives the terms these values. The only error is out of
-    /// memory, and then the row may have changed.
+    /// Makes the row equal to another one, which has as many flags. Where memory runs out the row may have changed.
+    pub fn set_to(&mut self, alloc: Global, other: &Row) -> Result<(), AllocError>
+        requires { length self.old.flags ≡ length other.now.flags }
+        ensures flags { OnOk result (self.new.flags ≡ other.now.flags) }
+        ensures values { OnOk result (self.new.values ≡ other.now.values) }
+    {
+        self.flags.set_to(&other.flags);
+        self.values.set_to(alloc, &other.values)
+    }
+
+    /// Makes the deletes of a list of effects, then its adds, and then gives the terms these values. Where memory runs out the row may
+    /// have changed.
     pub fn put(
         &mut self,
+        alloc: Global,
         atoms: &Atoms,
         effects: &[Effect],
         ready: &[(Fact, Num)],
@@ -105,7 +117,7 @@ impl Row {
     {
         delete_all(&mut self.flags, atoms, effects);
         add_all(&mut self.flags, atoms, effects);
-        self.values.insert_all(ready)
+        self.values.insert_all(alloc, ready)
     }
 
     /// Clears the flags at these places.

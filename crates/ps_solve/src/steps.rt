@@ -1,30 +1,32 @@
 //! Steps from a state to the next.
-ghost use Rattle.std.specs.Prelude.{◌≡◌, Some, None, if◌then◌else◌, option_and_then, option_map, length, IfOk, IfSome, OnOk};
-ghost use Rattle.ps_solve.specs.States.{at, changed};
+ghost use Rattle.std.specs.Prelude.{◌≡◌, Some, None, if◌then◌else◌, option_and_then, length, IfOk, OnOk};
 ghost use Rattle.ps_action.specs.Effects.{first_clash};
-ghost use Rattle.ps_solve.specs.Prepared.{IsSound, IsSoundChange, landed, successor, passes, turned};
-ghost use Rattle.ps_solve.specs.Rows.{AddAtoms, plain_state};
+ghost use Rattle.ps_ground.specs.Atoms.{AddAtoms};
+ghost use Rattle.ps_ground.specs.Prepared.{IsSound, IsSoundChange, landed, passes, successor, turned};
+ghost use Rattle.ps_ground.specs.States.{changed};
+ghost use Rattle.ps_solve.specs.Rows.{plain_state};
 
-use super::atoms::Atoms;
-use super::prepared::{Change, Prepared, Test};
 use super::rows::{Row, are_known};
-use ps_action::{Known, Types, all_true, fault_with, values_set};
+use super::task::Task;
+use ps_action::{Known, all_true, fault_with, values_set};
+use ps_ground::{Atoms, Change, Prepared, Test};
+use ps_problem::Problem;
 use ps_world::{Effect, Fact, Name, Num};
-use std::alloc::{AllocError, Global};
+use std::alloc::AllocError;
 
 /// What is known in a state. The instances, which no step changes, are those of what was known at first.
 #[derive(Drop)]
-pub struct At<'a, K: Known> {
-    pub given: &'a K,
+pub struct At<'a> {
+    pub given: &'a Problem,
     pub atoms: &'a Atoms,
     pub row: &'a Row,
 }
 
-impl<'a, K: Known> Known for At<'a, K> {
-    ghost use Rattle.ps_solve.specs.States.{at};
+impl<'a> Known for At<'a> {
+    ghost use Rattle.ps_ground.specs.States.{at};
     ghost use Rattle.ps_solve.specs.Rows.{plain_state};
 
-    ghost known = { λ a. at (K.known a.given.now) (plain_state a.atoms.now a.row.now) };
+    ghost known = { λ a. at a.given.now (plain_state a.atoms.now a.row.now) };
 
     fn has(&self, fact: &Fact) -> bool {
         match self.atoms.place_of(fact) {
@@ -46,160 +48,134 @@ impl<'a, K: Known> Known for At<'a, K> {
     }
 }
 
-/// Makes a list of effects in a state, where this is the place of their first clash, and answers whether it could: false where one
-/// has a fault. Where memory runs out the row may have changed.
-fn change<K: Known, T: Types>(
-    alloc: Global,
-    given: &K,
-    types: &T,
-    atoms: &Atoms,
-    row: &mut Row,
-    effects: &[Effect],
-    clash: Option<usize>,
-) -> Result<bool, AllocError>
-    requires wide { length row.old.flags ≡ length atoms.now }
-    requires atoms { AddAtoms atoms.now effects.now }
-    requires clash { clash ≡ first_clash effects.now }
-    ensures state { IfOk result (λ made.
-        (if made then Some (plain_state atoms.now row.new) else None)
-        ≡ changed (T.types types.now) (K.known given.now)
-        (plain_state atoms.now row.old) effects.now) }
-    ensures wide { OnOk result (length row.new.flags ≡ length row.old.flags) }
-{
-    let here = At {
-        given,
-        atoms,
-        row: &*row,
-    };
-    if fault_with(&here, types, effects, clash).is_some() {
-        return Ok(false);
-    }
-    let ready = values_set(alloc, &here, types, effects)?;
-    row.put(atoms, effects, &ready)?;
-    Ok(true)
-}
-
-/// Whether a test holds in a row.
-pub fn passes<K: Known, T: Types>(
-    given: &K,
-    types: &T,
-    atoms: &Atoms,
-    row: &Row,
-    test: &Test,
-) -> bool
-    ensures { result ≡ passes (T.types types.now) (K.known given.now) atoms.now test.now
-        (plain_state atoms.now row.now) }
-{
-    are_known(atoms, row, &test.wanted) && all_true(&At { given, atoms, row }, types, &test.others)
-}
-
-/// Makes a prepared change in a row, and answers whether it could: false where an effect has a fault. The only error is want of
-/// memory, and then the row may have changed.
-fn turn<K: Known, T: Types>(
-    alloc: Global,
-    given: &K,
-    types: &T,
-    atoms: &Atoms,
-    row: &mut Row,
-    by: &Change,
-) -> Result<bool, AllocError>
-    requires wide { length row.old.flags ≡ length atoms.now }
-    requires sound { IsSoundChange atoms.now by.now }
-    ensures state { IfOk result (λ made.
-        (if made then Some (plain_state atoms.now row.new) else None)
-        ≡ turned (T.types types.now) (K.known given.now) atoms.now by.now
-        (plain_state atoms.now row.old)) }
-    ensures wide { OnOk result (length row.new.flags ≡ length row.old.flags) }
-{
-    match by {
-        Change::Flags { cleared, set } => {
-            row.clear_all(atoms, cleared);
-            row.set_all(atoms, set);
-            Ok(true)
-        }
-        Change::Effects { effects, clash } => {
-            change(alloc, given, types, atoms, row, effects.as_slice(), *clash)
-        }
-    }
-}
-
-/// Makes the end of a prepared ground action in the row after its start, and answers whether it could. The only error is want of
-/// memory, and then the row may have changed.
-fn end<K: Known, T: Types>(
-    alloc: Global,
-    given: &K,
-    types: &T,
-    atoms: &Atoms,
-    row: &mut Row,
-    action: &Prepared,
-) -> Result<bool, AllocError>
-    requires wide { length row.old.flags ≡ length atoms.now }
-    requires sound { IsSound atoms.now action.now }
-    ensures state { IfOk result (λ made.
-        (if made then Some (plain_state atoms.now row.new) else None)
-        ≡ landed (T.types types.now) (K.known given.now) atoms.now action.now
-        (plain_state atoms.now row.old)) }
-    ensures wide { OnOk result (length row.new.flags ≡ length row.old.flags) }
-{
-    if !passes(given, types, atoms, row, &action.over)
-        || !passes(given, types, atoms, row, &action.end)
+impl<'a> Task<'a> {
+    /// What is known in a row's state.
+    fn at<'b>(&'b self, row: &'b Row) -> At<'b>
+        ensures given { result.given.now ≡ self.now.problem.now }
+        ensures atoms { result.atoms.now ≡ self.now.grounds.atoms }
+        ensures row { result.row.now ≡ row.now }
     {
-        return Ok(false);
+        At {
+            given: self.problem,
+            atoms: &self.grounds.atoms,
+            row,
+        }
     }
-    turn(alloc, given, types, atoms, row, &action.at_end)
-}
 
-/// Makes a step of a prepared ground action in a row where it may start, and answers whether it could. The only error is want of
-/// memory, and then the row may have changed.
-fn go_on<K: Known, T: Types>(
-    alloc: Global,
-    given: &K,
-    types: &T,
-    atoms: &Atoms,
-    row: &mut Row,
-    action: &Prepared,
-) -> Result<bool, AllocError>
-    requires wide { length row.old.flags ≡ length atoms.now }
-    requires sound { IsSound atoms.now action.now }
-    ensures state { IfOk result (λ made.
-        (if made then Some (plain_state atoms.now row.new) else None)
-        ≡ option_and_then (landed (T.types types.now) (K.known given.now) atoms.now action.now)
-        (turned (T.types types.now) (K.known given.now) atoms.now action.now.at_start
-        (plain_state atoms.now row.old))) }
-    ensures wide { OnOk result (length row.new.flags ≡ length row.old.flags) }
-{
-    if turn(alloc, given, types, atoms, row, &action.at_start)? {
-        end(alloc, given, types, atoms, row, action)
-    } else {
-        Ok(false)
+    /// Whether a test holds in a row.
+    pub fn passes(&self, row: &Row, test: &Test) -> bool
+        ensures { result ≡ passes self.now.expert.now self.now.problem.now
+            self.now.grounds.atoms test.now (plain_state self.now.grounds.atoms row.now) }
+    {
+        are_known(&self.grounds.atoms, row, &test.wanted)
+            && all_true(&self.at(row), self.expert, &test.others)
     }
-}
 
-/// The row after a step of a prepared ground action. None exactly where a part of it fails: the start condition, a start effect, the
-/// over-all or the end condition after the start effects, an end effect.
-pub fn step<K: Known, T: Types>(
-    alloc: Global,
-    given: &K,
-    types: &T,
-    atoms: &Atoms,
-    row: &Row,
-    action: &Prepared,
-) -> Result<Option<Row>, AllocError>
-    requires wide { length row.now.flags ≡ length atoms.now }
-    requires sound { IsSound atoms.now action.now }
-    ensures state { IfOk result (λ next. option_map (plain_state atoms.now) next
-        ≡ successor (T.types types.now) (K.known given.now) atoms.now
-        (plain_state atoms.now row.now) action.now) }
-    ensures wide { IfOk result (λ next. IfSome next (λ r. length r.flags
-        ≡ length row.now.flags)) }
-{
-    if !passes(given, types, atoms, row, &action.start) {
-        return Ok(None);
+    /// Makes a list of effects in a state, where this is the place of their first clash, and answers whether it could: false where one
+    /// has a fault. Where memory runs out the row may have changed.
+    fn change(
+        &self,
+        row: &mut Row,
+        effects: &[Effect],
+        clash: Option<usize>,
+    ) -> Result<bool, AllocError>
+        requires wide { length row.old.flags ≡ length self.now.grounds.atoms }
+        requires atoms { AddAtoms self.now.grounds.atoms effects.now }
+        requires clash { clash ≡ first_clash effects.now }
+        ensures state { IfOk result (λ made.
+            (if made then Some (plain_state self.now.grounds.atoms row.new) else None)
+            ≡ changed self.now.expert.now self.now.problem.now
+            (plain_state self.now.grounds.atoms row.old) effects.now) }
+        ensures wide { OnOk result (length row.new.flags ≡ length row.old.flags) }
+    {
+        let here = At {
+            given: self.problem,
+            atoms: &self.grounds.atoms,
+            row: &*row,
+        };
+        if fault_with(&here, self.expert, effects, clash).is_some() {
+            return Ok(false);
+        }
+        let ready = values_set(self.alloc, &here, self.expert, effects)?;
+        row.put(self.alloc, &self.grounds.atoms, effects, &ready)?;
+        Ok(true)
     }
-    let mut next = row.copy(alloc)?;
-    if go_on(alloc, given, types, atoms, &mut next, action)? {
-        Ok(Some(next))
-    } else {
-        Ok(None)
+
+    /// Makes a prepared change in a row, and answers whether it could: false where an effect has a fault. Where memory runs out the row
+    /// may have changed.
+    fn turn(&self, row: &mut Row, by: &Change) -> Result<bool, AllocError>
+        requires wide { length row.old.flags ≡ length self.now.grounds.atoms }
+        requires sound { IsSoundChange self.now.grounds.atoms by.now }
+        ensures state { IfOk result (λ made.
+            (if made then Some (plain_state self.now.grounds.atoms row.new) else None)
+            ≡ turned self.now.expert.now self.now.problem.now self.now.grounds.atoms by.now
+            (plain_state self.now.grounds.atoms row.old)) }
+        ensures wide { OnOk result (length row.new.flags ≡ length row.old.flags) }
+    {
+        match by {
+            Change::Flags { cleared, set } => {
+                row.clear_all(&self.grounds.atoms, cleared);
+                row.set_all(&self.grounds.atoms, set);
+                Ok(true)
+            }
+            Change::Effects { effects, clash } => self.change(row, effects.as_slice(), *clash),
+        }
+    }
+
+    /// Makes the end of a prepared ground action in the row after its start, and answers whether it could. Where memory runs out the row
+    /// may have changed.
+    fn end(&self, row: &mut Row, action: &Prepared) -> Result<bool, AllocError>
+        requires wide { length row.old.flags ≡ length self.now.grounds.atoms }
+        requires sound { IsSound self.now.grounds.atoms action.now }
+        ensures state { IfOk result (λ made.
+            (if made then Some (plain_state self.now.grounds.atoms row.new) else None)
+            ≡ landed self.now.expert.now self.now.problem.now self.now.grounds.atoms action.now
+            (plain_state self.now.grounds.atoms row.old)) }
+        ensures wide { OnOk result (length row.new.flags ≡ length row.old.flags) }
+    {
+        if !self.passes(row, &action.over) || !self.passes(row, &action.end) {
+            return Ok(false);
+        }
+        self.turn(row, &action.at_end)
+    }
+
+    /// Makes a step of a prepared ground action in a row where it may start, and answers whether it could. Where memory runs out the
+    /// row may have changed.
+    fn go_on(&self, row: &mut Row, action: &Prepared) -> Result<bool, AllocError>
+        requires wide { length row.old.flags ≡ length self.now.grounds.atoms }
+        requires sound { IsSound self.now.grounds.atoms action.now }
+        ensures state { IfOk result (λ made.
+            (if made then Some (plain_state self.now.grounds.atoms row.new) else None)
+            ≡ option_and_then
+            (landed self.now.expert.now self.now.problem.now self.now.grounds.atoms action.now)
+            (turned self.now.expert.now self.now.problem.now self.now.grounds.atoms
+            action.now.at_start (plain_state self.now.grounds.atoms row.old))) }
+        ensures wide { OnOk result (length row.new.flags ≡ length row.old.flags) }
+    {
+        if self.turn(row, &action.at_start)? {
+            self.end(row, action)
+        } else {
+            Ok(false)
+        }
+    }
+
+    /// Makes `next` the row after a step of a prepared ground action, and answers whether it leads there: false exactly where a part of
+    /// the step fails, which are the start condition, a start effect, the over-all or the end condition after the start effects, and
+    /// an end effect.
+    pub fn step(&self, row: &Row, action: &Prepared, next: &mut Row) -> Result<bool, AllocError>
+        requires wide { length row.now.flags ≡ length self.now.grounds.atoms }
+        requires next { length next.old.flags ≡ length self.now.grounds.atoms }
+        requires sound { IsSound self.now.grounds.atoms action.now }
+        ensures state { IfOk result (λ made.
+            (if made then Some (plain_state self.now.grounds.atoms next.new) else None)
+            ≡ successor self.now.expert.now self.now.problem.now self.now.grounds.atoms
+            (plain_state self.now.grounds.atoms row.now) action.now) }
+        ensures wide { OnOk result (length next.new.flags ≡ length next.old.flags) }
+    {
+        if !self.passes(row, &action.start) {
+            return Ok(false);
+        }
+        next.set_to(self.alloc, row)?;
+        self.go_on(next, action)
     }
 }

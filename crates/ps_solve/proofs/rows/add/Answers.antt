@@ -2,7 +2,7 @@ use Rattle.std.proofs.Common.{◌∷◌, [], List, option_to_list, ap, sym, ◌�
 use Rattle.ps_world.specs.declared.actions.Effect.{Effect}
 use Rattle.ps_world.specs.declared.facts.Fact.{Fact}
 use Rattle.ps_action.specs.Effects.{added_by}
-use Rattle.ps_solve.specs.Rows.{AreAtoms}
+use Rattle.ps_ground.specs.Atoms.{AreAtoms}
 use Rattle.ps_solve.proofs.rows.add.Goals as goal
 
 pub learn-place-requires-clause-atom : goal.learn-place-requires-clause-atom

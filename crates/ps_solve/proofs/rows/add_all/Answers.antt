@@ -5,7 +5,7 @@ use Rattle.ps_world.specs.Facts.{fact_cmp}
 use Rattle.ps_world.specs.declared.actions.Effect.{Effect}
 use Rattle.ps_action.specs.Effects.{added_by}
 use Rattle.ps_solve.specs.Rows.{facts_of}
-use Rattle.ps_solve.proofs.Preparing.{added_more, adds_split}
+use Rattle.ps_ground.proofs.Preparing.{added_more, adds_split}
 use Rattle.ps_solve.proofs.rows.add_all.Goals as goal
 
 pub loop-effect-preserved : goal.loop-effect-preserved

@@ -2,7 +2,8 @@ use Rattle.std.proofs.Common.{◌≡◌, fold, filter_map, length, drop}
 use Rattle.std.specs.BTreeSet.{insert_key}
 use Rattle.ps_world.specs.Facts.{fact_cmp}
 use Rattle.ps_action.specs.Effects.{added_by}
-use Rattle.ps_solve.specs.Rows.{AddAtoms, facts_of}
+use Rattle.ps_ground.specs.Atoms.{AddAtoms}
+use Rattle.ps_solve.specs.Rows.{facts_of}
 use Rattle.ps_solve.proofs.rows.add_all.Given as goal
 
 -- what the effects that are left add to what is there, all of it atoms

@@ -1,6 +1,6 @@
 use Rattle.std.proofs.Common.{◌≡◌, drop}
 use Rattle.std.specs.List.{list_all}
-use Rattle.ps_solve.specs.Prepared.{known_at}
+use Rattle.ps_ground.specs.Prepared.{known_at}
 use Rattle.ps_solve.specs.Rows.{plain_state}
 use Rattle.ps_solve.proofs.rows.are_known.Given as goal
 

@@ -2,9 +2,9 @@ use Rattle.std.proofs.Common.{not, filter, sym, ◌∙◌}
 use Rattle.std.proofs.lemmas.Cmp.{eq_by_cmp_equiv}
 use Rattle.ps_world.specs.Knowledge.{same_fact}
 use Rattle.ps_action.specs.Effects.{deletes}
-use Rattle.ps_solve.specs.Orders.{facts_total}
+use Rattle.ps_ground.specs.Orders.{facts_total}
 use Rattle.ps_solve.specs.Rows.{facts_of}
-use Rattle.ps_solve.proofs.Removed.{filter_all}
+use Rattle.ps_ground.proofs.Removed.{filter_all}
 use Rattle.ps_solve.proofs.rows.delete.Goals as goal
 
 pub returns-in-Delete-clause-facts : goal.returns-in-Delete-clause-facts

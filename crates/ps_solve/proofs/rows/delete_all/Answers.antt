@@ -5,7 +5,7 @@ use Rattle.ps_world.specs.declared.actions.Effect.{Effect}
 use Rattle.ps_world.specs.declared.facts.Fact.{Fact}
 use Rattle.ps_action.specs.Effects.{deletes}
 use Rattle.ps_solve.specs.Rows.{facts_of}
-use Rattle.ps_solve.proofs.Removed.{filter_all, filter_either}
+use Rattle.ps_ground.proofs.Removed.{filter_all, filter_either}
 use Rattle.ps_solve.proofs.rows.delete_all.Goals as goal
 
 pub loop-effect-preserved : goal.loop-effect-preserved

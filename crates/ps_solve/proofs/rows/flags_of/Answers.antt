@@ -5,7 +5,7 @@ use Rattle.ps_world.specs.Facts.{fact_cmp}
 use Rattle.ps_world.specs.declared.facts.Fact.{Fact}
 use Rattle.ps_solve.specs.Rows.{facts_of}
 use Rattle.ps_solve.proofs.FlagRows.{none_set}
-use Rattle.ps_solve.proofs.Preparing.{facts_split}
+use Rattle.ps_ground.proofs.Preparing.{facts_split}
 use Rattle.ps_solve.proofs.rows.flags_of.Goals as goal
 
 pub loop-fact-init : goal.loop-fact-init

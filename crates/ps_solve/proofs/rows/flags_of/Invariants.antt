@@ -1,7 +1,8 @@
 use Rattle.std.proofs.Common.{◌≡◌, [], drop, fold, length}
 use Rattle.std.specs.BTreeSet.{insert_key}
 use Rattle.ps_world.specs.Facts.{fact_cmp}
-use Rattle.ps_solve.specs.Rows.{AreAtoms, facts_of}
+use Rattle.ps_ground.specs.Atoms.{AreAtoms}
+use Rattle.ps_solve.specs.Rows.{facts_of}
 use Rattle.ps_solve.proofs.rows.flags_of.Given as goal
 
 -- the flags of the facts so far are set, and those that are left are atoms

@@ -2,7 +2,7 @@ use Rattle.std.proofs.Common.{◌<◌, Bool, List, length, ap, ◌∙◌, arith}
 use Rattle.std.proofs.lemmas.Option.{slice_get_within}
 use Rattle.ps_solve.specs.Rows.{facts_of}
 use Rattle.ps_solve.proofs.FlagRows.{flag_set}
-use Rattle.ps_solve.proofs.Preparing.{no_place}
+use Rattle.ps_ground.proofs.Preparing.{no_place}
 use Rattle.ps_solve.proofs.rows.learn.Goals as goal
 
 pub returns-clause-set : goal.returns-clause-set

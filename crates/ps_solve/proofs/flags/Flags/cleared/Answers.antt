@@ -7,10 +7,10 @@ use Rattle.ps_solve.proofs.flags.Flags.cleared.Goals as goal
 pub invariant_of-result : goal.invariant_of-result
 invariant_of-result c =
     let P : List ℕ → Type 0 = λ ws. ArePacked ws c.args.len in
-    let items : c.in_ok-vec.field-0.items ≡ replicate (div_ceil c.args.len 64) 0 = search rules in
+    let items : c.in_ok-from_elem.field-0.items ≡ replicate (div_ceil c.args.len 64) 0 = search rules in
     subst P (sym items) (cleared_packed c.args.len)
 
 pub returns : goal.returns
 returns c =
-    let items : c.in_ok-vec.field-0.items ≡ replicate (div_ceil c.args.len 64) 0 = search rules in
+    let items : c.in_ok-from_elem.field-0.items ≡ replicate (div_ceil c.args.len 64) 0 = search rules in
     ap (flags_in c.args.len) (ap joined items ∙ joined_none (div_ceil c.args.len 64)) ∙ none_set c.args.len

@@ -14,7 +14,7 @@ returns-in-Some c =
     let w = c.in-Some.word.now in
     let read : w ≡ get_or words (i / 64) 0 =
     get_or_read c.deref.result.now (i / 64) w (ltb-true (i / 64) (length c.deref.result.now) (sym c.in-Some.ensures.lookup.0)) c.in-Some.ensures.lookup.1 0
-    ∙ ap (λ (l : List ℕ). get_or l (i / 64) 0) c.deref.ensures.value in
+    ∙ ap (λ (l : List ℕ). get_or l (i / 64) 0) c.deref.ensures in
     ap (λ n. nat_eq n 1) (shr_and_one w (i % 64) ∙ ap (λ n. bit_at n (i % 64)) read)
     ∙ sym (flag_of_word words c.self.inside.len c.self.invariant i) ∙ ap (λ (l : List Bool). get_or l i false) c.self.view_is
 
@@ -22,7 +22,7 @@ pub returns-in-None : goal.returns-in-None
 returns-in-None c =
     let words = c.self.inside.words.items in
     let i = c.args.place in
-    let size = ap (λ (l : List ℕ). length l) c.deref.ensures.value in
+    let size = ap (λ (l : List ℕ). length l) c.deref.ensures in
     let past : length words ≤ i / 64 = omega (arith, size, ltb-false (i / 64) (length c.deref.result.now) (sym c.in-None.ensures.lookup.0)) in
     ap (λ n. nat_eq n 1) (sym (bit_at-zero (i % 64)) ∙ ap (λ n. bit_at n (i % 64)) (sym (get_or_past words (i / 64) 0 past)))
     ∙ sym (flag_of_word words c.self.inside.len c.self.invariant i) ∙ ap (λ (l : List Bool). get_or l i false) c.self.view_is

@@ -1,5 +1,5 @@
 use Rattle.std.proofs.Common.{◌∙◌}
-use Rattle.ps_solve.proofs.Rising.{facts_put}
+use Rattle.ps_ground.proofs.Rising.{facts_put}
 use Rattle.ps_solve.proofs.rows.Row.of.Goals as goal
 
 pub returns-clause-same : goal.returns-clause-same

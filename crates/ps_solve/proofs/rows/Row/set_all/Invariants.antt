@@ -1,5 +1,5 @@
 use Rattle.std.proofs.Common.{◌≡◌, drop, fold, length}
-use Rattle.ps_solve.specs.Prepared.{with_at}
+use Rattle.ps_ground.specs.Prepared.{with_at}
 use Rattle.ps_solve.specs.Rows.{facts_of}
 use Rattle.ps_solve.proofs.rows.Row.set_all.Given as goal
 

@@ -1,6 +1,0 @@
-use Rattle.std.proofs.Common.{◌≡◌, drop, fold}
-use Rattle.ps_solve.specs.Independence.{with_bit}
-use Rattle.ps_solve.proofs.footprints.with_places.Given as goal
-
-abbrev pub invariant-loop-place : goal.invariant-loop-place
-invariant-loop-place l = fold with_bit l.bits (drop l.place-index l.places) ≡ fold with_bit l.initial.bits l.places

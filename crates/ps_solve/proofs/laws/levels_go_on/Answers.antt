@@ -1,5 +1,0 @@
-use Rattle.ps_solve.proofs.LevelLaw.{levels_go_on}
-use Rattle.ps_solve.proofs.laws.levels_go_on.Goals as goal
-
-pub returns : goal.returns
-returns c = levels_go_on

@@ -1,0 +1,3 @@
+pub mod LevelLaw
+pub mod Lengths
+pub mod NoneLaw

@@ -1,0 +1,3 @@
+pub mod Frugal
+pub mod Laws
+pub mod Sample
