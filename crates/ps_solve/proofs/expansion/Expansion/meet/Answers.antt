@@ -5,7 +5,7 @@ use Rattle.ps_solve.specs.Reached.{places_of, rows_of}
 use Rattle.ps_solve.specs.Rows.{plain_state, same_row}
 use Rattle.ps_solve.specs.declared.rows.Row.{Row}
 use Rattle.ps_solve.proofs.Expanding.{met_bad}
-use Rattle.ps_solve.proofs.Meeting.{expanding_on, kept_full, kept_met, kept_new, row_met}
+use Rattle.ps_solve.proofs.Meeting.{expanding_on, from_below, kept_full, kept_met, kept_new, row_met}
 use Rattle.ps_solve.proofs.SameRows.{row_told}
 use Rattle.ps_solve.proofs.expansion.Expansion.meet.Goals as goal
 
@@ -33,6 +33,9 @@ pub push-requires-clause-new : goal.push-requires-clause-new
 push-requires-clause-new c =
     ap (λ (r : Row). list_any (same_row r) (rows_of c.args.reached.now)) (row_told c.in_ok-row.row c.args.next.now c.in_ok-row.ensures.flags c.in_ok-row.ensures.values)
     ∙ sym c.contains.ensures ∙ c.if-contains.false
+
+pub push-requires-clause-from : goal.push-requires-clause-from
+push-requires-clause-from c = from_below c.args.self.now c.args.reached.now c.requires.expanding
 
 pub returns-clause-leads : goal.returns-clause-leads
 returns-clause-leads c =
