@@ -14,7 +14,8 @@ use Rattle.ps_shape.specs.declared.marks.Mark.TheVariants.{Minus}
 use Rattle.ps_forms.specs.Nested.{Nesteds, none, more}
 use Rattle.ps_forms.specs.Places.{word_of}
 use Rattle.ps_pddl.specs.Lists.{kept, kind_ahead, listed, listed_type, with_name}
-use Rattle.ps_pddl.specs.Steps.{Read, ◌>>=◌, unless}
+use Rattle.ps_conditions.specs.Steps.{◌>>=◌}
+use Rattle.ps_pddl.specs.Steps.{Read, unless}
 use Rattle.ps_forms.specs.declared.lexemes.Lexeme.{Lexeme}
 use Rattle.ps_pddl.specs.declared.refusals.DomainRefusal.{DomainRefusal}
 use Rattle.ps_pddl.specs.declared.refusals.DomainRefusal.TheVariants.{Unknown}

@@ -17,7 +17,6 @@ pub mod MeanTerms
 pub mod MeanTypes
 pub mod NameMarks
 pub mod OneReading
-pub mod Operations
 pub mod OwnFaults
 pub mod Parents
 pub mod ReadActions
@@ -40,7 +39,6 @@ pub mod SoundTypes
 pub mod SpeltDomains
 pub mod SpeltParts
 pub mod SpeltWords
-pub mod Steps
 pub mod WayBack
 pub mod WordClasses
 pub mod WordLexemes

@@ -14,8 +14,8 @@ use Rattle.ps_forms.specs.Nested.{Nesteds, nesteds}
 use Rattle.ps_forms.specs.NestedViews.{nested}
 use Rattle.ps_forms.specs.Places.{word_of}
 use Rattle.ps_pddl.specs.Lists.{fault_of_new, cap_of, most_of, counted, with_name, kind_ahead, listed, listed_type}
-use Rattle.ps_pddl.specs.Steps.{◌>>=◌}
-use Rattle.ps_pddl.proofs.Steps.{gives_first}
+use Rattle.ps_conditions.specs.Steps.{◌>>=◌}
+use Rattle.ps_conditions.proofs.Steps.{gives_first}
 use Rattle.ps_pddl.specs.declared.refusals.DomainRefusal.{DomainRefusal}
 use Rattle.ps_forms.specs.declared.lexemes.Lexeme.{Lexeme}
 use Rattle.ps_forms.specs.declared.trees.Tree.{Tree}

@@ -13,11 +13,11 @@ use Rattle.ps_shape.specs.declared.marks.Mark.TheVariants as mark
 use Rattle.ps_forms.specs.Nested.{Nested, Nesteds, word, group, none, more}
 use Rattle.ps_forms.specs.Places.{after, at, head, items, items_at, rest}
 use Rattle.ps_forms.specs.declared.lexemes.Lexeme.{Lexeme}
-use Rattle.ps_pddl.specs.Conditions as condition
+use Rattle.ps_pddl.specs.Conditions as part
 use Rattle.ps_pddl.specs.Effects as effect
 use Rattle.ps_pddl.specs.Lists.{listed}
 use Rattle.ps_pddl.specs.Meaning as meaning
-use Rattle.ps_pddl.specs.Values.{value}
+use Rattle.ps_pddl.specs.Words.{value}
 use Rattle.ps_pddl.specs.WellFormed.{AreApart, AreTyped, IsAction}
 use Rattle.ps_world.specs.declared.actions.Effects.{Effects}
 use Rattle.ps_pddl.specs.declared.meaning.lists.Listing.TheVariants.{Params}
@@ -82,13 +82,13 @@ action-head : (names : Table) (a : ActionDef) (t : Nested) → IsActionForm name
 action-head names _ _ (action_form a k n p u e q c f g i ps cs es x m w pm pw um em qm xw cm fm cw gm im ew) = rw m refl
 
 module _ (names : Table) (d : Domain) (acts : List ActionDef) (predicates : TakeFew d.predicates) (functions : TakeFew d.functions) (heads : HaveHeads names d.predicates) where
-  parts-mean : (a : ActionDef) (cs : Nesteds) → IsAction d a → AreConditionParts names a cs → condition.all_timed (acting d acts) a.params cs (record { at_start = []; over_all = []; at_end = [] }) ≡ Ok (record { at_start = a.conditions.at_start; over_all = a.conditions.over_all; at_end = a.conditions.at_end })
+  parts-mean : (a : ActionDef) (cs : Nesteds) → IsAction d a → AreConditionParts names a cs → part.all_timed (acting d acts) a.params cs (record { at_start = []; over_all = []; at_end = [] }) ≡ Ok (record { at_start = a.conditions.at_start; over_all = a.conditions.over_all; at_end = a.conditions.at_end })
   parts-mean a _ h (condition_parts starts overs ends s o e) =
       let first : Conditions = record { at_start = a.conditions.at_start; over_all = []; at_end = [] } in
       let second : Conditions = record { at_start = a.conditions.at_start; over_all = a.conditions.over_all; at_end = [] } in
       starts-mean names d acts a.params h.params.apart predicates functions heads a.conditions.at_start starts (joined overs ends) (record { at_start = []; over_all = []; at_end = [] }) h.start s
       ∙ (overs-mean names d acts a.params h.params.apart predicates functions heads a.conditions.over_all overs ends first h.over o
-      ∙ (ap (λ ts. condition.all_timed (acting d acts) a.params ts second) (sym (joined-none ends))
+      ∙ (ap (λ ts. part.all_timed (acting d acts) a.params ts second) (sym (joined-none ends))
       ∙ ends-mean names d acts a.params h.params.apart predicates functions heads a.conditions.at_end ends none second h.end e))
 
   changes-mean : (a : ActionDef) (es : Nesteds) → IsAction d a → AreEffectParts names a es → effect.all_timed (acting d acts) a.params es (record { at_start = []; at_end = [] }) ≡ Ok (record { at_start = a.effects.at_start; at_end = a.effects.at_end })

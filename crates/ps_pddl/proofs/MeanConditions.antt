@@ -22,8 +22,11 @@ use Rattle.ps_shape.specs.Marks.{is, is_name, is_predicate_name}
 use Rattle.ps_shape.specs.declared.marks.Mark.TheVariants as mark
 use Rattle.ps_forms.specs.Nested.{Nested, Nesteds, none, more}
 use Rattle.ps_forms.specs.declared.lexemes.Lexeme.{Lexeme}
-use Rattle.ps_pddl.specs.Conditions as condition
-use Rattle.ps_pddl.specs.Steps.{Read}
+use Rattle.ps_pddl.specs.Conditions as part
+use Rattle.ps_conditions.specs.Conditions as meant
+use Rattle.ps_conditions.specs.Signs.{rel_of}
+use Rattle.ps_pddl.specs.Steps.{Read, reads}
+use Rattle.ps_pddl.specs.Words.{condition, words}
 use Rattle.ps_pddl.specs.WellFormed.{AreApart, AreConds, IsApplied, IsCond, IsExpr, IsFactOf}
 use Rattle.ps_world.specs.declared.actions.Conditions.{Conditions}
 use Rattle.ps_pddl.proofs.CanonicalForms.{name_mark, rel_mark, joined, IsTermWord, IsExprForm, a_number, a_value, a_negation, an_operation, IsCondForm, all_form, not_form, fact_form, same_form, comparison_form, AreCondForms, no_forms, more_forms, timed, AreForms, no_items, more_items, IsStartCond, IsOverCond, IsEndCond}
@@ -56,21 +59,21 @@ cond_tree-uncond (is_a t kind) = refl
 
 -- ---- heads
 
-rel_of-rel : (r : Rel) → condition.rel_of (rel_mark r) ≡ Some r
+pub rel_of-rel : (r : Rel) → rel_of (rel_mark r) ≡ Some r
 rel_of-rel Lt = refl
 rel_of-rel Le = refl
 rel_of-rel Eq = refl
 rel_of-rel Ge = refl
 rel_of-rel Gt = refl
 
-rel-isnt_and : (r : Rel) → is mark.And (rel_mark r) ≡ false
+pub rel-isnt_and : (r : Rel) → is mark.And (rel_mark r) ≡ false
 rel-isnt_and Lt = refl
 rel-isnt_and Le = refl
 rel-isnt_and Eq = refl
 rel-isnt_and Ge = refl
 rel-isnt_and Gt = refl
 
-rel-isnt_not : (r : Rel) → is mark.Not (rel_mark r) ≡ false
+pub rel-isnt_not : (r : Rel) → is mark.Not (rel_mark r) ≡ false
 rel-isnt_not Lt = refl
 rel-isnt_not Le = refl
 rel-isnt_not Eq = refl
@@ -103,17 +106,17 @@ joined-none none = refl
 joined-none (more t ts) = ap (λ rest. more t rest) (joined-none ts)
 
 module _ (names : Table) (d : Domain) (acts : List ActionDef) (ps : List Param) (apart : AreApart (λ p. p.name) ps) (predicates : TakeFew d.predicates) (functions : TakeFew d.functions) (heads : HaveHeads names d.predicates) where
-  comparison-means : (r : Rel) (x y : ExprTree) (t u : Nested) → IsExpr d ps x → IsExpr d ps y → IsExprForm names ps x t → IsExprForm names ps y u → condition.comparison (acting d acts) ps r t u ≡ Ok (cond.Cmp r (untree x) (untree y))
+  comparison-means : (r : Rel) (x y : ExprTree) (t u : Nested) → IsExpr d ps x → IsExpr d ps y → IsExprForm names ps x t → IsExprForm names ps y u → meant.comparison reads (words (acting d acts) ps) r t u ≡ Ok (cond.Cmp r (untree x) (untree y))
   comparison-means r x y t u h k a b = rw (value-means names d acts ps apart functions x t h a, value-means names d acts ps apart functions y u k b) refl
 
   -- numbers are compared where the first operand is one
-  equality-numbers : (x : ExprTree) (t u : Nested) → IsExprForm names ps x t → condition.equality (acting d acts) ps t u ≡ condition.comparison (acting d acts) ps Eq t u
+  equality-numbers : (x : ExprTree) (t u : Nested) → IsExprForm names ps x t → meant.equality reads (words (acting d acts) ps) t u ≡ meant.comparison reads (words (acting d acts) ps) Eq t u
   equality-numbers _ _ u (a_number n l m e) = rw m refl
   equality-numbers _ _ u (a_value f _ (form.lifted _ l ts w k)) = refl
   equality-numbers _ _ u (a_negation x l t m k) = refl
   equality-numbers _ _ u (an_operation o x y l t v m j k) = refl
 
-  related-means : (r : Rel) (x : ExprTree) (t u : Nested) (other : Read Cond) → IsExprForm names ps x t → condition.related (acting d acts) ps (Some r) t u other ≡ condition.comparison (acting d acts) ps r t u
+  related-means : (r : Rel) (x : ExprTree) (t u : Nested) (other : Read Cond) → IsExprForm names ps x t → meant.related reads (words (acting d acts) ps) (Some r) t u other ≡ meant.comparison reads (words (acting d acts) ps) r t u
   related-means Lt x t u other k = refl
   related-means Le x t u other k = refl
   related-means Eq x t u other k = equality-numbers x t u k
@@ -121,13 +124,13 @@ module _ (names : Table) (d : Domain) (acts : List ActionDef) (ps : List Param) 
   related-means Gt x t u other k = refl
 
   -- a name at the head is that of a predicate
-  stated-name : (l : Lexeme) (ts : Nesteds) → is_name l.mark ≡ true → condition.plain_condition (acting d acts) ps l ts ≡ condition.stated (acting d acts) ps l ts
+  stated-name : (l : Lexeme) (ts : Nesteds) → is_name l.mark ≡ true → meant.plain_condition reads (words (acting d acts) ps) l ts ≡ meant.stated reads (words (acting d acts) ps) l ts
   stated-name l none h = refl
   stated-name l (more a none) h = refl
   stated-name l (more a (more b ts)) h = rw (rel_of-name l.mark h) refl
 
   mutual
-    condition-means : (c : CondTree) (t : Nested) → IsCond d ps c → IsCondForm names ps c t → condition.condition (acting d acts) ps t ≡ Ok (uncond c)
+    condition-means : (c : CondTree) (t : Nested) → IsCond d ps c → IsCondForm names ps c t → condition (acting d acts) ps t ≡ Ok (uncond c)
     condition-means _ _ h (all_form cs l ts m k) = rw (m, conditions-mean cs ts [] h k) refl
     condition-means _ _ h (not_form c l t m k) = rw (m, condition-means c t h k, cond_tree-uncond c) refl
     condition-means _ _ h (fact_form f _ (form.lifted _ l ts w u)) =
@@ -138,27 +141,27 @@ module _ (names : Table) (d : Domain) (acts : List ActionDef) (ps : List Param) 
     condition-means _ _ h (comparison_form r x y l t u m j k) =
         let no_and : is mark.And l.mark ≡ false = rw m (rel-isnt_and r) in
         let no_not : is mark.Not l.mark ≡ false = rw m (rel-isnt_not r) in
-        let rel : condition.rel_of l.mark ≡ Some r = rw m (rel_of-rel r) in
-        rw (no_and, no_not, rel, related-means r x t u (condition.stated (acting d acts) ps l (more t (more u none))) j, comparison-means r x y t u h.0 h.1 j k) refl
+        let rel : rel_of l.mark ≡ Some r = rw m (rel_of-rel r) in
+        rw (no_and, no_not, rel, related-means r x t u (meant.stated reads (words (acting d acts) ps) l (more t (more u none))) j, comparison-means r x y t u h.0 h.1 j k) refl
 
-    conditions-mean : (cs : CondTrees) (ts : Nesteds) (before : List CondTree) → AreConds d ps cs → AreCondForms names ps cs ts → condition.conditions (acting d acts) ps ts before ≡ Ok (before ++ list_of cs)
+    conditions-mean : (cs : CondTrees) (ts : Nesteds) (before : List CondTree) → AreConds d ps cs → AreCondForms names ps cs ts → meant.conditions reads (words (acting d acts) ps) ts before ≡ Ok (before ++ list_of cs)
     conditions-mean _ _ before h no_forms = rw append-nil refl
     conditions-mean _ _ before h (more_forms c cs t ts k rest) =
         rw (condition-means c t h.0 k, cond_tree-uncond c, conditions-mean cs ts (before ++ c ∷ []) h.1 rest, append_assoc before (c ∷ []) (list_of cs)) refl
 
   -- ---- the parts of an action's condition
 
-  pub starts-mean : (cs : List CondTree) (ts us : Nesteds) (parts : Conditions) → All (IsCond d ps) cs → AreForms (IsStartCond names ps) cs ts → condition.all_timed (acting d acts) ps (joined ts us) parts ≡ condition.all_timed (acting d acts) ps us (record parts { at_start = parts.at_start ++ cs })
+  pub starts-mean : (cs : List CondTree) (ts us : Nesteds) (parts : Conditions) → All (IsCond d ps) cs → AreForms (IsStartCond names ps) cs ts → part.all_timed (acting d acts) ps (joined ts us) parts ≡ part.all_timed (acting d acts) ps us (record parts { at_start = parts.at_start ++ cs })
   starts-mean _ _ us parts h no_items = rw append-nil refl
   starts-mean _ _ us parts h (more_items c cs _ ts (timed l m u a b k) rest) =
       rw (a, b, condition-means c u (All-head (IsCond d ps) c cs h) k, cond_tree-uncond c, starts-mean cs ts us (record parts { at_start = parts.at_start ++ c ∷ [] }) (All-tail (IsCond d ps) c cs h) rest, append_assoc parts.at_start (c ∷ []) cs) refl
 
-  pub overs-mean : (cs : List CondTree) (ts us : Nesteds) (parts : Conditions) → All (IsCond d ps) cs → AreForms (IsOverCond names ps) cs ts → condition.all_timed (acting d acts) ps (joined ts us) parts ≡ condition.all_timed (acting d acts) ps us (record parts { over_all = parts.over_all ++ cs })
+  pub overs-mean : (cs : List CondTree) (ts us : Nesteds) (parts : Conditions) → All (IsCond d ps) cs → AreForms (IsOverCond names ps) cs ts → part.all_timed (acting d acts) ps (joined ts us) parts ≡ part.all_timed (acting d acts) ps us (record parts { over_all = parts.over_all ++ cs })
   overs-mean _ _ us parts h no_items = rw append-nil refl
   overs-mean _ _ us parts h (more_items c cs _ ts (timed l m u a b k) rest) =
       rw (a, condition-means c u (All-head (IsCond d ps) c cs h) k, cond_tree-uncond c, overs-mean cs ts us (record parts { over_all = parts.over_all ++ c ∷ [] }) (All-tail (IsCond d ps) c cs h) rest, append_assoc parts.over_all (c ∷ []) cs) refl
 
-  pub ends-mean : (cs : List CondTree) (ts us : Nesteds) (parts : Conditions) → All (IsCond d ps) cs → AreForms (IsEndCond names ps) cs ts → condition.all_timed (acting d acts) ps (joined ts us) parts ≡ condition.all_timed (acting d acts) ps us (record parts { at_end = parts.at_end ++ cs })
+  pub ends-mean : (cs : List CondTree) (ts us : Nesteds) (parts : Conditions) → All (IsCond d ps) cs → AreForms (IsEndCond names ps) cs ts → part.all_timed (acting d acts) ps (joined ts us) parts ≡ part.all_timed (acting d acts) ps us (record parts { at_end = parts.at_end ++ cs })
   ends-mean _ _ us parts h no_items = rw append-nil refl
   ends-mean _ _ us parts h (more_items c cs _ ts (timed l m u a b k) rest) =
       rw (a, b, condition-means c u (All-head (IsCond d ps) c cs h) k, cond_tree-uncond c, ends-mean cs ts us (record parts { at_end = parts.at_end ++ c ∷ [] }) (All-tail (IsCond d ps) c cs h) rest, append_assoc parts.at_end (c ∷ []) cs) refl

@@ -7,12 +7,12 @@ use Rattle.ps_shape.specs.contracts.marks.Mark.{the_type}
 use Rattle.ps_shape.specs.Marks.{is, is_name, is_predicate_name}
 use Rattle.ps_shape.specs.declared.marks.Mark.{Mark}
 use Rattle.ps_shape.specs.declared.marks.Mark.TheVariants as mark
-use Rattle.ps_pddl.specs.Conditions.{rel_of}
+use Rattle.ps_conditions.specs.Signs.{rel_of}
 use Rattle.ps_pddl.specs.Effects.{change_of}
-use Rattle.ps_pddl.specs.Values.{operator_of}
+use Rattle.ps_conditions.specs.Signs.{operator_of}
 
 -- two marks of which a test tells one from the other are not the same
-isnt-by : (P : Mark → Bool) (k m : Mark) → P m ≡ true → P k ≡ false → is k m ≡ false
+pub isnt-by : (P : Mark → Bool) (k m : Mark) → P m ≡ true → P k ≡ false → is k m ≡ false
 isnt-by P k m p q =
     false_from_ne_true (is k m) (λ e.
     let same : m ≡ k = tag_one the_type tt m k (eqb-true (tag_of the_type m) (tag_of the_type k) e) in

@@ -30,7 +30,10 @@ use Rattle.ps_forms.specs.Nested.{Nested, Nesteds, word, none, more}
 use Rattle.ps_forms.specs.Places.{count}
 use Rattle.ps_forms.specs.declared.lexemes.Lexeme.{Lexeme}
 use Rattle.ps_pddl.specs.Terms.{argument, arguments, applied, fact, param_at, resolved, term_of, value_of}
-use Rattle.ps_pddl.specs.Values.{function_value, operation, operator_of, value}
+use Rattle.ps_conditions.specs.Signs.{operator_of}
+use Rattle.ps_conditions.specs.Values.{function_value, operation}
+use Rattle.ps_pddl.specs.Steps.{reads}
+use Rattle.ps_pddl.specs.Words.{value, words}
 use Rattle.ps_pddl.specs.WellFormed.{AreApart, AreSuited, HasKind, IsApplied, IsExpr, IsFactOf, IsValueOf}
 use Rattle.ps_pddl.proofs.CanonicalForms.{param_name, op_mark, IsNamed, IsTermWord, AreTermForms, no_terms, more_terms, IsExprForm, a_number, a_value, a_negation, an_operation}
 use Rattle.ps_pddl.proofs.CanonicalForms as form
@@ -117,7 +120,7 @@ untree-expr_tree (Fun f) = refl
 untree-expr_tree (Neg x) = refl
 untree-expr_tree (Bin o x y) = refl
 
-operator_of-op : (o : Op) → operator_of (op_mark o) ≡ Some o
+pub operator_of-op : (o : Op) → operator_of (op_mark o) ≡ Some o
 operator_of-op op.Add = refl
 operator_of-op op.Sub = refl
 operator_of-op op.Mul = refl
@@ -163,7 +166,7 @@ module _ (names : Table) (d : Domain) (acts : List ActionDef) (ps : List Param) 
   -- ---- numeric expressions
 
   -- a name at the head is that of a function
-  operation-name : (l : Lexeme) (ts : Nesteds) → is_name l.mark ≡ true → operation (acting d acts) ps (more (word l) ts) ≡ function_value (acting d acts) ps l ts
+  operation-name : (l : Lexeme) (ts : Nesteds) → is_name l.mark ≡ true → operation reads (words (acting d acts) ps) (more (word l) ts) ≡ function_value reads (words (acting d acts) ps) l ts
   operation-name l none h = refl
   operation-name l (more a none) h = rw (name-isnt mark.Minus l.mark h refl) refl
   operation-name l (more a (more b ts)) h = rw (operator_of-name l.mark h) refl

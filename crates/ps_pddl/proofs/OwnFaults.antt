@@ -27,7 +27,7 @@ use Rattle.ps_world.specs.declared.expressions.Op.{Op}
 use Rattle.ps_shape.specs.Marks.{is}
 use Rattle.ps_shape.specs.declared.marks.Mark.{Mark}
 use Rattle.ps_shape.specs.declared.marks.Mark.TheVariants as mark
-use Rattle.ps_pddl.specs.Conditions as condition
+use Rattle.ps_pddl.specs.Conditions as part
 use Rattle.ps_pddl.specs.Effects as effect
 use Rattle.ps_pddl.specs.Laws.{MeaningsHaveOwnFaults, is_of_meaning}
 use Rattle.ps_pddl.specs.Lists.{cap_of, most_of, counted, kept, kind_ahead, listed, listed_type, with_name}
@@ -35,10 +35,12 @@ use Rattle.ps_pddl.specs.Meaning as meaning
 use Rattle.ps_pddl.specs.Meaning.{domain_of}
 use Rattle.ps_forms.specs.Nested.{Nested, Nesteds, word, group, none, more}
 use Rattle.ps_forms.specs.Places.{items, items_at, at, head, rest, after, section, word_of, count}
-use Rattle.ps_pddl.specs.Steps.{Read, ◌>>=◌, unless}
+use Rattle.ps_conditions.specs.Steps.{◌>>=◌}
+use Rattle.ps_pddl.specs.Steps.{Read, unless}
 use Rattle.ps_pddl.specs.Terms.{argument, arguments, applied, fact, lifted, resolved, term_of, value_of}
 use Rattle.ps_pddl.specs.Types.{acyclic, is_cyclic, names_of, with_types}
-use Rattle.ps_pddl.specs.Values.{function_value, operated, operation, operator_of, plain_value, value}
+use Rattle.ps_pddl.specs.Words.{condition, plain_value, second, term, value, words}
+use Rattle.ps_conditions.proofs.Refusals.{AreRefused, Refuses, condition_refuses, value_refuses}
 use Rattle.ps_forms.specs.declared.lexemes.Lexeme.{Lexeme}
 use Rattle.ps_world.specs.declared.actions.Effects.{Effects}
 use Rattle.ps_pddl.specs.declared.meaning.lists.Listing.{Listing}
@@ -51,10 +53,13 @@ use Rattle.ps_pddl.specs.declared.refusals.DomainRefusal.TheVariants.{Unknown, T
 
 -- ---- steps
 
+-- a fault of a meaning
+abbrev IsOwn : DomainRefusal → Type 0
+IsOwn fault = is_of_meaning fault ≡ true
+
 -- what is read, or a fault of a meaning
 abbrev Own : {A : Type 0} → Read A → Type 0
-Own (Ok x) = Unit {0}
-Own (Err fault) = is_of_meaning fault ≡ true
+Own read = Refuses IsOwn read
 
 then_own : {A B : Type 0} (read : Read A) (f : A → Read B) → Own read → ((x : A) → Own (f x)) → Own (read >>= f)
 then_own (Ok x) f h k = k x
@@ -106,121 +111,60 @@ fact_own d ps l ts = applied_own d ps (predicate_of d l.name) l ts
 value_of_own : (d : Domain) (ps : List Param) (l : Lexeme) (ts : Nesteds) → Own (value_of d ps l ts)
 value_of_own d ps l ts = applied_own d ps (function_of d l.name) l ts
 
--- ---- numeric expressions
+-- ---- words, values and conditions
 
 plain_value_own : (d : Domain) (ps : List Param) (l : Lexeme) → Own (plain_value d ps l)
 plain_value_own d ps l =
     either_own (is mark.Number l.mark) (Ok (Num l.number)) (resolved d ps l >>= λ t. Err (Kind l.at)) tt
     (then_own {B = Expr} (resolved d ps l) (λ t. Err (Kind l.at)) (resolved_own d ps l) (λ t. refl))
 
-function_value_own : (d : Domain) (ps : List Param) (l : Lexeme) (ts : Nesteds) → Own (function_value d ps l ts)
-function_value_own d ps l ts = then_own (value_of d ps l ts) (λ v. Ok (Fun v)) (value_of_own d ps l ts) (λ v. tt)
+term_own : (d : Domain) (ps : List Param) (l : Lexeme) → Own (term d ps l)
+term_own d ps l = then_own (resolved d ps l) (λ t. Ok t.term) (resolved_own d ps l) (λ t. tt)
 
-operated_own : (op : Option Op) (a b other : Read Expr) → Own a → Own b → Own other → Own (operated op a b other)
-operated_own None a b other h k o = o
-operated_own (Some op) a b other h k o =
-    then_own a (λ x. b >>= λ y. Ok (Bin op (expr_tree x) (expr_tree y))) h
-    (λ x. then_own b (λ y. Ok (Bin op (expr_tree x) (expr_tree y))) k (λ y. tt))
+second_own : (d : Domain) (ps : List Param) (first : Lexeme) (t : Nested) → Own (second d ps first t)
+second_own d ps first (group ts) = refl
+second_own d ps first (word l) = either_own (is mark.Number l.mark) (Err (Kind first.at)) (term d ps l) refl (term_own d ps l)
 
-mutual
-  value_own : (d : Domain) (ps : List Param) (t : Nested) → Own (value d ps t)
-  value_own d ps (word l) = plain_value_own d ps l
-  value_own d ps (group ts) = operation_own d ps ts
+words_own : (d : Domain) (ps : List Param) → AreRefused IsOwn (words d ps)
+words_own d ps = record {
+  term = term_own d ps;
+  second = second_own d ps;
+  worth = plain_value_own d ps;
+  fact = fact_own d ps;
+  function = value_of_own d ps;
+}
 
-  operation_own : (d : Domain) (ps : List Param) (ts : Nesteds) → Own (operation d ps ts)
-  operation_own d ps none = tt
-  operation_own d ps (more f none) = function_value_own d ps (word_of f) none
-  operation_own d ps (more f (more a none)) =
-      either_own (is mark.Minus (word_of f).mark) (value d ps a >>= λ x. Ok (Neg (expr_tree x))) (function_value d ps (word_of f) (more a none))
-      (then_own (value d ps a) (λ x. Ok (Neg (expr_tree x))) (value_own d ps a) (λ x. tt))
-      (function_value_own d ps (word_of f) (more a none))
-  operation_own d ps (more f (more a (more b ts))) =
-      operated_own (operator_of (word_of f).mark) (value d ps a) (value d ps b) (function_value d ps (word_of f) (more a (more b ts)))
-      (value_own d ps a) (value_own d ps b) (function_value_own d ps (word_of f) (more a (more b ts)))
+value_own : (d : Domain) (ps : List Param) (t : Nested) → Own (value d ps t)
+value_own d ps t = value_refuses DomainRefusal IsOwn (words d ps) (words_own d ps) t
 
--- ---- conditions
+condition_own : (d : Domain) (ps : List Param) (t : Nested) → Own (condition d ps t)
+condition_own d ps t = condition_refuses DomainRefusal IsOwn (words d ps) (words_own d ps) t
 
-comparison_own : (d : Domain) (ps : List Param) (rel : Rel) (a b : Nested) → Own (condition.comparison d ps rel a b)
-comparison_own d ps rel a b =
-    then_own (value d ps a) (λ x. value d ps b >>= λ y. Ok (cond.Cmp rel x y)) (value_own d ps a)
-    (λ x. then_own (value d ps b) (λ y. Ok (cond.Cmp rel x y)) (value_own d ps b) (λ y. tt))
+-- ---- the parts of an action's condition
 
-same_as_own : (d : Domain) (ps : List Param) (first : Lexeme) (a : Term) (t : Nested) → Own (condition.same_as d ps first a t)
-same_as_own d ps first a (group ts) = refl
-same_as_own d ps first a (word l) =
-    either_own (is mark.Number l.mark) (Err (Kind first.at)) (resolved d ps l >>= λ b. Ok (cond.Same a b.term)) refl
-    (then_own (resolved d ps l) (λ b. Ok (cond.Same a b.term)) (resolved_own d ps l) (λ b. tt))
-
-equality_own : (d : Domain) (ps : List Param) (a b : Nested) → Own (condition.equality d ps a b)
-equality_own d ps (group ts) b = comparison_own d ps Eq (group ts) b
-equality_own d ps (word l) b =
-    either_own (is mark.Number l.mark) (condition.comparison d ps Eq (word l) b) (resolved d ps l >>= λ a. condition.same_as d ps l a.term b)
-    (comparison_own d ps Eq (word l) b)
-    (then_own (resolved d ps l) (λ a. condition.same_as d ps l a.term b) (resolved_own d ps l) (λ a. same_as_own d ps l a.term b))
-
-stated_own : (d : Domain) (ps : List Param) (l : Lexeme) (ts : Nesteds) → Own (condition.stated d ps l ts)
-stated_own d ps l ts = then_own (fact d ps l ts) (λ f. Ok (cond.Holds f)) (fact_own d ps l ts) (λ f. tt)
-
-related_own : (d : Domain) (ps : List Param) (rel : Option Rel) (a b : Nested) (other : Read Cond) → Own other → Own (condition.related d ps rel a b other)
-related_own d ps None a b other o = o
-related_own d ps (Some Eq) a b other o = equality_own d ps a b
-related_own d ps (Some Lt) a b other o = comparison_own d ps Lt a b
-related_own d ps (Some Le) a b other o = comparison_own d ps Le a b
-related_own d ps (Some Ge) a b other o = comparison_own d ps Ge a b
-related_own d ps (Some Gt) a b other o = comparison_own d ps Gt a b
-
-plain_condition_own : (d : Domain) (ps : List Param) (l : Lexeme) (ts : Nesteds) → Own (condition.plain_condition d ps l ts)
-plain_condition_own d ps l none = stated_own d ps l none
-plain_condition_own d ps l (more a none) = stated_own d ps l (more a none)
-plain_condition_own d ps l (more a (more b ts)) =
-    related_own d ps (condition.rel_of l.mark) a b (condition.stated d ps l (more a (more b ts))) (stated_own d ps l (more a (more b ts)))
-
-mutual
-  condition_own : (d : Domain) (ps : List Param) (t : Nested) → Own (condition.condition d ps t)
-  condition_own d ps (word l) = tt
-  condition_own d ps (group ts) = form_own d ps ts
-
-  form_own : (d : Domain) (ps : List Param) (ts : Nesteds) → Own (condition.form d ps ts)
-  form_own d ps none = tt
-  form_own d ps (more f ts) =
-      either_own (is mark.And (word_of f).mark) (condition.conditions d ps ts [] >>= λ cs. Ok (cond.And cs))
-      (if is mark.Not (word_of f).mark then condition.negation d ps ts else condition.plain_condition d ps (word_of f) ts)
-      (then_own (condition.conditions d ps ts []) (λ cs. Ok (cond.And cs)) (conditions_own d ps ts []) (λ cs. tt))
-      (either_own (is mark.Not (word_of f).mark) (condition.negation d ps ts) (condition.plain_condition d ps (word_of f) ts) (negation_own d ps ts) (plain_condition_own d ps (word_of f) ts))
-
-  negation_own : (d : Domain) (ps : List Param) (ts : Nesteds) → Own (condition.negation d ps ts)
-  negation_own d ps none = tt
-  negation_own d ps (more c ts) = then_own (condition.condition d ps c) (λ x. Ok (cond.Not (cond_tree x))) (condition_own d ps c) (λ x. tt)
-
-  conditions_own : (d : Domain) (ps : List Param) (ts : Nesteds) (before : List CondTree) → Own (condition.conditions d ps ts before)
-  conditions_own d ps none before = tt
-  conditions_own d ps (more c cs) before =
-      then_own (condition.condition d ps c) (λ x. condition.conditions d ps cs (before ++ cond_tree x ∷ [])) (condition_own d ps c)
-      (λ x. conditions_own d ps cs (before ++ cond_tree x ∷ []))
-
-timed_part_own : (d : Domain) (ps : List Param) (m moment : Mark) (t : Nested) (parts : Conditions) → Own (condition.timed_part d ps m moment t parts)
-timed_part_own d ps mark.At moment t parts = then_own (condition.condition d ps t) (λ c. Ok (condition.at_time moment c parts)) (condition_own d ps t) (λ c. tt)
-timed_part_own d ps mark.Over moment t parts = then_own (condition.condition d ps t) (λ c. Ok (condition.over_all c parts)) (condition_own d ps t) (λ c. tt)
+timed_part_own : (d : Domain) (ps : List Param) (m moment : Mark) (t : Nested) (parts : Conditions) → Own (part.timed_part d ps m moment t parts)
+timed_part_own d ps mark.At moment t parts = then_own (condition d ps t) (λ c. Ok (part.at_time moment c parts)) (condition_own d ps t) (λ c. tt)
+timed_part_own d ps mark.Over moment t parts = then_own (condition d ps t) (λ c. Ok (part.over_all c parts)) (condition_own d ps t) (λ c. tt)
 timed_part_own d ps m moment t parts = tt
 
-timed_form_own : (d : Domain) (ps : List Param) (l : Lexeme) (ts : Nesteds) (parts : Conditions) → Own (condition.timed_form d ps l ts parts)
+timed_form_own : (d : Domain) (ps : List Param) (l : Lexeme) (ts : Nesteds) (parts : Conditions) → Own (part.timed_form d ps l ts parts)
 timed_form_own d ps l none parts = tt
 timed_form_own d ps l (more moment none) parts = tt
 timed_form_own d ps l (more moment (more t ts)) parts = timed_part_own d ps l.mark (word_of moment).mark t parts
 
 mutual
-  timed_own : (d : Domain) (ps : List Param) (t : Nested) (parts : Conditions) → Own (condition.timed d ps t parts)
+  timed_own : (d : Domain) (ps : List Param) (t : Nested) (parts : Conditions) → Own (part.timed d ps t parts)
   timed_own d ps (word l) parts = tt
   timed_own d ps (group ts) parts = timed_list_own d ps ts parts
 
-  timed_list_own : (d : Domain) (ps : List Param) (ts : Nesteds) (parts : Conditions) → Own (condition.timed_list d ps ts parts)
+  timed_list_own : (d : Domain) (ps : List Param) (ts : Nesteds) (parts : Conditions) → Own (part.timed_list d ps ts parts)
   timed_list_own d ps none parts = tt
   timed_list_own d ps (more f ts) parts =
-      either_own (is mark.And (word_of f).mark) (condition.all_timed d ps ts parts) (condition.timed_form d ps (word_of f) ts parts) (all_timed_own d ps ts parts) (timed_form_own d ps (word_of f) ts parts)
+      either_own (is mark.And (word_of f).mark) (part.all_timed d ps ts parts) (part.timed_form d ps (word_of f) ts parts) (all_timed_own d ps ts parts) (timed_form_own d ps (word_of f) ts parts)
 
-  all_timed_own : (d : Domain) (ps : List Param) (ts : Nesteds) (parts : Conditions) → Own (condition.all_timed d ps ts parts)
+  all_timed_own : (d : Domain) (ps : List Param) (ts : Nesteds) (parts : Conditions) → Own (part.all_timed d ps ts parts)
   all_timed_own d ps none parts = tt
-  all_timed_own d ps (more t ts) parts = then_own (condition.timed d ps t parts) (λ x. condition.all_timed d ps ts x) (timed_own d ps t parts) (λ x. all_timed_own d ps ts x)
+  all_timed_own d ps (more t ts) parts = then_own (part.timed d ps t parts) (λ x. part.all_timed d ps ts x) (timed_own d ps t parts) (λ x. all_timed_own d ps ts x)
 
 -- ---- effects
 

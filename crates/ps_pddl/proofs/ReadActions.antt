@@ -22,8 +22,8 @@ use Rattle.ps_forms.specs.Places.{at, items_at, word_of}
 use Rattle.ps_print.specs.CanonicalWords.{IsActionOf, IsCondOf, IsEffectOf}
 use Rattle.ps_pddl.specs.Lists.{listed}
 use Rattle.ps_pddl.specs.Meaning as meaning
-use Rattle.ps_pddl.specs.Steps.{◌>>=◌}
-use Rattle.ps_pddl.specs.Values.{value}
+use Rattle.ps_conditions.specs.Steps.{◌>>=◌}
+use Rattle.ps_pddl.specs.Words.{value}
 use Rattle.ps_world.specs.declared.actions.Effects.{Effects}
 use Rattle.ps_pddl.specs.declared.meaning.lists.Listing.TheVariants.{Params}
 use Rattle.ps_world.specs.declared.actions.Conditions.{Conditions}

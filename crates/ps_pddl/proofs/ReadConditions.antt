@@ -23,10 +23,13 @@ use Rattle.ps_forms.specs.Grammar as grammar
 use Rattle.ps_forms.specs.Nested.{Nested, Nesteds, word, group, none, more}
 use Rattle.ps_forms.specs.declared.lexemes.Lexeme.{Lexeme}
 use Rattle.ps_print.specs.CanonicalWords.{AreCondsOf, IsCondOf}
-use Rattle.ps_pddl.specs.Conditions as condition
-use Rattle.ps_pddl.specs.Steps.{Read, ◌>>=◌}
+use Rattle.ps_pddl.specs.Conditions as part
+use Rattle.ps_conditions.specs.Conditions as meant
+use Rattle.ps_conditions.specs.Signs.{rel_of}
+use Rattle.ps_conditions.specs.Steps.{◌>>=◌}
+use Rattle.ps_pddl.specs.Steps.{Read, reads}
 use Rattle.ps_pddl.specs.Terms.{fact, resolved}
-use Rattle.ps_pddl.specs.Values.{value}
+use Rattle.ps_pddl.specs.Words.{condition, second, term, value, words}
 use Rattle.ps_world.specs.declared.actions.Conditions.{Conditions}
 use Rattle.ps_pddl.specs.declared.refusals.DomainRefusal.TheVariants.{Kind}
 use Rattle.ps_pddl.proofs.CanonicalForms.{name_mark}
@@ -92,42 +95,50 @@ module _ (after : Table) (first : 0 < length after) (d : Domain) (ps : List Para
       let parts = fits_tail room x (cond_trees cs) h in
       fit_more room x (cond_trees (cs ++ c ∷ [])) parts.0 (fits_push room cs c parts.1 k)
 
-  comparison_here : (room : ℕ) (r : Rel) (a b : Nested) → IsValue room a → IsValue room b → AllTold after a → AllTold after b → Sound (IsCondHere (suc room)) (condition.comparison d ps r a b)
+  comparison_here : (room : ℕ) (r : Rel) (a b : Nested) → IsValue room a → IsValue room b → AllTold after a → AllTold after b → Sound (IsCondHere (suc room)) (meant.comparison reads (words d ps) r a b)
   comparison_here room r a b v w h k =
       then_sound (IsValueHere after first d ps room) (IsCondHere (suc room)) (value d ps a) (λ x. value d ps b >>= λ y. Ok (cond.Cmp r x y)) (value_here after first d ps room a v h)
       (λ x one. then_sound (IsValueHere after first d ps room) (IsCondHere (suc room)) (value d ps b) (λ y. Ok (cond.Cmp r x y)) (value_here after first d ps room b w k)
       (λ y two. ((one.0, two.0), fits_comparison room r (expr_tree x) (expr_tree y) one.1 two.1)))
 
-  same_as_here : (room : ℕ) (l : Lexeme) (a : Term) (t : Nested) → IsTermHere after first d ps a → AllTold after t → Sound (IsCondHere (suc room)) (condition.same_as d ps l a t)
-  same_as_here room l a (group ts) h k = tt
-  same_as_here room l a (word m) h k =
-      either_sound (IsCondHere (suc room)) (is mark.Number m.mark) (Err (Kind l.at)) (resolved d ps m >>= λ b. Ok (cond.Same a b.term)) (λ e. tt)
-      (λ e. then_sound (IsTypedHere after first d ps) (IsCondHere (suc room)) (resolved d ps m) (λ b. Ok (cond.Same a b.term)) (resolved_here after first d ps m k.below)
-      (λ b one. ((h, one), fits_same room a b.term)))
+  -- a term that stands in the table
+  abbrev IsThere : Term → Type 0
+  IsThere t = IsTermHere after first d ps t
 
-  equality_here : (room : ℕ) (a b : Nested) → IsValue room a → IsValue room b → AllTold after a → AllTold after b → Sound (IsCondHere (suc room)) (condition.equality d ps a b)
+  term_here : (l : Lexeme) → IsTold after l → Sound IsThere (term d ps l)
+  term_here l h = then_sound (IsTypedHere after first d ps) IsThere (resolved d ps l) (λ t. Ok t.term) (resolved_here after first d ps l h.below) (λ t one. one)
+
+  second_here : (l : Lexeme) (t : Nested) → AllTold after t → Sound IsThere (second d ps l t)
+  second_here l (group ts) k = tt
+  second_here l (word m) k = either_sound IsThere (is mark.Number m.mark) (Err (Kind l.at)) (term d ps m) (λ e. tt) (λ e. term_here m k)
+
+  same_as_here : (room : ℕ) (l : Lexeme) (b : Nested) → IsTold after l → AllTold after b → Sound (IsCondHere (suc room)) (meant.same_as reads (words d ps) l b)
+  same_as_here room l b h k =
+      then_sound IsThere (IsCondHere (suc room)) (term d ps l) (λ s. second d ps l b >>= λ t. Ok (cond.Same s t)) (term_here l h)
+      (λ s one. then_sound IsThere (IsCondHere (suc room)) (second d ps l b) (λ t. Ok (cond.Same s t)) (second_here l b k)
+      (λ t two. ((one, two), fits_same room s t)))
+
+  equality_here : (room : ℕ) (a b : Nested) → IsValue room a → IsValue room b → AllTold after a → AllTold after b → Sound (IsCondHere (suc room)) (meant.equality reads (words d ps) a b)
   equality_here room (group ts) b v w h k = comparison_here room Eq (group ts) b v w h k
   equality_here room (word l) b v w h k =
-      either_sound (IsCondHere (suc room)) (is mark.Number l.mark) (condition.comparison d ps Eq (word l) b) (resolved d ps l >>= λ a. condition.same_as d ps l a.term b)
-      (λ e. comparison_here room Eq (word l) b v w h k)
-      (λ e. then_sound (IsTypedHere after first d ps) (IsCondHere (suc room)) (resolved d ps l) (λ a. condition.same_as d ps l a.term b) (resolved_here after first d ps l h.below)
-      (λ a one. same_as_here room l a.term b one k))
+      either_sound (IsCondHere (suc room)) (is mark.Number l.mark) (meant.comparison reads (words d ps) Eq (word l) b) (meant.same_as reads (words d ps) l b)
+      (λ e. comparison_here room Eq (word l) b v w h k) (λ e. same_as_here room l b h k)
 
   -- the head of a fact may stand there
   head_fits : (l : Lexeme) (f : Lifted) → is_fact_name l.mark ≡ true → IsTold after l → f.head ≡ l.name → is_fact_name (name_mark after f.head) ≡ true
   head_fits l f m h e = rw e (subst (λ (x : Mark). is_fact_name x ≡ true) (h.named (fact-is_name l.mark m)) m)
 
-  stated_here : (room : ℕ) (l : Lexeme) (ts : Nesteds) → is_fact_name l.mark ≡ true → IsTold after l → AreTold after ts → Sound (IsCondHere (suc room)) (condition.stated d ps l ts)
+  stated_here : (room : ℕ) (l : Lexeme) (ts : Nesteds) → is_fact_name l.mark ≡ true → IsTold after l → AreTold after ts → Sound (IsCondHere (suc room)) (meant.stated reads (words d ps) l ts)
   stated_here room l ts m h k =
       then_sound (IsHeadHere after first d ps l) (IsCondHere (suc room)) (fact d ps l ts) (λ f. Ok (cond.Holds f)) (fact_here after first d ps l ts h.below k)
       (λ f one. (one.1, fits_fact room f (head_fits l f m h one.0)))
 
   -- with no relation it is the other
-  unrelated_here : (P : Cond → Type 0) (r : Option Rel) (a b : Nested) (other : Read Cond) → r ≡ None → Sound P other → Sound P (condition.related d ps r a b other)
+  unrelated_here : (P : Cond → Type 0) (r : Option Rel) (a b : Nested) (other : Read Cond) → r ≡ None → Sound P other → Sound P (meant.related reads (words d ps) r a b other)
   unrelated_here P None a b other e o = o
   unrelated_here P (Some r) a b other e o = absurd (cc)
 
-  related_here : (room : ℕ) (r : Option Rel) (a b : Nested) (other : Read Cond) → (r ≡ None → ⊥) → IsValue room a → IsValue room b → AllTold after a → AllTold after b → Sound (IsCondHere (suc room)) (condition.related d ps r a b other)
+  related_here : (room : ℕ) (r : Option Rel) (a b : Nested) (other : Read Cond) → (r ≡ None → ⊥) → IsValue room a → IsValue room b → AllTold after a → AllTold after b → Sound (IsCondHere (suc room)) (meant.related reads (words d ps) r a b other)
   related_here room None a b other there v w h k = absurd (there refl)
   related_here room (Some Eq) a b other there v w h k = equality_here room a b v w h k
   related_here room (Some Lt) a b other there v w h k = comparison_here room Lt a b v w h k
@@ -135,50 +146,50 @@ module _ (after : Table) (first : 0 < length after) (d : Domain) (ps : List Para
   related_here room (Some Ge) a b other there v w h k = comparison_here room Ge a b v w h k
   related_here room (Some Gt) a b other there v w h k = comparison_here room Gt a b v w h k
 
-  plain_here : (room : ℕ) (l : Lexeme) (ts : Nesteds) → is_fact_name l.mark ≡ true → IsTold after l → AreTold after ts → Sound (IsCondHere (suc room)) (condition.plain_condition d ps l ts)
+  plain_here : (room : ℕ) (l : Lexeme) (ts : Nesteds) → is_fact_name l.mark ≡ true → IsTold after l → AreTold after ts → Sound (IsCondHere (suc room)) (meant.plain_condition reads (words d ps) l ts)
   plain_here room l none m h k = stated_here room l none m h k
   plain_here room l (more a none) m h k = stated_here room l (more a none) m h k
   plain_here room l (more a (more b ts)) m h k =
-      unrelated_here (IsCondHere (suc room)) (condition.rel_of l.mark) a b (condition.stated d ps l (more a (more b ts))) (fact_no_rel l.mark m) (stated_here room l (more a (more b ts)) m h k)
+      unrelated_here (IsCondHere (suc room)) (rel_of l.mark) a b (meant.stated reads (words d ps) l (more a (more b ts))) (fact_no_rel l.mark m) (stated_here room l (more a (more b ts)) m h k)
 
   -- a head with this mark, what follows it, and what it means
   module _ (P : Cond → Type 0) (l : Lexeme) (ts : Nesteds) where
-    and_form : l.mark ≡ mark.And → Sound P (condition.conditions d ps ts [] >>= λ cs. Ok (cond.And cs)) → Sound P (condition.form d ps (more (word l) ts))
+    and_form : l.mark ≡ mark.And → Sound P (meant.conditions reads (words d ps) ts [] >>= λ cs. Ok (cond.And cs)) → Sound P (meant.form reads (words d ps) (more (word l) ts))
     and_form m h =
-        yes_sound P (is mark.And l.mark) (condition.conditions d ps ts [] >>= λ cs. Ok (cond.And cs)) (if is mark.Not l.mark then condition.negation d ps ts else condition.plain_condition d ps l ts)
+        yes_sound P (is mark.And l.mark) (meant.conditions reads (words d ps) ts [] >>= λ cs. Ok (cond.And cs)) (if is mark.Not l.mark then meant.negation reads (words d ps) ts else meant.plain_condition reads (words d ps) l ts)
         (ap (is mark.And) m) h
 
-    not_form : l.mark ≡ mark.Not → Sound P (condition.negation d ps ts) → Sound P (condition.form d ps (more (word l) ts))
+    not_form : l.mark ≡ mark.Not → Sound P (meant.negation reads (words d ps) ts) → Sound P (meant.form reads (words d ps) (more (word l) ts))
     not_form m h =
-        no_sound P (is mark.And l.mark) (condition.conditions d ps ts [] >>= λ cs. Ok (cond.And cs)) (if is mark.Not l.mark then condition.negation d ps ts else condition.plain_condition d ps l ts)
+        no_sound P (is mark.And l.mark) (meant.conditions reads (words d ps) ts [] >>= λ cs. Ok (cond.And cs)) (if is mark.Not l.mark then meant.negation reads (words d ps) ts else meant.plain_condition reads (words d ps) l ts)
         (ap (is mark.And) m)
-        (yes_sound P (is mark.Not l.mark) (condition.negation d ps ts) (condition.plain_condition d ps l ts) (ap (is mark.Not) m) h)
+        (yes_sound P (is mark.Not l.mark) (meant.negation reads (words d ps) ts) (meant.plain_condition reads (words d ps) l ts) (ap (is mark.Not) m) h)
 
-    other_form : is mark.And l.mark ≡ false → is mark.Not l.mark ≡ false → Sound P (condition.plain_condition d ps l ts) → Sound P (condition.form d ps (more (word l) ts))
+    other_form : is mark.And l.mark ≡ false → is mark.Not l.mark ≡ false → Sound P (meant.plain_condition reads (words d ps) l ts) → Sound P (meant.form reads (words d ps) (more (word l) ts))
     other_form m n h =
-        no_sound P (is mark.And l.mark) (condition.conditions d ps ts [] >>= λ cs. Ok (cond.And cs)) (if is mark.Not l.mark then condition.negation d ps ts else condition.plain_condition d ps l ts)
-        m (no_sound P (is mark.Not l.mark) (condition.negation d ps ts) (condition.plain_condition d ps l ts) n h)
+        no_sound P (is mark.And l.mark) (meant.conditions reads (words d ps) ts [] >>= λ cs. Ok (cond.And cs)) (if is mark.Not l.mark then meant.negation reads (words d ps) ts else meant.plain_condition reads (words d ps) l ts)
+        m (no_sound P (is mark.Not l.mark) (meant.negation reads (words d ps) ts) (meant.plain_condition reads (words d ps) l ts) n h)
 
   mutual
-    condition_here : (room : ℕ) (t : Nested) → IsCondition room t → AllTold after t → Sound (IsCondHere room) (condition.condition d ps t)
+    condition_here : (room : ℕ) (t : Nested) → IsCondition room t → AllTold after t → Sound (IsCondHere room) (condition d ps t)
     condition_here _ _ (grammar.all_of room l ts m cs) h =
         and_form (IsCondHere (suc room)) l ts m
-        (then_sound (AreCondsHere room) (IsCondHere (suc room)) (condition.conditions d ps ts []) (λ all. Ok (cond.And all)) (conditions_here room ts [] cs h.1 (tt, fit_none room))
+        (then_sound (AreCondsHere room) (IsCondHere (suc room)) (meant.conditions reads (words d ps) ts []) (λ all. Ok (cond.And all)) (conditions_here room ts [] cs h.1 (tt, fit_none room))
         (λ all k. (k.0, fits_all room (cond_trees all) k.1)))
     condition_here _ _ (grammar.not_so room l c m one) h =
         not_form (IsCondHere (suc room)) l (more c none) m
-        (then_sound (IsCondHere room) (IsCondHere (suc room)) (condition.condition d ps c) (λ x. Ok (cond.Not (cond_tree x))) (condition_here room c one h.1.0)
+        (then_sound (IsCondHere room) (IsCondHere (suc room)) (condition d ps c) (λ x. Ok (cond.Not (cond_tree x))) (condition_here room c one h.1.0)
         (λ x k. (k.0, fits_not room (cond_tree x) k.1)))
     condition_here _ _ (grammar.a_fact room l ts m r) h =
         other_form (IsCondHere (suc room)) l ts (marks_apart is_fact_name mark.And l.mark m refl) (marks_apart is_fact_name mark.Not l.mark m refl) (plain_here room l ts m h.0 h.1)
     condition_here _ _ (grammar.comparison room l x y m v w) h =
         other_form (IsCondHere (suc room)) l (more x (more y none)) (marks_apart is_relation mark.And l.mark m refl) (marks_apart is_relation mark.Not l.mark m refl)
-        (related_here room (condition.rel_of l.mark) x y (condition.stated d ps l (more x (more y none))) (relation_there l.mark m) v w h.1.0 h.1.1.0)
+        (related_here room (rel_of l.mark) x y (meant.stated reads (words d ps) l (more x (more y none))) (relation_there l.mark m) v w h.1.0 h.1.1.0)
 
-    conditions_here : (room : ℕ) (ts : Nesteds) (before : List CondTree) → AreConditions room ts → AreTold after ts → AreCondsHere room before → Sound (AreCondsHere room) (condition.conditions d ps ts before)
+    conditions_here : (room : ℕ) (ts : Nesteds) (before : List CondTree) → AreConditions room ts → AreTold after ts → AreCondsHere room before → Sound (AreCondsHere room) (meant.conditions reads (words d ps) ts before)
     conditions_here _ _ before (grammar.no_condition room) h k = k
     conditions_here _ _ before (grammar.one_condition room c cs one r) h k =
-        then_sound (IsCondHere room) (AreCondsHere room) (condition.condition d ps c) (λ x. condition.conditions d ps cs (before ++ cond_tree x ∷ [])) (condition_here room c one h.0)
+        then_sound (IsCondHere room) (AreCondsHere room) (condition d ps c) (λ x. meant.conditions reads (words d ps) cs (before ++ cond_tree x ∷ [])) (condition_here room c one h.0)
         (λ x p. conditions_here room cs (before ++ cond_tree x ∷ []) r h.1 (conds_push before (cond_tree x) k.0 p.0, fits_push room before (cond_tree x) k.1 p.1))
 
   -- ---- the parts of an action's condition
@@ -186,43 +197,43 @@ module _ (after : Table) (first : 0 < length after) (d : Domain) (ps : List Para
   abbrev pub ArePartsHere : ℕ → Conditions → Type 0
   ArePartsHere most parts = All (IsTreeHere most) parts.at_start × All (IsTreeHere most) parts.over_all × All (IsTreeHere most) parts.at_end
 
-  at_time_here : (most : ℕ) (moment : Mark) (c : Cond) (parts : Conditions) → IsCondHere most c → ArePartsHere most parts → ArePartsHere most (condition.at_time moment c parts)
+  at_time_here : (most : ℕ) (moment : Mark) (c : Cond) (parts : Conditions) → IsCondHere most c → ArePartsHere most parts → ArePartsHere most (part.at_time moment c parts)
   at_time_here most mark.Start c parts h k = (All-push (IsTreeHere most) parts.at_start (cond_tree c) k.0 h, k.1, k.2)
   at_time_here most m c parts h k = (k.0, k.1, All-push (IsTreeHere most) parts.at_end (cond_tree c) k.2 h)
 
-  timed_part_here : (most : ℕ) (m moment : Mark) (t : Nested) (parts : Conditions) → Sound (IsCondHere most) (condition.condition d ps t) → ArePartsHere most parts → Sound (ArePartsHere most) (condition.timed_part d ps m moment t parts)
+  timed_part_here : (most : ℕ) (m moment : Mark) (t : Nested) (parts : Conditions) → Sound (IsCondHere most) (condition d ps t) → ArePartsHere most parts → Sound (ArePartsHere most) (part.timed_part d ps m moment t parts)
   timed_part_here most mark.At moment t parts h k =
-      then_sound (IsCondHere most) (ArePartsHere most) (condition.condition d ps t) (λ c. Ok (condition.at_time moment c parts)) h (λ c one. at_time_here most moment c parts one k)
+      then_sound (IsCondHere most) (ArePartsHere most) (condition d ps t) (λ c. Ok (part.at_time moment c parts)) h (λ c one. at_time_here most moment c parts one k)
   timed_part_here most mark.Over moment t parts h k =
-      then_sound (IsCondHere most) (ArePartsHere most) (condition.condition d ps t) (λ c. Ok (condition.over_all c parts)) h
+      then_sound (IsCondHere most) (ArePartsHere most) (condition d ps t) (λ c. Ok (part.over_all c parts)) h
       (λ c one. (k.0, All-push (IsTreeHere most) parts.over_all (cond_tree c) k.1 one, k.2))
   timed_part_here most m moment t parts h k = k
 
   -- what stands in a timed form has no more levels than are left
-  timed_condition_here : (most room : ℕ) (t : Nested) (parts : Conditions) → IsTimedCondition room t → room ≤ most → AllTold after t → ArePartsHere most parts → Sound (ArePartsHere most) (condition.timed d ps t parts)
+  timed_condition_here : (most room : ℕ) (t : Nested) (parts : Conditions) → IsTimedCondition room t → room ≤ most → AllTold after t → ArePartsHere most parts → Sound (ArePartsHere most) (part.timed d ps t parts)
   timed_condition_here most _ _ parts (grammar.at_moment room l m c first_word moment one) le h k =
-      no_sound (ArePartsHere most) (is mark.And l.mark) (condition.all_timed d ps (more (word m) (more c none)) parts) (condition.timed_part d ps l.mark m.mark c parts) (ap (is mark.And) first_word)
-      (timed_part_here most l.mark m.mark c parts (also_sound (IsCondHere room) (IsCondHere most) (condition.condition d ps c) (condition_here room c one h.1.1.0) (λ x p. (p.0, cond_fits_more after room most (cond_tree x) p.1 le))) k)
+      no_sound (ArePartsHere most) (is mark.And l.mark) (part.all_timed d ps (more (word m) (more c none)) parts) (part.timed_part d ps l.mark m.mark c parts) (ap (is mark.And) first_word)
+      (timed_part_here most l.mark m.mark c parts (also_sound (IsCondHere room) (IsCondHere most) (condition d ps c) (condition_here room c one h.1.1.0) (λ x p. (p.0, cond_fits_more after room most (cond_tree x) p.1 le))) k)
   timed_condition_here most _ _ parts (grammar.over_all room l m c first_word moment one) le h k =
-      no_sound (ArePartsHere most) (is mark.And l.mark) (condition.all_timed d ps (more (word m) (more c none)) parts) (condition.timed_part d ps l.mark m.mark c parts) (ap (is mark.And) first_word)
-      (timed_part_here most l.mark m.mark c parts (also_sound (IsCondHere room) (IsCondHere most) (condition.condition d ps c) (condition_here room c one h.1.1.0) (λ x p. (p.0, cond_fits_more after room most (cond_tree x) p.1 le))) k)
+      no_sound (ArePartsHere most) (is mark.And l.mark) (part.all_timed d ps (more (word m) (more c none)) parts) (part.timed_part d ps l.mark m.mark c parts) (ap (is mark.And) first_word)
+      (timed_part_here most l.mark m.mark c parts (also_sound (IsCondHere room) (IsCondHere most) (condition d ps c) (condition_here room c one h.1.1.0) (λ x p. (p.0, cond_fits_more after room most (cond_tree x) p.1 le))) k)
 
   -- a list of parts, by its head
-  listed_parts : (most : ℕ) (l : Lexeme) (ts : Nesteds) (parts : Conditions) → l.mark ≡ mark.And → Sound (ArePartsHere most) (condition.all_timed d ps ts parts) → Sound (ArePartsHere most) (condition.timed d ps (group (more (word l) ts)) parts)
-  listed_parts most l ts parts m h = yes_sound (ArePartsHere most) (is mark.And l.mark) (condition.all_timed d ps ts parts) (condition.timed_form d ps l ts parts) (ap (is mark.And) m) h
+  listed_parts : (most : ℕ) (l : Lexeme) (ts : Nesteds) (parts : Conditions) → l.mark ≡ mark.And → Sound (ArePartsHere most) (part.all_timed d ps ts parts) → Sound (ArePartsHere most) (part.timed d ps (group (more (word l) ts)) parts)
+  listed_parts most l ts parts m h = yes_sound (ArePartsHere most) (is mark.And l.mark) (part.all_timed d ps ts parts) (part.timed_form d ps l ts parts) (ap (is mark.And) m) h
 
   mutual
-    part_here : (most room : ℕ) (t : Nested) (parts : Conditions) → IsPart room t → room ≤ suc most → AllTold after t → ArePartsHere most parts → Sound (ArePartsHere most) (condition.timed d ps t parts)
+    part_here : (most room : ℕ) (t : Nested) (parts : Conditions) → IsPart room t → room ≤ suc most → AllTold after t → ArePartsHere most parts → Sound (ArePartsHere most) (part.timed d ps t parts)
     part_here most _ _ parts (grammar.empty_part room) le h k = k
     part_here most _ _ parts (grammar.all_parts room l ts m all) le h k = listed_parts most l ts parts m (parts_here most room ts parts all (omega (arith, le)) h.1 k)
     part_here most _ _ parts (grammar.timed_part room t one) le h k = timed_condition_here most room t parts one (omega (arith, le)) h k
 
-    parts_here : (most room : ℕ) (ts : Nesteds) (parts : Conditions) → AreParts room ts → room ≤ suc most → AreTold after ts → ArePartsHere most parts → Sound (ArePartsHere most) (condition.all_timed d ps ts parts)
+    parts_here : (most room : ℕ) (ts : Nesteds) (parts : Conditions) → AreParts room ts → room ≤ suc most → AreTold after ts → ArePartsHere most parts → Sound (ArePartsHere most) (part.all_timed d ps ts parts)
     parts_here most _ _ parts (grammar.no_part room) le h k = k
     parts_here most _ _ parts (grammar.one_part room t ts one all) le h k =
-        then_sound (ArePartsHere most) (ArePartsHere most) (condition.timed d ps t parts) (λ x. condition.all_timed d ps ts x) (part_here most room t parts one le h.0 k) (λ x p. parts_here most room ts x all le h.1 p)
+        then_sound (ArePartsHere most) (ArePartsHere most) (part.timed d ps t parts) (λ x. part.all_timed d ps ts x) (part_here most room t parts one le h.0 k) (λ x p. parts_here most room ts x all le h.1 p)
 
-  pub condition_form_here : (most room : ℕ) (t : Nested) (parts : Conditions) → IsConditionForm room t → room ≤ suc (suc most) → AllTold after t → ArePartsHere most parts → Sound (ArePartsHere most) (condition.timed d ps t parts)
+  pub condition_form_here : (most room : ℕ) (t : Nested) (parts : Conditions) → IsConditionForm room t → room ≤ suc (suc most) → AllTold after t → ArePartsHere most parts → Sound (ArePartsHere most) (part.timed d ps t parts)
   condition_form_here most _ _ parts (grammar.empty_condition room) le h k = k
   condition_form_here most _ _ parts (grammar.listed_condition room l ts m all) le h k = listed_parts most l ts parts m (parts_here most room ts parts all (omega (arith, le)) h.1 k)
   condition_form_here most _ _ parts (grammar.lone_condition room t one) le h k = timed_condition_here most room t parts one (omega (arith, le)) h k

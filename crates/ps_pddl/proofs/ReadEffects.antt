@@ -19,9 +19,10 @@ use Rattle.ps_forms.specs.Nested.{Nested, Nesteds, word, group, none, more}
 use Rattle.ps_forms.specs.declared.lexemes.Lexeme.{Lexeme}
 use Rattle.ps_print.specs.CanonicalWords.{IsEffectOf}
 use Rattle.ps_pddl.specs.Effects as effect
-use Rattle.ps_pddl.specs.Steps.{Read, ◌>>=◌}
+use Rattle.ps_conditions.specs.Steps.{◌>>=◌}
+use Rattle.ps_pddl.specs.Steps.{Read}
 use Rattle.ps_pddl.specs.Terms.{fact, value_of}
-use Rattle.ps_pddl.specs.Values.{value}
+use Rattle.ps_pddl.specs.Words.{value}
 use Rattle.ps_world.specs.declared.actions.Effects.{Effects}
 use Rattle.ps_pddl.proofs.CanonicalForms.{name_mark}
 use Rattle.ps_pddl.proofs.Fits.{FitsEffect, fits_addition, fits_deletion, fits_change}

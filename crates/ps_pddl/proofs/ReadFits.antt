@@ -25,7 +25,7 @@ use Rattle.ps_pddl.specs.Lists.{listed}
 use Rattle.ps_pddl.specs.Meaning as meaning
 use Rattle.ps_pddl.specs.Meaning.{domain_of}
 use Rattle.ps_pddl.specs.Reading.{HasWords}
-use Rattle.ps_pddl.specs.Steps.{◌>>=◌}
+use Rattle.ps_conditions.specs.Steps.{◌>>=◌}
 use Rattle.ps_pddl.specs.Types.{with_types}
 use Rattle.ps_pddl.specs.declared.meaning.lists.Listing.TheVariants.{Constants}
 use Rattle.ps_pddl.specs.declared.refusals.Cap.TheVariants as cap

@@ -20,7 +20,7 @@ use Rattle.ps_forms.specs.declared.lexemes.Lexeme.{Lexeme}
 use Rattle.ps_print.specs.CanonicalWords.{IsDeclOf, IsNameOf, IsParamOf}
 use Rattle.ps_pddl.specs.Lists.{counts, kept, kind_ahead, listed, listed_type, with_name}
 use Rattle.ps_pddl.specs.Meaning as meaning
-use Rattle.ps_pddl.specs.Steps.{◌>>=◌}
+use Rattle.ps_conditions.specs.Steps.{◌>>=◌}
 use Rattle.ps_pddl.specs.Types.{acyclic, is_cyclic, names_of, with_types}
 use Rattle.ps_pddl.specs.declared.meaning.lists.Listing.{Listing}
 use Rattle.ps_pddl.specs.declared.meaning.lists.Listing.TheVariants.{Params, Types}

@@ -8,7 +8,7 @@ use Rattle.ps_shape.specs.Marks.{is, is_change, is_fact_name, is_name, is_predic
 use Rattle.ps_shape.specs.declared.marks.Mark.{Mark}
 use Rattle.ps_shape.specs.declared.marks.Mark.TheVariants as mark
 use Rattle.ps_forms.specs.Grammar.{is_relation}
-use Rattle.ps_pddl.specs.Conditions.{rel_of}
+use Rattle.ps_conditions.specs.Signs.{rel_of}
 use Rattle.ps_pddl.specs.Effects.{change_of}
 use Rattle.ps_pddl.specs.Steps.{Read}
 use Rattle.ps_pddl.proofs.Sound.{Sound}

@@ -25,9 +25,12 @@ use Rattle.ps_forms.specs.Nested.{Nested, Nesteds, word, group, none, more}
 use Rattle.ps_forms.specs.Places.{word_of, count}
 use Rattle.ps_forms.specs.declared.lexemes.Lexeme.{Lexeme}
 use Rattle.ps_print.specs.CanonicalWords.{IsTermOf, IsLiftedOf, IsExprOf}
-use Rattle.ps_pddl.specs.Steps.{Read, ◌>>=◌}
+use Rattle.ps_conditions.specs.Steps.{◌>>=◌}
+use Rattle.ps_pddl.specs.Steps.{Read, reads}
 use Rattle.ps_pddl.specs.Terms.{argument, arguments, applied, fact, lifted, param_at, resolved, term_of, value_of}
-use Rattle.ps_pddl.specs.Values.{function_value, operated, operation, operator_of, plain_value, value}
+use Rattle.ps_conditions.specs.Signs.{operator_of}
+use Rattle.ps_conditions.specs.Values.{function_value, operated, operation}
+use Rattle.ps_pddl.specs.Words.{plain_value, value, words}
 use Rattle.ps_pddl.specs.declared.meaning.terms.Typed.{Typed}
 use Rattle.ps_pddl.specs.declared.refusals.DomainRefusal.TheVariants.{Unknown, Arity, Kind}
 use Rattle.ps_pddl.proofs.Fits.{FitsExpr, fits_number, fits_value, fits_negation, fits_operation}
@@ -99,27 +102,27 @@ module _ (after : Table) (first : 0 < length after) where
         either_sound (IsValueHere room) (is mark.Number l.mark) (Ok (Num l.number)) (resolved d ps l >>= λ t. Err (Kind l.at)) (λ e. (h.counted, fits_number room l.number))
         (λ e. then_sound IsTypedHere (IsValueHere room) (resolved d ps l) (λ t. Err (Kind l.at)) (resolved_here l h.below) (λ t k. tt))
 
-    function_value_here : (room : ℕ) (l : Lexeme) (ts : Nesteds) → l.name.0 < length after → AreTold after ts → Sound (IsValueHere (suc room)) (function_value d ps l ts)
+    function_value_here : (room : ℕ) (l : Lexeme) (ts : Nesteds) → l.name.0 < length after → AreTold after ts → Sound (IsValueHere (suc room)) (function_value reads (words d ps) l ts)
     function_value_here room l ts lt h =
         then_sound (IsHeadHere l) (IsValueHere (suc room)) (value_of d ps l ts) (λ f. Ok (Fun f)) (value_of_here l ts lt h) (λ f k. (k.1, fits_value room f))
 
     negated_here : (room : ℕ) (a : Read Expr) → Sound (IsValueHere room) a → Sound (IsValueHere (suc room)) (a >>= λ x. Ok (Neg (expr_tree x)))
     negated_here room a h = then_sound (IsValueHere room) (IsValueHere (suc room)) a (λ x. Ok (Neg (expr_tree x))) h (λ x k. (k.0, fits_negation room (expr_tree x) k.1))
 
-    operated_here : (room : ℕ) (op : Option Op) (a b other : Read Expr) → Sound (IsValueHere room) a → Sound (IsValueHere room) b → Sound (IsValueHere (suc room)) other → Sound (IsValueHere (suc room)) (operated op a b other)
+    operated_here : (room : ℕ) (op : Option Op) (a b other : Read Expr) → Sound (IsValueHere room) a → Sound (IsValueHere room) b → Sound (IsValueHere (suc room)) other → Sound (IsValueHere (suc room)) (operated reads op a b other)
     operated_here room None a b other h k o = o
     operated_here room (Some op) a b other h k o =
         then_sound (IsValueHere room) (IsValueHere (suc room)) a (λ x. b >>= λ y. Ok (Bin op (expr_tree x) (expr_tree y))) h
         (λ x one. then_sound (IsValueHere room) (IsValueHere (suc room)) b (λ y. Ok (Bin op (expr_tree x) (expr_tree y))) k
         (λ y two. ((one.0, two.0), fits_operation room op (expr_tree x) (expr_tree y) one.1 two.1)))
 
-    atom_value_here : (room : ℕ) (l : Lexeme) (ts : Nesteds) → AreTerms ts → IsTold after l → AreTold after ts → Sound (IsValueHere (suc room)) (operation d ps (more (word l) ts))
+    atom_value_here : (room : ℕ) (l : Lexeme) (ts : Nesteds) → AreTerms ts → IsTold after l → AreTold after ts → Sound (IsValueHere (suc room)) (operation reads (words d ps) (more (word l) ts))
     atom_value_here room l _ grammar.no_term h k = function_value_here room l none h.below tt
     atom_value_here room l _ (grammar.one_term a _ m grammar.no_term) h k =
-        either_sound (IsValueHere (suc room)) (is mark.Minus l.mark) (plain_value d ps a >>= λ x. Ok (Neg (expr_tree x))) (function_value d ps l (more (word a) none))
+        either_sound (IsValueHere (suc room)) (is mark.Minus l.mark) (plain_value d ps a >>= λ x. Ok (Neg (expr_tree x))) (function_value reads (words d ps) l (more (word a) none))
         (λ e. negated_here room (plain_value d ps a) (plain_value_here room a k.0)) (λ e. function_value_here room l (more (word a) none) h.below k)
     atom_value_here room l _ (grammar.one_term a _ m (grammar.one_term b ts n r)) h k =
-        operated_here room (operator_of l.mark) (plain_value d ps a) (plain_value d ps b) (function_value d ps l (more (word a) (more (word b) ts)))
+        operated_here room (operator_of l.mark) (plain_value d ps a) (plain_value d ps b) (function_value reads (words d ps) l (more (word a) (more (word b) ts)))
         (plain_value_here room a k.0) (plain_value_here room b k.1.0) (function_value_here room l (more (word a) (more (word b) ts)) h.below k)
 
     atom_here : (room : ℕ) (t : Nested) → IsAtom room t → AllTold after t → Sound (IsValueHere room) (value d ps t)
@@ -130,8 +133,8 @@ module _ (after : Table) (first : 0 < length after) where
     value_here _ _ (grammar.a_term room l m) h = plain_value_here room l h
     value_here _ _ (grammar.an_atom room t a) h = atom_here room t a h
     value_here _ _ (grammar.negation room l x m v) h =
-        either_sound (IsValueHere (suc room)) (is mark.Minus l.mark) (value d ps x >>= λ y. Ok (Neg (expr_tree y))) (function_value d ps l (more x none))
+        either_sound (IsValueHere (suc room)) (is mark.Minus l.mark) (value d ps x >>= λ y. Ok (Neg (expr_tree y))) (function_value reads (words d ps) l (more x none))
         (λ e. negated_here room (value d ps x) (value_here room x v h.1.0)) (λ e. function_value_here room l (more x none) h.0.below h.1)
     value_here _ _ (grammar.operation room l x y m v w) h =
-        operated_here room (operator_of l.mark) (value d ps x) (value d ps y) (function_value d ps l (more x (more y none)))
+        operated_here room (operator_of l.mark) (value d ps x) (value d ps y) (function_value reads (words d ps) l (more x (more y none)))
         (value_here room x v h.1.0) (value_here room y w h.1.1.0) (function_value_here room l (more x (more y none)) h.0.below h.1)

@@ -9,7 +9,8 @@ use Rattle.ps_world.specs.declared.domains.Param.{Param}
 use Rattle.ps_world.specs.declared.domains.Decl.{Decl}
 use Rattle.ps_world.specs.declared.domains.Domain.{Domain}
 use Rattle.ps_world.specs.declared.actions.ActionDef.{ActionDef}
-use Rattle.ps_pddl.specs.Steps.{Read, ◌>>=◌, unless}
+use Rattle.ps_conditions.specs.Steps.{◌>>=◌}
+use Rattle.ps_pddl.specs.Steps.{Read, unless}
 use Rattle.ps_pddl.specs.Types.{leads_to}
 use Rattle.ps_pddl.specs.declared.refusals.DomainRefusal.{DomainRefusal}
 

@@ -21,7 +21,7 @@ use Rattle.ps_pddl.specs.Meaning as meaning
 use Rattle.ps_pddl.specs.Meaning.{domain_of}
 use Rattle.ps_forms.specs.Nested.{Nested, Nesteds, word, group, none, more}
 use Rattle.ps_forms.specs.Places.{after, at, head, items, items_at, rest, section, word_of}
-use Rattle.ps_pddl.specs.Steps.{◌>>=◌}
+use Rattle.ps_conditions.specs.Steps.{◌>>=◌}
 use Rattle.ps_pddl.specs.Types.{with_types}
 use Rattle.ps_pddl.specs.WellFormed.{AreApart, AreCounted, AreDeclared, AreTyped, IsAction, IsCounted, IsWellFormed}
 use Rattle.ps_world.specs.declared.actions.Effects.{Effects}

@@ -16,7 +16,7 @@ use Rattle.ps_shape.specs.declared.marks.Mark.TheVariants as mark
 use Rattle.ps_pddl.specs.Lists.{cap_of, counted, counts, kept, kind_ahead, listed, listed_type, most_of, with_name}
 use Rattle.ps_forms.specs.Nested.{Nested, Nesteds, none, more}
 use Rattle.ps_forms.specs.Places.{head, word_of}
-use Rattle.ps_pddl.specs.Steps.{◌>>=◌}
+use Rattle.ps_conditions.specs.Steps.{◌>>=◌}
 use Rattle.ps_pddl.specs.WellFormed.{AreApart, AreTyped}
 use Rattle.ps_forms.specs.declared.lexemes.Lexeme.{Lexeme}
 use Rattle.ps_pddl.specs.declared.meaning.lists.Listing.{Listing}

@@ -24,9 +24,12 @@ use Rattle.ps_shape.specs.declared.marks.Mark.{Mark}
 use Rattle.ps_shape.specs.declared.marks.Mark.TheVariants as mark
 use Rattle.ps_forms.specs.Nested.{Nested, Nesteds, word, group, none, more}
 use Rattle.ps_forms.specs.Places.{word_of, count}
-use Rattle.ps_pddl.specs.Steps.{Read, ◌>>=◌}
+use Rattle.ps_conditions.specs.Steps.{◌>>=◌}
+use Rattle.ps_pddl.specs.Steps.{Read, reads}
 use Rattle.ps_pddl.specs.Terms.{argument, arguments, applied, fact, lifted, param_at, resolved, term_of, value_of}
-use Rattle.ps_pddl.specs.Values.{function_value, operated, operation, operator_of, plain_value, value}
+use Rattle.ps_conditions.specs.Signs.{operator_of}
+use Rattle.ps_conditions.specs.Values.{function_value, operated, operation}
+use Rattle.ps_pddl.specs.Words.{plain_value, value, words}
 use Rattle.ps_pddl.specs.WellFormed.{AreCounted, AreSuited, HasKind, IsApplied, IsCounted, IsExpr, IsFactOf, IsValueOf}
 use Rattle.ps_forms.specs.declared.lexemes.Lexeme.{Lexeme}
 use Rattle.ps_pddl.specs.declared.refusals.DomainRefusal.TheVariants.{Unknown, Arity, Kind}
@@ -108,10 +111,10 @@ module _ (d : Domain) (acts : List ActionDef) (ps : List Param) where
       either_sound IsValue (is mark.Number l.mark) (Ok (Num l.number)) (resolved d ps l >>= λ t. Err (Kind l.at)) (λ e. h)
       (λ e. then_sound (λ t. HasKind (acting d acts) ps t.term t.kind) IsValue (resolved d ps l) (λ t. Err (Kind l.at)) (resolved_sound l) (λ t k. tt))
 
-  function_value_sound : (l : Lexeme) (ts : Nesteds) → Sound IsValue (function_value d ps l ts)
+  function_value_sound : (l : Lexeme) (ts : Nesteds) → Sound IsValue (function_value reads (words d ps) l ts)
   function_value_sound l ts = then_sound (IsValueOf (acting d acts) ps) IsValue (value_of d ps l ts) (λ v. Ok (Fun v)) (value_of_sound l ts) (λ v h. h)
 
-  operated_sound : (op : Option Op) (a b other : Read Expr) → Sound IsValue a → Sound IsValue b → Sound IsValue other → Sound IsValue (operated op a b other)
+  operated_sound : (op : Option Op) (a b other : Read Expr) → Sound IsValue a → Sound IsValue b → Sound IsValue other → Sound IsValue (operated reads op a b other)
   operated_sound None a b other h k o = o
   operated_sound (Some op) a b other h k o =
       then_sound IsValue IsValue a (λ x. b >>= λ y. Ok (Bin op (expr_tree x) (expr_tree y))) h
@@ -122,13 +125,13 @@ module _ (d : Domain) (acts : List ActionDef) (ps : List Param) where
     value_sound (word l) h = plain_value_sound l h
     value_sound (group ts) h = operation_sound ts h
 
-    operation_sound : (ts : Nesteds) → AreCounted ts → Sound IsValue (operation d ps ts)
+    operation_sound : (ts : Nesteds) → AreCounted ts → Sound IsValue (operation reads (words d ps) ts)
     operation_sound none h = omega arith
     operation_sound (more f none) h = function_value_sound (word_of f) none
     operation_sound (more f (more a none)) h =
-        either_sound IsValue (is mark.Minus (word_of f).mark) (value d ps a >>= λ x. Ok (Neg (expr_tree x))) (function_value d ps (word_of f) (more a none))
+        either_sound IsValue (is mark.Minus (word_of f).mark) (value d ps a >>= λ x. Ok (Neg (expr_tree x))) (function_value reads (words d ps) (word_of f) (more a none))
         (λ e. then_sound IsValue IsValue (value d ps a) (λ x. Ok (Neg (expr_tree x))) (value_sound a h.1.0) (λ x k. k))
         (λ e. function_value_sound (word_of f) (more a none))
     operation_sound (more f (more a (more b ts))) h =
-        operated_sound (operator_of (word_of f).mark) (value d ps a) (value d ps b) (function_value d ps (word_of f) (more a (more b ts)))
+        operated_sound (operator_of (word_of f).mark) (value d ps a) (value d ps b) (function_value reads (words d ps) (word_of f) (more a (more b ts)))
         (value_sound a h.1.0) (value_sound b h.1.1.0) (function_value_sound (word_of f) (more a (more b ts)))

@@ -14,7 +14,7 @@ use Rattle.ps_shape.specs.declared.marks.Mark.TheVariants as mark
 use Rattle.ps_pddl.specs.Lists.{counts, kept, kind_ahead, listed, listed_type, with_name}
 use Rattle.ps_forms.specs.Nested.{Nested, Nesteds, none, more}
 use Rattle.ps_forms.specs.Places.{word_of}
-use Rattle.ps_pddl.specs.Steps.{◌>>=◌}
+use Rattle.ps_conditions.specs.Steps.{◌>>=◌}
 use Rattle.ps_pddl.specs.Types.{acyclic, is_cyclic, names_after_type, names_of, with_types}
 use Rattle.ps_pddl.specs.WellFormed.{AreTyped}
 use Rattle.ps_forms.specs.declared.lexemes.Lexeme.{Lexeme}

@@ -12,8 +12,9 @@ use Rattle.ps_shape.specs.declared.marks.Mark.TheVariants.{At, Start, And, Not, 
 use Rattle.ps_forms.specs.Nested.{Nested, Nesteds, word, group, none, more}
 use Rattle.ps_forms.specs.Places.{word_of, items, head, rest}
 use Rattle.ps_pddl.specs.Terms.{fact, value_of}
-use Rattle.ps_pddl.specs.Values.{value}
-use Rattle.ps_pddl.specs.Steps.{Read, ◌>>=◌}
+use Rattle.ps_pddl.specs.Words.{value}
+use Rattle.ps_conditions.specs.Steps.{◌>>=◌}
+use Rattle.ps_pddl.specs.Steps.{Read}
 use Rattle.ps_forms.specs.declared.lexemes.Lexeme.{Lexeme}
 use Rattle.ps_world.specs.declared.actions.Effects.{Effects}
 

@@ -8,5 +8,5 @@ pub mod Reading
 pub mod Steps
 pub mod Terms
 pub mod Types
-pub mod Values
 pub mod WellFormed
+pub mod Words

@@ -11,7 +11,8 @@ use Rattle.ps_shape.specs.declared.marks.Mark.TheVariants.{Minus}
 use Rattle.ps_forms.specs.Nested.{Nesteds, none, more}
 use Rattle.ps_forms.specs.Places.{word_of, head}
 use Rattle.ps_pddl.specs.Forms.{forms}
-use Rattle.ps_pddl.specs.Steps.{Read, ◌>>=◌, unless}
+use Rattle.ps_conditions.specs.Steps.{◌>>=◌}
+use Rattle.ps_pddl.specs.Steps.{Read, unless}
 use Rattle.ps_forms.specs.declared.lexemes.Lexeme.{Lexeme}
 use Rattle.ps_forms.specs.declared.trees.Tree.{Tree}
 use Rattle.ps_pddl.specs.declared.refusals.Cap.{Cap}

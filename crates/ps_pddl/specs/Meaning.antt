@@ -15,10 +15,11 @@ use Rattle.ps_forms.specs.Nested.{Nested, Nesteds, word, group, none, more}
 use Rattle.ps_forms.specs.Places.{items, items_at, at, head, rest, after, section}
 use Rattle.ps_pddl.specs.Lists.{fault_of_new, listed}
 use Rattle.ps_pddl.specs.Types.{with_types}
-use Rattle.ps_pddl.specs.Values.{value}
+use Rattle.ps_pddl.specs.Words.{value}
 use Rattle.ps_pddl.specs.Conditions as condition
 use Rattle.ps_pddl.specs.Effects as effect
-use Rattle.ps_pddl.specs.Steps.{Read, ◌>>=◌, unless}
+use Rattle.ps_conditions.specs.Steps.{◌>>=◌}
+use Rattle.ps_pddl.specs.Steps.{Read, unless}
 use Rattle.ps_pddl.specs.declared.refusals.Cap.{Cap}
 use Rattle.ps_pddl.specs.declared.refusals.Cap.TheVariants as cap
 use Rattle.ps_pddl.specs.declared.meaning.lists.Listing.TheVariants.{Constants, Params}

@@ -14,7 +14,8 @@ use Rattle.ps_shape.specs.declared.marks.Mark.{Mark}
 use Rattle.ps_shape.specs.declared.marks.Mark.TheVariants as mark
 use Rattle.ps_forms.specs.Nested.{Nesteds, none, more}
 use Rattle.ps_forms.specs.Places.{word_of, count}
-use Rattle.ps_pddl.specs.Steps.{Read, ◌>>=◌}
+use Rattle.ps_conditions.specs.Steps.{◌>>=◌}
+use Rattle.ps_pddl.specs.Steps.{Read}
 use Rattle.ps_forms.specs.declared.lexemes.Lexeme.{Lexeme}
 use Rattle.ps_pddl.specs.declared.meaning.terms.Typed.{Typed}
 use Rattle.ps_pddl.specs.declared.refusals.DomainRefusal.TheVariants.{Unknown, Arity, Kind}

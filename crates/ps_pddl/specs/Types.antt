@@ -11,7 +11,8 @@ use Rattle.ps_shape.specs.declared.marks.Mark.TheVariants.{Minus}
 use Rattle.ps_forms.specs.Nested.{Nesteds, none, more}
 use Rattle.ps_forms.specs.Places.{word_of}
 use Rattle.ps_pddl.specs.Lists.{listed, kept}
-use Rattle.ps_pddl.specs.Steps.{Read, ◌>>=◌}
+use Rattle.ps_conditions.specs.Steps.{◌>>=◌}
+use Rattle.ps_pddl.specs.Steps.{Read}
 use Rattle.ps_pddl.specs.declared.refusals.DomainRefusal.TheVariants.{Cycle}
 use Rattle.ps_pddl.specs.declared.meaning.lists.Listing.TheVariants.{Types}
 

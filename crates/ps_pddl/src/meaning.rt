@@ -5,15 +5,15 @@ ghost use Rattle.ps_pddl.specs.Forms.{forms};
 
 mod actions;
 mod changes;
-mod conditions;
 mod declarations;
 mod effects;
 mod lists;
 mod parts;
 mod rooms;
+mod scope;
 mod terms;
 mod types;
-mod values;
+mod words;
 
 use crate::refusals::{Cap, DomainRefusal};
 use actions::actions;

@@ -12,9 +12,9 @@ use super::changes::timed as timed_effect;
 use super::lists::{Listing, fault_of_new, listed};
 use super::parts::timed as timed_condition;
 use super::rooms::{room_for_conditions, room_for_effects};
-use super::terms::MOST_PARAMS;
-use super::values::value;
+use super::scope::{ActionScope, MOST_PARAMS};
 use crate::refusals::{Cap, DomainRefusal};
+use ps_conditions::value;
 use ps_domain::Declared;
 use ps_forms::{Tree, after, at, head, items, items_at, rest};
 use ps_shape::Mark;
@@ -27,15 +27,14 @@ const MOST_ACTIONS: usize = 256;
 /// The duration of an action, which stands third in the list after its keyword.
 fn duration(
     alloc: Global,
-    d: &Declared,
-    params: &[Param],
+    scope: &ActionScope,
     trees: &[Tree],
 ) -> Result<Expr, Failure<DomainRefusal>>
-    requires { length params.now ≤ MOST_PARAMS }
-    ensures { Gives (λ e. e) result (duration d.now params.now (duration_in (forms trees.now))) }
+    ensures { Gives (λ e. e) result
+        (duration scope.now.domain.now scope.now.params.now (duration_in (forms trees.now))) }
 {
     match at(items_at(after(Mark::DurationKey, trees)), 2) {
-        Some(tree) => value(alloc, d, params, tree),
+        Some(tree) => value(alloc, scope, tree),
         None => Ok(Expr::Num(Num::ZERO)),
     }
 }
@@ -43,17 +42,16 @@ fn duration(
 /// The parts of an action's condition, of which there are none where no condition is written.
 fn parts(
     alloc: Global,
-    d: &Declared,
-    params: &[Param],
+    scope: &ActionScope,
     trees: &[Tree],
 ) -> Result<Conditions, Failure<DomainRefusal>>
-    requires { length params.now ≤ MOST_PARAMS }
-    ensures { Gives (λ p. p) result (parts d.now params.now (condition_in (forms trees.now))) }
+    ensures { Gives (λ p. p) result
+        (parts scope.now.domain.now scope.now.params.now (condition_in (forms trees.now))) }
 {
     match at(after(Mark::ConditionKey, trees), 0) {
         Some(tree) => {
             let mut all = room_for_conditions(alloc, rest(items(tree)))?;
-            timed_condition(alloc, d, params, tree, &mut all)?;
+            timed_condition(alloc, scope, tree, &mut all)?;
             Ok(all)
         }
         None => Ok(room_for_conditions(alloc, &[])?),
@@ -63,17 +61,16 @@ fn parts(
 /// The parts of an action's effect, of which there are none where no effect is written.
 fn changes(
     alloc: Global,
-    d: &Declared,
-    params: &[Param],
+    scope: &ActionScope,
     trees: &[Tree],
 ) -> Result<Effects, Failure<DomainRefusal>>
-    requires { length params.now ≤ MOST_PARAMS }
-    ensures { Gives (λ c. c) result (changes d.now params.now (effect_in (forms trees.now))) }
+    ensures { Gives (λ c. c) result
+        (changes scope.now.domain.now scope.now.params.now (effect_in (forms trees.now))) }
 {
     match at(after(Mark::EffectKey, trees), 0) {
         Some(tree) => {
             let mut all = room_for_effects(alloc, rest(items(tree)))?;
-            timed_effect(alloc, d, params, tree, &mut all)?;
+            timed_effect(alloc, scope, tree, &mut all)?;
             Ok(all)
         }
         None => Ok(room_for_effects(alloc, &[])?),
@@ -91,9 +88,13 @@ fn action_body(
     requires { length params.items ≤ MOST_PARAMS }
     ensures { Gives (λ a. a) result (action_body d.now name params.items (forms trees.now)) }
 {
-    let duration = duration(alloc, d, &params, trees)?;
-    let conditions = parts(alloc, d, &params, trees)?;
-    let effects = changes(alloc, d, &params, trees)?;
+    let scope = ActionScope {
+        domain: d,
+        params: &params,
+    };
+    let duration = duration(alloc, &scope, trees)?;
+    let conditions = parts(alloc, &scope, trees)?;
+    let effects = changes(alloc, &scope, trees)?;
     Ok(ActionDef {
         name,
         params: Params::of(params),

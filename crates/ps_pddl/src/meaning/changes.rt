@@ -1,55 +1,49 @@
 //! The parts of an action's effect, by the time at which they come.
-ghost use Rattle.std.specs.Prelude.{◌≤◌, length};
 ghost use Rattle.ps_world.specs.Failures.{Gives};
 ghost use Rattle.ps_forms.specs.NestedViews.{nested};
 ghost use Rattle.ps_pddl.specs.Effects.{all_timed, at_time, timed, timed_form, timed_list, timed_part};
 ghost use Rattle.ps_pddl.specs.Forms.{forms};
 
-use super::conditions::is_and;
 use super::effects::effect;
-use super::terms::MOST_PARAMS;
+use super::scope::ActionScope;
 use crate::refusals::DomainRefusal;
-use ps_domain::Declared;
+use ps_conditions::is_and;
 use ps_forms::{Lexeme, Tree, head, rest, word_of};
 use ps_shape::Mark;
-use ps_world::{Effects, Failure, Param};
+use ps_world::{Effects, Failure};
 use std::alloc::Global;
 
 /// Puts an effect with the word after its `at`.
 fn add_at(
     alloc: Global,
-    d: &Declared,
-    params: &[Param],
+    scope: &ActionScope,
     time: Mark,
     tree: &Tree,
     all: &mut Effects,
 ) -> Result<(), Failure<DomainRefusal>>
-    requires { length params.now ≤ MOST_PARAMS }
     ensures { Gives (λ _. all.new) result
-        (at_time d.now params.now time (nested tree.now) all.old) }
+        (at_time scope.now.domain.now scope.now.params.now time (nested tree.now) all.old) }
 {
     match time {
-        Mark::Start => effect(alloc, d, params, tree, &mut all.at_start),
-        _ => effect(alloc, d, params, tree, &mut all.at_end),
+        Mark::Start => effect(alloc, scope, tree, &mut all.at_start),
+        _ => effect(alloc, scope, tree, &mut all.at_end),
     }
 }
 
 /// Puts the effects of a form, by its first word and what follows it.
 fn timed_part(
     alloc: Global,
-    d: &Declared,
-    params: &[Param],
+    scope: &ActionScope,
     word: Mark,
     time: Mark,
     tree: &Tree,
     all: &mut Effects,
 ) -> Result<(), Failure<DomainRefusal>>
-    requires { length params.now ≤ MOST_PARAMS }
     ensures { Gives (λ _. all.new) result
-        (timed_part d.now params.now word time (nested tree.now) all.old) }
+        (timed_part scope.now.domain.now scope.now.params.now word time (nested tree.now) all.old) }
 {
     match word {
-        Mark::At => add_at(alloc, d, params, time, tree, all),
+        Mark::At => add_at(alloc, scope, time, tree, all),
         _ => Ok(()),
     }
 }
@@ -57,20 +51,18 @@ fn timed_part(
 /// Puts the effects of a form, by its head and the list that follows it.
 fn timed_form(
     alloc: Global,
-    d: &Declared,
-    params: &[Param],
+    scope: &ActionScope,
     word: Lexeme,
     trees: &[Tree],
     all: &mut Effects,
 ) -> Result<(), Failure<DomainRefusal>>
-    requires { length params.now ≤ MOST_PARAMS }
     ensures { Gives (λ _. all.new) result
-        (timed_form d.now params.now word (forms trees.now) all.old) }
+        (timed_form scope.now.domain.now scope.now.params.now word (forms trees.now) all.old) }
 {
     match trees {
         [] => Ok(()),
         [_] => Ok(()),
-        [time, tree, ..] => timed_part(alloc, d, params, word.mark, word_of(time).mark, tree, all),
+        [time, tree, ..] => timed_part(alloc, scope, word.mark, word_of(time).mark, tree, all),
     }
 }
 
@@ -78,16 +70,15 @@ fn timed_form(
 #[cycle(timed)]
 fn all_timed(
     alloc: Global,
-    d: &Declared,
-    params: &[Param],
+    scope: &ActionScope,
     trees: &[Tree],
     all: &mut Effects,
 ) -> Result<(), Failure<DomainRefusal>>
-    requires { length params.now ≤ MOST_PARAMS }
-    ensures { Gives (λ _. all.new) result (all_timed d.now params.now (forms trees.now) all.old) }
+    ensures { Gives (λ _. all.new) result
+        (all_timed scope.now.domain.now scope.now.params.now (forms trees.now) all.old) }
 {
     for tree in trees {
-        timed(alloc, d, params, tree, all)?;
+        timed(alloc, scope, tree, all)?;
     }
     Ok(())
 }
@@ -96,38 +87,36 @@ fn all_timed(
 #[cycle(timed)]
 fn timed_list(
     alloc: Global,
-    d: &Declared,
-    params: &[Param],
+    scope: &ActionScope,
     trees: &[Tree],
     all: &mut Effects,
 ) -> Result<(), Failure<DomainRefusal>>
-    requires { length params.now ≤ MOST_PARAMS }
-    ensures { Gives (λ _. all.new) result (timed_list d.now params.now (forms trees.now) all.old) }
+    ensures { Gives (λ _. all.new) result
+        (timed_list scope.now.domain.now scope.now.params.now (forms trees.now) all.old) }
 {
     if trees.is_empty() {
         return Ok(());
     }
     let word = head(trees);
     if is_and(word.mark) {
-        return all_timed(alloc, d, params, rest(trees), all);
+        return all_timed(alloc, scope, rest(trees), all);
     }
-    timed_form(alloc, d, params, word, rest(trees), all)
+    timed_form(alloc, scope, word, rest(trees), all)
 }
 
 /// Puts the effects of an action's effect at their ends, in the order of the text; `and` is flattened.
 #[cycle(timed)]
 pub fn timed(
     alloc: Global,
-    d: &Declared,
-    params: &[Param],
+    scope: &ActionScope,
     tree: &Tree,
     all: &mut Effects,
 ) -> Result<(), Failure<DomainRefusal>>
-    requires { length params.now ≤ MOST_PARAMS }
-    ensures { Gives (λ _. all.new) result (timed d.now params.now (nested tree.now) all.old) }
+    ensures { Gives (λ _. all.new) result
+        (timed scope.now.domain.now scope.now.params.now (nested tree.now) all.old) }
 {
     match tree {
         Tree::Word(_) => Ok(()),
-        Tree::Group(trees) => timed_list(alloc, d, params, trees.as_slice(), all),
+        Tree::Group(trees) => timed_list(alloc, scope, trees.as_slice(), all),
     }
 }

@@ -1,18 +1,17 @@
 //! What an effect means (PDDL 2.1, section 5).
-ghost use Rattle.std.specs.Prelude.{◌≡◌, ◌≤◌, length};
+ghost use Rattle.std.specs.Prelude.{◌≡◌};
 ghost use Rattle.ps_world.specs.Failures.{Gives};
 ghost use Rattle.ps_forms.specs.NestedViews.{nested};
 ghost use Rattle.ps_pddl.specs.Effects.{added, change_of, changed, deleted, deletion, effect, effects, form, plain_effect};
 ghost use Rattle.ps_pddl.specs.Forms.{forms};
 
-use super::conditions::{is_and, is_not};
-use super::terms::{MOST_PARAMS, fact, value_of};
-use super::values::value;
+use super::scope::ActionScope;
+use super::terms::{fact, value_of};
 use crate::refusals::DomainRefusal;
-use ps_domain::Declared;
+use ps_conditions::{is_and, is_not, value};
 use ps_forms::{Lexeme, Tree, count, head, items, rest};
 use ps_shape::Mark;
-use ps_world::{Effect, Failure, NumOp, Param, Seq};
+use ps_world::{Effect, Failure, NumOp, Seq};
 use std::alloc::Global;
 
 /// How the head of an effect changes a number.
@@ -32,16 +31,15 @@ fn change_of(mark: Mark) -> Option<NumOp>
 /// Puts the effect that a fact is known.
 fn added(
     alloc: Global,
-    d: &Declared,
-    params: &[Param],
+    scope: &ActionScope,
     word: Lexeme,
     trees: &[Tree],
     all: &mut Seq<Effect>,
 ) -> Result<(), Failure<DomainRefusal>>
-    requires { length params.now ≤ MOST_PARAMS }
-    ensures { Gives (λ _. all.new) result (added d.now params.now word (forms trees.now) all.old) }
+    ensures { Gives (λ _. all.new) result
+        (added scope.now.domain.now scope.now.params.now word (forms trees.now) all.old) }
 {
-    let fact = fact(d, params, word, trees).map_err(Failure::Refused)?;
+    let fact = fact(scope, word, trees).map_err(Failure::Refused)?;
     all.push(Effect::Add(fact))?;
     Ok(())
 }
@@ -49,16 +47,15 @@ fn added(
 /// Puts the effect that a fact is no longer known.
 fn deleted(
     alloc: Global,
-    d: &Declared,
-    params: &[Param],
+    scope: &ActionScope,
     tree: &Tree,
     all: &mut Seq<Effect>,
 ) -> Result<(), Failure<DomainRefusal>>
-    requires { length params.now ≤ MOST_PARAMS }
-    ensures { Gives (λ _. all.new) result (deleted d.now params.now (nested tree.now) all.old) }
+    ensures { Gives (λ _. all.new) result
+        (deleted scope.now.domain.now scope.now.params.now (nested tree.now) all.old) }
 {
     let inside = items(tree);
-    let fact = fact(d, params, head(inside), rest(inside)).map_err(Failure::Refused)?;
+    let fact = fact(scope, head(inside), rest(inside)).map_err(Failure::Refused)?;
     all.push(Effect::Delete(fact))?;
     Ok(())
 }
@@ -66,20 +63,19 @@ fn deleted(
 /// Puts the effect that a function's value changes.
 fn changed(
     alloc: Global,
-    d: &Declared,
-    params: &[Param],
+    scope: &ActionScope,
     how: NumOp,
     term: &Tree,
     by: &Tree,
     all: &mut Seq<Effect>,
 ) -> Result<(), Failure<DomainRefusal>>
-    requires { length params.now ≤ MOST_PARAMS }
     ensures { Gives (λ _. all.new) result
-        (changed d.now params.now how (nested term.now) (nested by.now) all.old) }
+        (changed scope.now.domain.now scope.now.params.now
+        how (nested term.now) (nested by.now) all.old) }
 {
     let inside = items(term);
-    let function = value_of(d, params, head(inside), rest(inside)).map_err(Failure::Refused)?;
-    let amount = value(alloc, d, params, by)?;
+    let function = value_of(scope, head(inside), rest(inside)).map_err(Failure::Refused)?;
+    let amount = value(alloc, scope, by)?;
     all.push(Effect::Number(how, function, amount))?;
     Ok(())
 }
@@ -87,22 +83,20 @@ fn changed(
 /// Puts an effect on a fact or a function's value.
 fn plain_effect(
     alloc: Global,
-    d: &Declared,
-    params: &[Param],
+    scope: &ActionScope,
     word: Lexeme,
     trees: &[Tree],
     all: &mut Seq<Effect>,
 ) -> Result<(), Failure<DomainRefusal>>
-    requires { length params.now ≤ MOST_PARAMS }
     ensures { Gives (λ _. all.new) result
-        (plain_effect d.now params.now word (forms trees.now) all.old) }
+        (plain_effect scope.now.domain.now scope.now.params.now word (forms trees.now) all.old) }
 {
     match trees {
-        [] => added(alloc, d, params, word, trees, all),
-        [_] => added(alloc, d, params, word, trees, all),
+        [] => added(alloc, scope, word, trees, all),
+        [_] => added(alloc, scope, word, trees, all),
         [term, by, ..] => match change_of(word.mark) {
-            Some(how) => changed(alloc, d, params, how, term, by, all),
-            None => added(alloc, d, params, word, trees, all),
+            Some(how) => changed(alloc, scope, how, term, by, all),
+            None => added(alloc, scope, word, trees, all),
         },
     }
 }
@@ -110,17 +104,16 @@ fn plain_effect(
 /// Puts the deletion of the first of these.
 fn deletion(
     alloc: Global,
-    d: &Declared,
-    params: &[Param],
+    scope: &ActionScope,
     trees: &[Tree],
     all: &mut Seq<Effect>,
 ) -> Result<(), Failure<DomainRefusal>>
-    requires { length params.now ≤ MOST_PARAMS }
-    ensures { Gives (λ _. all.new) result (deletion d.now params.now (forms trees.now) all.old) }
+    ensures { Gives (λ _. all.new) result
+        (deletion scope.now.domain.now scope.now.params.now (forms trees.now) all.old) }
 {
     match trees {
         [] => Ok(()),
-        [first, ..] => deleted(alloc, d, params, first, all),
+        [first, ..] => deleted(alloc, scope, first, all),
     }
 }
 
@@ -128,16 +121,15 @@ fn deletion(
 #[cycle(effect)]
 fn effects(
     alloc: Global,
-    d: &Declared,
-    params: &[Param],
+    scope: &ActionScope,
     trees: &[Tree],
     all: &mut Seq<Effect>,
 ) -> Result<(), Failure<DomainRefusal>>
-    requires { length params.now ≤ MOST_PARAMS }
-    ensures { Gives (λ _. all.new) result (effects d.now params.now (forms trees.now) all.old) }
+    ensures { Gives (λ _. all.new) result
+        (effects scope.now.domain.now scope.now.params.now (forms trees.now) all.old) }
 {
     for tree in trees {
-        effect(alloc, d, params, tree, all)?;
+        effect(alloc, scope, tree, all)?;
     }
     Ok(())
 }
@@ -146,13 +138,12 @@ fn effects(
 #[cycle(effect)]
 fn form(
     alloc: Global,
-    d: &Declared,
-    params: &[Param],
+    scope: &ActionScope,
     trees: &[Tree],
     all: &mut Seq<Effect>,
 ) -> Result<(), Failure<DomainRefusal>>
-    requires { length params.now ≤ MOST_PARAMS }
-    ensures { Gives (λ _. all.new) result (form d.now params.now (forms trees.now) all.old) }
+    ensures { Gives (λ _. all.new) result
+        (form scope.now.domain.now scope.now.params.now (forms trees.now) all.old) }
 {
     if count(trees) == 0 {
         return Ok(());
@@ -160,28 +151,27 @@ fn form(
     let word = head(trees);
     let operands = rest(trees);
     if is_and(word.mark) {
-        return effects(alloc, d, params, operands, all);
+        return effects(alloc, scope, operands, all);
     }
     if is_not(word.mark) {
-        return deletion(alloc, d, params, operands, all);
+        return deletion(alloc, scope, operands, all);
     }
-    plain_effect(alloc, d, params, word, operands, all)
+    plain_effect(alloc, scope, word, operands, all)
 }
 
 /// Puts what an effect means at the end; `and` is flattened.
 #[cycle(effect)]
 pub fn effect(
     alloc: Global,
-    d: &Declared,
-    params: &[Param],
+    scope: &ActionScope,
     tree: &Tree,
     all: &mut Seq<Effect>,
 ) -> Result<(), Failure<DomainRefusal>>
-    requires { length params.now ≤ MOST_PARAMS }
-    ensures { Gives (λ _. all.new) result (effect d.now params.now (nested tree.now) all.old) }
+    ensures { Gives (λ _. all.new) result
+        (effect scope.now.domain.now scope.now.params.now (nested tree.now) all.old) }
 {
     match tree {
         Tree::Word(_) => Ok(()),
-        Tree::Group(trees) => form(alloc, d, params, trees.as_slice(), all),
+        Tree::Group(trees) => form(alloc, scope, trees.as_slice(), all),
     }
 }

@@ -16,4 +16,4 @@ decreases-effects l = 4 * ranks (nesteds (map nested l.trees.now)) + 1
 -- the effects that are left, after those before, are those of all
 abbrev pub invariant-effects-loop-tree : goal.invariant-effects-loop-tree
 invariant-effects-loop-tree l =
-    effects l.d l.params (nesteds (map nested (drop l.tree-index l.trees))) l.all ≡ effects l.d l.params (nesteds (map nested l.trees)) l.initial.all
+    effects l.scope.domain.now l.scope.params.now (nesteds (map nested (drop l.tree-index l.trees))) l.all ≡ effects l.scope.domain.now l.scope.params.now (nesteds (map nested l.trees)) l.initial.all

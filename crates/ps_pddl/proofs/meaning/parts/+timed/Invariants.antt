@@ -16,4 +16,4 @@ decreases-all_timed l = 4 * ranks (nesteds (map nested l.trees.now)) + 1
 -- the parts of the forms that are left, after those before, are those of all
 abbrev pub invariant-all_timed-loop-tree : goal.invariant-all_timed-loop-tree
 invariant-all_timed-loop-tree l =
-    all_timed l.d l.params (nesteds (map nested (drop l.tree-index l.trees))) l.all ≡ all_timed l.d l.params (nesteds (map nested l.trees)) l.initial.all
+    all_timed l.scope.domain.now l.scope.params.now (nesteds (map nested (drop l.tree-index l.trees))) l.all ≡ all_timed l.scope.domain.now l.scope.params.now (nesteds (map nested l.trees)) l.initial.all

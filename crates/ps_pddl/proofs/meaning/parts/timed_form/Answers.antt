@@ -3,4 +3,4 @@ use Rattle.ps_pddl.proofs.ConditionForms.{no_form}
 use Rattle.ps_pddl.proofs.meaning.parts.timed_form.Goals as goal
 
 pub returns-in-len1 : goal.returns-in-len1
-returns-in-len1 c = no_form c.args.d.now c.args.params.now c.args.word c.args.trees.now _ (omega arith)
+returns-in-len1 c = no_form c.args.scope.now.domain.now c.args.scope.now.params.now c.args.word c.args.trees.now _ (omega arith)

@@ -10,7 +10,7 @@ abbrev pub invariant-loop-i : goal.invariant-loop-i
 invariant-loop-i l = record {
   before : List Term;
   as_many : length before ≡ l.i;
-  rest : arguments l.d l.params (drop l.i l.wants) (nesteds (map nested (drop l.i l.trees))) before
-      ≡ arguments l.d l.params l.wants (nesteds (map nested l.trees)) [];
+  rest : arguments l.scope.domain.now l.scope.params.now (drop l.i l.wants) (nesteds (map nested (drop l.i l.trees))) before
+      ≡ arguments l.scope.domain.now l.scope.params.now l.wants (nesteds (map nested l.trees)) [];
   kept : take l.i l.terms ≡ take 6 before;
 }

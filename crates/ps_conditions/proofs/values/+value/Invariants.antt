@@ -1,10 +1,10 @@
 use Rattle.std.proofs.Common.{◌+◌, ◌*◌, map}
 use Rattle.ps_forms.specs.Nested.{nesteds, rank, ranks}
 use Rattle.ps_forms.specs.NestedViews.{nested}
-use Rattle.ps_pddl.proofs.meaning.values.+value.Given as goal
+use Rattle.ps_conditions.proofs.values.+value.Given as goal
 
 abbrev pub decreases-value : goal.decreases-value
-decreases-value l = 2 * rank (nested l.tree.now)
+decreases-value g l = 2 * rank (nested l.tree.now)
 
 abbrev pub decreases-operation : goal.decreases-operation
-decreases-operation l = 2 * ranks (nesteds (map nested l.trees.now)) + 1
+decreases-operation g l = 2 * ranks (nesteds (map nested l.trees.now)) + 1

@@ -1,0 +1,5 @@
+pub mod Certain
+pub mod ConditionForms
+pub mod Operations
+pub mod Refusals
+pub mod Steps

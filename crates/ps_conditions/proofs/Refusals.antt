@@ -1,0 +1,129 @@
+-- Why a condition or a value is refused is why one of its words is.
+use Rattle.std.proofs.Common.{true, false, Bool, List, [], ◌∷◌, ◌++◌, Option, Some, None, Result, Ok, Err}
+use Rattle.std.specs.Bool.{if◌then◌else◌}
+use Rattle.ps_world.specs.CondViews.{cond_tree}
+use Rattle.ps_world.specs.ExprViews.{expr_tree}
+use Rattle.ps_world.specs.Trees.{CondTree}
+use Rattle.ps_world.specs.declared.conditions.Cond.{Cond}
+use Rattle.ps_world.specs.declared.conditions.Cond.TheVariants as cond
+use Rattle.ps_world.specs.declared.conditions.Rel.{Rel}
+use Rattle.ps_world.specs.declared.conditions.Rel.TheVariants.{Lt, Le, Eq, Ge, Gt}
+use Rattle.ps_world.specs.declared.expressions.Expr.{Expr}
+use Rattle.ps_world.specs.declared.expressions.Expr.TheVariants.{Fun, Neg, Bin}
+use Rattle.ps_world.specs.declared.expressions.Op.{Op}
+use Rattle.ps_shape.specs.Marks.{is}
+use Rattle.ps_shape.specs.declared.marks.Mark.TheVariants as mark
+use Rattle.ps_forms.specs.Nested.{Nested, Nesteds, word, group, none, more}
+use Rattle.ps_forms.specs.Places.{word_of}
+use Rattle.ps_forms.specs.declared.lexemes.Lexeme.{Lexeme}
+use Rattle.ps_conditions.specs.Conditions.{comparison, condition, conditions, equality, form, negation, plain_condition, related, same_as, stated}
+use Rattle.ps_conditions.specs.Signs.{operator_of, rel_of}
+use Rattle.ps_conditions.specs.Steps.{◌>>=◌, refusable}
+use Rattle.ps_conditions.specs.Values.{function_value, operated, operation, value}
+use Rattle.ps_conditions.specs.Words.{Words}
+
+-- what is read, or a refusal of this kind
+abbrev pub Refuses : {A R : Type 0} → (R → Type 0) → Result A R → Type 0
+Refuses Q (Ok x) = Unit {0}
+Refuses Q (Err refusal) = Q refusal
+
+pub then_refuses : {A B R : Type 0} (Q : R → Type 0) (read : Result A R) (f : A → Result B R) → Refuses Q read → ((x : A) → Refuses Q (f x)) → Refuses Q (read >>= f)
+then_refuses Q (Ok x) f h k = k x
+then_refuses Q (Err refusal) f h k = h
+
+pub either_refuses : {A R : Type 0} (Q : R → Type 0) (b : Bool) (x y : Result A R) → Refuses Q x → Refuses Q y → Refuses Q (if b then x else y)
+either_refuses Q true x y h k = h
+either_refuses Q false x y h k = k
+
+-- words are refused so
+pub record AreRefused {R : Type 0} (Q : R → Type 0) (w : Words (refusable R)) : Type 0 where
+  pub term : (l : Lexeme) → Refuses Q (w.term l)
+  pub second : (l : Lexeme) (t : Nested) → Refuses Q (w.second l t)
+  pub worth : (l : Lexeme) → Refuses Q (w.worth l)
+  pub fact : (l : Lexeme) (ts : Nesteds) → Refuses Q (w.fact l ts)
+  pub function : (l : Lexeme) (ts : Nesteds) → Refuses Q (w.function l ts)
+
+module _ (R : Type 0) (Q : R → Type 0) (w : Words (refusable R)) (words : AreRefused Q w) where
+  -- ---- values
+
+  function_value_refuses : (l : Lexeme) (ts : Nesteds) → Refuses Q (function_value (refusable R) w l ts)
+  function_value_refuses l ts = then_refuses Q (w.function l ts) (λ v. Ok (Fun v)) (words.function l ts) (λ v. tt)
+
+  operated_refuses : (op : Option Op) (a b other : Result Expr R) → Refuses Q a → Refuses Q b → Refuses Q other → Refuses Q (operated (refusable R) op a b other)
+  operated_refuses None a b other h k o = o
+  operated_refuses (Some op) a b other h k o =
+      then_refuses Q a (λ x. b >>= λ y. Ok (Bin op (expr_tree x) (expr_tree y))) h
+      (λ x. then_refuses Q b (λ y. Ok (Bin op (expr_tree x) (expr_tree y))) k (λ y. tt))
+
+  mutual
+    pub value_refuses : (t : Nested) → Refuses Q (value (refusable R) w t)
+    value_refuses (word l) = words.worth l
+    value_refuses (group ts) = operation_refuses ts
+
+    operation_refuses : (ts : Nesteds) → Refuses Q (operation (refusable R) w ts)
+    operation_refuses none = tt
+    operation_refuses (more f none) = function_value_refuses (word_of f) none
+    operation_refuses (more f (more a none)) =
+        either_refuses Q (is mark.Minus (word_of f).mark) (value (refusable R) w a >>= λ x. Ok (Neg (expr_tree x))) (function_value (refusable R) w (word_of f) (more a none))
+        (then_refuses Q (value (refusable R) w a) (λ x. Ok (Neg (expr_tree x))) (value_refuses a) (λ x. tt))
+        (function_value_refuses (word_of f) (more a none))
+    operation_refuses (more f (more a (more b ts))) =
+        operated_refuses (operator_of (word_of f).mark) (value (refusable R) w a) (value (refusable R) w b) (function_value (refusable R) w (word_of f) (more a (more b ts)))
+        (value_refuses a) (value_refuses b) (function_value_refuses (word_of f) (more a (more b ts)))
+
+  -- ---- conditions
+
+  comparison_refuses : (rel : Rel) (a b : Nested) → Refuses Q (comparison (refusable R) w rel a b)
+  comparison_refuses rel a b =
+      then_refuses Q (value (refusable R) w a) (λ x. value (refusable R) w b >>= λ y. Ok (cond.Cmp rel x y)) (value_refuses a)
+      (λ x. then_refuses Q (value (refusable R) w b) (λ y. Ok (cond.Cmp rel x y)) (value_refuses b) (λ y. tt))
+
+  same_as_refuses : (l : Lexeme) (b : Nested) → Refuses Q (same_as (refusable R) w l b)
+  same_as_refuses l b =
+      then_refuses Q (w.term l) (λ s. w.second l b >>= λ t. Ok (cond.Same s t)) (words.term l)
+      (λ s. then_refuses Q (w.second l b) (λ t. Ok (cond.Same s t)) (words.second l b) (λ t. tt))
+
+  equality_refuses : (a b : Nested) → Refuses Q (equality (refusable R) w a b)
+  equality_refuses (group ts) b = comparison_refuses Eq (group ts) b
+  equality_refuses (word l) b =
+      either_refuses Q (is mark.Number l.mark) (comparison (refusable R) w Eq (word l) b) (same_as (refusable R) w l b) (comparison_refuses Eq (word l) b) (same_as_refuses l b)
+
+  stated_refuses : (l : Lexeme) (ts : Nesteds) → Refuses Q (stated (refusable R) w l ts)
+  stated_refuses l ts = then_refuses Q (w.fact l ts) (λ f. Ok (cond.Holds f)) (words.fact l ts) (λ f. tt)
+
+  related_refuses : (rel : Option Rel) (a b : Nested) (other : Result Cond R) → Refuses Q other → Refuses Q (related (refusable R) w rel a b other)
+  related_refuses None a b other o = o
+  related_refuses (Some Eq) a b other o = equality_refuses a b
+  related_refuses (Some Lt) a b other o = comparison_refuses Lt a b
+  related_refuses (Some Le) a b other o = comparison_refuses Le a b
+  related_refuses (Some Ge) a b other o = comparison_refuses Ge a b
+  related_refuses (Some Gt) a b other o = comparison_refuses Gt a b
+
+  plain_refuses : (l : Lexeme) (ts : Nesteds) → Refuses Q (plain_condition (refusable R) w l ts)
+  plain_refuses l none = stated_refuses l none
+  plain_refuses l (more a none) = stated_refuses l (more a none)
+  plain_refuses l (more a (more b ts)) =
+      related_refuses (rel_of l.mark) a b (stated (refusable R) w l (more a (more b ts))) (stated_refuses l (more a (more b ts)))
+
+  mutual
+    pub condition_refuses : (t : Nested) → Refuses Q (condition (refusable R) w t)
+    condition_refuses (word l) = tt
+    condition_refuses (group ts) = form_refuses ts
+
+    form_refuses : (ts : Nesteds) → Refuses Q (form (refusable R) w ts)
+    form_refuses none = tt
+    form_refuses (more f ts) =
+        either_refuses Q (is mark.And (word_of f).mark) (conditions (refusable R) w ts [] >>= λ cs. Ok (cond.And cs))
+        (if is mark.Not (word_of f).mark then negation (refusable R) w ts else plain_condition (refusable R) w (word_of f) ts)
+        (then_refuses Q (conditions (refusable R) w ts []) (λ cs. Ok (cond.And cs)) (conditions_refuse ts []) (λ cs. tt))
+        (either_refuses Q (is mark.Not (word_of f).mark) (negation (refusable R) w ts) (plain_condition (refusable R) w (word_of f) ts) (negation_refuses ts) (plain_refuses (word_of f) ts))
+
+    negation_refuses : (ts : Nesteds) → Refuses Q (negation (refusable R) w ts)
+    negation_refuses none = tt
+    negation_refuses (more c ts) = then_refuses Q (condition (refusable R) w c) (λ x. Ok (cond.Not (cond_tree x))) (condition_refuses c) (λ x. tt)
+
+    conditions_refuse : (ts : Nesteds) (before : List CondTree) → Refuses Q (conditions (refusable R) w ts before)
+    conditions_refuse none before = tt
+    conditions_refuse (more c cs) before =
+        then_refuses Q (condition (refusable R) w c) (λ x. conditions (refusable R) w cs (before ++ cond_tree x ∷ [])) (condition_refuses c)
+        (λ x. conditions_refuse cs (before ++ cond_tree x ∷ []))

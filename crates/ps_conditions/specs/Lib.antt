@@ -1,0 +1,5 @@
+pub mod Conditions
+pub mod Signs
+pub mod Steps
+pub mod Values
+pub mod Words

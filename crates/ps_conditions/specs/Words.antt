@@ -1,0 +1,27 @@
+-- What words mean where a condition stands.
+use Rattle.std.specs.Prelude.{Ok}
+use Rattle.ps_world.specs.declared.schemas.Term.{Term}
+use Rattle.ps_world.specs.declared.schemas.Lifted.{Lifted}
+use Rattle.ps_world.specs.declared.expressions.Expr.{Expr}
+use Rattle.ps_forms.specs.Nested.{Nested, Nesteds}
+use Rattle.ps_forms.specs.declared.lexemes.Lexeme.{Lexeme}
+use Rattle.ps_conditions.specs.Steps.{Steps, certain, refusable}
+
+-- What the words of a domain's action or of a line mean: the term that a word is; the second of two terms that are to be the same, after
+-- the first; what a word is worth where a number must stand; and a predicate or a function with its arguments.
+pub record Words (s : Steps) : Type 0 where
+  pub term : Lexeme → s.Step Term
+  pub second : Lexeme → Nested → s.Step Term
+  pub worth : Lexeme → s.Step Expr
+  pub fact : Lexeme → Nesteds → s.Step Lifted
+  pub function : Lexeme → Nesteds → s.Step Lifted
+
+-- the same words, where reading may be refused, but not by them
+abbrev pub unrefused : (R : Type 0) → Words certain → Words (refusable R)
+unrefused R w = record {
+  term = λ l. Ok (w.term l);
+  second = λ l t. Ok (w.second l t);
+  worth = λ l. Ok (w.worth l);
+  fact = λ l ts. Ok (w.fact l ts);
+  function = λ l ts. Ok (w.function l ts);
+}

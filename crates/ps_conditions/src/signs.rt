@@ -1,0 +1,62 @@
+//! The words that a form begins with.
+ghost use Rattle.std.specs.Prelude.{◌≡◌};
+ghost use Rattle.ps_shape.specs.Marks.{is};
+ghost use Rattle.ps_shape.specs.declared.marks.Mark.TheVariants.{And, Minus, Not, Number};
+ghost use Rattle.ps_conditions.specs.Signs.{operator_of, rel_of};
+
+use ps_shape::Mark;
+use ps_world::{Op, Rel};
+
+/// The comparison with this sign.
+pub(crate) fn rel_of(mark: Mark) -> Option<Rel>
+    ensures { result ≡ rel_of mark }
+{
+    match mark {
+        Mark::Less => Some(Rel::Lt),
+        Mark::LessEqual => Some(Rel::Le),
+        Mark::Equal => Some(Rel::Eq),
+        Mark::GreaterEqual => Some(Rel::Ge),
+        Mark::Greater => Some(Rel::Gt),
+        _ => None,
+    }
+}
+
+/// The operation with this sign.
+pub(crate) fn operator_of(mark: Mark) -> Option<Op>
+    ensures { result ≡ operator_of mark }
+{
+    match mark {
+        Mark::Plus => Some(Op::Add),
+        Mark::Minus => Some(Op::Sub),
+        Mark::Times => Some(Op::Mul),
+        Mark::Divide => Some(Op::Div),
+        _ => None,
+    }
+}
+
+/// Whether a word is a number.
+pub fn is_number(mark: Mark) -> bool
+    ensures { result ≡ is Number mark }
+{
+    mark == Mark::Number
+}
+
+pub(crate) fn is_minus(mark: Mark) -> bool
+    ensures { result ≡ is Minus mark }
+{
+    mark == Mark::Minus
+}
+
+/// Whether a word is `and`.
+pub fn is_and(mark: Mark) -> bool
+    ensures { result ≡ is And mark }
+{
+    mark == Mark::And
+}
+
+/// Whether a word is `not`.
+pub fn is_not(mark: Mark) -> bool
+    ensures { result ≡ is Not mark }
+{
+    mark == Mark::Not
+}

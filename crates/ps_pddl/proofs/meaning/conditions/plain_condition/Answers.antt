@@ -1,7 +1,0 @@
-use Rattle.std.proofs.Common.{arith}
-use Rattle.ps_pddl.proofs.ConditionForms.{with_one}
-use Rattle.ps_pddl.proofs.meaning.conditions.plain_condition.Goals as goal
-
-pub returns-in-len1 : goal.returns-in-len1
-returns-in-len1 c =
-    rw (with_one c.args.d.now c.args.params.now c.args.word c.args.trees.now (omega arith)) c.stated-in-len1.ensures
