@@ -25,7 +25,12 @@ use Rattle.ps_forms.specs.Places.{head, items_at, rest, word_of}
 use Rattle.ps_forms.specs.declared.lexemes.Lexeme.{Lexeme}
 use Rattle.ps_print.specs.CanonicalWords.{AreCondsOf, IsCondOf, IsExprOf, IsLiftedOf, IsNameOf, IsTermOf}
 use Rattle.ps_pddl.proofs.ReadNames.{AllTold, AreTold, IsTold}
-use Rattle.ps_script.specs.Goals.{args_of, condition, conditions, equality, fact_of, first_condition, form, lifted_of, names_of, negation, operated, operation, operator_of, plain_condition, rel_of, related, value}
+use Rattle.ps_conditions.specs.Conditions.{equality, form, negation, plain_condition, related}
+use Rattle.ps_conditions.specs.Signs.{operator_of, rel_of}
+use Rattle.ps_conditions.specs.Steps.{certain}
+use Rattle.ps_conditions.specs.Values.{operated, operation, value}
+use Rattle.ps_conditions.proofs.Certain.{conditions-each, each}
+use Rattle.ps_script.specs.Goals.{args_of, condition, fact_of, first_condition, lifted, line_words, names_of}
 use Rattle.ps_script_laws.specs.Sayable.{HasGoalHeads, HaveGoalHeads, IsFactOf, IsGoalHead, IsShort, IsShortExpr}
 use Rattle.ps_sound.proofs.GoalTrees.{are_formed, begins_formed, is_form, is_formed, is_headed}
 
@@ -93,91 +98,90 @@ module _ (after : Table) (first : 0 < length after) where
   constants_here (n ∷ ns) h =
       All-cons (IsTermOf (length after) 0) (Const n) (map Const ns) (All-head (IsNameOf (length after)) n ns h) (constants_here ns (All-tail (IsNameOf (length after)) n ns h))
 
-  lifted_here : (ts : Nesteds) → AreTold after ts → IsLiftedOf (length after) 0 (lifted_of ts)
-  lifted_here ts h = (head_name ts h, constants_here (args_of (rest ts)) (args_here (rest ts) (rest_told ts h)))
+  lifted_here : (t : Nested) (ts : Nesteds) → AllTold after t → AreTold after ts → IsLiftedOf (length after) 0 (lifted (word_of t) ts)
+  lifted_here t ts h k = (word_name t h, constants_here (args_of ts) (args_here ts k))
 
-  lifted_short : (ts : Nesteds) → IsShort (lifted_of ts)
-  lifted_short ts = let few = few_args (rest ts) in omega (arith, few, length-map (args_of (rest ts)) Const)
+  lifted_short : (l : Lexeme) (ts : Nesteds) → IsShort (lifted l ts)
+  lifted_short l ts = let few = few_args ts in omega (arith, few, length-map (args_of ts) Const)
 
   abbrev IsExprHere : Expr → Type 0
   IsExprHere x = IsExprOf (length after) 0 (expr_tree x) × IsShortExpr (expr_tree x)
 
-  fun_here : (ts : Nesteds) → AreTold after ts → IsExprHere (Fun (lifted_of ts))
-  fun_here ts h = (lifted_here ts h, lifted_short ts)
+  fun_here : (t : Nested) (ts : Nesteds) → AllTold after t → AreTold after ts → IsExprHere (Fun (lifted (word_of t) ts))
+  fun_here t ts h k = (lifted_here t ts h k, lifted_short (word_of t) ts)
 
   one_of : (b : Bool) (x y : Expr) → IsExprHere x → IsExprHere y → IsExprHere (if b then x else y)
   one_of true x y p q = p
   one_of false x y p q = q
 
-  operated_here : (o : Option Op) (a b other : Expr) → IsExprHere a → IsExprHere b → IsExprHere other → IsExprHere (operated o a b other)
+  operated_here : (o : Option Op) (a b other : Expr) → IsExprHere a → IsExprHere b → IsExprHere other → IsExprHere (operated certain o a b other)
   operated_here None a b other p q r = r
   operated_here (Some op) a b other p q r = ((p.0, q.0), (p.1, q.1))
 
   mutual
-    value_here : (t : Nested) → AllTold after t → IsExprHere (value t)
+    value_here : (t : Nested) → AllTold after t → IsExprHere (value certain line_words t)
     value_here (word l) h = (h.counted, tt)
     value_here (group ts) h = operation_here ts h
 
-    operation_here : (ts : Nesteds) → AreTold after ts → IsExprHere (operation ts)
+    operation_here : (ts : Nesteds) → AreTold after ts → IsExprHere (operation certain line_words ts)
     operation_here none h = (omega arith, tt)
-    operation_here (more f none) h = fun_here (more f none) h
+    operation_here (more f none) h = fun_here f none h.0 h.1
     operation_here (more f (more a none)) h =
-        one_of (is mark.Minus (word_of f).mark) (Neg (expr_tree (value a))) (Fun (lifted_of (more f (more a none)))) (value_here a h.1.0) (fun_here (more f (more a none)) h)
+        one_of (is mark.Minus (word_of f).mark) (Neg (expr_tree (value certain line_words a))) (Fun (lifted (word_of f) (more a none))) (value_here a h.1.0) (fun_here f (more a none) h.0 h.1)
     operation_here (more f (more a (more b ts))) h =
-        operated_here (operator_of (word_of f).mark) (value a) (value b) (Fun (lifted_of (more f (more a (more b ts))))) (value_here a h.1.0) (value_here b h.1.1.0) (fun_here (more f (more a (more b ts))) h)
+        operated_here (operator_of (word_of f).mark) (value certain line_words a) (value certain line_words b) (Fun (lifted (word_of f) (more a (more b ts)))) (value_here a h.1.0) (value_here b h.1.1.0) (fun_here f (more a (more b ts)) h.0 h.1)
 
   -- ---- conditions
 
   abbrev IsCondHere : Cond → Type 0
   IsCondHere c = IsCondOf (length after) 0 (cond_tree c) × HasGoalHeads after (cond_tree c)
 
-  holds_here : (l : Lexeme) (ts : Nesteds) → IsTold after l → AreTold after ts → is_goal_name l.mark ≡ true → IsCondHere (cond.Holds (lifted_of (more (word l) ts)))
+  holds_here : (l : Lexeme) (ts : Nesteds) → IsTold after l → AreTold after ts → is_goal_name l.mark ≡ true → IsCondHere (cond.Holds (lifted l ts))
   holds_here l ts h told e =
       let stands : IsGoalHead after l.name = subst (λ (m : Mark). is_goal_name m ≡ true) (h.named (goal-is_name l.mark e)) e in
-      (lifted_here (more (word l) ts) (h, told), (lifted_short (more (word l) ts), stands))
+      (lifted_here (word l) ts h told, (lifted_short l ts, stands))
 
-  compared_here : (rel : Rel) (a b : Nested) → AllTold after a → AllTold after b → IsCondHere (cond.Cmp rel (value a) (value b))
+  compared_here : (rel : Rel) (a b : Nested) → AllTold after a → AllTold after b → IsCondHere (cond.Cmp rel (value certain line_words a) (value certain line_words b))
   compared_here rel a b p q =
       let x = value_here a p in
       let y = value_here b q in
       ((x.0, y.0), (x.1, y.1))
 
-  equality_here : (a b : Nested) → AllTold after a → AllTold after b → IsCondHere (equality a b)
+  equality_here : (a b : Nested) → AllTold after a → AllTold after b → IsCondHere (equality certain line_words a b)
   equality_here (group ts) b p q = compared_here Eq (group ts) b p q
   equality_here (word l) b p q =
-      elim (is mark.Number l.mark) as (λ x. IsCondHere (if x then cond.Cmp Eq (value (word l)) (value b) else cond.Same (Const l.name) (Const (word_of b).name))) [
+      elim (is mark.Number l.mark) as (λ x. IsCondHere (if x then cond.Cmp Eq (value certain line_words (word l)) (value certain line_words b) else cond.Same (Const l.name) (Const (word_of b).name))) [
         | true ↦ compared_here Eq (word l) b p q
         | false ↦ ((p.below, word_name b q), tt)
       ]
 
-  related_here : (o : Option Rel) (head : Bool) (a b : Nested) (other : Cond) → AllTold after a → AllTold after b → (head ≡ true → IsCondHere other) → (head || (is_some o && true)) ≡ true → IsCondHere (related o a b other)
+  related_here : (o : Option Rel) (head : Bool) (a b : Nested) (other : Cond) → AllTold after a → AllTold after b → (head ≡ true → IsCondHere other) → (head || (is_some o && true)) ≡ true → IsCondHere (related certain line_words o a b other)
   related_here None head a b other p q h e = h (alone head true e)
   related_here (Some Eq) head a b other p q h e = equality_here a b p q
   related_here (Some rel) head a b other p q h e = compared_here rel a b p q
 
-  plain_here : (l : Lexeme) (ts : Nesteds) → IsTold after l → AreTold after ts → is_headed l.mark ts ≡ true → IsCondHere (plain_condition (more (word l) ts))
+  plain_here : (l : Lexeme) (ts : Nesteds) → IsTold after l → AreTold after ts → is_headed l.mark ts ≡ true → IsCondHere (plain_condition certain line_words l ts)
   plain_here l none h told e = holds_here l none h told (alone (is_goal_name l.mark) (is_some (rel_of l.mark)) e)
   plain_here l (more a none) h told e = holds_here l (more a none) h told (alone (is_goal_name l.mark) (is_some (rel_of l.mark)) e)
   plain_here l (more a (more b ts)) h told e =
-      related_here (rel_of l.mark) (is_goal_name l.mark) a b (cond.Holds (lifted_of (more (word l) (more a (more b ts))))) told.0 told.1.0 (holds_here l (more a (more b ts)) h told) e
+      related_here (rel_of l.mark) (is_goal_name l.mark) a b (cond.Holds (lifted l (more a (more b ts)))) told.0 told.1.0 (holds_here l (more a (more b ts)) h told) e
 
   mutual
     condition_here : (t : Nested) → AllTold after t → is_formed t ≡ true → IsCondHere (condition t)
     condition_here (word l) h e = absurd (cc)
     condition_here (group ts) h e = form_here ts h e
 
-    form_here : (ts : Nesteds) → AreTold after ts → is_form ts ≡ true → IsCondHere (form ts)
+    form_here : (ts : Nesteds) → AreTold after ts → is_form ts ≡ true → IsCondHere (form certain line_words ts)
     form_here none h e = (tt, tt)
     form_here (more (group us) ts) h e = absurd (cc)
     form_here (more (word l) ts) h e =
-        by_head IsCondHere (is mark.And l.mark) (is mark.Not l.mark) (are_formed ts) (begins_formed ts) (is_headed l.mark ts) (cond.And (conditions ts)) (negation ts) (plain_condition (more (word l) ts))
-        (conditions_here ts h.1) (negation_here ts h.1) (plain_here l ts h.0 h.1) e
+        rw (conditions-each line_words ts []) (by_head IsCondHere (is mark.And l.mark) (is mark.Not l.mark) (are_formed ts) (begins_formed ts) (is_headed l.mark ts) (cond.And (each line_words ts)) (negation certain line_words ts) (plain_condition certain line_words l ts) (conditions_here ts h.1) (negation_here ts h.1) (plain_here l ts h.0 h.1) e)
 
-    negation_here : (ts : Nesteds) → AreTold after ts → begins_formed ts ≡ true → IsCondHere (negation ts)
+    negation_here : (ts : Nesteds) → AreTold after ts → begins_formed ts ≡ true → IsCondHere (negation certain line_words ts)
     negation_here none h e = (tt, tt)
     negation_here (more c ts) h e = condition_here c h.0 e
 
-    conditions_here : (ts : Nesteds) → AreTold after ts → are_formed ts ≡ true → AreCondsOf (length after) 0 (cond_trees (conditions ts)) × HaveGoalHeads after (cond_trees (conditions ts))
+    conditions_here : (ts : Nesteds) → AreTold after ts → are_formed ts ≡ true → AreCondsOf (length after) 0 (cond_trees (each line_words ts)) × HaveGoalHeads after (cond_trees (each line_words ts))
     conditions_here none h e = (tt, tt)
     conditions_here (more c cs) h e =
         let parts = and_parts (is_formed c) (are_formed cs) e in

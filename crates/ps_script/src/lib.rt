@@ -7,6 +7,7 @@ mod forms;
 mod goals;
 mod kinds;
 mod laws;
+mod names;
 mod reading;
 
 pub use commands::command_of;

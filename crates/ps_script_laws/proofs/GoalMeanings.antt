@@ -2,10 +2,6 @@
 use Rattle.std.proofs.Common.{◌≡◌, ℕ, zero, suc, ◌≤◌, true, false, List, [], ◌∷◌, length, map, take, Some, None, refl, ap, ◌∙◌, arith}
 use Rattle.std.specs.List.{All}
 use Rattle.std.proofs.lemmas.List.Elements.{All-head, All-tail}
-use Rattle.std.proofs.lemmas.Bool.{eqb-true, false_from_ne_true}
-use denote.Enum.Bare.{tag_one}
-use denote.Enum.Declared.{tag_of}
-use Rattle.ps_shape.specs.contracts.marks.Mark.{the_type}
 use Rattle.ps_world.specs.CondViews.{cond_tree}
 use Rattle.ps_world.specs.Knowledge.{name_of}
 use Rattle.ps_world.specs.Names.{Table}
@@ -16,8 +12,6 @@ use Rattle.ps_world.specs.declared.schemas.Term.{Term}
 use Rattle.ps_world.specs.declared.schemas.Term.TheVariants.{Var, Const}
 use Rattle.ps_world.specs.declared.schemas.Lifted.{Lifted}
 use Rattle.ps_world.specs.declared.expressions.Expr.TheVariants as expr
-use Rattle.ps_world.specs.declared.expressions.Op.{Op}
-use Rattle.ps_world.specs.declared.expressions.Op.TheVariants as op
 use Rattle.ps_world.specs.declared.conditions.Cond.{Cond}
 use Rattle.ps_world.specs.declared.conditions.Cond.TheVariants as cond
 use Rattle.ps_world.specs.declared.conditions.Rel.{Rel}
@@ -29,13 +23,17 @@ use Rattle.ps_forms.specs.Nested.{Nested, Nesteds, word, none, more}
 use Rattle.ps_forms.specs.Places.{items}
 use Rattle.ps_forms.specs.declared.lexemes.Lexeme.{Lexeme}
 use Rattle.ps_print.specs.CanonicalWords.{IsTermOf, IsLiftedOf, IsExprOf, IsCondOf, AreCondsOf}
-use Rattle.ps_script.specs.Goals as script
-use Rattle.ps_script.specs.Goals.{fact_of, lifted_of, names_of, operator_of, rel_of}
+use Rattle.ps_conditions.specs.Conditions as meant
+use Rattle.ps_conditions.specs.Signs.{rel_of}
+use Rattle.ps_conditions.specs.Steps.{certain}
+use Rattle.ps_conditions.specs.Values as worth
+use Rattle.ps_conditions.proofs.Certain.{conditions-each, each}
+use Rattle.ps_script.specs.Goals.{condition, fact_of, lifted, line_words, names_of}
 use Rattle.ps_pddl.proofs.CanonicalForms.{IsNamed, AreTermForms, no_terms, more_terms, IsLiftedForm, op_mark, IsExprForm, a_number, a_value, a_negation, an_operation, rel_mark, IsCondForm, all_form, not_form, fact_form, same_form, comparison_form, AreCondForms, no_forms, more_forms}
 use Rattle.ps_pddl.proofs.CanonicalForms as form
-use Rattle.ps_pddl.proofs.MeanConditions.{uncond, cond_tree-uncond}
-use Rattle.ps_pddl.proofs.MeanMarks.{name-isnt}
-use Rattle.ps_pddl.proofs.MeanTerms.{untree, expr_tree-untree, untree-expr_tree}
+use Rattle.ps_pddl.proofs.MeanConditions.{uncond, cond_tree-uncond, rel_of-rel, rel-isnt_and, rel-isnt_not}
+use Rattle.ps_pddl.proofs.MeanMarks.{isnt-by, name-isnt, operator_of-name, rel_of-name}
+use Rattle.ps_pddl.proofs.MeanTerms.{untree, expr_tree-untree, untree-expr_tree, operator_of-op}
 use Rattle.ps_script_laws.specs.Sayable.{IsShort, IsShortExpr, HasGoalHeads, HaveGoalHeads}
 use Rattle.ps_script_laws.proofs.GoalMarks.{named-is_name}
 
@@ -61,64 +59,16 @@ names_again (n ∷ ns) = ap (λ more. n ∷ more) (names_again ns)
 
 -- a goal's name is no mark that is none of a goal's name
 goal_name-isnt : (k m : Mark) → is_goal_name m ≡ true → is_goal_name k ≡ false → is k m ≡ false
-goal_name-isnt k m p q =
-    false_from_ne_true (is k m) (λ e.
-    let same : m ≡ k = tag_one the_type tt m k (eqb-true (tag_of the_type m) (tag_of the_type k) e) in
-    let other : is_goal_name m ≡ is_goal_name k = ap is_goal_name same in
-    absurd (cc))
-
--- a name is no operation
-operator_of-name : (m : Mark) → is_name m ≡ true → operator_of m ≡ None
-operator_of-name mark.Plus h = absurd (cc)
-operator_of-name mark.Minus h = absurd (cc)
-operator_of-name mark.Times h = absurd (cc)
-operator_of-name mark.Divide h = absurd (cc)
-operator_of-name m h = refl
-
--- a name is no comparison
-rel_of-name : (m : Mark) → is_name m ≡ true → rel_of m ≡ None
-rel_of-name mark.Less h = absurd (cc)
-rel_of-name mark.LessEqual h = absurd (cc)
-rel_of-name mark.Equal h = absurd (cc)
-rel_of-name mark.GreaterEqual h = absurd (cc)
-rel_of-name mark.Greater h = absurd (cc)
-rel_of-name m h = refl
-
-operator_of-op : (o : Op) → operator_of (op_mark o) ≡ Some o
-operator_of-op op.Add = refl
-operator_of-op op.Sub = refl
-operator_of-op op.Mul = refl
-operator_of-op op.Div = refl
-
-rel_of-rel : (r : Rel) → rel_of (rel_mark r) ≡ Some r
-rel_of-rel Lt = refl
-rel_of-rel Le = refl
-rel_of-rel Eq = refl
-rel_of-rel Ge = refl
-rel_of-rel Gt = refl
-
-rel-isnt_and : (r : Rel) → is mark.And (rel_mark r) ≡ false
-rel-isnt_and Lt = refl
-rel-isnt_and Le = refl
-rel-isnt_and Eq = refl
-rel-isnt_and Ge = refl
-rel-isnt_and Gt = refl
-
-rel-isnt_not : (r : Rel) → is mark.Not (rel_mark r) ≡ false
-rel-isnt_not Lt = refl
-rel-isnt_not Le = refl
-rel-isnt_not Eq = refl
-rel-isnt_not Ge = refl
-rel-isnt_not Gt = refl
+goal_name-isnt k m p q = isnt-by is_goal_name k m p q
 
 -- a name at the head of a list is that of a function
-operation-name : (l : Lexeme) (ts : Nesteds) → is_name l.mark ≡ true → script.operation (more (word l) ts) ≡ expr.Fun (lifted_of (more (word l) ts))
+operation-name : (l : Lexeme) (ts : Nesteds) → is_name l.mark ≡ true → worth.operation certain line_words (more (word l) ts) ≡ expr.Fun (lifted l ts)
 operation-name l none h = refl
 operation-name l (more a none) h = rw (name-isnt mark.Minus l.mark h refl) refl
 operation-name l (more a (more b ts)) h = rw (operator_of-name l.mark h) refl
 
 -- and of a predicate
-plain-name : (l : Lexeme) (ts : Nesteds) → is_name l.mark ≡ true → script.plain_condition (more (word l) ts) ≡ cond.Holds (lifted_of (more (word l) ts))
+plain-name : (l : Lexeme) (ts : Nesteds) → is_name l.mark ≡ true → meant.plain_condition certain line_words l ts ≡ cond.Holds (lifted l ts)
 plain-name l none h = refl
 plain-name l (more a none) h = refl
 plain-name l (more a (more b ts)) h = rw (rel_of-name l.mark h) refl
@@ -140,7 +90,7 @@ module _ (names : Table) (count : ℕ) where
   terms_again (Var i ∷ us) known = absurd (omega (arith, All-head (IsTermOf count 0) (Var i) us known))
   terms_again (Const n ∷ us) known = ap (λ more. Const n ∷ more) (terms_again us (All-tail (IsTermOf count 0) (Const n) us known))
 
-  lifted-means : (f : Lifted) (l : Lexeme) (ts : Nesteds) → IsLiftedOf count 0 f → IsShort f → IsNamed names f.head l → AreTermForms names [] f.terms ts → lifted_of (more (word l) ts) ≡ f
+  lifted-means : (f : Lifted) (l : Lexeme) (ts : Nesteds) → IsLiftedOf count 0 f → IsShort f → IsNamed names f.head l → AreTermForms names [] f.terms ts → lifted l ts ≡ f
   lifted-means f l ts known few w us = rw (w.name, args-mean 6 f.terms ts few known.1 us, terms_again f.terms known.1) refl
 
   fact-by : (f : Fact) (g : Lifted) (t : Nested) → g.head ≡ f.head → map name_of g.terms ≡ f.args → IsLiftedOf count 0 g → IsShort g → IsLiftedForm names [] g t → fact_of (items t) ≡ f
@@ -152,7 +102,7 @@ module _ (names : Table) (count : ℕ) where
 
   -- ---- values
 
-  value-means : (x : ExprTree) (t : Nested) → IsExprOf count 0 x → IsShortExpr x → IsExprForm names [] x t → script.value t ≡ untree x
+  value-means : (x : ExprTree) (t : Nested) → IsExprOf count 0 x → IsShortExpr x → IsExprForm names [] x t → worth.value certain line_words t ≡ untree x
   value-means _ _ known few (a_number n l m e) = rw e refl
   value-means _ _ known few (a_value f _ (form.lifted _ l ts w us)) =
       operation-name l ts (named-is_name names count f.head l w) ∙ ap expr.Fun (lifted-means f l ts known few w us)
@@ -163,13 +113,13 @@ module _ (names : Table) (count : ℕ) where
   -- ---- conditions
 
   -- numbers are compared where the first operand is one
-  equality-numbers : (x : ExprTree) (t u : Nested) → IsExprForm names [] x t → script.equality t u ≡ cond.Cmp Eq (script.value t) (script.value u)
+  equality-numbers : (x : ExprTree) (t u : Nested) → IsExprForm names [] x t → meant.equality certain line_words t u ≡ cond.Cmp Eq (worth.value certain line_words t) (worth.value certain line_words u)
   equality-numbers _ _ u (a_number n l m e) = rw m refl
   equality-numbers _ _ u (a_value f _ (form.lifted _ l ts w k)) = refl
   equality-numbers _ _ u (a_negation x l t m k) = refl
   equality-numbers _ _ u (an_operation o x y l t v m j k) = refl
 
-  related-means : (r : Rel) (x : ExprTree) (t u : Nested) (other : Cond) → IsExprForm names [] x t → script.related (Some r) t u other ≡ cond.Cmp r (script.value t) (script.value u)
+  related-means : (r : Rel) (x : ExprTree) (t u : Nested) (other : Cond) → IsExprForm names [] x t → meant.related certain line_words (Some r) t u other ≡ cond.Cmp r (worth.value certain line_words t) (worth.value certain line_words u)
   related-means Lt x t u other k = refl
   related-means Le x t u other k = refl
   related-means Eq x t u other k = equality-numbers x t u k
@@ -177,8 +127,8 @@ module _ (names : Table) (count : ℕ) where
   related-means Gt x t u other k = refl
 
   mutual
-    pub condition-means : (c : CondTree) (t : Nested) → IsCondOf count 0 c → HasGoalHeads names c → IsCondForm names [] c t → script.condition t ≡ uncond c
-    condition-means _ _ known heads (all_form cs l ts m k) = rw (m, conditions-mean cs ts known heads k) refl
+    pub condition-means : (c : CondTree) (t : Nested) → IsCondOf count 0 c → HasGoalHeads names c → IsCondForm names [] c t → condition t ≡ uncond c
+    condition-means _ _ known heads (all_form cs l ts m k) = rw (m, conditions-each line_words ts [], conditions-mean cs ts known heads k) refl
     condition-means _ _ known heads (not_form c l t m k) = rw (m, condition-means c t known heads k, cond_tree-uncond c) refl
     condition-means _ _ known heads (fact_form f _ (form.lifted _ l ts w us)) =
         let head : is_goal_name l.mark ≡ true = ap is_goal_name w.mark ∙ heads.1 in
@@ -191,13 +141,13 @@ module _ (names : Table) (count : ℕ) where
         let no_and : is mark.And l.mark ≡ false = rw m (rel-isnt_and r) in
         let no_not : is mark.Not l.mark ≡ false = rw m (rel-isnt_not r) in
         let sign : rel_of l.mark ≡ Some r = rw m (rel_of-rel r) in
-        rw (no_and, no_not, sign, related-means r x t u (cond.Holds (lifted_of (more (word l) (more t (more u none))))) j, value-means x t known.0 heads.0 j, value-means y u known.1 heads.1 k) refl
+        rw (no_and, no_not, sign, related-means r x t u (cond.Holds (lifted l (more t (more u none)))) j, value-means x t known.0 heads.0 j, value-means y u known.1 heads.1 k) refl
 
-    conditions-mean : (cs : CondTrees) (ts : Nesteds) → AreCondsOf count 0 cs → HaveGoalHeads names cs → AreCondForms names [] cs ts → script.conditions ts ≡ list_of cs
+    conditions-mean : (cs : CondTrees) (ts : Nesteds) → AreCondsOf count 0 cs → HaveGoalHeads names cs → AreCondForms names [] cs ts → each line_words ts ≡ list_of cs
     conditions-mean _ _ known heads no_forms = refl
     conditions-mean _ _ known heads (more_forms c cs t ts k rest) =
         rw (condition-means c t known.0 heads.0 k, cond_tree-uncond c, conditions-mean cs ts known.1 heads.1 rest) refl
 
   -- the list of a goal means it
-  pub goal-means : (goal : Cond) (t : Nested) → IsCondOf count 0 (cond_tree goal) → HasGoalHeads names (cond_tree goal) → IsCondForm names [] (cond_tree goal) t → script.condition t ≡ goal
+  pub goal-means : (goal : Cond) (t : Nested) → IsCondOf count 0 (cond_tree goal) → HasGoalHeads names (cond_tree goal) → IsCondForm names [] (cond_tree goal) t → condition t ≡ goal
   goal-means goal t known heads h = condition-means (cond_tree goal) t known heads h ∙ uncond-cond_tree goal

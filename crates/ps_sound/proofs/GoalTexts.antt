@@ -21,7 +21,8 @@ use Rattle.ps_forms.specs.Spelling.Spells.{plain, between}
 use Rattle.ps_forms.specs.Spelling.SpellAll.{nothing, one_more}
 use Rattle.ps_forms.specs.declared.lexemes.Lexeme.{Lexeme}
 use Rattle.ps_rules.specs.Sound.{IsScriptCond}
-use Rattle.ps_script.specs.Goals.{condition, first_condition, rel_of}
+use Rattle.ps_conditions.specs.Signs.{rel_of}
+use Rattle.ps_script.specs.Goals.{condition, first_condition}
 use Rattle.ps_sound.proofs.GoalMarks.{HasRoom, Runs}
 use Rattle.ps_sound.proofs.GoalMarks.Runs.{goes}
 use Rattle.ps_sound.proofs.GoalSymbols.{closes, closes_level, closes_twice, is_last, is_one, last_close, last_level, last_open, last_word, one_close, one_level, one_open, one_word}

@@ -19,8 +19,14 @@ use Rattle.ps_shape.specs.Marks.{is, is_goal_name}
 use Rattle.ps_shape.specs.declared.marks.Mark.{Mark}
 use Rattle.ps_shape.specs.declared.marks.Mark.TheVariants.{Number, Minus, And, Not}
 use Rattle.ps_forms.specs.Nested.{Nested, Nesteds, word, group, none, more, rank, ranks}
-use Rattle.ps_forms.specs.Places.{rest, word_of}
-use Rattle.ps_script.specs.Goals.{args_of, condition, conditions, equality, form, lifted_of, negation, operated, operation, operator_of, plain_condition, rel_of, related, value}
+use Rattle.ps_forms.specs.Places.{word_of}
+use Rattle.ps_forms.specs.declared.lexemes.Lexeme.{Lexeme}
+use Rattle.ps_conditions.specs.Conditions.{equality, form, negation, plain_condition, related}
+use Rattle.ps_conditions.specs.Signs.{operator_of, rel_of}
+use Rattle.ps_conditions.specs.Steps.{certain}
+use Rattle.ps_conditions.specs.Values.{operated, operation, value}
+use Rattle.ps_conditions.proofs.Certain.{conditions-each, each}
+use Rattle.ps_script.specs.Goals.{args_of, condition, lifted, line_words}
 
 -- ---- values
 
@@ -32,8 +38,8 @@ names_named : (ns : List Name) → list_all is_named (map Const ns) ≡ true
 names_named [] = refl
 names_named (n ∷ ns) = names_named ns
 
-args_named : (ts : Nesteds) → are_named (lifted_of ts) ≡ true
-args_named ts = names_named (args_of (rest ts))
+args_named : (l : Lexeme) (ts : Nesteds) → are_named (lifted l ts) ≡ true
+args_named l ts = names_named (args_of ts)
 
 both : (a b : Bool) → a ≡ true → b ≡ true → (a && b) ≡ true
 both a b p q = rw (p, q) refl
@@ -45,30 +51,30 @@ one_of P false x y p q = q
 expr_more : (m n : ℕ) (e : Expr) → m ≤ n → IsFineExpr m e → IsFineExpr n e
 expr_more m n e le fine = (fine.0, omega (arith, le, fine.1))
 
-fun_fine : (n : ℕ) (ts : Nesteds) → IsFineExpr (suc n) (Fun (lifted_of ts))
-fun_fine n ts = (args_named ts, omega arith)
+fun_fine : (n : ℕ) (l : Lexeme) (ts : Nesteds) → IsFineExpr (suc n) (Fun (lifted l ts))
+fun_fine n l ts = (args_named l ts, omega arith)
 
 neg_fine : (n : ℕ) (a : Expr) → IsFineExpr n a → IsFineExpr (suc n) (Neg (expr_tree a))
 neg_fine n a fine = (fine.0, omega (arith, fine.1))
 
-operated_fine : (n : ℕ) (o : Option Op) (a b other : Expr) → IsFineExpr n a → IsFineExpr n b → IsFineExpr (suc n) other → IsFineExpr (suc n) (operated o a b other)
+operated_fine : (n : ℕ) (o : Option Op) (a b other : Expr) → IsFineExpr n a → IsFineExpr n b → IsFineExpr (suc n) other → IsFineExpr (suc n) (operated certain o a b other)
 operated_fine n None a b other p q r = r
 operated_fine n (Some op) a b other p q r = (both _ _ p.0 q.0, omega (arith, p.1, q.1))
 
 mutual
-  value_fine : (t : Nested) → IsFineExpr (rank t) (value t)
+  value_fine : (t : Nested) → IsFineExpr (rank t) (value certain line_words t)
   value_fine (word l) = (refl, omega arith)
   value_fine (group ts) = operation_fine ts
 
-  operation_fine : (ts : Nesteds) → IsFineExpr (suc (ranks ts)) (operation ts)
+  operation_fine : (ts : Nesteds) → IsFineExpr (suc (ranks ts)) (operation certain line_words ts)
   operation_fine none = (refl, omega arith)
-  operation_fine (more f none) = fun_fine (ranks (more f none)) (more f none)
+  operation_fine (more f none) = fun_fine (ranks (more f none)) (word_of f) none
   operation_fine (more f (more a none)) =
       let n = ranks (more f (more a none)) in
-      one_of (IsFineExpr (suc n)) (is Minus (word_of f).mark) _ _ (neg_fine n (value a) (expr_more (rank a) n (value a) (omega arith) (value_fine a))) (fun_fine n (more f (more a none)))
+      one_of (IsFineExpr (suc n)) (is Minus (word_of f).mark) _ _ (neg_fine n (value certain line_words a) (expr_more (rank a) n (value certain line_words a) (omega arith) (value_fine a))) (fun_fine n (word_of f) (more a none))
   operation_fine (more f (more a (more b ts))) =
       let n = ranks (more f (more a (more b ts))) in
-      operated_fine n (operator_of (word_of f).mark) (value a) (value b) _ (expr_more (rank a) n (value a) (omega arith) (value_fine a)) (expr_more (rank b) n (value b) (omega arith) (value_fine b)) (fun_fine n (more f (more a (more b ts))))
+      operated_fine n (operator_of (word_of f).mark) (value certain line_words a) (value certain line_words b) _ (expr_more (rank a) n (value certain line_words a) (omega arith) (value_fine a)) (expr_more (rank b) n (value certain line_words b) (omega arith) (value_fine b)) (fun_fine n (word_of f) (more a (more b ts)))
 
 -- ---- conditions
 
@@ -76,7 +82,7 @@ mutual
 abbrev pub IsFine : ℕ → Cond → Type 0
 IsFine n c = (is_ground_cond (cond_tree c) ≡ true) × (cond_opens (cond_tree c) ≤ n)
 
-compared_fine : (n : ℕ) (rel : Rel) (a b : Nested) → rank a ≤ n → rank b ≤ n → IsFine (suc n) (cond.Cmp rel (value a) (value b))
+compared_fine : (n : ℕ) (rel : Rel) (a b : Nested) → rank a ≤ n → rank b ≤ n → IsFine (suc n) (cond.Cmp rel (value certain line_words a) (value certain line_words b))
 compared_fine n rel a b p q =
     let left = value_fine a in
     let right = value_fine b in
@@ -85,25 +91,27 @@ compared_fine n rel a b p q =
 same_fine : (n : ℕ) (a b : Name) → IsFine (suc n) (cond.Same (Const a) (Const b))
 same_fine n a b = (refl, omega arith)
 
-equality_fine : (n : ℕ) (a b : Nested) → rank a ≤ n → rank b ≤ n → IsFine (suc n) (equality a b)
+equality_fine : (n : ℕ) (a b : Nested) → rank a ≤ n → rank b ≤ n → IsFine (suc n) (equality certain line_words a b)
 equality_fine n (group ts) b p q = compared_fine n Eq (group ts) b p q
 equality_fine n (word l) b p q = one_of (IsFine (suc n)) (is Number l.mark) _ _ (compared_fine n Eq (word l) b p q) (same_fine n l.name (word_of b).name)
 
-related_fine : (n : ℕ) (o : Option Rel) (a b : Nested) (other : Cond) → rank a ≤ n → rank b ≤ n → IsFine (suc n) other → IsFine (suc n) (related o a b other)
+related_fine : (n : ℕ) (o : Option Rel) (a b : Nested) (other : Cond) → rank a ≤ n → rank b ≤ n → IsFine (suc n) other → IsFine (suc n) (related certain line_words o a b other)
 related_fine n None a b other p q r = r
 related_fine n (Some Eq) a b other p q r = equality_fine n a b p q
 related_fine n (Some rel) a b other p q r = compared_fine n rel a b p q
 
-holds_fine : (n : ℕ) (ts : Nesteds) → IsFine (suc n) (cond.Holds (lifted_of ts))
-holds_fine n ts = (args_named ts, omega arith)
+holds_fine : (n : ℕ) (l : Lexeme) (ts : Nesteds) → IsFine (suc n) (cond.Holds (lifted l ts))
+holds_fine n l ts = (args_named l ts, omega arith)
 
-plain_fine : (ts : Nesteds) → IsFine (suc (ranks ts)) (plain_condition ts)
-plain_fine none = holds_fine 0 none
-plain_fine (more f none) = holds_fine (ranks (more f none)) (more f none)
-plain_fine (more f (more a none)) = holds_fine (ranks (more f (more a none))) (more f (more a none))
-plain_fine (more f (more a (more b ts))) =
-    let n = ranks (more f (more a (more b ts))) in
-    related_fine n (rel_of (word_of f).mark) a b _ (omega arith) (omega arith) (holds_fine n (more f (more a (more b ts))))
+plain_fine : (l : Lexeme) (ts : Nesteds) → IsFine (suc (ranks ts)) (plain_condition certain line_words l ts)
+plain_fine l none = holds_fine 0 l none
+plain_fine l (more a none) = holds_fine (ranks (more a none)) l (more a none)
+plain_fine l (more a (more b ts)) =
+    let n = ranks (more a (more b ts)) in
+    related_fine n (rel_of l.mark) a b _ (omega arith) (omega arith) (holds_fine n l (more a (more b ts)))
+
+fine_more : (m n : ℕ) (c : Cond) → m ≤ n → IsFine m c → IsFine n c
+fine_more m n c le fine = (fine.0, omega (arith, le, fine.1))
 
 -- two words or lists stand here at least
 abbrev pub has_two : Nesteds → Bool
@@ -149,18 +157,18 @@ mutual
   condition_fine (word l) e = absurd (cc)
   condition_fine (group ts) e = form_fine ts e
 
-  form_fine : (ts : Nesteds) → is_form ts ≡ true → IsFine (suc (ranks ts)) (form ts)
+  form_fine : (ts : Nesteds) → is_form ts ≡ true → IsFine (suc (ranks ts)) (form certain line_words ts)
   form_fine none e = (refl, omega arith)
   form_fine (more f ts) e =
-      by_head (suc (ranks (more f ts))) (is And (word_of f).mark) (is Not (word_of f).mark) (are_formed ts) (begins_formed ts) (is_headed (word_of f).mark ts) _ _ _ (λ g. let fine = conditions_fine ts g in (fine.0, omega (arith, fine.1))) (λ g. let fine = negation_fine ts g in (fine.0, omega (arith, fine.1))) (plain_fine (more f ts)) e
+      rw (conditions-each line_words ts []) (by_head (suc (ranks (more f ts))) (is And (word_of f).mark) (is Not (word_of f).mark) (are_formed ts) (begins_formed ts) (is_headed (word_of f).mark ts) _ _ _ (λ g. let fine = conditions_fine ts g in (fine.0, omega (arith, fine.1))) (λ g. let fine = negation_fine ts g in (fine.0, omega (arith, fine.1))) (fine_more (suc (ranks ts)) (suc (ranks (more f ts))) _ (omega arith) (plain_fine (word_of f) ts)) e)
 
-  negation_fine : (ts : Nesteds) → begins_formed ts ≡ true → IsFine (suc (ranks ts)) (negation ts)
+  negation_fine : (ts : Nesteds) → begins_formed ts ≡ true → IsFine (suc (ranks ts)) (negation certain line_words ts)
   negation_fine none e = (refl, omega arith)
   negation_fine (more c ts) e =
       let fine = condition_fine c e in
       (fine.0, omega (arith, fine.1))
 
-  conditions_fine : (ts : Nesteds) → are_formed ts ≡ true → (are_ground_conds (cond_trees (conditions ts)) ≡ true) × (conds_open (cond_trees (conditions ts)) ≤ ranks ts)
+  conditions_fine : (ts : Nesteds) → are_formed ts ≡ true → (are_ground_conds (cond_trees (each line_words ts)) ≡ true) × (conds_open (cond_trees (each line_words ts)) ≤ ranks ts)
   conditions_fine none e = (refl, omega arith)
   conditions_fine (more c cs) e =
       let parts = and_parts (is_formed c) (are_formed cs) e in

@@ -3,7 +3,7 @@ use Rattle.std.proofs.Math.ListN.{length-set}
 use Rattle.ps_forms.specs.NestedViews.{nested}
 use Rattle.ps_forms.specs.Places.{word_of}
 use Rattle.ps_script.proofs.Lists.{first_names, name_more}
-use Rattle.ps_script.proofs.goals.args_of.Goals as goal
+use Rattle.ps_script.proofs.names.args_of.Goals as goal
 
 pub loop-i-preserved : goal.loop-i-preserved
 loop-i-preserved c = record {

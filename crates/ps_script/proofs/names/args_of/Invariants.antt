@@ -1,7 +1,7 @@
 use Rattle.std.proofs.Common.{◌≡◌, length, map, take}
 use Rattle.ps_forms.specs.NestedViews.{nested}
 use Rattle.ps_forms.specs.Places.{word_of}
-use Rattle.ps_script.proofs.goals.args_of.Given as goal
+use Rattle.ps_script.proofs.names.args_of.Given as goal
 
 -- the names that are filled are those of the words that were passed
 abbrev pub invariant-loop-i : goal.invariant-loop-i
