@@ -1,5 +1,5 @@
 -- What the text of a journal is found to be.
-use Rattle.std.specs.Prelude.{◌≡◌, ℕ, suc, ◌==◌, if◌then◌else◌, List, [], ◌++◌, codes, count_by, decimal, length, map, nat_eq, slice_get, take, Some, None}
+use Rattle.std.specs.Prelude.{◌≡◌, ℕ, Bool, true, false, suc, ◌==◌, if◌then◌else◌, List, [], ◌++◌, codes, count_by, decimal, length, map, nat_eq, slice_get, take, Some, None}
 use Rattle.std.specs.List.{common_prefix_len}
 use Rattle.std.specs.Option.{unwrap_or}
 use Rattle.ps_world.specs.Lines.{line_end, lines_of, same_text}
@@ -7,13 +7,16 @@ use Rattle.ps_world.specs.Names.{Table}
 use Rattle.ps_machine.specs.declared.inputs.Input.{Input}
 use Rattle.ps_machine.specs.declared.journal.Entry.{Entry}
 use Rattle.ps_rules.specs.History.{IsHistory, IsWhole}
-use Rattle.ps_rules.specs.Heads.{Head, settings_of}
-use Rattle.ps_rules.specs.Journal.{text_with}
+use Rattle.ps_rules.specs.Heads.{Head, Settings, head_text, settings_of}
+use Rattle.ps_rules.specs.Journal.{journal_text, text_after, text_with}
 use Rattle.ps_rules.specs.Prefixes.{good_length}
 use Rattle.ps_entries.specs.Journals.{IsFault, IsJournal}
 use Rattle.ps_entries.specs.declared.journals.JournalRefusal.{JournalRefusal}
 use Rattle.ps_entries.specs.declared.journals.JournalText.{JournalText}
+use Rattle.ps_replay.specs.declared.verdict.Verdict.{Verdict}
+use Rattle.ps_replay.specs.declared.verdict.Verdict.TheVariants as verdict
 use Rattle.ps_audit.specs.declared.parts.Parts.{Parts}
+use Rattle.ps_audit.specs.declared.audits.Judged.{Judged}
 use Rattle.ps_entries.specs.declared.journals.JournalRefusal.TheVariants as refusal
 use Rattle.ps_audit.specs.declared.findings.Finding.{Finding}
 use Rattle.ps_audit.specs.declared.findings.Finding.TheVariants.{Legal, Illegal}
@@ -81,10 +84,20 @@ pub record AreParts (t : JournalText) (p : Parts) : Type 0 where
   pub lines : p.lines.items ≡ lines_in t.entries.items
   pub entries : p.entries.items ≡ entries_of t.entries.items
 
+-- what a text with these parts is found to be, by what judging its entries came to, and by this text of theirs
+abbrev pub found_by : Input → List ℕ → Parts → Verdict → List ℕ → Finding
+found_by i text p verdict.Legal body = compared text (head_text (due_head p.head i) ++ body)
+found_by i text p (verdict.Illegal at) body = Illegal (line_of text p.lines.items at)
+
 -- a text that has these parts is found to be this, where this is the table after it
 abbrev pub FindsOf : Input → Table → List ℕ → Parts → Finding → Type 0
 FindsOf i after text p f =
     (names : Table) (t : JournalText) → AreParts t p → IsJournal names text t.settings t.entries.items after → Finds i names text f
+
+-- a text that has these parts is judged: it is found to be this, and if it is legal, this is the text of its entries
+pub record Judges (i : Input) (after : Table) (text : List ℕ) (p : Parts) (j : Judged) : Type 0 where
+  pub finds : FindsOf i after text p j.finding
+  pub entries : j.finding ≡ Legal → (IsHistory i p.entries.items × IsWhole i p.entries.items) × (j.body.items ≡ text_after after i [] p.entries.items)
 
 -- ---- what is said of it
 
@@ -97,3 +110,30 @@ finding_line (Illegal line) = codes "illegal line " ++ (decimal line ++ line_end
 abbrev pub finding_status : Finding → ℕ
 finding_status Legal = 0
 finding_status (Illegal line) = 7
+
+-- Text that is a legal journal's, written anew: that of its entries, which begins with the settings of the input.
+pub record IsAnew (i : Input) (names : Table) (text out : List ℕ) : Type 0 where
+  pub head : Head
+  pub es : List (ℕ × Entry)
+  pub after : Table
+  pub journal : IsJournal names text head es after
+  pub legal : IsLegal i es
+  pub is : out ≡ journal_text after i (entries_of es)
+
+-- what is written anew for a text that is judged so and found to be this
+abbrev pub IsWrittenAnew : Settings → Judged → Finding → List ℕ → Type 0
+IsWrittenAnew s j Legal out = out ≡ head_text (Some s) ++ j.body.items
+IsWrittenAnew s j (Illegal line) out = out ≡ finding_line (Illegal line)
+
+-- what is written for a text that is judged so: the text of its entries after these settings, where that is wanted and it is legal, or else
+-- the line that says what was found
+abbrev pub IsWritten : Settings → Judged → Bool → List ℕ → Type 0
+IsWritten s j true out = IsWrittenAnew s j j.finding out
+IsWritten s j false out = out ≡ finding_line j.finding
+
+-- what is to be written for a text that is found to be this: the text anew, where that is wanted and it is legal, or else the line that says
+-- what was found
+abbrev pub IsAnswer : Input → Table → List ℕ → Bool → Finding → List ℕ → Type 0
+IsAnswer i names text true Legal out = IsAnew i names text out
+IsAnswer i names text true (Illegal line) out = out ≡ finding_line (Illegal line)
+IsAnswer i names text false f out = out ≡ finding_line f

@@ -1,15 +1,17 @@
 //! Judging the text of a journal.
-ghost use Rattle.std.specs.Prelude.{◌≡◌, ◌<◌, ◌^◌, length, IfOk};
+ghost use Rattle.std.specs.Prelude.{◌≡◌, ◌<◌, ◌^◌, ◌++◌, length, IfOk};
+ghost use Rattle.ps_rules.specs.Heads.{head_text};
 ghost use Rattle.ps_rules.specs.Sound.{IsSound};
 ghost use Rattle.ps_text.specs.Names.{Keeps};
 ghost use Rattle.ps_replies.specs.Plans.{GivesLeast};
-ghost use Rattle.ps_audit.specs.Findings.{compared, Finds, FindsOf, line_of, line_of_fault};
+ghost use Rattle.ps_audit.specs.Findings.{compared, Finds, found_by, IsAnswer, IsWritten, Judges, line_of, line_of_fault};
 
 use super::differences::line_of_difference;
-use super::findings::Finding;
+use super::findings::{Finding, finding_line};
 use super::parts::{Parts, due_head, parts_of};
 use super::texts::judge_text;
 use ps_entries::{JournalRefusal, read_journal};
+use ps_journal::push_head;
 use ps_machine::Input;
 use ps_plan::Solver;
 use ps_replay::Verdict;
@@ -53,24 +55,34 @@ fn compare(text: &[u8], due: &[u8]) -> Finding
     }
 }
 
-/// What a text is found to be that has these parts.
-fn judge<S: Solver>(
+/// A text with this head before it.
+fn with_head(alloc: Global, head: Option<(u32, u8)>, body: &[u8]) -> Result<Vec<u8>, AllocError>
+    ensures { IfOk result (λ text. text.items ≡ head_text head ++ body.now) }
+{
+    let mut text = Vec::new(alloc);
+    push_head(head, &mut text)?;
+    text.extend_from_slice(body)?;
+    Ok(text)
+}
+
+/// What a text with these parts is found to be, by what judging its entries came to, and by this text of theirs.
+fn found_by(
     alloc: Global,
-    names: &Names,
     input: &Input,
     journal: &[u8],
     parts: &Parts,
-    solver: &S,
+    verdict: Verdict,
+    body: &[u8],
 ) -> Result<Finding, AllocError>
-    requires sound { IsSound input.now }
-    requires solver { GivesLeast (S.says solver.now) }
-    requires few { length journal.now < 2 ^ 32 }
-    ensures { IfOk result (FindsOf input.now names.now journal.now parts.now) }
+    requires { length journal.now < 2 ^ 32 }
+    ensures { IfOk result
+        (λ f. f ≡ found_by input.now journal.now parts.now verdict body.now) }
 {
-    let mut due = Vec::new(alloc);
-    let head = due_head(parts.head, input);
-    match judge_text(alloc, names, input, head, &parts.entries, solver, &mut due)? {
-        Verdict::Legal => Ok(compare(journal, &due)),
+    match verdict {
+        Verdict::Legal => {
+            let due = with_head(alloc, due_head(parts.head, input), body)?;
+            Ok(compare(journal, &due))
+        }
         Verdict::Illegal { at } => {
             let line = line_at(alloc, journal, &parts.lines, at)?;
             Ok(Finding::Illegal { line })
@@ -78,30 +90,90 @@ fn judge<S: Solver>(
     }
 }
 
-/// Judges the text of a journal: whether it is the text, in its version, of a whole history of an input, or the line at which it isn't.
-/// The settings that it says aren't looked at but to be compared with those of the input. The names of its lines are put into the table;
-/// old names keep their numbers and texts, after an error too. The text has fewer than 2^32 bytes. The only error is out of memory.
+/// What a text is found to be, and the text of its entries.
+#[derive(Drop)]
+pub struct Judged {
+    pub finding: Finding,
+    pub body: Vec<u8>,
+}
+
+/// Judges a text with these parts.
+fn judge<S: Solver>(
+    alloc: Global,
+    names: &Names,
+    input: &Input,
+    journal: &[u8],
+    parts: &Parts,
+    solver: &S,
+) -> Result<Judged, AllocError>
+    requires sound { IsSound input.now }
+    requires solver { GivesLeast (S.says solver.now) }
+    requires few { length journal.now < 2 ^ 32 }
+    ensures { IfOk result (Judges input.now names.now journal.now parts.now) }
+{
+    let mut body = Vec::new(alloc);
+    let verdict = judge_text(alloc, names, input, &parts.entries, solver, &mut body)?;
+    let finding = found_by(alloc, input, journal, parts, verdict, &body)?;
+    Ok(Judged { finding, body })
+}
+
+/// What the text of a journal is found to be, and what is to be written for it.
+#[derive(Drop)]
+pub struct Audited {
+    pub finding: Finding,
+    pub text: Vec<u8>,
+}
+
+/// What is to be written for a text that is judged so, with the settings of its input.
+fn answer(
+    alloc: Global,
+    settings: (u32, u8),
+    judged: Judged,
+    anew: bool,
+) -> Result<Audited, AllocError>
+    ensures finding { IfOk result (λ a. a.finding ≡ judged.finding) }
+    ensures text { IfOk result (λ a. IsWritten settings judged anew a.text.items) }
+{
+    let finding = judged.finding;
+    let text = match (finding, anew) {
+        (Finding::Legal, true) => with_head(alloc, Some(settings), &judged.body)?,
+        _ => finding_line(alloc, finding)?,
+    };
+    Ok(Audited { finding, text })
+}
+
+/// Judges the text of a journal: whether it is the text, in its version, of a whole history of an input, or the line at which it isn't;
+/// and answers what is to be written for it: the line that says what was found, or, where that is wanted and it is legal, the text of
+/// version 2 of its entries. The settings that it says aren't looked at but to be compared with those of the input. The names of its
+/// lines are put into the table; old names keep their numbers and texts, after an error too. The text has fewer than 2^32 bytes. The only
+/// error is out of memory.
 pub fn audit<S: Solver>(
     alloc: Global,
     names: &mut Names,
     input: &Input,
     journal: &[u8],
     solver: &S,
-) -> Result<Finding, AllocError>
+    anew: bool,
+) -> Result<Audited, AllocError>
     requires sound { IsSound input.now }
     requires solver { GivesLeast (S.says solver.now) }
     requires few { length journal.now < 2 ^ 32 }
-    ensures finds { IfOk result (Finds input.now names.old journal.now) }
+    ensures finds { IfOk result (λ a. Finds input.now names.old journal.now a.finding) }
+    ensures text { IfOk result (λ a. IsAnswer input.now names.old journal.now anew a.finding
+        a.text.items) }
     ensures kept { Keeps names.old names.new }
 {
     match read_journal(alloc, names, journal) {
         Ok(read) => {
             let parts = parts_of(alloc, read)?;
-            judge(alloc, names, input, journal, &parts, solver)
+            let judged = judge(alloc, names, input, journal, &parts, solver)?;
+            answer(alloc, (input.budget, input.replans), judged, anew)
         }
         Err(Failure::Refused(refusal)) => {
             let line = line_of_fault(refusal);
-            Ok(Finding::Illegal { line })
+            let finding = Finding::Illegal { line };
+            let text = finding_line(alloc, finding)?;
+            Ok(Audited { finding, text })
         }
         Err(Failure::OutOfMemory) => Err(AllocError),
     }

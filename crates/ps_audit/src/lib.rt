@@ -9,5 +9,5 @@ mod replies;
 mod texts;
 mod trees;
 
-pub use audits::audit;
-pub use findings::{Finding, finding_line, finding_status};
+pub use audits::{Audited, audit};
+pub use findings::{Finding, finding_status};

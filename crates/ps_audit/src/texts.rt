@@ -1,6 +1,6 @@
 //! Judging the entries of a journal, and their text.
 ghost use Rattle.std.specs.Prelude.{◌≡◌, ◌≤◌, ◌++◌, [], IfOk, OnOk};
-ghost use Rattle.ps_rules.specs.Journal.{entry_text, text_after, text_with};
+ghost use Rattle.ps_rules.specs.Journal.{entry_text, text_after};
 ghost use Rattle.ps_rules.specs.Sound.{IsSound};
 ghost use Rattle.ps_rows.specs.Present.{Stands};
 ghost use Rattle.ps_replay.specs.Course.{Reaches};
@@ -9,7 +9,7 @@ ghost use Rattle.ps_replies.specs.Plans.{GivesLeast};
 ghost use Rattle.ps_audit.specs.Texts.{AddsIfLegal};
 
 use super::replies::told;
-use ps_journal::{entry_text, push_head};
+use ps_journal::entry_text;
 use ps_machine::{Entry, Input};
 use ps_plan::Solver;
 use ps_replay::{Course, Verdict};
@@ -87,13 +87,12 @@ fn judge_all<S: Solver>(
     }
 }
 
-/// Judges the entries of a journal, as a replay does, and adds the text with this head of the journal that they are. Where they are no whole history
+/// Judges the entries of a journal, as a replay does, and adds their text, without a head. Where they are no whole history
 /// some of it may be added. It goes over the entries once. The only error is out of memory.
 pub fn judge_text<S: Solver>(
     alloc: Global,
     names: &Names,
     input: &Input,
-    head: Option<(u32, u8)>,
     entries: &[Entry],
     solver: &S,
     out: &mut Vec<u8>,
@@ -101,10 +100,9 @@ pub fn judge_text<S: Solver>(
     requires sound { IsSound input.now }
     requires solver { GivesLeast (S.says solver.now) }
     ensures verdict { Replays input.now entries.now result }
-    ensures text { IfOk result (AddsIfLegal (text_with head names.now input.now entries.now)
+    ensures text { IfOk result (AddsIfLegal (text_after names.now input.now [] entries.now)
         out.old.items out.new.items) }
 {
-    push_head(head, out)?;
     let mut course = Course::new(alloc, input)?;
     judge_all(alloc, names, input, entries, solver, &mut course, out)
 }

@@ -2,7 +2,7 @@
 use Rattle.std.proofs.Common.{◌≡◌, ℕ, Bool, true, false, ◌||◌, Option, Some, None, IfSome, inl, inr, ap, ◌∙◌, option_map, option_and_then, List, [], ◌∷◌, codes, if◌then◌else◌, refl, sym, subst}
 use Rattle.ps_world.specs.Lines.{same_text}
 use Rattle.ps_text.proofs.Tables.{same_text-same}
-use Rattle.ps_words.specs.Words.{Request, SessionRequest, asked_by, asked_in, asked_of, budget_in, carts_in, check_app, check_of, gen_app, generation_of, is_well_formed, mode_of, replans_in, replay_app, replay_of, replay_with, rows_read, session_app, session_of, session_with, validate_app, validation_of, workers_in}
+use Rattle.ps_words.specs.Words.{Request, SessionRequest, asked_by, asked_in, asked_of, budget_in, carts_in, check_app, check_of, gen_app, generation_of, journal_app, is_well_formed, mode_of, replans_in, replay_of, replay_with, rows_read, session_app, session_of, session_with, validate_app, validation_of, workers_in}
 use Rattle.ps_words.specs.Words.Request.{a_generation, a_session, a_check, a_validation, a_replay}
 use Rattle.ps_words.specs.declared.commands.Mode.{Mode}
 use Rattle.ps_words.specs.declared.commands.Mode.TheVariants as mode
@@ -13,12 +13,17 @@ use Rattle.ps_calls.specs.Laws.{IsToJudge, IsToRun}
 abbrev begins : List (List ℕ) → List ℕ → Type 0
 begins ws word = same_text (argument ws 0) word ≡ true
 
+-- the mode in which a journal is judged, and written anew or isn't
+abbrev replay_mode : Bool → Mode
+replay_mode true = mode.Migrate
+replay_mode false = mode.Replay
+
 -- the mode of what is asked for
 abbrev mode_in : Request → Mode
 mode_in (a_session s) = mode.Session
 mode_in (a_check domain) = mode.Check
 mode_in (a_validation domain script plan) = mode.Validate
-mode_in (a_replay q) = mode.Replay
+mode_in (a_replay q) = replay_mode q.migrates
 mode_in (a_generation n) = mode.Gen
 
 -- the word of a mode
@@ -27,6 +32,7 @@ word_of mode.Session = codes "session"
 word_of mode.Check = codes "check"
 word_of mode.Validate = codes "validate"
 word_of mode.Replay = codes "replay"
+word_of mode.Migrate = codes "migrate"
 word_of mode.Gen = codes "gen"
 
 -- what is made of something in a mode is of that mode
@@ -38,6 +44,13 @@ next-mode : {A : Type 0} (f : A → Option Request) (m : Mode) → ((a : A) → 
 next-mode f m h None = tt
 next-mode f m h (Some a) = h a
 
+-- what words ask for in a mode in which a journal is judged is of that mode
+journal-mode : (migrates : Bool) (o : Option _) → IfSome (option_and_then (replay_of migrates) o) (λ asked. mode_in asked ≡ replay_mode migrates)
+journal-mode migrates o =
+    next-mode (replay_of migrates) (replay_mode migrates)
+    (λ rows. next-mode (λ b. option_map (λ r. replay_with migrates rows b r) (replans_in rows)) (replay_mode migrates)
+    (λ b. made-mode (λ r. replay_with migrates rows b r) (replay_mode migrates) (λ r. refl) (replans_in rows)) (budget_in rows)) o
+
 -- what words ask for in a mode is of that mode
 in-mode : (m : Mode) (words : List (List ℕ)) → IfSome (asked_in m words) (λ asked. mode_in asked ≡ m)
 in-mode mode.Session words =
@@ -47,10 +60,8 @@ in-mode mode.Session words =
     (λ b. made-mode (λ r. session_with rows w b r) mode.Session (λ r. refl) (replans_in rows)) (budget_in rows)) (workers_in rows)) (rows_read session_app words)
 in-mode mode.Check words = made-mode check_of mode.Check (λ rows. refl) (rows_read check_app words)
 in-mode mode.Validate words = made-mode validation_of mode.Validate (λ rows. refl) (rows_read validate_app words)
-in-mode mode.Replay words =
-    next-mode replay_of mode.Replay
-    (λ rows. next-mode (λ b. option_map (λ r. replay_with rows b r) (replans_in rows)) mode.Replay
-    (λ b. made-mode (λ r. replay_with rows b r) mode.Replay (λ r. refl) (replans_in rows)) (budget_in rows)) (rows_read replay_app words)
+in-mode mode.Replay words = journal-mode false (rows_read (journal_app (codes "replay")) words)
+in-mode mode.Migrate words = journal-mode true (rows_read (journal_app (codes "migrate")) words)
 in-mode mode.Gen words = next-mode generation_of mode.Gen (λ rows. made-mode a_generation mode.Gen (λ n. refl) (carts_in rows)) (rows_read gen_app words)
 
 -- the mode is one that this word names
@@ -61,8 +72,11 @@ IsNamed word o = IfSome o (λ m. same_text word (word_of m) ≡ true)
 abbrev gen_if : Bool → Option Mode
 gen_if b = if b then Some mode.Gen else None
 
+abbrev migrate_if : List ℕ → Bool → Option Mode
+migrate_if word b = if b then Some mode.Migrate else gen_if (same_text word (codes "gen"))
+
 abbrev replay_if : List ℕ → Bool → Option Mode
-replay_if word b = if b then Some mode.Replay else gen_if (same_text word (codes "gen"))
+replay_if word b = if b then Some mode.Replay else migrate_if word (same_text word (codes "migrate"))
 
 abbrev validate_if : List ℕ → Bool → Option Mode
 validate_if word b = if b then Some mode.Validate else replay_if word (same_text word (codes "replay"))
@@ -74,9 +88,13 @@ by-gen : (word : List ℕ) (b : Bool) → same_text word (codes "gen") ≡ b →
 by-gen word true is = is
 by-gen word false is = tt
 
+by-migrate : (word : List ℕ) (b : Bool) → same_text word (codes "migrate") ≡ b → IsNamed word (migrate_if word b)
+by-migrate word true is = is
+by-migrate word false is = by-gen word (same_text word (codes "gen")) refl
+
 by-replay : (word : List ℕ) (b : Bool) → same_text word (codes "replay") ≡ b → IsNamed word (replay_if word b)
 by-replay word true is = is
-by-replay word false is = by-gen word (same_text word (codes "gen")) refl
+by-replay word false is = by-migrate word (same_text word (codes "migrate")) refl
 
 by-validate : (word : List ℕ) (b : Bool) → same_text word (codes "validate") ≡ b → IsNamed word (validate_if word b)
 by-validate word true is = is
@@ -116,7 +134,9 @@ begins-asked ws r e = subst (λ (o : Option Request). IfSome o (λ asked. begins
 
 -- whether a word is that of a mode that always returns
 abbrev quiet : List ℕ → Bool
-quiet word = same_text word (codes "check") || (same_text word (codes "validate") || same_text word (codes "replay"))
+quiet word =
+    same_text word (codes "check")
+    || (same_text word (codes "validate") || (same_text word (codes "replay") || same_text word (codes "migrate")))
 
 loud-word : (word : List ℕ) → word ≡ codes "session" → quiet word ≡ false
 loud-word word e = subst (λ (w : List ℕ). quiet w ≡ false) (sym e) refl
@@ -127,8 +147,9 @@ loud-gen word e = subst (λ (w : List ℕ). quiet w ≡ false) (sym e) refl
 quiet-validate : (word : List ℕ) → word ≡ codes "validate" → quiet word ≡ true
 quiet-validate word e = subst (λ (w : List ℕ). quiet w ≡ true) (sym e) refl
 
-quiet-replay : (word : List ℕ) → word ≡ codes "replay" → quiet word ≡ true
-quiet-replay word e = subst (λ (w : List ℕ). quiet w ≡ true) (sym e) refl
+quiet-replay : (word : List ℕ) (migrates : Bool) → word ≡ word_of (replay_mode migrates) → quiet word ≡ true
+quiet-replay word false e = subst (λ (w : List ℕ). quiet w ≡ true) (sym e) refl
+quiet-replay word true e = subst (λ (w : List ℕ). quiet w ≡ true) (sym e) refl
 
 -- a session isn't asked for by the words of a mode that always returns
 pub session-loud : (ws : List (List ℕ)) (s : SessionRequest) → asked_of ws ≡ Some (a_session s) → is_quiet ws ≡ false
@@ -150,4 +171,5 @@ judging-quiet ws r e (inl h) =
     quiet-validate (argument ws 0) (same_text-same (argument ws 0) (codes "validate") (begins-asked ws (a_validation h.0 h.1 h.2) asked))
 judging-quiet ws r e (inr h) =
     let asked : asked_of ws ≡ Some (a_replay h.0) = e ∙ ap Some h.1 in
-    quiet-replay (argument ws 0) (same_text-same (argument ws 0) (codes "replay") (begins-asked ws (a_replay h.0) asked))
+    let migrates = h.0.migrates in
+    quiet-replay (argument ws 0) migrates (same_text-same (argument ws 0) (word_of (replay_mode migrates)) (begins-asked ws (a_replay h.0) asked))

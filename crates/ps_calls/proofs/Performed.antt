@@ -21,7 +21,7 @@ use Rattle.ps_session.specs.Session.{IsJournal, Runs}
 use Rattle.ps_session.specs.declared.ways.Turns.TheVariants.{InOrder}
 use Rattle.ps_audit.specs.Findings.{finding_line, finding_status}
 use Rattle.ps_audit.specs.declared.findings.Finding.{Finding}
-use Rattle.ps_calls.specs.Headline.{CountsSession, IsFound, Performs, WritesWithStatus, answer_line, turns_of, verdict_of}
+use Rattle.ps_calls.specs.Headline.{CountsSession, IsFound, IsReply, Performs, WritesWithStatus, answer_line, turns_of, verdict_of}
 use Rattle.ps_calls.specs.Verdicts.{verdict_line, verdict_status}
 
 -- ---- one text
@@ -60,10 +60,11 @@ judged v wrong after old new r same w = of_line r (subst (λ p. WritesWithStatus
 pub unjudged : (v : Validation) (start : SinkView) → Performs (work.Validation v) start start (Err OutOfMemory)
 unjudged v start = record { done = tt; cut = (0, Appends-nil start.bytes); counted = refl }
 
--- the line of a journal
-pub found : (r : Replay) (f : Finding) (old new : SinkView) (res : Result ℕ SinkRefusal) → IsFound r f → WritesWithStatus (finding_line f) (finding_status f) old new res → Performs (work.Replay r) old new res
-found r f old new (Ok status) is w = record { done = (f, is, w.done.0, w.done.1); cut = tt; counted = w.counted }
-found r f old new (Err e) is w = record { done = tt; cut = inr (f, is, w.cut); counted = w.counted }
+-- what is to be written for a journal
+pub found : (r : Replay) (f : Finding) (out : List ℕ) (old new : SinkView) (res : Result ℕ SinkRefusal) → IsFound r f → IsReply r f out
+    → WritesWithStatus out (finding_status f) old new res → Performs (work.Replay r) old new res
+found r f out old new (Ok status) is reply w = record { done = (f, out, is, reply, w.done.0, w.done.1); cut = tt; counted = w.counted }
+found r f out old new (Err e) is reply w = record { done = tt; cut = inr (f, out, is, reply, w.cut); counted = w.counted }
 
 -- memory ran out before the journal was judged
 pub unfound : (r : Replay) (start : SinkView) → Performs (work.Replay r) start start (Err OutOfMemory)

@@ -27,7 +27,7 @@ status-performed (work.Session s) old new status p = subst (λ n. n < 2) (sym p.
 status-performed (work.Generation g) old new status p = subst (λ n. n < 2) (sym p.done.2) (flag_below (list_any (λ e. is_mishap e.what) p.done.0))
 status-performed (work.Check names d) old new status p = p.done.0
 status-performed (work.Validation v) old new status p = p.done.0
-status-performed (work.Replay r) old new status p = (p.done.0, p.done.1, p.done.2)
+status-performed (work.Replay r) old new status p = (p.done.0, p.done.2, p.done.4)
 
 verdict_of_work : (wrong : Option Invalid) → IsOfWork (verdict_status wrong)
 verdict_of_work None = inl (omega arith)

@@ -27,7 +27,7 @@ use Rattle.ps_gen.specs.Summary.{summary_text}
 use Rattle.ps_rules.specs.History.{status_of}
 use Rattle.ps_machine.specs.declared.inputs.Input.{Input}
 use Rattle.ps_machine.specs.declared.journal.Entry.{Entry}
-use Rattle.ps_audit.specs.Findings.{Finds as FindsJournal, finding_line, finding_status}
+use Rattle.ps_audit.specs.Findings.{Finds as FindsJournal, finding_status, IsAnswer}
 use Rattle.ps_audit.specs.declared.findings.Finding.{Finding}
 use Rattle.ps_calls.specs.Verdicts.{verdict_line, verdict_status}
 
@@ -53,6 +53,11 @@ answer_line v = verdict_line v.1 v.0
 abbrev pub IsFound : Replay → Finding → Type 0
 IsFound r f = FindsJournal r.input r.names r.journal.items f
 
+-- this is what is to be written for a journal that is found to be this: the line that says so, or, where it is to be written anew and is legal,
+-- the text of its entries
+abbrev pub IsReply : Replay → Finding → List ℕ → Type 0
+IsReply r f out = IsAnswer r.input r.names r.journal.items r.migrates f out
+
 -- how the members of a session's runs take their turns: in order where that is said, else as so many workers take them
 abbrev pub turns_of : Session → Turns
 turns_of s = if s.ordered then InOrder else Workers s.workers
@@ -69,7 +74,7 @@ IsCountCut i carts old new =
 
 -- The work is done, with this status: a session writes the text of its journal, whose status it is, and a generation the counts of such a
 -- journal, with the status of that; a check writes the domain's canonical text, a validation the line that says what the plan is worth, a
--- replay the line that says what the journal is found to be.
+-- replay the line that says what the journal is found to be, or a legal journal anew.
 abbrev pub IsWorkDone : Work → Option (List ℕ) → Option (List ℕ) → ℕ → Type 0
 IsWorkDone (work.Session s) old new status = IsDone (turns_of s) s.input s.names old new status
 IsWorkDone (work.Generation g) old new status = IsCountDone g.input g.carts old new status
@@ -77,7 +82,7 @@ IsWorkDone (work.Check names d) old new status = (status ≡ 0) × Appends old n
 IsWorkDone (work.Validation v) old new status =
     (status ≡ verdict_status (verdict_of v).0) × Appends old new (answer_line (verdict_of v))
 IsWorkDone (work.Replay r) old new status =
-    (f : Finding) × IsFound r f × (status ≡ finding_status f) × Appends old new (finding_line f)
+    (f : Finding) × (out : List ℕ) × IsFound r f × IsReply r f out × (status ≡ finding_status f) × Appends old new out
 
 -- The work is broken off: what it wrote is a prefix of the text of a beginning of a session's journal, of a journal's counts, of the domain's
 -- text, or of the line of a plan or of a journal; before a journal is made that is counted, or it is found what a journal is, nothing is
@@ -88,7 +93,7 @@ IsWorkCut (work.Generation g) old new = IsCountCut g.input g.carts old.bytes new
 IsWorkCut (work.Check names d) old new = AppendsPrefix old.bytes new.bytes (domain_text names d)
 IsWorkCut (work.Validation v) old new = AppendsPrefix old.bytes new.bytes (answer_line (verdict_of v))
 IsWorkCut (work.Replay r) old new =
-    AppendsPrefix old.bytes new.bytes [] ⊎ ((f : Finding) × IsFound r f × AppendsPrefix old.bytes new.bytes (finding_line f))
+    AppendsPrefix old.bytes new.bytes [] ⊎ ((f : Finding) × (out : List ℕ) × IsFound r f × IsReply r f out × AppendsPrefix old.bytes new.bytes out)
 
 -- Doing the work: it is done, with the status that is answered, or broken off, where a write was refused or memory ran out.
 pub record Performs (w : Work) (old new : SinkView) (r : Result ℕ SinkRefusal) : Type 0 where

@@ -61,7 +61,7 @@ pub fn plansys<R: Threads + Wait + Sync, F: Files, O: Sink, E: Sink, G: Gate + S
     }
 }
 
-/// Does the modes that always return, `check`, `validate` and `replay`, and gives the exit status, which is never 1.
+/// Does the modes that always return, `check`, `validate`, `replay` and `migrate`, and gives the exit status, which is never 1.
 pub fn plansys_quiet<F: Files, O: Sink, E: Sink>(
     alloc: Global,
     words: &[String],

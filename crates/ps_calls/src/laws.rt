@@ -53,7 +53,7 @@ pub fn modes_decide()
     ensures { ModesDecide }
 {}
 
-/// The answer 1 doesn't come where the first word is `check`, `validate` or `replay`, and 7 nowhere else.
+/// The answer 1 doesn't come where the first word is `check`, `validate`, `replay` or `migrate`, and 7 nowhere else.
 pub fn first_words_decide()
     ensures { FirstWordsDecide }
 {}

@@ -1,7 +1,7 @@
 //! Doing the work of a call.
 ghost use Rattle.ps_world.specs.DomainTexts.{domain_text};
 ghost use Rattle.ps_text.specs.Names.{AreNames};
-ghost use Rattle.ps_audit.specs.Findings.{finding_line, finding_status};
+ghost use Rattle.ps_audit.specs.Findings.{finding_status};
 ghost use Rattle.ps_inputs.specs.declared.works.Work.TheVariants.{Session as ASession, Generation as AGeneration, Validation as AValidation, Replay as AReplay};
 ghost use Rattle.std.specs.Prelude.{◌≡◌};
 ghost use Rattle.ps_board.specs.Board.{nothing_done};
@@ -12,7 +12,7 @@ ghost use Rattle.ps_calls.specs.Headline.{CountsSession, Finds, IsQuiet, Perform
 ghost use Rattle.ps_calls.specs.Verdicts.{verdict_line, verdict_status};
 
 use super::verdicts::{verdict_line, verdict_status};
-use ps_audit::{Finding, audit, finding_line, finding_status};
+use ps_audit::{Audited, audit, finding_status};
 use ps_board::Board;
 use ps_domain::Expert;
 use ps_gen::summary;
@@ -208,7 +208,8 @@ fn write_verdict<O: Sink>(
     Ok(verdict_status(wrong))
 }
 
-/// Judges the text of a journal, and writes what it is found to be. The status is 0 where it is legal, else 7.
+/// Judges the text of a journal, and writes what it is found to be, or, where that is asked for and it is legal, writes it anew. The status
+/// is 0 where it is legal, else 7.
 fn do_replay<O: Sink>(alloc: Global, replay: Replay, out: &mut O) -> Result<u8, SinkRefusal>
     ensures { Performs (AReplay replay) (O.shown out.old) (O.shown out.new) result }
 {
@@ -216,19 +217,26 @@ fn do_replay<O: Sink>(alloc: Global, replay: Replay, out: &mut O) -> Result<u8, 
         mut names,
         input,
         journal,
+        migrates,
         ..
     } = replay;
     let solver = Forward::new();
-    let finding = audit(alloc, &mut names, &input, journal.as_slice(), &solver)?;
-    write_finding(alloc, finding, out)
+    let audit = audit(
+        alloc,
+        &mut names,
+        &input,
+        journal.as_slice(),
+        &solver,
+        migrates,
+    )?;
+    write_audit(&audit, out)
 }
 
-/// Writes the line that says what a journal is found to be. The status is 0 where it is legal, else 7.
-fn write_finding<O: Sink>(alloc: Global, finding: Finding, out: &mut O) -> Result<u8, SinkRefusal>
-    ensures { WritesWithStatus (finding_line finding) (finding_status finding) (O.shown out.old)
-        (O.shown out.new) result }
+/// Writes what is to be written for a journal. The status is 0 where it is legal, else 7.
+fn write_audit<O: Sink>(audit: &Audited, out: &mut O) -> Result<u8, SinkRefusal>
+    ensures { WritesWithStatus audit.now.text.items (finding_status audit.now.finding)
+        (O.shown out.old) (O.shown out.new) result }
 {
-    let line = finding_line(alloc, finding)?;
-    put(out, line.as_slice())?;
-    Ok(finding_status(finding))
+    put(out, audit.text.as_slice())?;
+    Ok(finding_status(audit.finding))
 }

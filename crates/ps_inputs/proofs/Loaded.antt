@@ -316,11 +316,11 @@ module _ (s : ReplayRequest) (old : FilesView) where
       replay_read r f = last_read (a_replay s) s.domain s.script s.journal s.members (for_replay s.budget s.replans) old middle new u first journal h r f
 
       pub replay_good : (t : Settings) → GoesBy (s.budget, s.replans) journal.items t → (l : Loaded) (w : Replay) → w.names ≡ l.names → w.input ≡ l.input → w.journal ≡ journal
-          → Judges u t.0 t.1 (Ok l) → LoadsRequest (a_replay s) old new (Ok (Ok (work.Replay w)))
-      replay_good t goes l w names input same judges =
+          → w.migrates ≡ s.migrates → Judges u t.0 t.1 (Ok l) → LoadsRequest (a_replay s) old new (Ok (Ok (work.Replay w)))
+      replay_good t goes l w names input same migrates judges =
           replay_read (Ok (work.Replay w))
           (λ texts is. (
-            tt,
+            migrates,
             (
               (
                 t,

@@ -164,7 +164,7 @@ abbrev pub IsAsked : Request → Work → Type 0
 IsAsked (a_session s) (Session t) = Unit {0}
 IsAsked (a_check file) (Check names d) = Unit {0}
 IsAsked (a_validation domain script plan) (Validation v) = Unit {0}
-IsAsked (a_replay r) (Replay w) = Unit {0}
+IsAsked (a_replay r) (Replay w) = w.migrates ≡ r.migrates
 IsAsked (a_generation carts) (Generation g) = g.carts ≡ carts
 IsAsked r w = ⊥
 
@@ -245,4 +245,5 @@ argument ws i = slice_index_or ws i []
 abbrev pub is_quiet : List (List ℕ) → Bool
 is_quiet ws =
     same_text (argument ws 0) (codes "check")
-    || (same_text (argument ws 0) (codes "validate") || same_text (argument ws 0) (codes "replay"))
+    || (same_text (argument ws 0) (codes "validate")
+    || (same_text (argument ws 0) (codes "replay") || same_text (argument ws 0) (codes "migrate")))

@@ -117,6 +117,7 @@ fn load_replay<'a, F: Files>(
             names,
             input,
             journal,
+            migrates: settings.migrates,
         }))),
         Err(Failure::Refused(fault)) => Ok(Err(fault)),
         Err(Failure::OutOfMemory) => Err(Failure::OutOfMemory),

@@ -38,6 +38,8 @@ pub struct Replay {
     pub input: Input,
     /// The text of the journal.
     pub journal: Vec<u8>,
+    /// Whether it is to be written anew where it is legal.
+    pub migrates: bool,
     ghost sound: { IsSound input } by { Prim.hlevel sound_prop },
     ghost short: { length journal.items < 2 ^ 32 },
 }

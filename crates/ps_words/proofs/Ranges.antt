@@ -4,10 +4,10 @@ use Rattle.std.specs.Option.{IfSome}
 use Rattle.std.proofs.lemmas.Bool.Decides.{nat_tests}
 use Rattle.clap.proofs.WalkLemmas.{both}
 use Rattle.clap.specs.Walk.{Row, Text, first_of}
-use Rattle.ps_words.specs.Words.{IsInRange, asked_in, budget_in, carts_in, check_app, check_of, gen_app, generation_of, number_of, number_or, replans_in, replay_app, replay_of, replay_with, rows_read, session_app, session_of, session_with, text_in, validate_app, validation_of, within, workers_in}
+use Rattle.ps_words.specs.Words.{IsInRange, asked_in, budget_in, carts_in, check_app, check_of, gen_app, generation_of, journal_app, number_of, number_or, replans_in, replay_of, replay_with, rows_read, session_app, session_of, session_with, text_in, validate_app, validation_of, within, workers_in}
 use Rattle.ps_words.specs.Words.Request.{a_generation}
 use Rattle.ps_words.specs.declared.commands.Mode.{Mode}
-use Rattle.ps_words.specs.declared.commands.Mode.TheVariants.{Session, Check, Validate, Replay, Gen}
+use Rattle.ps_words.specs.declared.commands.Mode.TheVariants.{Session, Check, Validate, Replay, Migrate, Gen}
 
 -- a number that is found to be within a range is in it
 within-range : (low high m n : ℕ) → within low high m ≡ Some n → (low ≤ n) × (n ≤ high)
@@ -49,15 +49,15 @@ session-range (Some rows) = numbers-range rows (workers_in rows) (budget_in rows
     (λ n is. option-range 3 0 8 n (first_of (codes "replans") rows) (omega arith) (omega arith) is)
 
 -- the numbers of a replay, where each of them is in its range
-replay-numbers : (rows : List Row) (b r : Option ℕ) → ((n : ℕ) → b ≡ Some n → (1 ≤ n) × (n ≤ 200000)) → ((n : ℕ) → r ≡ Some n → (0 ≤ n) × (n ≤ 8))
-    → IfSome (option_and_then (λ budget. option_map (λ replans. replay_with rows budget replans) r) b) IsInRange
-replay-numbers rows None r far few = tt
-replay-numbers rows (Some b) None far few = tt
-replay-numbers rows (Some b) (Some r) far few = let x = far b refl in (x.0, x.1, (few r refl).1)
+replay-numbers : (migrates : Bool) (rows : List Row) (b r : Option ℕ) → ((n : ℕ) → b ≡ Some n → (1 ≤ n) × (n ≤ 200000)) → ((n : ℕ) → r ≡ Some n → (0 ≤ n) × (n ≤ 8))
+    → IfSome (option_and_then (λ budget. option_map (λ replans. replay_with migrates rows budget replans) r) b) IsInRange
+replay-numbers migrates rows None r far few = tt
+replay-numbers migrates rows (Some b) None far few = tt
+replay-numbers migrates rows (Some b) (Some r) far few = let x = far b refl in (x.0, x.1, (few r refl).1)
 
-replay-range : (o : Option (List Row)) → IfSome (option_and_then replay_of o) IsInRange
-replay-range None = tt
-replay-range (Some rows) = replay-numbers rows (budget_in rows) (replans_in rows)
+replay-range : (migrates : Bool) (o : Option (List Row)) → IfSome (option_and_then (replay_of migrates) o) IsInRange
+replay-range migrates None = tt
+replay-range migrates (Some rows) = replay-numbers migrates rows (budget_in rows) (replans_in rows)
     (λ n is. option-range 20000 1 200000 n (first_of (codes "budget") rows) (omega arith) (omega arith) is) (λ n is. option-range 3 0 8 n (first_of (codes "replans") rows) (omega arith) (omega arith) is)
 
 check-range : (o : Option (List Row)) → IfSome (option_map check_of o) IsInRange
@@ -82,5 +82,6 @@ pub asked_in_range : (m : Mode) (words : List Text) → IfSome (asked_in m words
 asked_in_range Session words = session-range (rows_read session_app words)
 asked_in_range Check words = check-range (rows_read check_app words)
 asked_in_range Validate words = validation-range (rows_read validate_app words)
-asked_in_range Replay words = replay-range (rows_read replay_app words)
+asked_in_range Replay words = replay-range false (rows_read (journal_app (codes "replay")) words)
+asked_in_range Migrate words = replay-range true (rows_read (journal_app (codes "migrate")) words)
 asked_in_range Gen words = generation-range (rows_read gen_app words)

@@ -1,11 +1,11 @@
 -- What a parse gives, by its faults.
-use Rattle.std.proofs.Common.{◌≡◌, ◌⊎◌, inl, inr, List, [], ◌∷◌, Some, None, refl, true, ◌≢◌}
+use Rattle.std.proofs.Common.{◌≡◌, ◌⊎◌, inl, inr, List, [], ◌∷◌, codes, Some, None, refl, true, ◌≢◌}
 use Rattle.clap.specs.Faults.{is_simple_and_free}
 use Rattle.clap.specs.Kinds.{IsAmong, Kinds}
 use Rattle.clap.specs.Walk.{Row}
 use Rattle.clap.specs.declared.error.kind.ErrorKind.{ErrorKind}
 use Rattle.clap.proofs.OnLiterals.{clap_on_literals}
-use Rattle.ps_words.specs.Words.{check_app, gen_app, mode_app, replay_app, session_app, unless_faulty, validate_app}
+use Rattle.ps_words.specs.Words.{check_app, gen_app, journal_app, mode_app, session_app, unless_faulty, validate_app}
 use Rattle.ps_words.specs.declared.commands.Mode.{Mode}
 use Rattle.ps_words.specs.declared.commands.Mode.TheVariants as mode
 
@@ -36,9 +36,13 @@ pub validate_simple : is_simple_and_free validate_app ≡ true
 unfolding validate_app clap_on_literals
 validate_simple = refl
 
-pub replay_simple : is_simple_and_free replay_app ≡ true
-unfolding replay_app clap_on_literals
+pub replay_simple : is_simple_and_free (journal_app (codes "replay")) ≡ true
+unfolding journal_app clap_on_literals
 replay_simple = refl
+
+pub migrate_simple : is_simple_and_free (journal_app (codes "migrate")) ≡ true
+unfolding journal_app clap_on_literals
+migrate_simple = refl
 
 pub gen_simple : is_simple_and_free gen_app ≡ true
 unfolding gen_app clap_on_literals
@@ -49,4 +53,5 @@ mode_simple mode.Session = session_simple
 mode_simple mode.Check = check_simple
 mode_simple mode.Validate = validate_simple
 mode_simple mode.Replay = replay_simple
+mode_simple mode.Migrate = migrate_simple
 mode_simple mode.Gen = gen_simple

@@ -34,8 +34,8 @@ pub record SessionRequest : Type 0 where
   pub replans : ℕ
   pub ordered : Bool
 
--- what a replay is to judge, and by what: its files, those of its members last, how many states a search may reach, and how often a run's
--- plan may be made anew
+-- what a replay is to judge, and by what: its files, those of its members last, how many states a search may reach, how often a run's
+-- plan may be made anew, and whether the journal is to be written anew where it is legal
 pub record ReplayRequest : Type 0 where
   pub domain : Text
   pub script : Text
@@ -43,6 +43,7 @@ pub record ReplayRequest : Type 0 where
   pub members : List Text
   pub budget : ℕ
   pub replans : ℕ
+  pub migrates : Bool
 
 -- what the words ask for, with the names of files as they stand in the words
 pub data Request : Type 0 where
@@ -97,6 +98,7 @@ replay_said s = record {
   members = map (λ t. t.now) s.members.items;
   budget = s.budget;
   replans = s.replans;
+  migrates = s.migrates;
 }
 
 -- what a value of the program's type says
@@ -226,9 +228,9 @@ unfoldable pub validate_app : App
 validate_app = command_of (codes "validate") (
     option_rule (codes "domain") true ∷ option_rule (codes "script") true ∷ option_rule (codes "plan") true ∷ [])
 
--- replay --domain F --script F --journal F, what may be set, and members
-unfoldable pub replay_app : App
-replay_app = command_of (codes "replay") (
+-- replay or migrate, --domain F --script F --journal F, what may be set, and members
+unfoldable pub journal_app : Text → App
+journal_app name = command_of name (
     option_rule (codes "domain") true ∷ option_rule (codes "script") true ∷ option_rule (codes "journal") true
     ∷ option_rule (codes "budget") false ∷ option_rule (codes "replans") false ∷ words_rule (codes "members") ∷ [])
 
@@ -241,7 +243,8 @@ abbrev pub mode_app : Mode → App
 mode_app mode.Session = session_app
 mode_app mode.Check = check_app
 mode_app mode.Validate = validate_app
-mode_app mode.Replay = replay_app
+mode_app mode.Replay = journal_app (codes "replay")
+mode_app mode.Migrate = journal_app (codes "migrate")
 mode_app mode.Gen = gen_app
 
 -- what the words give for each option, where there is no fault in them
@@ -335,20 +338,21 @@ check_of rows = a_check (text_in (codes "domain") rows)
 abbrev pub validation_of : List Row → Request
 validation_of rows = a_validation (text_in (codes "domain") rows) (text_in (codes "script") rows) (text_in (codes "plan") rows)
 
--- a replay with these numbers
-abbrev pub replay_with : List Row → ℕ → ℕ → Request
-replay_with rows budget replans = a_replay (record {
+-- a replay with these numbers, where the journal is to be written anew or isn't
+abbrev pub replay_with : Bool → List Row → ℕ → ℕ → Request
+replay_with migrates rows budget replans = a_replay (record {
   domain = text_in (codes "domain") rows;
   script = text_in (codes "script") rows;
   journal = text_in (codes "journal") rows;
   members = words_in (codes "members") rows;
   budget = budget;
   replans = replans;
+  migrates = migrates;
 })
 
 -- the replay that is asked for, where each number has its form and its range
-abbrev pub replay_of : List Row → Option Request
-replay_of rows = option_and_then (λ budget. option_map (λ replans. replay_with rows budget replans)
+abbrev pub replay_of : Bool → List Row → Option Request
+replay_of migrates rows = option_and_then (λ budget. option_map (λ replans. replay_with migrates rows budget replans)
     (replans_in rows)) (budget_in rows)
 
 -- how many carts a generated session has, if the word is a number in its range
@@ -365,14 +369,16 @@ mode_of word = if same_text word (codes "session") then Some mode.Session
     else (if same_text word (codes "check") then Some mode.Check
     else (if same_text word (codes "validate") then Some mode.Validate
     else (if same_text word (codes "replay") then Some mode.Replay
-    else (if same_text word (codes "gen") then Some mode.Gen else None))))
+    else (if same_text word (codes "migrate") then Some mode.Migrate
+    else (if same_text word (codes "gen") then Some mode.Gen else None)))))
 
 -- what the words ask for in a mode, by what they give for the options of its command
 abbrev pub asked_from : Mode → List Row → Option Request
 asked_from mode.Session rows = session_of rows
 asked_from mode.Check rows = Some (check_of rows)
 asked_from mode.Validate rows = Some (validation_of rows)
-asked_from mode.Replay rows = replay_of rows
+asked_from mode.Replay rows = replay_of false rows
+asked_from mode.Migrate rows = replay_of true rows
 asked_from mode.Gen rows = generation_of rows
 
 -- what the words ask for in a mode, where its command takes them
@@ -380,7 +386,8 @@ abbrev pub asked_in : Mode → List Text → Option Request
 asked_in mode.Session words = option_and_then session_of (rows_read session_app words)
 asked_in mode.Check words = option_map check_of (rows_read check_app words)
 asked_in mode.Validate words = option_map validation_of (rows_read validate_app words)
-asked_in mode.Replay words = option_and_then replay_of (rows_read replay_app words)
+asked_in mode.Replay words = option_and_then (replay_of false) (rows_read (journal_app (codes "replay")) words)
+asked_in mode.Migrate words = option_and_then (replay_of true) (rows_read (journal_app (codes "migrate")) words)
 asked_in mode.Gen words = option_and_then generation_of (rows_read gen_app words)
 
 -- what the words ask for where their first is this mode, and these follow it

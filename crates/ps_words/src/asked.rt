@@ -44,6 +44,8 @@ pub struct ReplaySettings<'a> {
     pub budget: u32,
     /// How often a plan may be made anew in a run: 0 to 8, usually 3.
     pub replans: u32,
+    /// Whether the journal is to be written anew where it is legal.
+    pub migrates: bool,
 }
 
 /// What the words ask for.
@@ -103,10 +105,14 @@ fn session_of<'a>(alloc: Global, matches: &ArgMatches<'a>) -> Result<Option<Aske
 }
 
 /// The replay with these members that is asked for, where each number has its form and its range.
-fn replay_with<'a>(matches: &ArgMatches<'a>, members: Vec<&'a str>) -> Option<Asked<'a>>
+fn replay_with<'a>(
+    matches: &ArgMatches<'a>,
+    members: Vec<&'a str>,
+    migrates: bool,
+) -> Option<Asked<'a>>
     requires { map (λ t. t.now) members.items
         ≡ words_in (codes "members") (rows_of (found_of matches.now)) }
-    ensures { option_map said result ≡ replay_of (rows_of (found_of matches.now)) }
+    ensures { option_map said result ≡ replay_of migrates (rows_of (found_of matches.now)) }
 {
     let budget = number_or(value_of(matches, "budget"), 20_000, 1, 200_000)?;
     let replans = number_or(value_of(matches, "replans"), 3, 0, 8)?;
@@ -117,15 +123,21 @@ fn replay_with<'a>(matches: &ArgMatches<'a>, members: Vec<&'a str>) -> Option<As
         members,
         budget,
         replans,
+        migrates,
     }))
 }
 
 /// The replay that is asked for, where each number has its form and its range.
-fn replay_of<'a>(alloc: Global, matches: &ArgMatches<'a>) -> Result<Option<Asked<'a>>, AllocError>
-    ensures { IfOk result (λ a. option_map said a ≡ replay_of (rows_of (found_of matches.now))) }
+fn replay_of<'a>(
+    alloc: Global,
+    matches: &ArgMatches<'a>,
+    migrates: bool,
+) -> Result<Option<Asked<'a>>, AllocError>
+    ensures { IfOk result (λ a. option_map said a
+        ≡ replay_of migrates (rows_of (found_of matches.now))) }
 {
     let members = words_of(alloc, matches, "members")?;
-    Ok(replay_with(matches, members))
+    Ok(replay_with(matches, members, migrates))
 }
 
 /// The generated session that is asked for, where the number of its carts has its form and its range.
@@ -155,7 +167,8 @@ fn asked_from<'a>(
             script: text_of(matches, "script"),
             plan: text_of(matches, "plan"),
         })),
-        Mode::Replay => replay_of(alloc, matches),
+        Mode::Replay => replay_of(alloc, matches, false),
+        Mode::Migrate => replay_of(alloc, matches, true),
         Mode::Gen => Ok(generation_of(matches)),
     }
 }
@@ -179,8 +192,8 @@ fn asked_in<'a>(
 /// memory, which may come of words that aren't in the grammar, too.
 ///
 /// The first word is the mode, and options follow it, each at most once, as `--name value` or `--name=value`, or as `--ordered`
-/// alone. A value isn't empty and doesn't begin with `-`. A number has 1 to 9 decimal digits. Last come the members of a session or
-/// a replay, each a file; after the first of them no option stands. The mode `gen` has no options, and one number of carts.
+/// alone. A value isn't empty and doesn't begin with `-`. A number has 1 to 9 decimal digits. Last come the members of a session, a
+/// replay or a migration, each a file; after the first of them no option stands. The mode `gen` has no options, and one number of carts.
 pub fn read_words<'a>(alloc: Global, words: &'a [String]) -> Result<Option<Asked<'a>>, AllocError>
     ensures asked { IfOk result (λ a. option_map said a ≡ asked_of (word_texts words.now)) }
     ensures ranges { IfOk result (λ a. IfSome (option_map said a) IsInRange) }

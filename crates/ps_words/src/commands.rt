@@ -5,7 +5,7 @@ ghost use Rattle.clap.specs.Matches.{found_of};
 ghost use Rattle.clap.specs.Simple.{App, app_of, with_rule};
 ghost use Rattle.clap.specs.Walk.{first_of, rows_of};
 ghost use Rattle.ps_words.specs.Words.{word_texts, command_of, option_rule, flag_rule, word_rule, words_rule, rows_read, text_in, words_in, is_set_in, mode_of};
-ghost use Rattle.ps_words.specs.Words.{session_app, check_app, validate_app, replay_app, gen_app, mode_app};
+ghost use Rattle.ps_words.specs.Words.{session_app, check_app, validate_app, journal_app, gen_app, mode_app};
 
 use clap::error::ErrorKind;
 use clap::{Arg, ArgAction, ArgMatches, Command};
@@ -22,6 +22,8 @@ pub enum Mode {
     Validate,
     /// Judge a journal.
     Replay,
+    /// Judge a journal, and write it anew where it is legal.
+    Migrate,
     /// Do a generated session, and count its entries.
     Gen,
 }
@@ -35,6 +37,7 @@ pub fn mode_of(word: &str) -> Option<Mode>
         "check" => Some(Mode::Check),
         "validate" => Some(Mode::Validate),
         "replay" => Some(Mode::Replay),
+        "migrate" => Some(Mode::Migrate),
         "gen" => Some(Mode::Gen),
         _ => None,
     }
@@ -141,11 +144,11 @@ fn validate_command<'a>(alloc: Global) -> Result<Command<'a>, AllocError>
     with_option(alloc, command, "plan", true)
 }
 
-/// The command of a replay.
-fn replay_command<'a>(alloc: Global) -> Result<Command<'a>, AllocError>
-    ensures { IfOk result (λ c. app_of c ≡ replay_app) }
+/// The command of a mode in which a journal is judged.
+fn journal_command<'a>(alloc: Global, name: &'a str) -> Result<Command<'a>, AllocError>
+    ensures { IfOk result (λ c. app_of c ≡ journal_app name.now) }
 {
-    let command = Ok(bare_command(alloc, "replay"));
+    let command = Ok(bare_command(alloc, name));
     let command = with_option(alloc, command, "domain", true);
     let command = with_option(alloc, command, "script", true);
     let command = with_option(alloc, command, "journal", true);
@@ -170,7 +173,8 @@ pub fn mode_command<'a>(alloc: Global, mode: Mode) -> Result<Command<'a>, AllocE
         Mode::Session => session_command(alloc),
         Mode::Check => check_command(alloc),
         Mode::Validate => validate_command(alloc),
-        Mode::Replay => replay_command(alloc),
+        Mode::Replay => journal_command(alloc, "replay"),
+        Mode::Migrate => journal_command(alloc, "migrate"),
         Mode::Gen => gen_command(alloc),
     }
 }

@@ -20,9 +20,13 @@ plansys validate --domain FILE --script FILE --plan FILE
     plansys validate --domain samples/rooms/domain.pddl --script samples/rooms/goal --plan samples/rooms/plan
 plansys replay --domain FILE --script FILE --journal FILE [--budget N] [--replans N] [MEMBER ..]
     Says whether a journal is one that a session of this domain, script and members may write: `legal`, or the line at which it isn't.
+    A journal of version 2 says its budget and its number of new plans itself; these are of the session of one of version 1:
     --budget N    how many states a search for a plan may reach before it gives up, from 1 to 200000; 20000 if it isn't given
     --replans N   how often a run's plan may be made anew, from 0 to 8; 3 if it isn't given
     plansys replay --domain samples/rooms/domain.pddl --script samples/rooms/run --journal samples/rooms/journal samples/rooms/asker samples/rooms/charger samples/rooms/mover
+plansys migrate --domain FILE --script FILE --journal FILE [--budget N] [--replans N] [MEMBER ..]
+    Judges a journal as `replay` does, and writes it in version 2 where it is legal; else the line at which it isn't.
+    plansys migrate --domain samples/rooms/domain.pddl --script samples/rooms/run --journal samples/rooms/journal samples/rooms/asker samples/rooms/charger samples/rooms/mover
 plansys gen N
     Does a generated session in memory, in which N carts, from 1 to 100, are brought through a warehouse one after the other, and
     writes how many runs, starts of acts, requests, offers and entries it has.

@@ -110,7 +110,7 @@ checks --domain d -> none
 help -> none
  -> none";
 
-/// Command lines of replays, and the domain, the script, the journal, the budget, how often a run may be planned anew, and the members.
+/// Command lines of replays and migrations, and the domain, the script, the journal, the budget, how often a run may be planned anew, and the members.
 const REPLAYS: &str = "\
 replay --domain d --script s --journal j -> replay d s j 20000 3
 replay --journal=j --script=s --domain=d -> replay d s j 20000 3
@@ -132,6 +132,11 @@ replay --domain d --script s --journal j --ordered -> none
 replay --domain d --script s --journal j a --replans 0 -> none
 replay --domain d --script s --journal j -- a -> none
 replay j --domain d --script s -> none
+migrate --domain d --script s --journal j -> migrate d s j 20000 3
+migrate --replans 0 --journal j --budget=7 --domain d --script s a b -> migrate d s j 7 0 a b
+migrate --domain d --script s -> none
+migrate --domain d --script s --journal j --workers 2 -> none
+migrate --domain d --script s --journal j --budget 0 -> none
 Replay --domain d --script s --journal j -> none
 session --domain d --script s --journal j -> none";
 
@@ -220,8 +225,10 @@ fn told_of_replay(alloc: Global, settings: ReplaySettings<'_>) -> Result<String,
         members,
         budget,
         replans,
+        migrates,
     } = settings;
-    let mut told = format!(in alloc; "replay {domain} {script} {journal} {budget} {replans}")?;
+    let mode = if migrates { "migrate" } else { "replay" };
+    let mut told = format!(in alloc; "{mode} {domain} {script} {journal} {budget} {replans}")?;
     for member in &members {
         write!(told, " {member}")?;
     }

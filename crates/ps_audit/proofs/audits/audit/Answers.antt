@@ -4,7 +4,7 @@ use Rattle.ps_audit.specs.Findings.Finds.{unread}
 use Rattle.ps_audit.specs.declared.findings.Finding.TheVariants.{Illegal}
 use Rattle.ps_audit.proofs.audits.audit.Goals as goal
 
-pub returns-in-Err-Refused-clause-finds : goal.returns-in-Err-Refused-clause-finds
-returns-in-Err-Refused-clause-finds g c =
+pub returns-in_ok-text-in-Err-Refused-clause-finds : goal.returns-in_ok-text-in-Err-Refused-clause-finds
+returns-in_ok-text-in-Err-Refused-clause-finds g c =
     subst (λ line. Finds c.args.input.now c.args.names.now c.args.journal.now (Illegal line)) (sym (c.line_of_fault-line.ensures ∙ ap line_of_fault c.in-Err-Refused.refusal-is))
     (unread c.in-Err-Refused.refusal (rw c.in-Err-Refused.field-0-is at c.in-Err-Refused.ensures.refused))

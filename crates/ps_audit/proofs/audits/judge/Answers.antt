@@ -1,21 +1,20 @@
-use Rattle.std.proofs.Common.{ℕ, List, ◌++◌, ap, ◌∙◌}
-use Rattle.ps_rules.specs.Journal.{text_with}
-use Rattle.ps_audit.specs.Findings.{due_head}
-use Rattle.ps_audit.proofs.Found.{found-broken, found-whole}
+use Rattle.std.proofs.Common.{[], IfOk, refl, ap, ◌∙◌, subst}
+use Rattle.ps_rules.specs.Journal.{text_after}
+use Rattle.ps_replay.specs.Replay.{Replays}
+use Rattle.ps_audit.specs.Findings.{found_by}
+use Rattle.ps_audit.specs.Texts.{AddsIfLegal}
+use Rattle.ps_audit.proofs.Found.{judged}
 use Rattle.ps_audit.proofs.audits.judge.Goals as goal
-
-pub returns-in-Legal : goal.returns-in-Legal
-returns-in-Legal g c =
-    let p = c.args.parts.now in
-    let i = c.args.input.now in
-    let names = c.args.names.now in
-    let added = rw c.in-Legal.is at c.in_ok-judge_text.ensures.text in
-    found-whole i names c.args.journal.now p c.deref.result.now c.compare.result
-    (rw c.in-Legal.is at c.in_ok-judge_text.ensures.verdict)
-    (c.deref.ensures.value ∙ added ∙ ap (λ (xs : List ℕ). xs ++ text_with c.due_head-head.result names i p.entries.items) c.new-due.ensures.items
-    ∙ ap (λ h. text_with h names i p.entries.items) c.due_head-head.ensures) c.compare.ensures
 
 pub returns : goal.returns
 returns g c =
-    found-broken c.args.input.now c.args.names.now c.args.journal.now c.args.parts.now c.in-Illegal.at c.in_ok-line-in-Illegal.line
-    (rw c.in-Illegal.is at c.in_ok-judge_text.ensures.verdict) c.in_ok-line-in-Illegal.ensures
+    let i = c.args.input.now in
+    let names = c.args.names.now in
+    let text = c.args.journal.now in
+    let p = c.args.parts.now in
+    let old = c.new-body.result.items in
+    let body = c.judge_text.new.out.items in
+    judged i names text p c.judge_text.result c.in_ok-verdict.verdict old body (record { finding = c.in_ok-finding.finding; body = c.judge_text.new.out })
+    c.in_ok-verdict.was (subst (λ es. Replays i es c.judge_text.result) c.deref.ensures.value c.judge_text.ensures.verdict)
+    (subst (λ es. IfOk c.judge_text.result (AddsIfLegal (text_after names i [] es) old body)) c.deref.ensures.value c.judge_text.ensures.text)
+    c.new-body.ensures.items (c.in_ok-finding.ensures ∙ ap (found_by i text p c.in_ok-verdict.verdict) c.deref-2.ensures.value) refl

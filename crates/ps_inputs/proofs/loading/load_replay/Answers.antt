@@ -52,7 +52,7 @@ returns-in-Ok g c =
     let h = subst (λ (ms : List (Bor (List ℕ))). ReadsInput s.domain s.script (map (λ m. m.now) ms) (g.F.Files.shown c.args.files.now) (g.F.Files.shown c.read_input.new.files) (Ok c.in_ok-read.read)) c.as_slice-members.ensures.value c.in_ok-read.ensures in
     let goes : GoesBy (s.budget, s.replans) c.in_ok-journal.journal.items t = subst (λ l. GoesBy (s.budget, s.replans) l t) c.deref.ensures.value c.in_ok-own.ensures.goes in
     replay_good s (g.F.Files.shown c.args.files.now) (g.F.Files.shown c.read_input.new.files) (g.F.Files.shown c.read_text.new.files) c.in_ok-read.read h c.in_ok-journal.journal c.in_ok-journal.ensures.reads
-    t goes c.in-Ok.field-0 _ refl refl refl (subst (Judges c.in_ok-read.read t.0 t.1) c.in-Ok.is c.judge.ensures)
+    t goes c.in-Ok.field-0 _ refl refl refl refl (subst (Judges c.in_ok-read.read t.0 t.1) c.in-Ok.is c.judge.ensures)
 
 pub returns-in-Err-Refused : goal.returns-in-Err-Refused
 returns-in-Err-Refused g c =

@@ -1,7 +1,7 @@
-use Rattle.ps_words.specs.Words.{replay_app}
-use Rattle.ps_words.proofs.commands.replay_command.Goals as goal
+use Rattle.ps_words.specs.Words.{journal_app}
+use Rattle.ps_words.proofs.commands.journal_command.Goals as goal
 
 pub returns : goal.returns
-unfolding replay_app
+unfolding journal_app
 returns c =
     c.with_words.ensures _ (c.with_option-command-5.ensures _ (c.with_option-command-4.ensures _ (c.with_option-command-3.ensures _ (c.with_option-command-2.ensures _ (c.with_option-command.ensures _ c.bare_command.ensures)))))
