@@ -3,6 +3,7 @@ use Rattle.std.proofs.Common.{◌≡◌, ◌↔◌, ◌⊎◌, ℕ, ◌<◌, zer
 use Rattle.std.specs.Cmp.{first_so, second_so}
 use Rattle.std.specs.List.{Contains, list_any}
 use Rattle.std.specs.BTreeSet.{insert_key}
+use Rattle.std.proofs.lemmas.Bool.{and_from}
 use Rattle.std.proofs.lemmas.Cmp.{eq_by_cmp_equiv}
 use Rattle.std.proofs.lemmas.Map.Made.{is_member-filter}
 use Rattle.std.proofs.lemmas.Map.Views.{list_any-from_Contains, Contains-from_any, tells_apart}
@@ -36,10 +37,6 @@ pub or_second : (a b : Bool) → b ≡ true → (a || b) ≡ true
 or_second true b e = refl
 or_second false b e = e
 
-and_so : (a b : Bool) → a ≡ true → b ≡ true → (a && b) ≡ true
-and_so true b p q = q
-and_so false b p q = cc
-
 -- ---- facts
 
 pub fact_same : (f g : Fact) → same_fact f g ≡ true → f ≡ g
@@ -56,7 +53,7 @@ fact_in_filter p xs f =
       λ c.
           let h : (list_any (same_fact f) xs && p f) ≡ true = sym both ∙ list_any-from_Contains laws f (filter p xs) c in
           (Contains-from_any (tells_apart exact_facts) f xs (first_so (list_any (same_fact f) xs) (p f) h), second_so (list_any (same_fact f) xs) (p f) h),
-      λ w. Contains-from_any (tells_apart exact_facts) f (filter p xs) (both ∙ and_so (list_any (same_fact f) xs) (p f) (list_any-from_Contains laws f xs w.0) w.1),
+      λ w. Contains-from_any (tells_apart exact_facts) f (filter p xs) (both ∙ and_from (list_any (same_fact f) xs) (p f) (list_any-from_Contains laws f xs w.0) w.1),
     )
 
 -- after one more fact: the facts from before, and that one

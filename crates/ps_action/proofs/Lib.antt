@@ -3,10 +3,8 @@ pub mod Contained
 pub mod Facts
 pub mod Faults
 pub mod FirstFault
-pub mod Kept
 pub mod Keys
 pub mod Made
 pub mod MadeFacts
 pub mod MadeValues
-pub mod NoTypes
 pub mod ArcTables

@@ -102,7 +102,7 @@ facts_after es facts f =
       ]),
     )
 
-sorted-fold : (xs ys : List Fact) → IsStrictlySortedBy fact_cmp xs → IsStrictlySortedBy fact_cmp (fold (insert_key fact_cmp) xs ys)
+pub sorted-fold : (xs ys : List Fact) → IsStrictlySortedBy fact_cmp xs → IsStrictlySortedBy fact_cmp (fold (insert_key fact_cmp) xs ys)
 sorted-fold xs [] s = s
 sorted-fold xs (y ∷ ys) s = sorted-fold (insert_key fact_cmp xs y) ys (sorted-insert_key facts_total y xs s)
 

@@ -1,11 +1,9 @@
 -- Actions with arguments put in.
 use Rattle.std.specs.Prelude.{ℕ, ◌+◌, ◌==◌, if◌then◌else◌, Option, Some, None, Result, Err, List, [], ◌∷◌, ◌++◌, map, zip, filter, flat_map, fold, length, slice_get}
-use Rattle.std.specs.Option.{option_or}
-use Rattle.std.specs.Map.{lookup}
 use Rattle.std.specs.BTreeMap.{insert_entry}
-use Rattle.ps_world.specs.Names.{same_name, name_cmp}
+use Rattle.ps_world.specs.Names.{name_cmp}
 use Rattle.ps_world.specs.Trees.{ExprTree, number, value_of, negated, operated, CondTree, CondTrees, all_of, no, holds, same, compares, is_a, none, more}
-use Rattle.ps_world.specs.Knowledge.{action_of, is_below}
+use Rattle.ps_world.specs.Knowledge.{action_of, is_below, misfit_by, first_misfit_by}
 use Rattle.ps_world.specs.declared.names.Name.{Name}
 use Rattle.ps_world.specs.declared.schemas.Term.{Term}
 use Rattle.ps_world.specs.declared.schemas.Term.TheVariants.{Var, Const}
@@ -103,15 +101,11 @@ grounded a act = record {
 
 -- why a name of this type can't stand for a parameter of that one, if it can't
 abbrev pub unfit : Domain → Option Name → Name → Name → ℕ → Option GroundRefusal
-unfit d None want n at = Some (NoInstance n)
-unfit d (Some kind) want n at = if is_below d kind want then None else Some (WrongType at)
+unfit d kind want n at = misfit_by NoInstance WrongType d kind want n at
 
 -- the first argument that is no instance, or that doesn't fit its parameter, counted from this place on
 abbrev pub first_unfit : Domain → List (Name × Name) → List Param → List Name → ℕ → Option GroundRefusal
-first_unfit d instances [] ns at = None
-first_unfit d instances (p ∷ ps) [] at = None
-first_unfit d instances (p ∷ ps) (n ∷ ns) at =
-    option_or (unfit d (lookup (same_name n) instances) p.kind n at) (first_unfit d instances ps ns (at + 1))
+first_unfit d instances ps ns at = first_misfit_by NoInstance WrongType d instances ps ns at
 
 -- an act of this action, if it is declared, or the first refusal
 abbrev pub ground_by : Domain → List (Name × Name) → Option ActionDef → Act → Result GroundAction GroundRefusal

@@ -1,7 +1,7 @@
 -- What conditions hold.
 use Rattle.std.specs.Prelude.{Bool, true, false, not, ◌&&◌, int_lt, int_le, ℤ, Option, Some, None, List, []}
 use Rattle.std.specs.Ordering.{int_eq}
-use Rattle.ps_world.specs.Names.{same_name, object}
+use Rattle.ps_world.specs.Names.{same_name}
 use Rattle.ps_world.specs.Trees.{CondTree, CondTrees, all_of, no, holds, same, compares, is_a, none, more, cond_trees}
 use Rattle.ps_world.specs.Bound.{ground_in, name_in}
 use Rattle.ps_world.specs.Knowledge.{is_known, kind_of, is_below}
@@ -61,20 +61,3 @@ all_true_with d k env cs = are_true_with d k env (cond_trees cs)
 -- whether each condition of a list holds where no variable stands for a name
 abbrev pub all_true : Domain → Knowledge → List CondTree → Bool
 all_true d k cs = all_true_with d k [] cs
-
-abbrev mutual
-  -- no condition in it says that an instance has a type
-  pub HasNoType : CondTree → Type 0
-  HasNoType (all_of cs) = HaveNoType cs
-  HasNoType (no c) = HasNoType c
-  HasNoType (is_a t kind) = ⊥
-  HasNoType c = Unit {0}
-
-  -- the same of each of several
-  pub HaveNoType : CondTrees → Type 0
-  HaveNoType none = Unit {0}
-  HaveNoType (more c cs) = HasNoType c × HaveNoType cs
-
--- a domain that declares nothing
-abbrev pub no_domain : Domain
-no_domain = record { name = object; types = []; constants = []; predicates = []; functions = []; actions = [] }

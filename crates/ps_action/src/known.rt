@@ -1,11 +1,12 @@
-//! What conditions and effects ask of what is known.
+//! What conditions, effects and edits ask of what is known and of a domain.
 ghost use Rattle.std.specs.Prelude.{◌≡◌, slice_get};
 ghost use Rattle.std.specs.List.{list_any};
 ghost use Rattle.std.specs.Map.{lookup};
+ghost use Rattle.std.specs.Option.{option_copied};
 ghost use Rattle.ps_world.specs.Names.{same_name};
-ghost use Rattle.ps_world.specs.Knowledge.{is_below, is_known, kind_of, same_fact, value_in};
+ghost use Rattle.ps_world.specs.Knowledge.{function_of, is_below, is_known, kind_of, predicate_of, same_fact, value_in};
 
-use ps_world::{Domain, Fact, Knowledge, Name, Num};
+use ps_world::{Decl, Domain, Fact, Knowledge, Name, Num};
 
 /// What is known, which contracts see as `known` of it. Nothing here takes memory.
 pub trait Known {
@@ -40,6 +41,17 @@ pub trait Types {
     /// Whether the first type is the second or below it.
     fn is_subtype(&self, low: Name, high: Name) -> bool
         ensures { result ≡ is_below (types self.now) low high };
+}
+
+/// What a domain declares.
+pub trait Declares: Types {
+    /// The declaration of a predicate. None exactly where it isn't declared.
+    fn predicate(&self, head: Name) -> Option<&Decl>
+        ensures { option_copied result ≡ predicate_of (Self.types self.now) head };
+
+    /// The declaration of a function. None exactly where it isn't declared.
+    fn function(&self, head: Name) -> Option<&Decl>
+        ensures { option_copied result ≡ function_of (Self.types self.now) head };
 }
 
 /// Whether the fact is one of these.
@@ -98,5 +110,43 @@ impl Types for Domain {
 
     fn is_subtype(&self, low: Name, high: Name) -> bool {
         self.is_below(low, high)
+    }
+}
+
+impl Declares for Domain {
+    fn predicate(&self, head: Name) -> Option<&Decl> {
+        Domain::predicate(self, head)
+    }
+
+    fn function(&self, head: Name) -> Option<&Decl> {
+        Domain::function(self, head)
+    }
+}
+
+/// Instances alone, of which nothing else is known.
+#[derive(Drop)]
+pub struct Instances<'a> {
+    pub listed: &'a [(Name, Name)],
+}
+
+impl<'a> Known for Instances<'a> {
+    ghost use Rattle.std.specs.Prelude.{[], None};
+
+    ghost known = { λ i. record { instances = i.listed.now; facts = []; values = []; goal = None } };
+
+    fn has(&self, _fact: &Fact) -> bool {
+        false
+    }
+
+    fn value(&self, _term: &Fact) -> Option<Num> {
+        None
+    }
+
+    fn kind_of(&self, name: Name) -> Option<Name> {
+        kind_among(self.listed, name)
+    }
+
+    fn instance_at(&self, i: u32) -> Option<(Name, Name)> {
+        self.listed.get(i as usize).copied()
     }
 }

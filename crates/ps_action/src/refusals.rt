@@ -1,5 +1,7 @@
 //! Why effects aren't made, an act isn't grounded, a plan isn't good, or a text is no plan.
-use ps_world::Name;
+ghost use Rattle.std.specs.Prelude.{◌≡◌};
+
+use ps_world::{EditRefusal, Name};
 
 /// Why a list of effects isn't made. Effects are counted from 0.
 #[derive(Clone, Copy, PartialEq, Eq, Debug)]
@@ -23,6 +25,56 @@ pub enum GroundRefusal {
     NoInstance(Name),
     /// The type of the argument isn't the parameter's or below it.
     WrongType { at: usize },
+}
+
+/// A refusal that can say why an argument doesn't suit its parameter.
+pub trait Misfit: Copy {
+    ghost use Rattle.std.specs.Prelude.{ℕ};
+    ghost use Rattle.ps_world.specs.declared.names.Name.{Name as NameView};
+
+    ghost unknown: { NameView → Self };
+
+    ghost unfit: { ℕ → Self };
+
+    /// The argument is no instance.
+    fn no_instance(name: Name) -> Self
+        ensures { result ≡ unknown name };
+
+    /// The type of the argument at this place isn't the parameter's or below it.
+    fn wrong_type(at: usize) -> Self
+        ensures { result ≡ unfit at };
+}
+
+impl Misfit for GroundRefusal {
+    ghost use Rattle.ps_action.specs.declared.refusals.GroundRefusal.TheVariants.{NoInstance, WrongType};
+
+    ghost unknown = { NoInstance };
+
+    ghost unfit = { WrongType };
+
+    fn no_instance(name: Name) -> GroundRefusal {
+        GroundRefusal::NoInstance(name)
+    }
+
+    fn wrong_type(at: usize) -> GroundRefusal {
+        GroundRefusal::WrongType { at }
+    }
+}
+
+impl Misfit for EditRefusal {
+    ghost use Rattle.ps_world.specs.declared.edits.EditRefusal.TheVariants.{NoInstance, WrongType};
+
+    ghost unknown = { NoInstance };
+
+    ghost unfit = { WrongType };
+
+    fn no_instance(name: Name) -> EditRefusal {
+        EditRefusal::NoInstance(name)
+    }
+
+    fn wrong_type(at: usize) -> EditRefusal {
+        EditRefusal::WrongType { at }
+    }
 }
 
 /// Why a plan isn't good. Steps are counted from 0.

@@ -1,5 +1,5 @@
 -- The list of all ground actions has those of the acts that can be grounded, and rises.
-use Rattle.std.proofs.Common.{◌≡◌, ◌==◌, ◌⊎◌, inl, inr, ℕ, ◌+◌, ◌<◌, Bool, true, false, cond, if◌then◌else◌, Option, Some, None, find, Ok, Err, List, [], ◌∷◌, length, map, filter, fold, refl, sym, ap, subst, ◌∙◌, arith}
+use Rattle.std.proofs.Common.{◌≡◌, ◌==◌, ◌⊎◌, inl, inr, ℕ, ◌+◌, ◌<◌, Bool, true, false, cond, if◌then◌else◌, Option, Some, None, find, Ok, Err, List, [], ◌∷◌, length, map, filter, fold, refl, sym, ap, subst, ◌∙◌, arith, eq-eqb, eqb-true}
 use Rattle.std.specs.List.{AllByRecursion, AllZip, position_or_len}
 use Rattle.std.specs.Map.{lookup}
 use Rattle.std.specs.BTreeMap.{insert_entry}
@@ -29,11 +29,9 @@ use Rattle.ps_domain.proofs.Indexes.{same_turned}
 use Rattle.ps_domain.proofs.Counts.{Rises, rises-insert, tied}
 use Rattle.ps_domain.proofs.Pairs.{Pairs, each, each_weaker, each_of_two, each_mapped, pairs_from_AllPairs, pairs_kept, pairs_mapped, pairs_of_pieces, pairs_weaker, pairs_weaker_with, sorted_from_pairs}
 use Rattle.ps_domain.proofs.Members.{Has, has_from_Contains, Contains_from_has, has_all, has_passed, has_passes, has_found, has_mapped, has_image, has_piece, has_in_piece, zip_length, zip_weaker, zip_back}
+use Rattle.ps_action.proofs.Facts.{same_name-is}
 
 -- ---- names
-
-same_is : (n m : Name) → same_name n m ≡ true → n ≡ m
-same_is n m h = let e : n.0 ≡ m.0 = grind (arith, nat_tests) in λ i. record { 0 = e i }
 
 untied : (n m : Name) → same_name n m ≡ false → Equal ≡ name_cmp n m → ⊥
 untied n m h e = let same : same_name n m ≡ true = tied n m (ranked n.0 m.0 Equal e) in cc
@@ -112,7 +110,7 @@ rises-fold (x ∷ xs) es h = rises-fold xs (with_named es x) (rises-insert x.0 x
 
 kind_at : (n kind : Name) (e : Name × Name) (es : List (Name × Name)) (b : Bool) → same_name n e.0 ≡ b → (lookup (same_name n) es ≡ Some kind → Has es (n, kind)) → cond b (Some e.1) (lookup (same_name n) es) ≡ Some kind → Has (e ∷ es) (n, kind)
 kind_at n kind e es true s rest h =
-    let name : e.0 ≡ n = sym (same_is n e.0 s) in
+    let name : e.0 ≡ n = sym (same_name-is n e.0 s) in
     let type : e.1 ≡ kind = cc in
     inl (λ i. (name i, type i))
 kind_at n kind e es false s rest h = inr (rest h)
@@ -249,12 +247,6 @@ places_rise (a ∷ actions) p =
 
 -- ---- the law
 
-same_length : (m n : ℕ) → (m == n) ≡ true → m ≡ n
-same_length m n h = grind (arith, nat_tests)
-
-equal_lengths : (m n : ℕ) → m ≡ n → (m == n) ≡ true
-equal_lengths m n h = grind (arith, nat_tests)
-
 module _ (d : Domain) (instances : List (Name × Name)) where
   -- the first ground action stands before the second
   abbrev IsBefore : GroundAction → GroundAction → Type 0
@@ -303,14 +295,14 @@ module _ (d : Domain) (instances : List (Name × Name)) where
         → (if b then unless (first_unfit d instances a.params act.args 0) (grounded a act) else Err (Arity (length a.params) (length act.args))) ≡ Ok g → Has (all_ground d instances) g
     where_long a act g true s there name h =
         let m = where_fit a act g (first_unfit d instances a.params act.args 0) refl h in
-        listed a act g there name (fits_from d instances a.params act.args 0 (same_length (length a.params) (length act.args) s) m.0) m.1
+        listed a act g there name (fits_from d instances a.params act.args 0 (eqb-true (length a.params) (length act.args) s) m.0) m.1
     where_long a act g false s there name h = absurd (cc)
 
     where_there : (act : Act) (g : GroundAction) (o : Option ActionDef) → action_of d act.action ≡ o → ground_by d instances o act ≡ Ok g → Has (all_ground d instances) g
     where_there act g None s h = absurd (cc)
     where_there act g (Some a) s h =
         let m = has_found (λ b. same_name act.action b.name) d.actions a s in
-        where_long a act g (length a.params == length act.args) refl m.0 (same_is act.action a.name m.1) h
+        where_long a act g (length a.params == length act.args) refl m.0 (same_name-is act.action a.name m.1) h
 
     -- what is grounded stands in the list
     grounded_in : (act : Act) (g : GroundAction) → ground_act d instances act ≡ Ok g → Has (all_ground d instances) g
@@ -325,7 +317,7 @@ module _ (d : Domain) (instances : List (Name × Name)) where
         let args = k.0 in
         let act : Act = record { action = a.name; args = args } in
         let fits = zip_back (Fits d instances) Has (choices d instances) (choice_from d instances once) a.params args (picks_from (map (choices d instances) a.params) args k.1) in
-        let long : (length a.params == length args) ≡ true = equal_lengths (length a.params) (length args) (zip_length (Fits d instances) a.params args fits) in (
+        let long : (length a.params == length args) ≡ true = eq-eqb (length a.params) (length args) (zip_length (Fits d instances) a.params args fits) in (
           act,
           ap (λ (o : Option ActionDef). ground_by d instances o act) (found_there a d.actions apart m.1)
               ∙ (ap (λ (b : Bool). if b then unless (first_unfit d instances a.params args 0) (grounded a act) else Err (Arity (length a.params) (length args))) long

@@ -4,7 +4,7 @@ ghost use Rattle.std.specs.Option.{option_copied};
 ghost use Rattle.ps_world.specs.Knowledge.{is_type, is_below, predicate_of, function_of, action_of};
 
 use super::declared::Declared;
-use ps_action::Types;
+use ps_action::{Declares, Types};
 use ps_world::{ActionDef, Decl, Domain, Name};
 use std::alloc::{AllocError, Global};
 use std::marker::Model;
@@ -88,5 +88,15 @@ impl Types for Expert {
 
     fn is_subtype(&self, low: Name, high: Name) -> bool {
         Expert::is_subtype(self, low, high)
+    }
+}
+
+impl Declares for Expert {
+    fn predicate(&self, head: Name) -> Option<&Decl> {
+        Expert::predicate(self, head)
+    }
+
+    fn function(&self, head: Name) -> Option<&Decl> {
+        Expert::function(self, head)
     }
 }

@@ -1,64 +1,13 @@
 //! Ground actions: an act's action with the arguments of the act put in.
 ghost use Rattle.std.specs.Prelude.{◌≡◌, length, IfOk};
-ghost use Rattle.std.specs.Map.{lookup};
-ghost use Rattle.ps_world.specs.Names.{same_name};
-ghost use Rattle.ps_action.specs.Grounding.{grounded, unfit, first_unfit, put_all_effects, put_conditions};
+ghost use Rattle.ps_action.specs.Grounding.{grounded, put_all_effects, put_conditions};
 ghost use Rattle.ps_domain.specs.Grounding.{Grounds};
 
 use super::expert::Expert;
 use super::putting::{put_effects, put_expr, put_list};
-use ps_action::{Act, GroundAction, GroundRefusal};
+use ps_action::{Act, GroundAction, GroundRefusal, Instances, first_misfit};
 use ps_world::{ActionDef, Conditions, Effects, Failure, Name, Param};
 use std::alloc::{AllocError, Global};
-
-/// The type of an instance among these. None exactly where the name is none of them.
-fn kind_among(instances: &[(Name, Name)], name: Name) -> Option<Name>
-    ensures { result ≡ lookup (same_name name) instances.now }
-{
-    for there in instances {
-        if name == there.0 {
-            return Some(there.1);
-        }
-    }
-    None
-}
-
-/// Why a name of this type can't stand for a parameter, if it can't.
-fn unfit(
-    expert: &Expert,
-    kind: Option<Name>,
-    want: Name,
-    name: Name,
-    at: usize,
-) -> Option<GroundRefusal>
-    ensures { result ≡ unfit expert.now kind want name at }
-{
-    match kind {
-        None => Some(GroundRefusal::NoInstance(name)),
-        Some(kind) if expert.is_subtype(kind, want) => None,
-        Some(_) => Some(GroundRefusal::WrongType { at }),
-    }
-}
-
-/// The first argument that is no instance or doesn't fit its parameter.
-fn first_unfit(
-    expert: &Expert,
-    instances: &[(Name, Name)],
-    params: &[Param],
-    names: &[Name],
-) -> Option<GroundRefusal>
-    requires { length params.now ≡ length names.now }
-    ensures { result ≡ first_unfit expert.now instances.now params.now names.now 0 }
-{
-    for at in 0..params.len() {
-        let kind = kind_among(instances, names[at]);
-        let found = unfit(expert, kind, params[at].kind, names[at], at);
-        if found.is_some() {
-            return found;
-        }
-    }
-    None
-}
 
 fn put_conditions(
     alloc: Global,
@@ -119,7 +68,8 @@ impl Expert {
         if want != got {
             return Err(Failure::Refused(GroundRefusal::Arity { want, got }));
         }
-        if let Some(fault) = first_unfit(self, instances, params, args) {
+        let known = Instances { listed: instances };
+        if let Some(fault) = first_misfit(&known, self, params, args) {
             return Err(Failure::Refused(fault));
         }
         Ok(grounded(self.alloc, action, act)?)

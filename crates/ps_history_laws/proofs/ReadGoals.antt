@@ -152,7 +152,7 @@ module _ (after : Table) (first : 0 < length after) where
   equality_here (word l) b p q =
       elim (is mark.Number l.mark) as (λ x. IsCondHere (if x then cond.Cmp Eq (value certain line_words (word l)) (value certain line_words b) else cond.Same (Const l.name) (Const (word_of b).name))) [
         | true ↦ compared_here Eq (word l) b p q
-        | false ↦ ((p.below, word_name b q), tt)
+        | false ↦ ((p.below, word_name b q), (tt, tt))
       ]
 
   related_here : (o : Option Rel) (head : Bool) (a b : Nested) (other : Cond) → AllTold after a → AllTold after b → (head ≡ true → IsCondHere other) → (head || (is_some o && true)) ≡ true → IsCondHere (related certain line_words o a b other)

@@ -4,7 +4,8 @@ use Rattle.std.specs.List.{AllPairs}
 use Rattle.ps_world.specs.Names.{same_name}
 use Rattle.ps_world.specs.Numbers.{IsCount}
 use Rattle.ps_world.specs.Knowledge.{is_type, is_below, predicate_of, function_of, constant_of}
-use Rattle.ps_world.specs.Trees.{ExprTree, number, value_of, negated, operated, CondTree, CondTrees, all_of, no, holds, same, compares, is_a, none, more}
+use Rattle.ps_world.specs.Trees.{ExprTree, number, value_of, negated, operated, CondTree, CondTrees}
+use Rattle.ps_world.specs.Leaves.{Leaves, AllIn, AllInEach}
 use Rattle.ps_world.specs.ExprViews.{expr_tree}
 use Rattle.ps_world.specs.declared.names.Name.{Name}
 use Rattle.ps_world.specs.declared.schemas.Term.{Term}
@@ -79,19 +80,17 @@ IsExpr d ps (operated op x y) = IsExpr d ps x × IsExpr d ps y
 abbrev pub IsTerm : Domain → List Param → Term → Type 0
 IsTerm d ps t = (kind : Name) × HasKind d ps t kind
 
-abbrev mutual
-  -- a condition whose predicates, functions and terms are declared, in which no type is asked for
-  pub IsCond : Domain → List Param → CondTree → Type 0
-  IsCond d ps (all_of cs) = AreConds d ps cs
-  IsCond d ps (no c) = IsCond d ps c
-  IsCond d ps (holds l) = IsFactOf d ps l
-  IsCond d ps (same s t) = IsTerm d ps s × IsTerm d ps t
-  IsCond d ps (compares rel x y) = IsExpr d ps x × IsExpr d ps y
-  IsCond d ps (is_a t kind) = ⊥
+-- what a condition's leaves are: of predicates, functions and terms that are declared, and no type is asked for
+abbrev pub declared_leaves : Domain → Leaves
+declared_leaves d = record { atom = IsFactOf d; term = IsTerm d; value = IsExpr d; kind = λ ps kind. ⊥ }
 
-  pub AreConds : Domain → List Param → CondTrees → Type 0
-  AreConds d ps none = Unit {0}
-  AreConds d ps (more c cs) = IsCond d ps c × AreConds d ps cs
+-- a condition of such leaves
+abbrev pub IsCond : Domain → List Param → CondTree → Type 0
+IsCond d ps c = AllIn (declared_leaves d) ps c
+
+-- the same of several
+abbrev pub AreConds : Domain → List Param → CondTrees → Type 0
+AreConds d ps cs = AllInEach (declared_leaves d) ps cs
 
 -- an effect whose predicates and functions are declared
 abbrev pub IsEffect : Domain → List Param → Effect → Type 0

@@ -5,6 +5,7 @@ use Rattle.ps_world.specs.Names.{Table, name_text}
 use Rattle.ps_world.specs.Numbers.{IsCount, number_text}
 use Rattle.ps_world.specs.DomainTexts.{term_text, op_text, rel_text, num_op_text}
 use Rattle.ps_world.specs.Trees.{ExprTree, number, value_of, negated, operated, CondTree, CondTrees, all_of, no, holds, same, compares, is_a, none, more}
+use Rattle.ps_world.specs.Leaves.{Leaves, AllIn, AllInEach}
 use Rattle.ps_world.specs.ExprViews.{expr_tree}
 use Rattle.ps_world.specs.declared.names.Name.{Name}
 use Rattle.ps_world.specs.declared.schemas.Term.{Term}
@@ -154,20 +155,22 @@ IsExprOf count params (value_of l) = IsLiftedOf count params l
 IsExprOf count params (negated x) = IsExprOf count params x
 IsExprOf count params (operated op x y) = IsExprOf count params x × IsExprOf count params y
 
-abbrev mutual
-  -- the same of a condition, in which no `is_a` stands
-  pub IsCondOf : ℕ → ℕ → CondTree → Type 0
-  IsCondOf count params (all_of cs) = AreCondsOf count params cs
-  IsCondOf count params (no c) = IsCondOf count params c
-  IsCondOf count params (holds l) = IsLiftedOf count params l
-  IsCondOf count params (same s t) = IsTermOf count params s × IsTermOf count params t
-  IsCondOf count params (compares rel x y) = IsExprOf count params x × IsExprOf count params y
-  IsCondOf count params (is_a t kind) = ⊥
+-- the same of a condition's leaves, where no type is asked for
+abbrev pub numbered_leaves : ℕ → ℕ → Leaves
+numbered_leaves count params = record {
+  atom = λ ps l. IsLiftedOf count params l;
+  term = λ ps t. IsTermOf count params t;
+  value = λ ps x. IsExprOf count params x;
+  kind = λ ps kind. ⊥;
+}
 
-  -- the same of each of these conditions
-  pub AreCondsOf : ℕ → ℕ → CondTrees → Type 0
-  AreCondsOf count params none = Unit {0}
-  AreCondsOf count params (more c cs) = IsCondOf count params c × AreCondsOf count params cs
+-- the same of a condition
+abbrev pub IsCondOf : ℕ → ℕ → CondTree → Type 0
+IsCondOf count params c = AllIn (numbered_leaves count params) [] c
+
+-- the same of each of these conditions
+abbrev pub AreCondsOf : ℕ → ℕ → CondTrees → Type 0
+AreCondsOf count params cs = AllInEach (numbered_leaves count params) [] cs
 
 -- the same of an effect
 abbrev pub IsEffectOf : ℕ → ℕ → Effect → Type 0

@@ -16,7 +16,7 @@ use Rattle.ps_world.specs.declared.edits.Edit.{Edit}
 use Rattle.ps_world.specs.declared.edits.Edit.TheVariants.{AddInstance, RemoveInstance, AddFact, RemoveFact, SetValue, RemoveValue, SetGoal, RemoveGoal}
 use Rattle.ps_world.specs.declared.edits.EditRefusal.{EditRefusal}
 use Rattle.ps_world.specs.declared.edits.EditRefusal.TheVariants.{NoType, InstanceThere, Full, Constant, NoFact, NoValue}
-use Rattle.ps_problem.proofs.Facts.{same_name-is}
+use Rattle.ps_action.proofs.Facts.{same_name-is}
 
 -- an instance is there already, or there is room for it and it is put in
 abbrev pub IsPlaced : Knowledge → Name → Name → Knowledge → Type 0

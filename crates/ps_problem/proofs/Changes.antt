@@ -5,6 +5,7 @@ use Rattle.std.specs.Cmp.{first_so, second_so}
 use Rattle.std.specs.Map.{lookup}
 use Rattle.std.specs.Ordering.{eq_by_cmp}
 use Rattle.std.specs.BTreeMap.{insert_entry}
+use Rattle.std.proofs.lemmas.Bool.{not_from_false}
 use Rattle.std.proofs.lemmas.Cmp.{eq_by_cmp_equiv}
 use Rattle.std.proofs.lemmas.List.Kept.{IsStrictlySortedBy-filter}
 use Rattle.std.proofs.lemmas.Map.Entries.{lookup-filter-keys}
@@ -21,12 +22,13 @@ use Rattle.ps_world.specs.declared.known.Knowledge.{Knowledge}
 use Rattle.ps_world.specs.declared.edits.Edit.{Edit}
 use Rattle.ps_world.specs.declared.edits.Edit.TheVariants.{AddInstance, RemoveInstance, AddFact, RemoveFact, SetValue, RemoveValue, SetGoal, RemoveGoal}
 use Rattle.ps_problem.specs.Changes.{Rises, IsChange, EditsChange}
-use Rattle.ps_problem.proofs.Facts.{names_total, facts_total, exact_facts, same_name-is, same_name-refl}
-use Rattle.ps_problem.proofs.Keys.{sorted-insert_key, keys-insert_entry, lookup-insert_entry}
+use Rattle.ps_action.proofs.Facts.{names_total, facts_total, exact_facts, same_name-is, same_name-refl}
+use Rattle.ps_action.proofs.Keys.{sorted-insert_key, keys-insert_entry, lookup-insert_entry}
 use Rattle.ps_problem.proofs.Contained.{contains-insert_key}
 use Rattle.ps_problem.proofs.Filters.{sorted-filter}
 use Rattle.ps_problem.proofs.Removals.{tests_agree}
 use Rattle.ps_problem.proofs.Accepted.{IsPlaced, Accepted, accepted}
+use Rattle.ps_action.proofs.Contained.{fact_same, fact_in_filter}
 
 -- ---- tests
 
@@ -34,23 +36,12 @@ pub not_so : (b : Bool) → not b ≡ true → b ≡ false
 not_so true e = cc
 not_so false e = refl
 
-not_from : (b : Bool) → b ≡ false → not b ≡ true
-not_from true e = cc
-not_from false e = refl
-
-and_so : (a b : Bool) → a ≡ true → b ≡ true → (a && b) ≡ true
-and_so true b p q = q
-and_so false b p q = cc
-
 unchanged : {A : Type 0} → A ↔ A
 unchanged = (λ a. a, λ a. a)
 
 -- another second part that says the same
 with_second : {A B C D : Type 0} → A ↔ (B × C) → (C → D) → (D → C) → A ↔ (B × D)
 with_second i to from = (λ a. let w = i.0 a in (w.0, to w.1), λ w. i.1 (w.0, from w.1))
-
-pub fact_same : (f g : Fact) → same_fact f g ≡ true → f ≡ g
-fact_same f g e = tells_apart exact_facts f g e
 
 fact_itself : (f g : Fact) → f ≡ g → same_fact f g ≡ true
 fact_itself f g e = subst (λ x. same_fact f x ≡ true) e ((eq_by_cmp_equiv facts_total).refl f)
@@ -72,17 +63,6 @@ name_differs : (m n : Name) → n ≢ m → not (same_name m n) ≡ true
 name_differs m n h = differs (same_name m n) (λ e. sym (same_name-is m n e)) h
 
 -- ---- what stands in a list with some left out
-
-pub fact_in_filter : (p : Fact → Bool) (xs : List Fact) (f : Fact) → Contains (filter p xs) f ↔ (Contains xs f × (p f ≡ true))
-fact_in_filter p xs f =
-    let laws = eq_by_cmp_equiv facts_total in
-    let both : list_any (eq_by_cmp fact_cmp f) (filter p xs) ≡ (list_any (eq_by_cmp fact_cmp f) xs && p f) =
-    is_member-filter laws p f (λ g e. ap p (fact_same f g e)) xs in (
-      λ c.
-          let h : (list_any (eq_by_cmp fact_cmp f) xs && p f) ≡ true = sym both ∙ list_any-from_Contains laws f (filter p xs) c in
-          (Contains-from_any (tells_apart exact_facts) f xs (first_so (list_any (eq_by_cmp fact_cmp f) xs) (p f) h), second_so (list_any (eq_by_cmp fact_cmp f) xs) (p f) h),
-      λ w. Contains-from_any (tells_apart exact_facts) f (filter p xs) (both ∙ and_so (list_any (eq_by_cmp fact_cmp f) xs) (p f) (list_any-from_Contains laws f xs w.0) w.1),
-    )
 
 kept_value : {X : Type 0} (b : Bool) (o : Option X) (x : X) → (cond b o None ≡ Some x) ↔ ((o ≡ Some x) × (b ≡ true))
 kept_value true o x = (λ e. (e, refl), λ w. w.0)
@@ -156,9 +136,9 @@ placed_changes old at kind new (inr (f, few, e)) =
 left_out_changes : (old : Knowledge) (n : Name) → Changes old (RemoveInstance n) (without n old)
 left_out_changes old n = (
   record {
-    facts = λ f. with_second (fact_in_filter (λ g. not (is_among n g.args)) old.facts f) (not_so (is_among n f.args)) (not_from (is_among n f.args));
+    facts = λ f. with_second (fact_in_filter (λ g. not (is_among n g.args)) old.facts f) (not_so (is_among n f.args)) (not_from_false (is_among n f.args));
     kinds = λ m t. with_second (kind_in_filter (λ i. not (same_name n i)) old.instances m t) (name_apart n m) (name_differs n m);
-    values = λ f x. with_second (value_in_filter (λ g. not (is_among n g.args)) old.values f x) (not_so (is_among n f.args)) (not_from (is_among n f.args));
+    values = λ f x. with_second (value_in_filter (λ g. not (is_among n g.args)) old.values f x) (not_so (is_among n f.args)) (not_from_false (is_among n f.args));
     goal = refl;
   },
   λ s. record {

@@ -12,29 +12,9 @@ use Rattle.std.proofs.lemmas.Map.Lookups.{CmpEqualImpliesEq}
 use Rattle.std.proofs.lemmas.Map.Views.{list_any-from_Contains, Contains-from_any, tells_apart}
 use Rattle.ps_world.specs.Knowledge.{same_fact}
 use Rattle.ps_world.specs.declared.facts.Fact.{Fact}
-use Rattle.ps_problem.proofs.Facts.{facts_total, exact_facts}
-use Rattle.ps_problem.proofs.Keys.{any-insert_key}
-
-contains_at : {X : Type 0} (x y : X) (xs : List X) (k : ℕ) → k < length (x ∷ xs) → get_or (x ∷ xs) k y ≡ y → (x ≡ y) ⊎ Contains xs y
-contains_at x y xs zero l e = inl e
-contains_at x y xs (suc k) l e = inr (k, omega arith, e)
-
-pub contains_cases : {X : Type 0} (x y : X) (xs : List X) → Contains (x ∷ xs) y → (x ≡ y) ⊎ Contains xs y
-contains_cases x y xs c = contains_at x y xs c.0 c.1 c.2
-
-pub contains_first : {X : Type 0} (x : X) (xs : List X) → Contains (x ∷ xs) x
-contains_first x xs = (0, omega arith, refl)
-
-pub contains_later : {X : Type 0} (x y : X) (xs : List X) → Contains xs y → Contains (x ∷ xs) y
-contains_later x y xs c = (suc c.0, omega (arith, c.1), c.2)
-
-or_cases : (a b : Bool) → (a || b) ≡ true → (a ≡ true) ⊎ (b ≡ true)
-or_cases true b e = inl refl
-or_cases false b e = inr e
-
-pub or_second : (a b : Bool) → b ≡ true → (a || b) ≡ true
-or_second true b e = refl
-or_second false b e = e
+use Rattle.ps_action.proofs.Facts.{facts_total, exact_facts}
+use Rattle.ps_action.proofs.Keys.{any-insert_key}
+use Rattle.ps_action.proofs.Contained.{contains_cases, contains_first, contains_later, or_cases, or_second}
 
 module _ {K : Type 0} {R : K → K → Ordering} (o : IsTotalOrder R) (exact : CmpEqualImpliesEq R) where
   -- after one more key: the keys from before, and that one
@@ -78,7 +58,7 @@ filter-filter p q h (x ∷ xs) = filtered_at p q x xs (p x) (q x) refl refl (h x
 pub filter-all : {X : Type 0} (p : X → Bool) (xs : List X) → ((x : X) → Contains xs x → p x ≡ true) → filter p xs ≡ xs
 filter-all p [] h = refl
 filter-all p (x ∷ xs) h =
-    let here = h x (contains_first x xs) in rw here (ap (λ l. x ∷ l) (filter-all p xs (λ y c. h y (contains_later x y xs c))))
+    let here = h x (contains_first x x xs refl) in rw here (ap (λ l. x ∷ l) (filter-all p xs (λ y c. h y (contains_later x y xs c))))
 
 -- whether some item passes, with one more at the end
 pub list_any-push : {X : Type 0} (p : X → Bool) (xs : List X) (x : X) → list_any p (xs ++ x ∷ []) ≡ true → (list_any p xs ≡ true) ⊎ (p x ≡ true)

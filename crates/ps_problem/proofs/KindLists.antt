@@ -9,7 +9,7 @@ use Rattle.std.proofs.lemmas.Map.Entries.{lookup-filter-keys}
 use Rattle.ps_world.specs.Names.{name_cmp, same_name}
 use Rattle.ps_world.specs.declared.names.Name.{Name}
 use Rattle.ps_problem.specs.KindLists.{AreKinds, AreAfter}
-use Rattle.ps_problem.proofs.Facts.{same_name-refl}
+use Rattle.ps_action.proofs.Facts.{same_name-refl}
 use Rattle.ps_problem.proofs.Changes.{kind_after}
 
 -- ---- one more type is listed

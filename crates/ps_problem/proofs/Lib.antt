@@ -1,11 +1,9 @@
 pub mod Accepted
 pub mod Changes
 pub mod Contained
-pub mod Facts
 pub mod Filters
 pub mod Gathered
 pub mod Goals
-pub mod Keys
 pub mod KindLists
 pub mod Namings
 pub mod Opening

@@ -25,9 +25,11 @@ use Rattle.ps_world.specs.declared.numbers.Num.{Num}
 use Rattle.ps_world.specs.declared.facts.Fact.{Fact}
 use Rattle.ps_problem.specs.declared.problem.namings.Naming.{Naming}
 use Rattle.ps_problem.specs.Namings.{naming_cmp, IsNaming, Covers, AreNamed, lowest_fact}
-use Rattle.ps_problem.proofs.Facts.{names_total, facts_total, exact_names, exact_facts, same_name-is, same_name-refl}
-use Rattle.ps_problem.proofs.Changes.{not_so, fact_same, fact_apart, fact_in_filter}
-use Rattle.ps_problem.proofs.Contained.{or_second, contains-insert_key, contains-remove_key, filter-filter, filter-all, list_any-push}
+use Rattle.ps_action.proofs.Facts.{names_total, facts_total, exact_names, exact_facts, same_name-is, same_name-refl}
+use Rattle.ps_action.proofs.Contained.{fact_same, fact_in_filter}
+use Rattle.ps_problem.proofs.Changes.{not_so, fact_apart}
+use Rattle.ps_action.proofs.Contained.{or_second}
+use Rattle.ps_problem.proofs.Contained.{contains-insert_key, contains-remove_key, filter-filter, filter-all, list_any-push}
 
 pub namings_total : IsTotalOrder naming_cmp
 namings_total = then_total (on_total (λ x. x.name) names_total) (on_total (λ x. x.fact) facts_total)

@@ -12,15 +12,15 @@ use Rattle.ps_world.specs.Names.{name_cmp, same_name}
 use Rattle.ps_world.specs.Knowledge.{with_constant}
 use Rattle.ps_world.specs.declared.names.Name.{Name}
 use Rattle.ps_world.specs.declared.domains.Param.{Param}
-use Rattle.ps_problem.proofs.Facts.{names_total, same_name-is, same_name-refl}
-use Rattle.ps_problem.proofs.Keys.{sorted-insert_key, keys-insert_entry}
-use Rattle.ps_problem.proofs.Contained.{contains_cases, contains_first, contains_later}
+use Rattle.ps_action.proofs.Facts.{names_total, same_name-is, same_name-refl}
+use Rattle.ps_action.proofs.Keys.{sorted-insert_key, keys-insert_entry}
+use Rattle.ps_action.proofs.Contained.{contains_cases, contains_first, contains_later}
 use Rattle.ps_problem.proofs.Changes.{kind_after}
 
 -- ---- the instances after some constants
 
 put_in : (instances : List (Name × Name)) (c : Param) (cs : List Param) (n t : Name) (b : Bool) → same_name n c.name ≡ b → cond b (Some c.kind) (lookup (same_name n) instances) ≡ Some t → (lookup (same_name n) instances ≡ Some t) ⊎ ((other : Param) × Contains (c ∷ cs) other × (other.name ≡ n) × (other.kind ≡ t))
-put_in instances c cs n t true s e = inr (c, contains_first c cs, sym (same_name-is n c.name s), cc)
+put_in instances c cs n t true s e = inr (c, contains_first c c cs refl, sym (same_name-is n c.name s), cc)
 put_in instances c cs n t false s e = inl e
 
 -- an instance is one from before, or a constant with its type

@@ -3,7 +3,8 @@ use Rattle.std.proofs.Common.{◌≡◌, ℕ, Bool, true, false, not, ◌&&◌, 
 use Rattle.std.specs.List.{list_any}
 use Rattle.std.specs.List.Sorted.{IsStrictlySortedBy}
 use Rattle.std.specs.BTreeSet.{insert_key}
-use Rattle.std.proofs.Math.Bool.{or_comm}
+use Rattle.std.proofs.Math.Bool.{and-true, or_comm, or-false}
+use Rattle.std.proofs.lemmas.Bool.{or_left}
 use Rattle.std.proofs.lemmas.Cmp.{eq_by_cmp_equiv}
 use Rattle.std.proofs.lemmas.List.{take-append-drop}
 use Rattle.std.proofs.lemmas.List.Folds.{list_any-append}
@@ -17,9 +18,10 @@ use Rattle.ps_world.specs.declared.actions.Effect.{Effect}
 use Rattle.ps_world.specs.declared.actions.Effect.TheVariants.{Add, Delete, Number}
 use Rattle.ps_action.specs.Effects.{deletes, added_by}
 use Rattle.ps_problem.specs.Puts.{deleted_by, fresh_in, lost_in, without_one}
-use Rattle.ps_problem.proofs.Facts.{facts_total, exact_facts}
-use Rattle.ps_problem.proofs.Keys.{sorted-insert_key, any-insert_key}
-use Rattle.ps_problem.proofs.Changes.{fact_same}
+use Rattle.ps_action.proofs.Facts.{facts_total, exact_facts}
+use Rattle.ps_action.proofs.Keys.{sorted-insert_key, any-insert_key}
+use Rattle.ps_action.proofs.Contained.{fact_same}
+use Rattle.ps_action.proofs.MadeFacts.{sorted-fold}
 
 -- whether a fact is in a list
 abbrev pub known : Fact → List Fact → Bool
@@ -32,15 +34,11 @@ or_swap true true c = refl
 or_swap true false c = refl
 or_swap false b c = refl
 
-or_false : (a : Bool) → (a || false) ≡ a
-or_false true = refl
-or_false false = refl
-
 -- a key that is put into a set, and stands last in a list
 pub known_more : (f g : Fact) (keys listed : List Fact) → known f keys ≡ known f listed → known f (insert_key fact_cmp keys g) ≡ known f (listed ++ g ∷ [])
 known_more f g keys listed e =
     any-insert_key facts_total f g keys ∙ or_comm (same_fact f g) (known f keys) ∙ ap (λ b. b || same_fact f g) e
-    ∙ ap (λ b. known f listed || b) (sym (or_false (same_fact f g))) ∙ sym (list_any-append (same_fact f) listed (g ∷ []))
+    ∙ ap (λ b. known f listed || b) (sym (or-false (same_fact f g))) ∙ sym (list_any-append (same_fact f) listed (g ∷ []))
 
 -- ---- facts
 
@@ -51,14 +49,10 @@ facts_same : (xs ys : List Fact) → IsStrictlySortedBy fact_cmp xs → IsStrict
 facts_same xs ys s t h = btree_set_from_contains facts_total (record { keys = xs }) (record { keys = ys }) s t h exact_facts
 
 known-inserted : (f : Fact) (old xs : List Fact) → known f (fold (insert_key fact_cmp) old xs) ≡ (known f old || known f xs)
-known-inserted f old [] = sym (or_false (known f old))
+known-inserted f old [] = sym (or-false (known f old))
 known-inserted f old (x ∷ xs) =
     known-inserted f (insert_key fact_cmp old x) xs ∙ ap (λ b. b || known f xs) (any-insert_key facts_total f x old)
     ∙ or_swap (same_fact f x) (known f old) (known f xs)
-
-and_true : (a : Bool) → (a && true) ≡ a
-and_true true = refl
-and_true false = refl
 
 and_not : (a b c : Bool) → ((a && not b) && not c) ≡ (a && not (b || c))
 and_not true true c = refl
@@ -66,16 +60,12 @@ and_not true false c = refl
 and_not false b c = refl
 
 known-removed : (f : Fact) (old xs : List Fact) → known f (fold without_one old xs) ≡ (known f old && not (known f xs))
-known-removed f old [] = sym (and_true (known f old))
+known-removed f old [] = sym (and-true (known f old))
 known-removed f old (x ∷ xs) =
     let one : known f (without_one old x) ≡ (known f old && not (same_fact f x)) =
     known-filter f (λ g. not (same_fact x g)) old ∙ ap (λ b. known f old && not b) ((eq_by_cmp_equiv facts_total).symm x f) in
     known-removed f (without_one old x) xs ∙ ap (λ b. b && not (known f xs)) one
     ∙ and_not (known f old) (same_fact f x) (known f xs)
-
-sorted-inserted : (old xs : List Fact) → IsStrictlySortedBy fact_cmp old → IsStrictlySortedBy fact_cmp (fold (insert_key fact_cmp) old xs)
-sorted-inserted old [] s = s
-sorted-inserted old (x ∷ xs) s = sorted-inserted (insert_key fact_cmp old x) xs (sorted-insert_key facts_total x old s)
 
 sorted-removed : (old xs : List Fact) → IsStrictlySortedBy fact_cmp old → IsStrictlySortedBy fact_cmp (fold without_one old xs)
 sorted-removed old [] s = s
@@ -97,10 +87,6 @@ balance false true true = refl
 balance false true false = refl
 balance false false true = refl
 balance false false false = refl
-
-pub or_neither : (a b : Bool) → (a || b) ≡ false → (a ≡ false) × (b ≡ false)
-or_neither true b e = absurd (cc)
-or_neither false b e = (refl, e)
 
 not_both : (a b : Bool) → a ≡ true → (a || b) ≡ false → ⊥
 not_both true b p q = cc
@@ -137,13 +123,9 @@ unbalance false true false h = refl
 unbalance false false true h = cc (h refl)
 unbalance false false false h = refl
 
-or_first : (a b : Bool) → a ≡ true → (a || b) ≡ true
-or_first true b e = refl
-or_first false b e = cc
-
 known-take : (f : Fact) (k : ℕ) (xs : List Fact) → known f (take k xs) ≡ true → known f xs ≡ true
 known-take f k xs h =
-    ap (known f) (sym (take-append-drop k xs)) ∙ list_any-append (same_fact f) (take k xs) (drop k xs) ∙ or_first (known f (take k xs)) (known f (drop k xs)) h
+    ap (known f) (sym (take-append-drop k xs)) ∙ list_any-append (same_fact f) (take k xs) (drop k xs) ∙ or_left (known f (take k xs)) (known f (drop k xs)) h
 
 module _ (old : List Fact) (es : List Effect) (sorted : IsStrictlySortedBy fact_cmp old) where
   abbrev facts_after : List Fact
@@ -173,10 +155,10 @@ module _ (old : List Fact) (es : List Effect) (sorted : IsStrictlySortedBy fact_
       ∙ ap (λ b. (known f old && not b) || known f (filter_map added_by es)) (known-deleted f es)
 
   pub sorted_made : IsStrictlySortedBy fact_cmp facts_made
-  sorted_made = sorted-inserted _ (filter_map added_by es) (IsStrictlySortedBy-filter fact_cmp (λ f. not (list_any (deletes f) es)) old sorted)
+  sorted_made = sorted-fold _ (filter_map added_by es) (IsStrictlySortedBy-filter fact_cmp (λ f. not (list_any (deletes f) es)) old sorted)
 
   sorted_after : IsStrictlySortedBy fact_cmp facts_after
-  sorted_after = sorted-removed _ (lost_in old es) (sorted-inserted old (fresh_in old es) sorted)
+  sorted_after = sorted-removed _ (lost_in old es) (sorted-fold old (fresh_in old es) sorted)
 
   -- the adds before the deletes, without the deletes of what is added: the same facts
   pub facts_put : facts_after ≡ facts_made
@@ -185,7 +167,7 @@ module _ (old : List Fact) (es : List Effect) (sorted : IsStrictlySortedBy fact_
   -- what came before memory ran out is taken out
   pub facts_undone : (k : ℕ) → fold without_one (fold (insert_key fact_cmp) old (take k (fresh_in old es))) (fresh_in old es) ≡ old
   facts_undone k =
-      facts_same _ old (sorted-removed _ (fresh_in old es) (sorted-inserted old (take k (fresh_in old es)) sorted)) sorted (λ f.
+      facts_same _ old (sorted-removed _ (fresh_in old es) (sorted-fold old (take k (fresh_in old es)) sorted)) sorted (λ f.
       known-removed f (fold (insert_key fact_cmp) old (take k (fresh_in old es))) (fresh_in old es)
       ∙ ap (λ b. b && not (known f (fresh_in old es))) (known-inserted f old (take k (fresh_in old es)))
       ∙ ap (λ b. (known f old || known f (take k (fresh_in old es))) && not b) (fresh_known f)

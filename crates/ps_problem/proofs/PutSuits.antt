@@ -13,7 +13,8 @@ use Rattle.ps_problem.specs.Puts.{deleted_by}
 use Rattle.ps_problem.specs.WellKnown.{Suits, IsWellKnown, PutSuits, PutsKeepWellKnown}
 use Rattle.ps_problem.proofs.Contained.{is_known-Contains}
 use Rattle.ps_problem.proofs.PutFacts.{known, sorted_made, made_known}
-use Rattle.ps_problem.proofs.PutValues.{sorted-set, key_of_known, unset, one_or_other}
+use Rattle.ps_problem.proofs.PutValues.{key_of_known, unset, one_or_other}
+use Rattle.ps_action.proofs.MadeValues.{values_rise}
 use Rattle.ps_problem.proofs.WellKnown.{after_growth}
 
 known_or_added : (o a d : Bool) → ((o && not d) || a) ≡ true → (o ≡ true) ⊎ (a ≡ true)
@@ -44,7 +45,7 @@ module _ (d : Domain) (k : Knowledge) (es : List Effect) (ready : List (Fact × 
   stays_well_known : IsWellKnown d (made k es ready)
   stays_well_known =
       after_growth d k (made k es ready) w (λ n t e. e)
-      (record { instances = w.rises.instances; facts = sorted_made k.facts es w.rises.facts; values = sorted-set k.values ready w.rises.values })
+      (record { instances = w.rises.instances; facts = sorted_made k.facts es w.rises.facts; values = values_rise k.values ready w.rises.values })
       w.few w.types fact_suits value_suits w.goal
 
 pub puts_keep_well_known : PutsKeepWellKnown

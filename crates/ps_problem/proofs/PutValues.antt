@@ -6,6 +6,7 @@ use Rattle.std.specs.Map.{lookup, keys_of, set_value}
 use Rattle.std.specs.Ordering.{ordering_reverse}
 use Rattle.std.specs.declared.cmp.Ordering.{Ordering}
 use Rattle.std.specs.declared.cmp.Ordering.TheVariants.{Less, Equal, Greater}
+use Rattle.std.proofs.lemmas.Bool.{or_parts}
 use Rattle.std.proofs.lemmas.Cmp.{eq_by_cmp_equiv}
 use Rattle.std.proofs.Math.ListN.{get_or-map}
 use Rattle.std.proofs.lemmas.List.{length-map}
@@ -19,12 +20,13 @@ use Rattle.ps_world.specs.declared.numbers.Num.{Num}
 use Rattle.ps_world.specs.declared.facts.Fact.{Fact}
 use Rattle.ps_action.specs.Effects.{with_value}
 use Rattle.ps_problem.specs.Puts.{held_in, put_back, with_held}
-use Rattle.ps_problem.proofs.Facts.{facts_total, exact_facts}
-use Rattle.ps_problem.proofs.Keys.{sorted-insert_key, keys-insert_entry, lookup-insert_entry}
-use Rattle.ps_problem.proofs.Changes.{fact_same}
-use Rattle.ps_problem.proofs.Contained.{contains_first, contains_later}
+use Rattle.ps_action.proofs.Facts.{facts_total, exact_facts}
+use Rattle.ps_action.proofs.Keys.{sorted-insert_key, keys-insert_entry, lookup-insert_entry}
+use Rattle.ps_action.proofs.Contained.{fact_same}
+use Rattle.ps_action.proofs.Contained.{contains_first, contains_later}
 use Rattle.ps_problem.proofs.Filters.{sorted-filter}
-use Rattle.ps_problem.proofs.PutFacts.{known, or_neither}
+use Rattle.ps_problem.proofs.PutFacts.{known}
+use Rattle.ps_action.proofs.MadeValues.{values_rise}
 
 nowhere_at : {K X : Type 0} (test : K → Bool) (x : K × X) (es : List (K × X)) (w : X) (b : Bool) → (lookup test es ≡ None → set_value test es w ≡ es) → cond b (Some x.1) (lookup test es) ≡ None → cond b ((x.0, w) ∷ es) (x ∷ set_value test es w) ≡ x ∷ es
 nowhere_at test x es w true h e = absurd (cc)
@@ -83,10 +85,6 @@ values_same (x ∷ xs) (y ∷ ys) s t h =
     tail_at f x.0 x.1 xs ys (same_fact f x.0) refl (sorted_head fact_cmp x.0 (keys_of xs) s) (sorted_head fact_cmp x.0 (keys_of ys) up) (worths f)) in
     λ i. pair i ∷ rest i
 
-pub sorted-set : (vs ready : List (Fact × Num)) → IsStrictlySortedBy fact_cmp (keys_of vs) → IsStrictlySortedBy fact_cmp (keys_of (fold with_value vs ready))
-sorted-set vs [] s = s
-sorted-set vs (r ∷ rs) s = sorted-set (with_value vs r) rs (rw (keys-insert_entry facts_total r.0 r.1 vs) (sorted-insert_key facts_total r.0 _ s))
-
 sorted-put_back : (vs : List (Fact × Num)) (f : Fact) (o : Option Num) → IsStrictlySortedBy fact_cmp (keys_of vs) → IsStrictlySortedBy fact_cmp (keys_of (put_back vs f o))
 sorted-put_back vs f None s = sorted-filter fact_cmp (λ g. not (same_fact f g)) vs s
 sorted-put_back vs f (Some n) s = rw (keys-set_value (same_fact f) vs n) s
@@ -99,7 +97,7 @@ sorted-held vs (h ∷ hs) s = sorted-held (with_held vs h) hs (sorted-put_back v
 pub unset : (f : Fact) (vs ready : List (Fact × Num)) → known f (keys_of ready) ≡ false → worth f (fold with_value vs ready) ≡ worth f vs
 unset f vs [] e = refl
 unset f vs (r ∷ rs) e =
-    let both = or_neither (same_fact f r.0) (known f (keys_of rs)) e in
+    let both = or_parts (same_fact f r.0) (known f (keys_of rs)) e in
     unset f (with_value vs r) rs both.1 ∙ lookup-insert_entry facts_total f r.0 r.1 vs ∙ ap (λ b. cond b (Some r.1) (worth f vs)) both.0
 
 some_after : (b : Bool) (n : Num) (o : Option Num) → is_some o ≡ true → is_some (cond b (Some n) o) ≡ true
@@ -176,12 +174,12 @@ known-take-keys : (f : Fact) (k : ℕ) (ready : List (Fact × Num)) → known f 
 known-take-keys f zero ready e = refl
 known-take-keys f (suc k) [] e = refl
 known-take-keys f (suc k) (r ∷ rs) e =
-    let both = or_neither (same_fact f r.0) (known f (keys_of rs)) e in rw both.0 (known-take-keys f k rs both.1)
+    let both = or_parts (same_fact f r.0) (known f (keys_of rs)) e in rw both.0 (known-take-keys f k rs both.1)
 
 -- the values that were set before memory ran out are put back
 pub values_undone : (old ready : List (Fact × Num)) (k : ℕ) → IsStrictlySortedBy fact_cmp (keys_of old) → fold with_held (fold with_value old (take k ready)) (held_in old ready) ≡ old
 values_undone old ready k sorted =
-    values_same _ old (sorted-held _ (held_in old ready) (sorted-set old (take k ready) sorted)) sorted (λ f.
+    values_same _ old (sorted-held _ (held_in old ready) (values_rise old (take k ready) sorted)) sorted (λ f.
     all_back old f (fold with_value old (take k ready)) ready (still_some f old (take k ready)) (
     elim (one_or_other (known f (keys_of ready))) [
       | inl e ↦ inl (unset f old (take k ready) (known-take-keys f k ready e))
@@ -192,7 +190,7 @@ values_undone old ready k sorted =
 -- ---- whether values change
 
 key_at : (f : Fact) (r : Fact × Num) (rs : List (Fact × Num)) (b : Bool) → same_fact f r.0 ≡ b → (b || known f (keys_of rs)) ≡ true → (known f (keys_of rs) ≡ true → (x : Fact × Num) × Contains rs x × (f ≡ x.0)) → (x : Fact × Num) × Contains (r ∷ rs) x × (f ≡ x.0)
-key_at f r rs true s e later = (r, contains_first r rs, fact_same f r.0 s)
+key_at f r rs true s e later = (r, contains_first r r rs refl, fact_same f r.0 s)
 key_at f r rs false s e later = let w = later e in (w.0, contains_later r w.0 rs w.1, w.2)
 
 pub key_of_known : (f : Fact) (ready : List (Fact × Num)) → known f (keys_of ready) ≡ true → (r : Fact × Num) × Contains ready r × (f ≡ r.0)
@@ -209,7 +207,7 @@ from_map old new ready all =
 -- Where each term is worth what it was, the values are the same.
 pub values_kept : (old ready : List (Fact × Num)) → IsStrictlySortedBy fact_cmp (keys_of old) → All (λ h. worth h.0 (fold with_value old ready) ≡ h.1) (held_in old ready) → fold with_value old ready ≡ old
 values_kept old ready sorted all =
-    values_same _ old (sorted-set old ready sorted) sorted (λ f.
+    values_same _ old (values_rise old ready sorted) sorted (λ f.
     elim (one_or_other (known f (keys_of ready))) [
       | inl e ↦ unset f old ready e
       | inr e ↦

@@ -11,7 +11,7 @@ use Rattle.ps_world.specs.Names.{name_cmp, same_name}
 use Rattle.ps_world.specs.Knowledge.{kind_of, without}
 use Rattle.ps_world.specs.declared.names.Name.{Name}
 use Rattle.ps_world.specs.declared.known.Knowledge.{Knowledge}
-use Rattle.ps_problem.proofs.Facts.{names_total}
+use Rattle.ps_action.proofs.Facts.{names_total}
 use Rattle.ps_problem.proofs.Filters.{remove_entry-filter}
 
 pub tests_agree : (a b : Name) → same_name a b ≡ eq_by_cmp name_cmp a b

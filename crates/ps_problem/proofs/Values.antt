@@ -10,9 +10,9 @@ use Rattle.ps_world.specs.Knowledge.{same_fact}
 use Rattle.ps_world.specs.declared.numbers.Num.{Num}
 use Rattle.ps_world.specs.declared.facts.Fact.{Fact}
 use Rattle.ps_world.specs.declared.known.Knowledge.{Knowledge}
-use Rattle.ps_problem.proofs.Facts.{facts_total}
+use Rattle.ps_action.proofs.Facts.{facts_total}
 use Rattle.ps_problem.proofs.Filters.{insert_entry-same}
-use Rattle.ps_problem.proofs.Keys.{lookup-insert_entry}
+use Rattle.ps_action.proofs.Keys.{lookup-insert_entry}
 
 -- a value that is set is found
 pub set_is_found : (f : Fact) (x : Num) (es : List (Fact × Num)) → lookup (same_fact f) (insert_entry fact_cmp es f x) ≡ Some x

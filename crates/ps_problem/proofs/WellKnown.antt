@@ -18,10 +18,10 @@ use Rattle.ps_world.specs.declared.edits.Edit.TheVariants.{AddInstance, RemoveIn
 use Rattle.ps_world.specs.declared.edits.EditRefusal.TheVariants.{NoPredicate, NoFunction}
 use Rattle.ps_problem.specs.Changes.{Rises, IsChange}
 use Rattle.ps_problem.specs.WellKnown.{Suits, IsWellKnown, HasConstants, EditsKeepWellKnown}
-use Rattle.ps_problem.proofs.Facts.{same_name-refl}
+use Rattle.ps_action.proofs.Facts.{same_name-refl}
 use Rattle.ps_problem.proofs.Accepted.{IsPlaced, Accepted, accepted}
 use Rattle.ps_problem.proofs.Changes.{edits_change}
-use Rattle.ps_problem.proofs.Contained.{contains_cases}
+use Rattle.ps_action.proofs.Contained.{contains_cases}
 use Rattle.ps_problem.proofs.Opening.{kind_opened, constant_opened, length-insert_entry, few_opened, sorted_opened}
 use Rattle.ps_problem.proofs.Suits.{Spared, suits_from, suits_stay, cond_stays}
 

@@ -5,7 +5,6 @@ ghost use Rattle.ps_world.specs.Edits.{Edits};
 
 mod edits;
 mod facts;
-mod faults;
 mod instances;
 mod known;
 mod namings;

@@ -69,8 +69,8 @@ module _ (names : Table) where
     cond_heads _ _ (fits_all room cs fit) = conds_heads room cs fit
     cond_heads _ _ (fits_not room c fit) = cond_heads room c fit
     cond_heads _ _ (fits_fact room l head) = head
-    cond_heads _ _ (fits_same room s t) = tt
-    cond_heads _ _ (fits_comparison room rel x y fit also) = tt
+    cond_heads _ _ (fits_same room s t) = (tt, tt)
+    cond_heads _ _ (fits_comparison room rel x y fit also) = (tt, tt)
 
     conds_heads : (room : ℕ) (cs : CondTrees) → FitConds names room cs → HaveFactHeads names cs
     conds_heads _ _ (fit_none room) = tt

@@ -1,7 +1,8 @@
 -- The domains that can be written with a table of names.
 use Rattle.std.specs.Prelude.{◌≡◌, ℕ, suc, ◌+◌, ◌≤◌, max, true, List, codes, length, All}
 use Rattle.ps_world.specs.Names.{Table, name_text}
-use Rattle.ps_world.specs.Trees.{CondTree, CondTrees, all_of, no, holds, same, compares, is_a, none, more}
+use Rattle.ps_world.specs.Trees.{CondTree, CondTrees}
+use Rattle.ps_world.specs.Leaves.{Leaves, AllIn, AllInEach}
 use Rattle.ps_world.specs.ExprViews.{expr_tree}
 use Rattle.ps_world.specs.declared.names.Name.{Name}
 use Rattle.ps_world.specs.declared.actions.Effect.{Effect}
@@ -35,20 +36,22 @@ AreParamNames names ps = All (λ p. name_text names p.name ≡ codes "duration" 
 
 -- ---- conditions and effects
 
-abbrev mutual
-  -- a condition in which each fact has a head that may stand there
-  pub HasFactHeads : Table → CondTree → Type 0
-  HasFactHeads names (all_of cs) = HaveFactHeads names cs
-  HasFactHeads names (no c) = HasFactHeads names c
-  HasFactHeads names (holds l) = IsFactHead names l.head
-  HasFactHeads names (same s t) = Unit {0}
-  HasFactHeads names (compares rel x y) = Unit {0}
-  HasFactHeads names (is_a t kind) = Unit {0}
+-- what is said of a condition's leaves here: each fact has a head that may stand there
+abbrev pub headed_leaves : Table → Leaves
+headed_leaves names = record {
+  atom = λ ps l. IsFactHead names l.head;
+  term = λ ps t. Unit {0};
+  value = λ ps x. Unit {0};
+  kind = λ ps kind. Unit {0};
+}
 
-  -- the same of several
-  pub HaveFactHeads : Table → CondTrees → Type 0
-  HaveFactHeads names none = Unit {0}
-  HaveFactHeads names (more c cs) = HasFactHeads names c × HaveFactHeads names cs
+-- a condition of such leaves
+abbrev pub HasFactHeads : Table → CondTree → Type 0
+HasFactHeads names c = AllIn (headed_leaves names) [] c
+
+-- the same of several
+abbrev pub HaveFactHeads : Table → CondTrees → Type 0
+HaveFactHeads names cs = AllInEach (headed_leaves names) [] cs
 
 -- how many parentheses the text of an effect has open at one place, at most
 abbrev pub effect_opens : Effect → ℕ

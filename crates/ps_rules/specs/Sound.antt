@@ -5,6 +5,7 @@ use Rattle.std.specs.List.{AllPairs, list_all}
 use Rattle.std.specs.Option.{IsSomeAnd}
 use Rattle.ps_world.specs.Names.{same_name}
 use Rattle.ps_world.specs.Trees.{ExprTree, number, value_of, negated, operated, CondTree, CondTrees, all_of, no, holds, same, compares, is_a, none, more}
+use Rattle.ps_world.specs.Leaves.{Leaves, AllIn, AllInEach}
 use Rattle.ps_world.specs.CondViews.{cond_tree}
 use Rattle.ps_world.specs.Knowledge.{action_of}
 use Rattle.ps_world.specs.declared.names.Name.{Name}
@@ -46,19 +47,22 @@ is_ground_expr (value_of l) = are_named l
 is_ground_expr (negated x) = is_ground_expr x
 is_ground_expr (operated op x y) = is_ground_expr x && is_ground_expr y
 
--- whether no variable stands in a condition, and none in it says that an instance has a type
-abbrev mutual
-  pub is_ground_cond : CondTree → Bool
-  is_ground_cond (all_of cs) = are_ground_conds cs
-  is_ground_cond (no c) = is_ground_cond c
-  is_ground_cond (holds l) = are_named l
-  is_ground_cond (same s t) = is_named s && is_named t
-  is_ground_cond (compares rel x y) = is_ground_expr x && is_ground_expr y
-  is_ground_cond (is_a t kind) = false
+-- what a condition's leaves are in a script: no variable stands there, and no type is asked for
+abbrev pub ground_leaves : Leaves
+ground_leaves = record {
+  atom = λ ps l. IsTrue (are_named l);
+  term = λ ps t. IsTrue (is_named t);
+  value = λ ps x. IsTrue (is_ground_expr x);
+  kind = λ ps kind. ⊥;
+}
 
-  pub are_ground_conds : CondTrees → Bool
-  are_ground_conds none = true
-  are_ground_conds (more c cs) = is_ground_cond c && are_ground_conds cs
+-- a condition of such leaves
+abbrev pub IsGroundCond : CondTree → Type 0
+IsGroundCond c = AllIn ground_leaves [] c
+
+-- the same of several
+abbrev pub AreGroundConds : CondTrees → Type 0
+AreGroundConds cs = AllInEach ground_leaves [] cs
 
 -- how many parentheses the text of an expression has open at one place, at most
 abbrev pub expr_opens : ExprTree → ℕ
@@ -83,7 +87,7 @@ abbrev mutual
 
 -- a condition that a script may write: no variable stands in it, and at most 64 parentheses are open at one place
 pub record IsScriptCond (c : Cond) : Type 0 where
-  pub named : IsTrue (is_ground_cond (cond_tree c))
+  pub named : IsGroundCond (cond_tree c)
   pub shallow : cond_opens (cond_tree c) ≤ 64
 
 -- an edit that a script may write: so is its goal, where it sets one

@@ -2,7 +2,8 @@
 use Rattle.std.specs.Prelude.{◌≡◌, ℕ, ◌≤◌, true, List, length, All}
 use Rattle.ps_world.specs.Names.{Table, name_text}
 use Rattle.ps_world.specs.Numbers.{IsCount}
-use Rattle.ps_world.specs.Trees.{ExprTree, number, value_of, negated, operated, CondTree, CondTrees, all_of, no, holds, same, compares, is_a, none, more}
+use Rattle.ps_world.specs.Trees.{ExprTree, number, value_of, negated, operated, CondTree, CondTrees}
+use Rattle.ps_world.specs.Leaves.{Leaves, AllIn, AllInEach}
 use Rattle.ps_world.specs.CondViews.{cond_tree}
 use Rattle.ps_world.specs.declared.names.Name.{Name}
 use Rattle.ps_world.specs.declared.facts.Fact.{Fact}
@@ -52,20 +53,22 @@ IsShortExpr (value_of l) = IsShort l
 IsShortExpr (negated x) = IsShortExpr x
 IsShortExpr (operated op x y) = IsShortExpr x × IsShortExpr y
 
-abbrev mutual
-  -- a condition in which each fact and function has at most 6 arguments, and each fact a head that may stand there
-  pub HasGoalHeads : Table → CondTree → Type 0
-  HasGoalHeads names (all_of cs) = HaveGoalHeads names cs
-  HasGoalHeads names (no c) = HasGoalHeads names c
-  HasGoalHeads names (holds l) = IsShort l × IsGoalHead names l.head
-  HasGoalHeads names (same s t) = Unit {0}
-  HasGoalHeads names (compares rel x y) = IsShortExpr x × IsShortExpr y
-  HasGoalHeads names (is_a t kind) = Unit {0}
+-- what is said of a goal's leaves here: each fact and function has at most 6 arguments, and each fact a head that may stand there
+abbrev pub sayable_leaves : Table → Leaves
+sayable_leaves names = record {
+  atom = λ ps l. IsShort l × IsGoalHead names l.head;
+  term = λ ps t. Unit {0};
+  value = λ ps x. IsShortExpr x;
+  kind = λ ps kind. Unit {0};
+}
 
-  -- the same of several
-  pub HaveGoalHeads : Table → CondTrees → Type 0
-  HaveGoalHeads names none = Unit {0}
-  HaveGoalHeads names (more c cs) = HasGoalHeads names c × HaveGoalHeads names cs
+-- a condition of such leaves
+abbrev pub HasGoalHeads : Table → CondTree → Type 0
+HasGoalHeads names c = AllIn (sayable_leaves names) [] c
+
+-- the same of several
+abbrev pub HaveGoalHeads : Table → CondTrees → Type 0
+HaveGoalHeads names cs = AllInEach (sayable_leaves names) [] cs
 
 -- A goal that a line can say: its names stand in the table, its numbers are in range, no variable stands in it and none in it says that
 -- an instance has a type, its heads may stand where they do, and at most 64 parentheses are open at one place.

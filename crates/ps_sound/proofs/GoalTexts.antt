@@ -366,7 +366,7 @@ formed_goal _ _ (one_more t ts ls ks a b) runs = formed_one t ls a [] (marks ks)
 
 -- the condition that stands first is one that a script may write
 pub script_goal : (ts : Nesteds) (ls : List Lexeme) → SpellAll ts ls → Runs (condition_wanted ∷ []) (marks ls) → IsScriptCond (first_condition ts)
-script_goal _ _ nothing runs = record { named = refl; shallow = omega arith }
+script_goal _ _ nothing runs = record { named = tt; shallow = omega arith }
 script_goal _ _ (one_more t ts ls ks a b) runs =
     let now = begin ls ks (condition_wanted ∷ []) runs in
     let formed = formed_one t ls a [] (marks ks) now in

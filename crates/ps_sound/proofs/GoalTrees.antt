@@ -14,7 +14,7 @@ use Rattle.ps_world.specs.declared.conditions.Rel.{Rel}
 use Rattle.ps_world.specs.declared.conditions.Rel.TheVariants.{Eq}
 use Rattle.ps_world.specs.declared.conditions.Cond.{Cond}
 use Rattle.ps_world.specs.declared.conditions.Cond.TheVariants as cond
-use Rattle.ps_rules.specs.Sound.{are_ground_conds, are_named, cond_opens, conds_open, expr_opens, is_ground_cond, is_ground_expr, is_named}
+use Rattle.ps_rules.specs.Sound.{AreGroundConds, IsGroundCond, are_named, cond_opens, conds_open, expr_opens, is_ground_expr, is_named}
 use Rattle.ps_shape.specs.Marks.{is, is_goal_name}
 use Rattle.ps_shape.specs.declared.marks.Mark.{Mark}
 use Rattle.ps_shape.specs.declared.marks.Mark.TheVariants.{Number, Minus, And, Not}
@@ -80,16 +80,16 @@ mutual
 
 -- no variable stands in a condition, no type of an instance is asked for, and it opens so many parentheses at most
 abbrev pub IsFine : ℕ → Cond → Type 0
-IsFine n c = (is_ground_cond (cond_tree c) ≡ true) × (cond_opens (cond_tree c) ≤ n)
+IsFine n c = IsGroundCond (cond_tree c) × (cond_opens (cond_tree c) ≤ n)
 
 compared_fine : (n : ℕ) (rel : Rel) (a b : Nested) → rank a ≤ n → rank b ≤ n → IsFine (suc n) (cond.Cmp rel (value certain line_words a) (value certain line_words b))
 compared_fine n rel a b p q =
     let left = value_fine a in
     let right = value_fine b in
-    (both _ _ left.0 right.0, omega (arith, p, q, left.1, right.1))
+    ((left.0, right.0), omega (arith, p, q, left.1, right.1))
 
 same_fine : (n : ℕ) (a b : Name) → IsFine (suc n) (cond.Same (Const a) (Const b))
-same_fine n a b = (refl, omega arith)
+same_fine n a b = ((refl, refl), omega arith)
 
 equality_fine : (n : ℕ) (a b : Nested) → rank a ≤ n → rank b ≤ n → IsFine (suc n) (equality certain line_words a b)
 equality_fine n (group ts) b p q = compared_fine n Eq (group ts) b p q
@@ -158,20 +158,20 @@ mutual
   condition_fine (group ts) e = form_fine ts e
 
   form_fine : (ts : Nesteds) → is_form ts ≡ true → IsFine (suc (ranks ts)) (form certain line_words ts)
-  form_fine none e = (refl, omega arith)
+  form_fine none e = (tt, omega arith)
   form_fine (more f ts) e =
       rw (conditions-each line_words ts []) (by_head (suc (ranks (more f ts))) (is And (word_of f).mark) (is Not (word_of f).mark) (are_formed ts) (begins_formed ts) (is_headed (word_of f).mark ts) _ _ _ (λ g. let fine = conditions_fine ts g in (fine.0, omega (arith, fine.1))) (λ g. let fine = negation_fine ts g in (fine.0, omega (arith, fine.1))) (fine_more (suc (ranks ts)) (suc (ranks (more f ts))) _ (omega arith) (plain_fine (word_of f) ts)) e)
 
   negation_fine : (ts : Nesteds) → begins_formed ts ≡ true → IsFine (suc (ranks ts)) (negation certain line_words ts)
-  negation_fine none e = (refl, omega arith)
+  negation_fine none e = (tt, omega arith)
   negation_fine (more c ts) e =
       let fine = condition_fine c e in
       (fine.0, omega (arith, fine.1))
 
-  conditions_fine : (ts : Nesteds) → are_formed ts ≡ true → (are_ground_conds (cond_trees (each line_words ts)) ≡ true) × (conds_open (cond_trees (each line_words ts)) ≤ ranks ts)
-  conditions_fine none e = (refl, omega arith)
+  conditions_fine : (ts : Nesteds) → are_formed ts ≡ true → AreGroundConds (cond_trees (each line_words ts)) × (conds_open (cond_trees (each line_words ts)) ≤ ranks ts)
+  conditions_fine none e = (tt, omega arith)
   conditions_fine (more c cs) e =
       let parts = and_parts (is_formed c) (are_formed cs) e in
       let here = condition_fine c parts.0 in
       let later = conditions_fine cs parts.1 in
-      (both _ _ here.0 later.0, omega (arith, here.1, later.1))
+      ((here.0, later.0), omega (arith, here.1, later.1))

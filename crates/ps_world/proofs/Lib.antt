@@ -4,4 +4,3 @@ pub mod Digits
 pub mod OneLine
 pub mod SameConds
 pub mod ShortLists
-pub mod Tables

@@ -1,5 +1,6 @@
 -- Lists of conditions that are compared one place after another.
 use Rattle.std.proofs.Common.{◌≡◌, ◌≢◌, ℕ, ◌+◌, ◌<◌, Bool, true, false, ◌&&◌, List, ◌∷◌, length, drop, get_or, map, ap, refl, sym, ◌∙◌, add-one, drop-cons}
+use Rattle.std.proofs.lemmas.Bool.{false_from_ne_true}
 use Rattle.std.proofs.Math.ListN.{get_or-map}
 use Rattle.std.proofs.lemmas.List.{length-map}
 use Rattle.ps_world.specs.Same.{is_same, is_same_decides}
@@ -7,13 +8,9 @@ use Rattle.ps_world.specs.Trees.{CondTree, cond_tree_code, conds_code}
 use Rattle.ps_world.specs.CondViews.{cond_tree}
 use Rattle.ps_world.specs.declared.conditions.Cond.{Cond}
 
-is_false : (b : Bool) → (b ≡ true → ⊥) → b ≡ false
-is_false true h = absurd (h refl)
-is_false false h = refl
-
 longer : (xs ys : List CondTree) → (length xs ≢ length ys) → is_same conds_code xs ys ≡ false
 longer xs ys n =
-    is_false (is_same conds_code xs ys) (λ e. n (ap length ((is_same_decides conds_code xs ys).0 e)))
+    false_from_ne_true (is_same conds_code xs ys) (λ e. n (ap length ((is_same_decides conds_code xs ys).0 e)))
 
 -- lists of other lengths are not the same
 pub unequal : (cs ds : List Cond) (xs ys : List CondTree) → map cond_tree cs ≡ xs → map cond_tree ds ≡ ys → (length cs ≢ length ds) → is_same conds_code xs ys ≡ false

@@ -1,7 +1,7 @@
 -- What is known, and how an edit changes it.
 use Rattle.std.specs.Prelude.{ℕ, Bool, false, not, ◌||◌, ◌==◌, ◌+◌, suc, zero, nat_le, if◌then◌else◌, Option, Some, None, is_none, is_some, Result, Ok, Err, List, [], ◌∷◌, filter, length, find, fold, map}
 use Rattle.std.specs.List.{list_any}
-use Rattle.std.specs.Option.{option_map, option_map_or}
+use Rattle.std.specs.Option.{option_map, option_map_or, option_or}
 use Rattle.std.specs.BTreeMap.{insert_entry}
 use Rattle.std.specs.BTreeSet.{insert_key}
 use Rattle.std.specs.Map.{lookup}
@@ -65,22 +65,29 @@ constant_of d n = find (λ p. same_name n p.name) d.constants
 abbrev pub kind_of : Knowledge → Name → Option Name
 kind_of k n = lookup (same_name n) k.instances
 
+-- why a name of this type can't stand at a place where that type is wanted, if it can't, as a refusal says it: by the name that
+-- is no instance, or by the place whose type it doesn't fit
+abbrev pub misfit_by : {R : Type 0} → (Name → R) → (ℕ → R) → Domain → Option Name → Name → Name → ℕ → Option R
+misfit_by unknown unfit d None want n at = Some (unknown n)
+misfit_by unknown unfit d (Some kind) want n at = if is_below d kind want then None else Some (unfit at)
+
+-- the first argument that is no instance, or that doesn't fit its parameter, counted from this place on, as a refusal says it
+abbrev pub first_misfit_by : {R : Type 0} → (Name → R) → (ℕ → R) → Domain → List (Name × Name) → List Param → List Name → ℕ → Option R
+first_misfit_by unknown unfit d instances [] ns at = None
+first_misfit_by unknown unfit d instances (p ∷ ps) [] at = None
+first_misfit_by unknown unfit d instances (p ∷ ps) (n ∷ ns) at =
+    option_or (misfit_by unknown unfit d (lookup (same_name n) instances) p.kind n at) (first_misfit_by unknown unfit d instances ps ns (at + 1))
+
 -- the first refusal, if there is one, else the second
 abbrev pub or_else : Option EditRefusal → Option EditRefusal → Option EditRefusal
-or_else (Some r) other = Some r
-or_else None other = other
+or_else one other = option_or one other
 
--- why a name of this type can't stand at a place where that type is wanted, if it can't
+-- the same two of an edit
 abbrev pub misfit : Domain → Option Name → Name → Name → ℕ → Option EditRefusal
-misfit d None want n at = Some (NoInstance n)
-misfit d (Some kind) want n at = if is_below d kind want then None else Some (WrongType at)
+misfit d kind want n at = misfit_by NoInstance WrongType d kind want n at
 
--- the first argument that is no instance, or that doesn't fit its parameter, counted from this place on
 abbrev pub first_misfit : Domain → Knowledge → List Param → List Name → ℕ → Option EditRefusal
-first_misfit d k [] ns at = None
-first_misfit d k (p ∷ ps) [] at = None
-first_misfit d k (p ∷ ps) (n ∷ ns) at =
-    or_else (misfit d (kind_of k n) p.kind n at) (first_misfit d k ps ns (at + 1))
+first_misfit d k ps ns at = first_misfit_by NoInstance WrongType d k.instances ps ns at
 
 -- why arguments don't suit a declaration, if they don't; this is the refusal where there is none
 abbrev pub unsuited : EditRefusal → Domain → Knowledge → Option Decl → List Name → Option EditRefusal

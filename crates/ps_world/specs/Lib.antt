@@ -10,6 +10,7 @@ pub mod Edits
 pub mod Facts
 pub mod Failures
 pub mod Knowledge
+pub mod Leaves
 pub mod Lines
 pub mod Names
 pub mod Numbers

@@ -1,15 +1,14 @@
 -- What can be printed with a table of so many names: all of whose names the table has.
-use Rattle.std.specs.Prelude.{ℕ, ◌<◌, IfSome, All}
+use Rattle.std.specs.Prelude.{ℕ, ◌<◌, All, []}
 use Rattle.ps_world.specs.Numbers.{IsCount}
-use Rattle.ps_world.specs.Trees.{ExprTree, number, value_of, negated, operated, CondTree, CondTrees, all_of, no, holds, same, compares, is_a, none, more}
+use Rattle.ps_world.specs.Trees.{ExprTree, number, value_of, negated, operated, CondTree}
+use Rattle.ps_world.specs.Leaves.{Leaves, AllIn}
 use Rattle.ps_world.specs.CondViews.{cond_tree}
 use Rattle.ps_world.specs.declared.names.Name.{Name}
 use Rattle.ps_world.specs.declared.schemas.Term.{Term}
 use Rattle.ps_world.specs.declared.schemas.Term.TheVariants.{Var, Const}
 use Rattle.ps_world.specs.declared.schemas.Lifted.{Lifted}
 use Rattle.ps_world.specs.declared.facts.Fact.{Fact}
-use Rattle.ps_world.specs.declared.numbers.Num.{Num}
-use Rattle.ps_world.specs.declared.known.Knowledge.{Knowledge}
 use Rattle.ps_world.specs.declared.edits.Edit.{Edit}
 use Rattle.ps_world.specs.declared.edits.Edit.TheVariants.{AddInstance, RemoveInstance, AddFact, RemoveFact, SetValue, RemoveValue, SetGoal, RemoveGoal}
 use Rattle.ps_world.specs.declared.edits.EditRefusal.{EditRefusal}
@@ -39,35 +38,18 @@ IsGroundExprOf count (value_of l) = IsGroundOf count l
 IsGroundExprOf count (negated x) = IsGroundExprOf count x
 IsGroundExprOf count (operated op x y) = IsGroundExprOf count x × IsGroundExprOf count y
 
-abbrev mutual
-  -- a goal's names are, and no condition in it says that an instance has a type
-  pub IsGoalOf : ℕ → CondTree → Type 0
-  IsGoalOf count (all_of cs) = AreGoalsOf count cs
-  IsGoalOf count (no c) = IsGoalOf count c
-  IsGoalOf count (holds l) = IsGroundOf count l
-  IsGoalOf count (same s t) = IsGroundTermOf count s × IsGroundTermOf count t
-  IsGoalOf count (compares rel x y) = IsGroundExprOf count x × IsGroundExprOf count y
-  IsGoalOf count (is_a t kind) = ⊥
+-- what a goal's leaves are: of such names, with no variable, and no type is asked for
+abbrev pub goal_leaves : ℕ → Leaves
+goal_leaves count = record {
+  atom = λ ps l. IsGroundOf count l;
+  term = λ ps t. IsGroundTermOf count t;
+  value = λ ps x. IsGroundExprOf count x;
+  kind = λ ps kind. ⊥;
+}
 
-  -- the same of each of several
-  pub AreGoalsOf : ℕ → CondTrees → Type 0
-  AreGoalsOf count none = Unit {0}
-  AreGoalsOf count (more c cs) = IsGoalOf count c × AreGoalsOf count cs
-
--- an instance's name and type are
-abbrev pub IsInstanceOf : ℕ → Name × Name → Type 0
-IsInstanceOf count i = IsOf count i.0 × IsOf count i.1
-
--- the names of a function's value are, and it is in range
-abbrev pub IsValueOf : ℕ → Fact × Num → Type 0
-IsValueOf count v = IsFactOf count v.0 × IsCount v.1
-
--- all names of what is known are
-pub record IsKnownOf (count : ℕ) (k : Knowledge) : Type 0 where
-  pub instances : All (IsInstanceOf count) k.instances
-  pub facts : All (IsFactOf count) k.facts
-  pub values : All (IsValueOf count) k.values
-  pub goal : IfSome k.goal (λ goal. IsGoalOf count (cond_tree goal))
+-- a goal of such leaves
+abbrev pub IsGoalOf : ℕ → CondTree → Type 0
+IsGoalOf count c = AllIn (goal_leaves count) [] c
 
 -- an edit's names are
 abbrev pub IsEditOf : ℕ → Edit → Type 0

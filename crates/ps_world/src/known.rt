@@ -1,6 +1,5 @@
 //! What is known in a session.
 ghost use Rattle.std.specs.Prelude.{◌≡◌, IfOk};
-ghost use Rattle.std.specs.Option.{option_copied};
 
 use super::conditions::Cond;
 use super::facts::Fact;
@@ -34,8 +33,8 @@ impl Duplicate for (Fact, Num) {
     }
 }
 
-fn copy_goal(alloc: Global, goal: Option<&Cond>) -> Result<Option<Cond>, AllocError>
-    ensures { IfOk result (λ copied. copied ≡ option_copied goal.entry) }
+fn copy_goal(alloc: Global, goal: &Option<Cond>) -> Result<Option<Cond>, AllocError>
+    ensures { IfOk result (λ copied. copied ≡ goal.now) }
 {
     match goal {
         None => Ok(None),
@@ -43,26 +42,13 @@ fn copy_goal(alloc: Global, goal: Option<&Cond>) -> Result<Option<Cond>, AllocEr
     }
 }
 
-impl Knowledge {
-    /// What is known, with another goal or none.
-    pub(crate) fn with_goal(
-        &self,
-        alloc: Global,
-        goal: Option<&Cond>,
-    ) -> Result<Knowledge, AllocError>
-        ensures { IfOk result (λ new. new ≡ record self.now { goal = option_copied goal.entry }) }
-    {
+impl Duplicate for Knowledge {
+    fn copy(&self, alloc: Global) -> Result<Self, AllocError> {
         Ok(Knowledge {
             instances: self.instances.copy(alloc)?,
             facts: self.facts.copy(alloc)?,
             values: self.values.copy(alloc)?,
-            goal: copy_goal(alloc, goal)?,
+            goal: copy_goal(alloc, &self.goal)?,
         })
-    }
-}
-
-impl Duplicate for Knowledge {
-    fn copy(&self, alloc: Global) -> Result<Self, AllocError> {
-        self.with_goal(alloc, self.goal.as_ref())
     }
 }

@@ -1,4 +1,4 @@
-//! The plain data of a planning session, the definitions that every contract above cites, and the slow functions that equal them.
+//! The plain data of a planning session, and the definitions that every contract above cites.
 #![tactic(auto)]
 
 mod actions;
@@ -13,7 +13,6 @@ mod lists;
 mod names;
 mod naming;
 mod numbers;
-mod plain;
 mod schemas;
 
 pub use actions::{ActionDef, Conditions, Effect, Effects, NumOp};
@@ -27,5 +26,4 @@ pub use known::{Knowledge, MOST_INSTANCES};
 pub use lists::{Duplicate, Seq};
 pub use names::{Args, MOST_ARGUMENTS, Name};
 pub use numbers::{MOST_THOUSANDTHS, Num};
-pub use plain::{edit_plain, with_fact, with_number};
 pub use schemas::{Lifted, Term, Terms};

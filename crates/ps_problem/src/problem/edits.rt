@@ -4,7 +4,7 @@ ghost use Rattle.ps_world.specs.Edits.{Edits};
 ghost use Rattle.ps_world.specs.declared.edits.Edit.TheVariants.{AddInstance, RemoveInstance, AddFact, RemoveFact, SetValue, RemoveValue, SetGoal, RemoveGoal};
 
 use super::Problem;
-use super::faults::{cond_fault, fact_fault, value_fault};
+use ps_action::{cond_fault, fact_fault, value_fault};
 use ps_domain::Expert;
 use ps_world::{Cond, Duplicate, EditRefusal, Fact, Failure, MOST_INSTANCES, Name, Num};
 
@@ -57,7 +57,7 @@ impl Problem {
     ) -> Result<bool, Failure<EditRefusal>>
         ensures { Edits expert.now (AddFact fact) self.old result self.new }
     {
-        if let Some(fault) = fact_fault(self, expert, &fact) {
+        if let Some(fault) = fact_fault(&*self, expert, &fact) {
             return Err(Failure::Refused(fault));
         }
         let added = self.facts.insert(fact)?;
@@ -71,7 +71,7 @@ impl Problem {
     ) -> Result<bool, Failure<EditRefusal>>
         ensures { Edits expert.now (RemoveFact fact) self.old result self.new }
     {
-        if let Some(fault) = fact_fault(self, expert, &fact) {
+        if let Some(fault) = fact_fault(&*self, expert, &fact) {
             return Err(Failure::Refused(fault));
         }
         if !self.facts.remove(&fact) {
@@ -88,7 +88,7 @@ impl Problem {
     ) -> Result<bool, Failure<EditRefusal>>
         ensures { Edits expert.now (SetValue fact number) self.old result self.new }
     {
-        if let Some(fault) = value_fault(self, expert, &fact) {
+        if let Some(fault) = value_fault(&*self, expert, &fact) {
             return Err(Failure::Refused(fault));
         }
         let held = self.values.insert(fact, number)?;
@@ -102,7 +102,7 @@ impl Problem {
     ) -> Result<bool, Failure<EditRefusal>>
         ensures { Edits expert.now (RemoveValue fact) self.old result self.new }
     {
-        if let Some(fault) = value_fault(self, expert, &fact) {
+        if let Some(fault) = value_fault(&*self, expert, &fact) {
             return Err(Failure::Refused(fault));
         }
         if !self.values.remove(&fact) {
@@ -118,7 +118,7 @@ impl Problem {
     ) -> Result<bool, Failure<EditRefusal>>
         ensures { Edits expert.now (SetGoal goal.now) self.old result self.new }
     {
-        if let Some(fault) = cond_fault(self, expert, goal) {
+        if let Some(fault) = cond_fault(&*self, expert, goal) {
             return Err(Failure::Refused(fault));
         }
         if self.has_goal(goal) {

@@ -3,7 +3,7 @@ use Rattle.std.proofs.lemmas.List.Elements.{All-contains}
 use Rattle.ps_world.specs.Knowledge.{is_among, same_fact}
 use Rattle.ps_world.specs.declared.facts.Fact.{Fact}
 use Rattle.ps_problem.specs.Namings.{IsNaming, AreNamed}
-use Rattle.ps_problem.proofs.Facts.{facts_total}
+use Rattle.ps_action.proofs.Facts.{facts_total}
 use Rattle.ps_problem.proofs.Filters.{remove_key-filter}
 use Rattle.ps_problem.proofs.Namings.{one_gone, still_named, none_left}
 use Rattle.ps_problem.proofs.problem.facts.leave_out_named.Goals as goal

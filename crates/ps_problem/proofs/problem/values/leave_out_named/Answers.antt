@@ -5,7 +5,7 @@ use Rattle.ps_world.specs.Knowledge.{is_among, same_fact}
 use Rattle.ps_world.specs.declared.facts.Fact.{Fact}
 use Rattle.ps_world.specs.declared.numbers.Num.{Num}
 use Rattle.ps_problem.specs.Namings.{IsNaming, AreNamed}
-use Rattle.ps_problem.proofs.Facts.{facts_total}
+use Rattle.ps_action.proofs.Facts.{facts_total}
 use Rattle.ps_problem.proofs.Filters.{remove_entry-filter, keys-filter}
 use Rattle.ps_problem.proofs.Namings.{one_value_gone, still_named, no_value_left}
 use Rattle.ps_problem.proofs.problem.values.leave_out_named.Goals as goal

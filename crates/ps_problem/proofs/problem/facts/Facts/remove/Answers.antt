@@ -1,5 +1,5 @@
 use Rattle.std.proofs.Common.{◌∙◌}
-use Rattle.ps_problem.proofs.Facts.{facts_total}
+use Rattle.ps_action.proofs.Facts.{facts_total}
 use Rattle.ps_problem.proofs.Filters.{remove_key-filter}
 use Rattle.ps_problem.proofs.Namings.{fewer_named_where_taken}
 use Rattle.ps_problem.proofs.problem.facts.Facts.remove.Goals as goal

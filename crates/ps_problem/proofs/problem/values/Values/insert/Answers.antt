@@ -1,8 +1,8 @@
 use Rattle.std.proofs.Common.{IfSome, ap, sym, subst, ◌∙◌}
 use Rattle.std.specs.Map.{keys_of}
 use Rattle.ps_problem.specs.Namings.{AreNamed}
-use Rattle.ps_problem.proofs.Facts.{facts_total}
-use Rattle.ps_problem.proofs.Keys.{keys-insert_entry}
+use Rattle.ps_action.proofs.Facts.{facts_total}
+use Rattle.ps_action.proofs.Keys.{keys-insert_entry}
 use Rattle.ps_problem.proofs.problem.values.Values.insert.Goals as goal
 
 pub invariant_of-self-in_err-held : goal.invariant_of-self-in_err-held

@@ -1,7 +1,7 @@
 use Rattle.std.proofs.Common.{not, ap, ◌∙◌}
 use Rattle.std.specs.Map.{keys_of}
 use Rattle.ps_world.specs.Knowledge.{same_fact}
-use Rattle.ps_problem.proofs.Facts.{facts_total}
+use Rattle.ps_action.proofs.Facts.{facts_total}
 use Rattle.ps_problem.proofs.Filters.{remove_entry-filter, keys-filter}
 use Rattle.ps_problem.proofs.Namings.{fewer_named_where_taken}
 use Rattle.ps_problem.proofs.problem.values.Values.remove.Goals as goal
