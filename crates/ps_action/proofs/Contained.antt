@@ -3,7 +3,7 @@ use Rattle.std.proofs.Common.{◌≡◌, ◌↔◌, ◌⊎◌, ℕ, ◌<◌, zer
 use Rattle.std.specs.Cmp.{first_so, second_so}
 use Rattle.std.specs.List.{Contains, list_any}
 use Rattle.std.specs.BTreeSet.{insert_key}
-use Rattle.std.proofs.lemmas.Bool.{and_from}
+use Rattle.std.proofs.lemmas.Bool.{and_from, or_right}
 use Rattle.std.proofs.lemmas.Cmp.{eq_by_cmp_equiv}
 use Rattle.std.proofs.lemmas.Map.Made.{is_member-filter}
 use Rattle.std.proofs.lemmas.Map.Views.{list_any-from_Contains, Contains-from_any, tells_apart}
@@ -32,10 +32,6 @@ contains_none y c = omega (arith, c.1)
 pub or_cases : (a b : Bool) → (a || b) ≡ true → (a ≡ true) ⊎ (b ≡ true)
 or_cases true b e = inl refl
 or_cases false b e = inr e
-
-pub or_second : (a b : Bool) → b ≡ true → (a || b) ≡ true
-or_second true b e = refl
-or_second false b e = e
 
 -- ---- facts
 
@@ -66,7 +62,7 @@ fact_in_insert xs more f =
         | inr e ↦ inl (Contains-from_any (tells_apart exact_facts) f xs e)
       ],
       λ w. Contains-from_any (tells_apart exact_facts) f _ (after ∙ elim w [
-        | inl c ↦ or_second _ _ (list_any-from_Contains laws f xs c)
+        | inl c ↦ or_right _ _ (list_any-from_Contains laws f xs c)
         | inr e ↦ rw (e, fact_itself more) refl
       ]),
     )

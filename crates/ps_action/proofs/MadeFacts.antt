@@ -4,6 +4,7 @@ use Rattle.std.specs.List.{Contains, list_any, cons_option}
 use Rattle.std.specs.List.Sorted.{IsStrictlySortedBy}
 use Rattle.std.specs.BTreeSet.{insert_key}
 use Rattle.std.proofs.lemmas.List.Kept.{IsStrictlySortedBy-filter}
+use Rattle.std.proofs.lemmas.Bool.{not-true, or_right}
 use Rattle.ps_world.specs.Facts.{fact_cmp}
 use Rattle.ps_world.specs.Knowledge.{ground, same_fact}
 use Rattle.ps_world.specs.declared.facts.Fact.{Fact}
@@ -13,7 +14,7 @@ use Rattle.ps_action.specs.Effects.{added_by, deletes}
 use Rattle.ps_action.specs.Laws.{IsAdded, IsDeleted}
 use Rattle.ps_action.proofs.Facts.{facts_total}
 use Rattle.ps_action.proofs.Keys.{sorted-insert_key}
-use Rattle.ps_action.proofs.Contained.{contains_cases, contains_first, contains_later, contains_none, or_cases, or_second, fact_same, fact_itself, fact_in_filter, fact_in_fold}
+use Rattle.ps_action.proofs.Contained.{contains_cases, contains_first, contains_later, contains_none, or_cases, fact_same, fact_itself, fact_in_filter, fact_in_fold}
 
 added_later : (e : Effect) (es : List Effect) (f : Fact) → IsAdded es f → IsAdded (e ∷ es) f
 added_later e es f a = (a.0, contains_later e (Add a.0) es a.1, a.2)
@@ -66,12 +67,8 @@ tested f (e ∷ es) a =
       | inl s ↦
           let here : deletes f e ≡ true = ap (deletes f) s ∙ ap (same_fact f) a.2 ∙ fact_itself f in
           rw here refl
-      | inr later ↦ or_second (deletes f e) (list_any (deletes f) es) (tested f es (a.0, later, a.2))
+      | inr later ↦ or_right (deletes f e) (list_any (deletes f) es) (tested f es (a.0, later, a.2))
     ]
-
-not_so : (b : Bool) → not b ≡ true → b ≡ false
-not_so true e = cc
-not_so false e = refl
 
 differs : {A : Type 0} (b : Bool) → (b ≡ true → A) → (¬ A) → not b ≡ true
 differs true h n = absurd (n (h refl))
@@ -79,7 +76,7 @@ differs false h n = refl
 
 pub not_deleted : (f : Fact) (es : List Effect) → (not (list_any (deletes f) es) ≡ true) ↔ (¬ (IsDeleted es f))
 not_deleted f es = (
-  λ s a. cc (not_so (list_any (deletes f) es) s, tested f es a),
+  λ s a. cc (not-true (list_any (deletes f) es) s, tested f es a),
   λ n. differs (list_any (deletes f) es) (deleted f es) n,
 )
 

@@ -31,7 +31,7 @@ or_first : (a b : Bool) → (a || b) ≡ false → a ≡ false
 or_first true b e = e
 or_first false b e = refl
 
-or_rest : (a b : Bool) → (a || b) ≡ false → b ≡ false
+pub or_rest : (a b : Bool) → (a || b) ≡ false → b ≡ false
 or_rest true b e = absurd (cc)
 or_rest false b e = e
 
@@ -63,7 +63,7 @@ not_set f (e ∷ es) n =
 pub values_stay : (k : Knowledge) (es : List Effect) (f : Fact) → IsNotSet es f → (vs : List (Fact × Num)) → lookup (same_fact f) (fold with_value vs (filter_map (value_set k) es)) ≡ lookup (same_fact f) vs
 values_stay k es f n vs = stays k f es (not_set f es n) vs
 
-or_true : (a : Bool) → (a || true) ≡ true
+pub or_true : (a : Bool) → (a || true) ≡ true
 or_true true = refl
 or_true false = refl
 

@@ -1,11 +1,12 @@
 -- Ground actions, taken by their places, act as is asked for where orders of acts are said to go well.
-use Rattle.std.proofs.Common.{◌≡◌, ℕ, ◌<◌, Bool, true, false, ◌||◌, Option, Some, None, is_some, Result, Ok, Err, List, [], ◌∷◌, All, slice_get, refl, ap, sym, ◌∙◌, subst, inl, inr, ◌⊎◌}
+use Rattle.std.proofs.Common.{◌≡◌, ℕ, ◌<◌, Bool, true, false, ◌||◌, Option, Some, None, is_some, Result, Ok, Err, List, [], ◌∷◌, All, slice_get, refl, ap, sym, ◌∙◌, subst, inl, inr}
 use Rattle.std.specs.Result.{result_ok}
 use Rattle.std.specs.List.{Contains, list_any}
 use Rattle.std.proofs.lemmas.List.Elements.{All-nil, All-cons, All-head, All-tail}
+use Rattle.std.proofs.lemmas.Bool.{or_right}
 use Rattle.ps_world.specs.declared.domains.Domain.{Domain}
 use Rattle.ps_world.specs.declared.known.Knowledge.{Knowledge}
-use Rattle.ps_action.proofs.Contained.{contains_first, contains_later, or_second}
+use Rattle.ps_action.proofs.Contained.{contains_first, contains_later, or_cases}
 use Rattle.ps_action.specs.Effects.{effect}
 use Rattle.ps_action.specs.Truth.{all_true}
 use Rattle.ps_action.specs.declared.acts.GroundAction.{GroundAction}
@@ -15,10 +16,11 @@ use Rattle.ps_action.specs.declared.touched.Touched.TheVariants.{Fact, Value, In
 use Rattle.ps_eval.specs.Laws.{Agree}
 use Rattle.ps_orders.specs.Acts.{Acts, Acting, AreSame, IsCondition, IsEffect}
 use Rattle.ps_action.specs.Arcs.{changes, is_arc, reads, same_thing}
+use Rattle.ps_action.proofs.ArcTables.{true_false}
 use Rattle.ps_arcs.specs.Laws.{EndAlike, LeavesAlone, LeavesOthers}
 use Rattle.ps_arcs.proofs.Alike.{conditions_read_things, effects_leave_others, effects_read_things}
 use Rattle.ps_arcs.proofs.Alone.{no_arc_leaves_alone}
-use Rattle.ps_users.proofs.Things.{absent, among, thing_itself, thing_same, true_false}
+use Rattle.ps_users.proofs.Things.{absent, among, thing_itself, thing_same}
 
 -- ---- what is read and changed
 
@@ -88,10 +90,6 @@ acts_of d gs = record {
 
 -- ---- lists of things
 
-or_cases : (a b : Bool) → (a || b) ≡ true → (a ≡ true) ⊎ (b ≡ true)
-or_cases true b e = inl refl
-or_cases false b e = inr e
-
 found : (t : Touched) (ts : List Touched) → list_any (same_thing t) ts ≡ true → Contains ts t
 found t [] e = absurd (cc)
 found t (x ∷ xs) e =
@@ -109,7 +107,7 @@ module _ (P : Touched → Type 0) where
   each_so [] h = All-nil P
   each_so (x ∷ xs) h =
       All-cons P x xs (h x (ap (λ b. b || list_any (same_thing x) xs) (thing_itself x)))
-      (each_so xs (λ t e. h t (or_second (same_thing t x) (list_any (same_thing t) xs) e)))
+      (each_so xs (λ t e. h t (or_right (same_thing t x) (list_any (same_thing t) xs) e)))
 
   found_so : (ts : List Touched) → All P ts → (t : Touched) → list_any (same_thing t) ts ≡ true → P t
   found_so [] h t e = absurd (cc)
@@ -121,7 +119,7 @@ module _ (P : Touched → Type 0) where
 
 -- ---- being the same
 
-agree_itself : (k : Knowledge) (t : Touched) → Agree k k t
+pub agree_itself : (k : Knowledge) (t : Touched) → Agree k k t
 agree_itself k (Fact f) = refl
 agree_itself k (Value f) = refl
 agree_itself k (Instance n) = refl
@@ -208,7 +206,7 @@ module _ (a : GroundAction) (act : Knowledge → Result Knowledge EffectRefusal)
   ends_alike k l s =
       let has = λ (t : Touched) (ts : List Touched). list_any (same_thing t) ts in
       let read = each_so (Agree k l) (reads a) (λ t e. s (Some t) (ap (λ b. b || has t (changes a)) e)) in
-      let changed = each_so (Agree k l) (changes a) (λ t e. s (Some t) (or_second (has t (reads a)) (has t (changes a)) e)) in
+      let changed = each_so (Agree k l) (changes a) (λ t e. s (Some t) (or_right (has t (reads a)) (has t (changes a)) e)) in
       alike k l (s None refl).0 read changed
 
   is_effect : IsEffect SameAt (touched_at (Some a)) (changed_at (Some a)) (λ k. result_ok (act k))

@@ -92,7 +92,7 @@ module _ (d : Domain) (last : Knowledge) where
 -- ---- an order
 
 -- at each place within the list a ground action stands
-stands : (gs : List GroundAction) (i : ℕ) → i < length gs → (a : GroundAction) × (slice_get gs i ≡ Some a)
+pub stands : (gs : List GroundAction) (i : ℕ) → i < length gs → (a : GroundAction) × (slice_get gs i ≡ Some a)
 stands [] i l = absurd (omega (arith, l))
 stands (a ∷ gs) zero l = (a, refl)
 stands (a ∷ gs) (suc i) l = stands gs i (omega (arith, l))

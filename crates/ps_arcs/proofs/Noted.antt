@@ -10,8 +10,8 @@ use Rattle.std.proofs.lemmas.Option.{slice_get_past}
 use Rattle.ps_action.specs.declared.acts.GroundAction.{GroundAction}
 use Rattle.ps_action.specs.declared.touched.Touched.{Touched}
 use Rattle.ps_action.specs.Arcs.{same_thing}
+use Rattle.ps_action.proofs.ArcTables.{true_false}
 use Rattle.ps_users.specs.Users.{AreWithin, Enters, Users, uses}
-use Rattle.ps_users.proofs.Things.{true_false}
 use Rattle.ps_arcs.specs.Indexed.{AreUses}
 use Rattle.ps_arcs.proofs.Listed.{within_or}
 

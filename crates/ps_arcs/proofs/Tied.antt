@@ -7,6 +7,7 @@ use Rattle.std.specs.Cmp.{first_so, second_so}
 use Rattle.std.proofs.lemmas.List.{take-append-drop}
 use Rattle.std.proofs.lemmas.List.Folds.{list_any-append}
 use Rattle.std.proofs.lemmas.Bool.Decides.{nat_tests}
+use Rattle.ps_world.proofs.Truths.{or_more}
 use Rattle.ps_action.specs.declared.acts.GroundAction.{GroundAction}
 use Rattle.ps_action.specs.declared.touched.Touched.{Touched}
 use Rattle.ps_action.specs.Arcs.{are_tied, changes, is_arc, meet, reads, same_thing}
@@ -67,10 +68,6 @@ each_set [] e j h = absurd (omega (arith, h))
 each_set (flag ∷ flags) e zero h = first_so flag (list_all (λ flag. flag) flags) e
 each_set (flag ∷ flags) e (suc j) h = each_set flags (second_so flag (list_all (λ flag. flag) flags) e) j (omega (arith, h))
 
-or_so : (a b c : Bool) → (a || b) ≡ true → (b ≡ true → c ≡ true) → (a || c) ≡ true
-or_so true b c e so = refl
-or_so false b c e so = so e
-
 -- what passes among the first passes among all
 more_pass : (p : Touched → Bool) (things : List Touched) (k : ℕ) → list_any p (take k things) ≡ true → list_any p things ≡ true
 more_pass p things k e =
@@ -84,7 +81,7 @@ all_marked users things k old new set marks = (
   marks.0,
   λ j within.
       let on : get_or new j false ≡ true = each_set new set j (omega (arith, within, marks.0)) in
-      on ∙ sym (or_so (get_or old j false) (list_any (λ t. uses users t j) (take k things)) (list_any (λ t. uses users t j) things) (sym (marks.1 j within) ∙ on) (more_pass (λ t. uses users t j) things k)),
+      on ∙ sym (or_more (get_or old j false) (list_any (λ t. uses users t j) (take k things)) (list_any (λ t. uses users t j) things) (sym (marks.1 j within) ∙ on) (more_pass (λ t. uses users t j) things k)),
 )
 
 -- ---- arcs

@@ -1,5 +1,6 @@
 -- What one entry of a history makes of what is known.
 use Rattle.std.proofs.Common.{◌≡◌, ℕ, zero, suc, ◌+◌, ◌==◌, true, false, Some, Result, Ok, Err, is_ok, List, [], ◌∷◌, ◌++◌, take, slice_get, IsTrue, refl, arith, ap, sym, ◌∙◌, subst, append_assoc, append-nil}
+use Rattle.std.proofs.lemmas.Bool.{and_parts}
 use Rattle.ps_world.specs.Knowledge.{edited}
 use Rattle.ps_world.specs.declared.known.Knowledge.{Knowledge}
 use Rattle.ps_world.specs.declared.edits.Edit.{Edit}
@@ -16,7 +17,7 @@ use Rattle.ps_rules.specs.Members.{next_edit, next_seen}
 use Rattle.ps_rules.specs.Legal.{fits, is_edit, is_legal, line_edit}
 use Rattle.ps_rules.specs.Laws.{EachIsLegal, is_cancel}
 use Rattle.ps_rules.proofs.Going.{entries_are_legal}
-use Rattle.ps_rules.proofs.Kept.{both, fits-legal}
+use Rattle.ps_rules.proofs.Kept.{fits-legal}
 use Rattle.ps_rules.proofs.Pushed.{know-push, known_after-other}
 use Rattle.ps_asked.specs.Asked.{EditsAreMade, OthersLeave}
 
@@ -46,9 +47,9 @@ legal_at i before (f ∷ es) (suc k) e l at n =
 
 -- an edit that fits is accepted
 fits_accepted : (i : Input) (es : List Entry) (whose : By) (edit : Edit) → fits i es (event.Edit whose edit) ≡ true → is_ok (edited i.domain (know i es) edit) ≡ true
-fits_accepted i es (by.Terminal n) edit f = (both (is_edit edit (line_edit (next_line i es))) (is_ok (edited i.domain (know i es) edit)) (both (n == answered es + 1) _ f).1).1
-fits_accepted i es (by.Performer r p) edit f = (both (is_edit edit (next_edit i r p es)) (is_ok (edited i.domain (know i es) edit)) f).1
-fits_accepted i es (by.Observer o) edit f = (both (is_edit edit (next_seen i o es)) (is_ok (edited i.domain (know i es) edit)) f).1
+fits_accepted i es (by.Terminal n) edit f = (and_parts (is_edit edit (line_edit (next_line i es))) (is_ok (edited i.domain (know i es) edit)) (and_parts (n == answered es + 1) _ f).1).1
+fits_accepted i es (by.Performer r p) edit f = (and_parts (is_edit edit (next_edit i r p es)) (is_ok (edited i.domain (know i es) edit)) f).1
+fits_accepted i es (by.Observer o) edit f = (and_parts (is_edit edit (next_seen i o es)) (is_ok (edited i.domain (know i es) edit)) f).1
 
 -- what an accepted edit makes is kept
 made_is : (k : Knowledge) (r : Result Knowledge EditRefusal) → is_ok r ≡ true → r ≡ Ok (kept k r)

@@ -2,12 +2,13 @@
 use Rattle.std.proofs.Common.{◌≡◌, ℕ, ◌==◌, ◌&&◌, ◌||◌, Bool, true, false, not, Option, Some, None, is_none, is_some, is_ok, option_and_then, List, [], ◌∷◌, ◌++◌, filter, length, map, if◌then◌else◌, IsTrue, refl, arith, ap, sym, ◌∙◌, subst}
 use Rattle.std.specs.List.{list_all, list_any}
 use Rattle.std.specs.Option.{option_map_or}
-use Rattle.std.proofs.lemmas.Bool.{and_from, ltb-true, not-true, or_left, or_right, true≢false}
+use Rattle.std.proofs.lemmas.Bool.{and_from, ltb-true, not-true, or_left, or_right, true≢false, and_parts}
 use Rattle.ps_world.specs.Names.{same_name}
 use Rattle.ps_world.specs.Knowledge.{edited}
 use Rattle.ps_world.specs.declared.names.Name.{Name}
 use Rattle.ps_action.specs.declared.states.ActState.{ActState}
 use Rattle.ps_action.specs.declared.states.ActState.TheVariants.{Waiting}
+use Rattle.ps_action.proofs.Facts.{same_name-is}
 use Rattle.ps_machine.specs.declared.inputs.Input.{Input}
 use Rattle.ps_machine.specs.declared.members.Unit.{Unit as Task}
 use Rattle.ps_machine.specs.declared.members.Performer.{Performer}
@@ -29,11 +30,12 @@ use Rattle.ps_rules.specs.History.{any_of, broken, cancels, forced, forced_after
 use Rattle.ps_rules.specs.History.IsHistory.{block}
 use Rattle.ps_rules.specs.Choices.{wants_plan}
 use Rattle.ps_rules.proofs.Going.{placed}
-use Rattle.ps_rules.proofs.Kept.{both, fits-legal, name_eq}
+use Rattle.ps_rules.proofs.Kept.{fits-legal}
+use Rattle.ps_rules.proofs.Between.{active-so}
 use Rattle.ps_ends.specs.Engaged.{is_engaged_on}
 use Rattle.ps_ends.proofs.Engaged.{engaged_member, engaged_on_one}
 use Rattle.ps_ends.proofs.Lists.{all_in, found_in, In, in_range}
-use Rattle.ps_ends.proofs.Offers.{active_is, offer_says, opens_for}
+use Rattle.ps_ends.proofs.Offers.{offer_says, opens_for}
 use Rattle.ps_ends.proofs.Picking.{clash, found}
 use Rattle.ps_asked.specs.Asked.{ends_plan, may_come}
 use Rattle.ps_asked.proofs.Lists.{none_kept}
@@ -47,8 +49,8 @@ pub record IsAsked (i : Input) (es : List Entry) : Type 0 where
 
 pub asked_of : (i : Input) (es : List Entry) → wants_plan i es ≡ true → IsAsked i es
 asked_of i es h =
-    let w = both (is_running es) (is_settled i es && is_none (verdict i es)) h in
-    let u = both (is_settled i es) (is_none (verdict i es)) w.1 in
+    let w = and_parts (is_running es) (is_settled i es && is_none (verdict i es)) h in
+    let u = and_parts (is_settled i es) (is_none (verdict i es)) w.1 in
     record { running = w.0; settled = u.0; unended = u.1 }
 
 pub of_asked : (i : Input) (es : List Entry) → IsAsked i es → wants_plan i es ≡ true
@@ -56,14 +58,14 @@ of_asked i es a = and_from (is_running es) (is_settled i es && is_none (verdict 
 
 -- no act of the plan is active where a run is settled
 pub all_quiet : (i : Input) (es : List Entry) → is_settled i es ≡ true → list_all (λ act. not (is_active (state act es))) (places es) ≡ true
-all_quiet i es s = (both (list_all (λ act. not (is_active (state act es))) (places es)) _ s).0
+all_quiet i es s = (and_parts (list_all (λ act. not (is_active (state act es))) (places es)) _ s).0
 
 module _ (i : Input) (es : List Entry) (history : IsHistory i es) (asked : IsAsked i es) where
   -- ---- nothing goes on
 
   no_active : (act : ℕ) → is_act_active es act ≡ true → ⊥
   no_active act a =
-      let l = ltb-true act (length (plan es)) (placed i es history act (active_is (state act es) a)) in
+      let l = ltb-true act (length (plan es)) (placed i es history act (active-so (state act es) a)) in
       let fails = all_in (λ act. not (is_active (state act es))) (places es) (all_quiet i es asked.settled) act (in_range act 0 (length (plan es)) (omega arith) (omega (arith, l))) in
       clash (is_act_active es act) a (not-true (is_act_active es act) fails)
 
@@ -85,9 +87,9 @@ module _ (i : Input) (es : List Entry) (history : IsHistory i es) (asked : IsAsk
       by_found None f m = absurd (cc)
       by_found (Some x) f m =
           let free : Bool = list_all (λ performer. not (is_engaged performer.name es)) (performers i) in
-          let all = (both free _ (both (list_all (λ act. not (is_active (state act es))) (places es)) _ asked.settled).1).0 in
+          let all = (and_parts free _ (and_parts (list_all (λ act. not (is_active (state act es))) (places es)) _ asked.settled).1).0 in
           let w = found (λ performer. same_name p performer.name) (λ performer. not (is_engaged performer.name es)) (performers i) x f in
-          clash (is_engaged p es) e (ap (λ n. is_engaged n es) (name_eq p x.name w.0) ∙ not-true (is_engaged x.name es) (w.1 all))
+          clash (is_engaged p es) e (ap (λ n. is_engaged n es) (same_name-is p x.name w.0) ∙ not-true (is_engaged x.name es) (w.1 all))
 
   no_engaged_on : (r : ℕ) (p : Name) → is_engaged_on r p es ≡ true → ⊥
   no_engaged_on r p e = no_engaged p ((engaged_on_one i es history p).on_some.1 (r, e))
@@ -104,20 +106,20 @@ module _ (i : Input) (es : List Entry) (history : IsHistory i es) (asked : IsAsk
   -- no act may start
   no_start : (act : ℕ) → fits i es (event.Start act) ≡ true → ⊥
   no_start act f =
-      let u = both (is_place es act) (is_ready i es act && (is_startable i es act && not (any_harmed es))) f in
-      let v = both (is_ready i es act) (is_startable i es act && not (any_harmed es)) u.1 in
-      let w = both (is_startable i es act) (not (any_harmed es)) v.1 in
+      let u = and_parts (is_place es act) (is_ready i es act && (is_startable i es act && not (any_harmed es))) f in
+      let v = and_parts (is_ready i es act) (is_startable i es act && not (any_harmed es)) u.1 in
+      let w = and_parts (is_startable i es act) (not (any_harmed es)) v.1 in
       let l = ltb-true act (length (plan es)) u.0 in
       let here : In act (places es) = in_range act 0 (length (plan es)) (omega arith) (omega (arith, l)) in
       let rest : Bool = any_harmed es || (list_all (λ act. is_done (state act es)) (places es) || is_blocked i es) in
       let free : Bool = list_all (λ p. not (is_engaged p.name es)) (performers i) in
-      let so = (both free rest (both (list_all (λ act. not (is_active (state act es))) (places es)) (free && rest) asked.settled).1).1 in
+      let so = (and_parts free rest (and_parts (list_all (λ act. not (is_active (state act es))) (places es)) (free && rest) asked.settled).1).1 in
       by_way (any_harmed es) (list_all (λ act. is_done (state act es)) (places es)) (is_blocked i es) so (not-true (any_harmed es) w.1)
-      (λ done. waits_not (state act es) (both (is_waiting (state act es)) _ v.0).0 (all_in (λ act. is_done (state act es)) (places es) done act here))
+      (λ done. waits_not (state act es) (and_parts (is_waiting (state act es)) _ v.0).0 (all_in (λ act. is_done (state act es)) (places es) done act here))
       (λ blocked.
       let some : Bool = list_any (is_ready i es) (places es) in
       let none : Bool = list_all (λ act. not (is_ready i es act) || not (is_startable i es act)) (places es) in
-      let all = (both none _ (both some _ (both (not (any_harmed es)) _ blocked).1).1).0 in
+      let all = (and_parts none _ (and_parts some _ (and_parts (not (any_harmed es)) _ blocked).1).1).0 in
       neither (is_ready i es act) (is_startable i es act) v.0 w.0 (all_in (λ act. not (is_ready i es act) || not (is_startable i es act)) (places es) all act here))
     where
       by_way : (a b c : Bool) → (a || (b || c)) ≡ true → a ≡ false → (b ≡ true → ⊥) → (c ≡ true → ⊥) → ⊥
@@ -136,7 +138,7 @@ module _ (i : Input) (es : List Entry) (history : IsHistory i es) (asked : IsAsk
 
   -- no event that answers a line is legal
   no_line : (e : Event) → answers_line e ≡ true → is_legal i es e ≡ true → ⊥
-  no_line e own l = closed (answers_line e) (is_running es) own asked.running (both (same_flag (answers_line e) (not (is_running es))) (fits i es e) l).0
+  no_line e own l = closed (answers_line e) (is_running es) own asked.running (and_parts (same_flag (answers_line e) (not (is_running es))) (fits i es e) l).0
     where
       closed : (own live : Bool) → own ≡ true → live ≡ true → same_flag own (not live) ≡ true → ⊥
       closed false live o r f = absurd (cc)
@@ -155,31 +157,31 @@ module _ (i : Input) (es : List Entry) (history : IsHistory i es) (asked : IsAsk
   comes (event.Run for acts) l f = absurd (no_line (event.Run for acts) refl l)
   comes event.Quit l f = absurd (no_line event.Quit refl l)
   comes (event.Start act) l f = absurd (no_start act f)
-  comes (event.Request r act) l f = absurd (no_active act (both (is_act_active es act) _ (both (_ == _) _ f).1).0)
+  comes (event.Request r act) l f = absurd (no_active act (and_parts (is_act_active es act) _ (and_parts (_ == _) _ f).1).0)
   comes (event.Offer r p) l f = absurd (no_open r (offer_says i es r p f).opened)
-  comes (event.Confirm r p) l f = absurd (no_open r (both (is_open r es) _ f).0)
+  comes (event.Confirm r p) l f = absurd (no_open r (and_parts (is_open r es) _ f).0)
   comes (event.Reject r p) l f =
-      let w = both (has_offered r p es) (not (is_rejected r p es) && _) f in
-      let u = both (not (is_rejected r p es)) (not (is_confirmed r p es) && _) w.1 in
-      let v = both (not (is_confirmed r p es)) _ u.1 in
+      let w = and_parts (has_offered r p es) (not (is_rejected r p es) && _) f in
+      let u = and_parts (not (is_rejected r p es)) (not (is_confirmed r p es) && _) w.1 in
+      let v = and_parts (not (is_confirmed r p es)) _ u.1 in
       absurd (no_engaged_on r p
       (or_left (has_offered r p es && (not (is_rejected r p es) && not (is_confirmed r p es))) (is_confirmed r p es && not (is_through r p es))
       (and_from (has_offered r p es) (not (is_rejected r p es) && not (is_confirmed r p es)) w.0 (and_from (not (is_rejected r p es)) (not (is_confirmed r p es)) u.0 v.0))))
   comes (event.Begin r p) l f =
-      absurd (no_for_active r (both (not (has_begun r p es)) (is_for_active r es) (both (is_confirmed r p es) (not (has_begun r p es) && is_for_active r es) f).1).1)
+      absurd (no_for_active r (and_parts (not (has_begun r p es)) (is_for_active r es) (and_parts (is_confirmed r p es) (not (has_begun r p es) && is_for_active r es) f).1).1)
   comes (event.UnitWork r p) l f = absurd (no_unit is_work refl r p f)
   comes (event.Feedback r p percent text) l f = absurd (no_unit (is_feedback percent text) refl r p f)
   comes (event.Finish r p ok) l f = absurd (no_unit (is_finish ok) refl r p f)
-  comes (event.Unserved r) l f = absurd (no_open r (both (is_open r es) _ (both (is_passed i r es) (was_busy i r es) f).0).0)
-  comes (event.End act) l f = absurd (no_active act (both (is_act_active es act) _ f).0)
-  comes (event.Fail act fail.NoPerformer) l f = absurd (no_active act (both (is_act_active es act) _ f).0)
-  comes (event.Fail act fail.Script) l f = absurd (no_active act (both (is_act_active es act) _ f).0)
-  comes (event.Fail act fail.AtEnd) l f = absurd (no_active act (both (is_act_active es act) _ f).0)
-  comes (event.Fail act fail.Effect) l f = absurd (no_active act (both (is_act_active es act) _ f).0)
+  comes (event.Unserved r) l f = absurd (no_open r (and_parts (is_open r es) _ (and_parts (is_passed i r es) (was_busy i r es) f).0).0)
+  comes (event.End act) l f = absurd (no_active act (and_parts (is_act_active es act) _ f).0)
+  comes (event.Fail act fail.NoPerformer) l f = absurd (no_active act (and_parts (is_act_active es act) _ f).0)
+  comes (event.Fail act fail.Script) l f = absurd (no_active act (and_parts (is_act_active es act) _ f).0)
+  comes (event.Fail act fail.AtEnd) l f = absurd (no_active act (and_parts (is_act_active es act) _ f).0)
+  comes (event.Fail act fail.Effect) l f = absurd (no_active act (and_parts (is_act_active es act) _ f).0)
   comes (event.Cancel act why) l f = absurd (true≢false (sym f))
   comes (event.Stopped r p) l f =
-      let w = both (is_confirmed r p es) (not (is_through r p es) && is_for_cancelled r es) f in
-      let u = both (not (is_through r p es)) (is_for_cancelled r es) w.1 in
+      let w = and_parts (is_confirmed r p es) (not (is_through r p es) && is_for_cancelled r es) f in
+      let u = and_parts (not (is_through r p es)) (is_for_cancelled r es) w.1 in
       absurd (no_engaged_on r p
       (or_right (has_offered r p es && (not (is_rejected r p es) && not (is_confirmed r p es))) (is_confirmed r p es && not (is_through r p es))
       (and_from (is_confirmed r p es) (not (is_through r p es)) w.0 u.0)))
@@ -202,7 +204,7 @@ module _ (i : Input) (es : List Entry) (history : IsHistory i es) (asked : IsAsk
       by_found (Some observer) f =
           let some : Bool = list_any (is_ready i es) (places es) in
           let none : Bool = list_all (λ act. not (is_ready i es act) || not (is_startable i es act)) (places es) in
-          let all : list_all (λ o. is_none (seen_by i o es)) (observers i) ≡ true = (both none _ (both some _ (both (not (any_harmed es)) _ b).1).1).1 in
+          let all : list_all (λ o. is_none (seen_by i o es)) (observers i) ≡ true = (and_parts none _ (and_parts some _ (and_parts (not (any_harmed es)) _ b).1).1).1 in
           none_of (seen_by i observer es) (all_in (λ o. is_none (seen_by i o es)) (observers i) all observer (found_in (λ observer. same_name o observer.name) (observers i) observer f).0)
 
   blocked_still : (e : Entry) → fits i es e.what ≡ true → may_come e.what ≡ true → ends_plan e.what ≡ false → ReadsTheSame i es (es ++ e ∷ [])
@@ -214,7 +216,7 @@ module _ (i : Input) (es : List Entry) (history : IsHistory i es) (asked : IsAsk
 
       by_what : (w : Event) → e.what ≡ w → fits i es w ≡ true → may_come w ≡ true → ends_plan w ≡ false → is_blocked i (es ++ e ∷ []) ≡ true
       by_what (event.Edit (by.Observer o) edit) at f m n =
-          let next = (both (is_edit edit (next_seen i o es)) (is_ok (edited i.domain (know i es) edit)) f).0 in
+          let next = (and_parts (is_edit edit (next_seen i o es)) (is_ok (edited i.domain (know i es) edit)) f).0 in
           absurd (true≢false (sym next ∙ ap (is_edit edit) (none_seen b o)))
       by_what (event.Refused (by.Observer o) why) at f m n =
           absurd (true≢false (sym f ∙ ap (λ x. is_cause why (option_and_then (λ edit. edit_refusal (edited i.domain (know i es) edit)) x)) (none_seen b o)))

@@ -4,11 +4,11 @@ use Rattle.std.proofs.Math.Seq.{take-length}
 use Rattle.std.proofs.lemmas.Bool.{cases_lt, true≢false}
 use Rattle.std.proofs.lemmas.List.{length-append, take-append-le, take_all}
 use Rattle.std.proofs.lemmas.Option.{slice_get_past}
+use Rattle.ps_world.proofs.Optionals.{some_same}
 use Rattle.ps_machine.specs.declared.inputs.Input.{Input}
 use Rattle.ps_machine.specs.declared.journal.Entry.{Entry}
 use Rattle.ps_rules.specs.Known.{know}
 use Rattle.ps_rules.specs.Choices.{wants_plan}
-use Rattle.ps_ends.proofs.Picking.{some_eq}
 use Rattle.ps_asked.specs.Asked.{AskedForGood, Counts, ends_plan, NoneCount, NoneCountBetween, WasAsked}
 use Rattle.ps_asked.specs.Asked.Counts.{planned, changed}
 
@@ -18,7 +18,7 @@ use Rattle.ps_asked.specs.Asked.Counts.{planned, changed}
 pub uncounted : (i : Input) (es : List Entry) (k : ℕ) (e : Entry) → slice_get es k ≡ Some e → ends_plan e.what ≡ false → know i (take k es) ≡ know i (take (k + 1) es)
     → Counts i es k → ⊥
 uncounted i es k e at n same (planned f there t) =
-    let it : e ≡ f = some_eq e f (sym at ∙ there) in true≢false (sym t ∙ ap (λ x. ends_plan x.what) (sym it) ∙ n)
+    let it : e ≡ f = some_same e f (sym at ∙ there) in true≢false (sym t ∙ ap (λ x. ends_plan x.what) (sym it) ∙ n)
 uncounted i es k e at n same (changed h) = h same
 
 -- nothing past the end counts

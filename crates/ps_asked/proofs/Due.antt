@@ -2,7 +2,7 @@
 use Rattle.std.proofs.Common.{◌≡◌, ℕ, ◌<◌, ◌==◌, ◌&&◌, ◌||◌, Bool, true, false, not, List, [], ◌∷◌, ◌++◌, filter, map, length, if◌then◌else◌, refl, arith, ap, sym, ◌∙◌, subst, inl, inr, append_assoc, append-nil}
 use Rattle.std.specs.List.{AllByRecursion, list_all}
 use Rattle.std.specs.Option.{unwrap_or}
-use Rattle.std.proofs.lemmas.Bool.{eqb-true, false_from_ne_true, not-true, true≢false}
+use Rattle.std.proofs.lemmas.Bool.{eqb-true, false_from_ne_true, not-true, true≢false, and_parts}
 use Rattle.ps_action.specs.declared.states.ActState.TheVariants.{Waiting, Active, Cancelled}
 use Rattle.ps_machine.specs.declared.inputs.Input.{Input}
 use Rattle.ps_machine.specs.declared.journal.CancelWhy.{CancelWhy}
@@ -15,11 +15,10 @@ use Rattle.ps_rules.specs.Settled.{may_go_on, places}
 use Rattle.ps_rules.specs.History.{any_of, broken, cancels, forced, forced_after, is_fail, sound}
 use Rattle.ps_rules.specs.Prefixes.{Leads}
 use Rattle.ps_rules.specs.Prefixes.Leads.{here, owed, next}
-use Rattle.ps_rules.proofs.Kept.{both}
 use Rattle.ps_rules.proofs.Prefixes.{lead-next, lead-owed}
 use Rattle.ps_rules.proofs.Pushed.{read-push}
+use Rattle.ps_rules.proofs.Between.{active-so}
 use Rattle.ps_ends.proofs.Lists.{all_in, In, in_range, range_in}
-use Rattle.ps_ends.proofs.Offers.{active_is}
 use Rattle.ps_ends.proofs.Picking.{clash, pick_no}
 use Rattle.ps_asked.proofs.Lists.{Differ, in_kept, range_differ}
 
@@ -63,9 +62,9 @@ module _ (i : Input) (es : List Entry) where
       → (state act es ≡ Active) × (act < length (plan es)) × (test act ≡ true)
   placed_one test act h =
       let w = in_kept (λ act. is_active (state act es) && test act) act (places es) h in
-      let u = both (is_active (state act es)) (test act) w.1 in
+      let u = and_parts (is_active (state act es)) (test act) w.1 in
       let r = (range_in act 0 (length (plan es)) w.0).1 in
-      (active_is (state act es) u.0, omega (arith, r), u.1)
+      (active-so (state act es) u.0, omega (arith, r), u.1)
 
   stops_due : (hand : ℕ) → AreDue es (map (cancels hand cancel.Stop) (sound i es))
   stops_due hand =

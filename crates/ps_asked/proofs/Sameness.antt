@@ -4,7 +4,7 @@ use Rattle.std.specs.Bool.{Decides}
 use Rattle.std.specs.Cmp.{signed_Decides}
 use Rattle.std.specs.Cmp.Lexicographic.{pointwise}
 use Rattle.std.specs.Ordering.{int_eq}
-use Rattle.std.proofs.lemmas.Bool.{true≢false}
+use Rattle.std.proofs.lemmas.Bool.{true≢false, and_from, and_parts}
 use Rattle.std.proofs.lemmas.Slice.Eq.{slice_eq-Decides}
 use Rattle.ps_world.specs.Knowledge.{same_fact}
 use Rattle.ps_world.specs.Names.{same_name}
@@ -14,20 +14,18 @@ use Rattle.ps_world.specs.declared.facts.Fact.{Fact}
 use Rattle.ps_world.specs.declared.conditions.Cond.{Cond}
 use Rattle.ps_world.specs.declared.edits.Edit.{Edit}
 use Rattle.ps_world.specs.declared.edits.Edit.TheVariants as change
+use Rattle.ps_world.proofs.SameTexts.{name_itself}
 use Rattle.ps_action.specs.Search.{same_value}
 use Rattle.ps_action.proofs.Contained.{fact_itself, fact_same}
+use Rattle.ps_action.proofs.Facts.{same_name-is}
 use Rattle.ps_rules.specs.Same.{same_edit}
-use Rattle.ps_rules.proofs.Kept.{both, name_eq}
-use Rattle.ps_rules.proofs.SameThings.{same_edit-decides, same_name-itself}
+use Rattle.ps_rules.proofs.SameThings.{same_edit-decides}
 use Rattle.ps_asked.specs.Asked.{KnowledgeDecides}
 
 -- what a test decides holds where it can't fail
 by_decision : {P : Type 0} (b : Bool) → Decides b P → ((P → ⊥) → ⊥) → P
 by_decision true d n = d.0 refl
 by_decision false d n = absurd (n (λ p. true≢false (sym (d.1 p))))
-
-both_so : (x y : Bool) → x ≡ true → y ≡ true → (x && y) ≡ true
-both_so x y e f = rw (e, f) refl
 
 -- ---- pairs
 
@@ -36,8 +34,8 @@ same_kind p q = same_name p.0 q.0 && same_name p.1 q.1
 
 kinds_decide : (p q : Name × Name) → Decides (same_kind p q) (p ≡ q)
 kinds_decide p q = (
-  λ h. let w = both (same_name p.0 q.0) (same_name p.1 q.1) h in λ i. (name_eq p.0 q.0 w.0 i, name_eq p.1 q.1 w.1 i),
-  λ e. ap (same_kind p) (sym e) ∙ both_so (same_name p.0 p.0) (same_name p.1 p.1) (same_name-itself p.0) (same_name-itself p.1),
+  λ h. let w = and_parts (same_name p.0 q.0) (same_name p.1 q.1) h in λ i. (same_name-is p.0 q.0 w.0 i, same_name-is p.1 q.1 w.1 i),
+  λ e. ap (same_kind p) (sym e) ∙ and_from (same_name p.0 p.0) (same_name p.1 p.1) (name_itself p.0) (name_itself p.1),
 )
 
 facts_decide : (f g : Fact) → Decides (same_fact f g) (f ≡ g)
@@ -45,10 +43,10 @@ facts_decide f g = (fact_same f g, λ e. ap (same_fact f) (sym e) ∙ fact_itsel
 
 values_decide : (v w : Fact × Num) → Decides (same_value v w) (v ≡ w)
 values_decide v w = (
-  λ h. let u = both (same_fact v.0 w.0) (int_eq v.1 w.1) h in
+  λ h. let u = and_parts (same_fact v.0 w.0) (int_eq v.1 w.1) h in
       let number : v.1 ≡ w.1 = (signed_Decides v.1 w.1).0 u.1 in
       λ i. (fact_same v.0 w.0 u.0 i, number i),
-  λ e. ap (same_value v) (sym e) ∙ both_so (same_fact v.0 v.0) (int_eq v.1 v.1) (fact_itself v.0) ((signed_Decides v.1 v.1).1 refl),
+  λ e. ap (same_value v) (sym e) ∙ and_from (same_fact v.0 v.0) (int_eq v.1 v.1) (fact_itself v.0) ((signed_Decides v.1 v.1).1 refl),
 )
 
 -- ---- goals

@@ -2,7 +2,7 @@
 use Rattle.std.proofs.Common.{◌≡◌, ℕ, ◌+◌, ◌&&◌, ◌||◌, Bool, true, false, not, Option, Some, None, is_none, option_and_then, List, [], ◌∷◌, ◌++◌, slice_get, length, if◌then◌else◌, nat_le, refl, ap, sym, ◌∙◌}
 use Rattle.std.specs.List.{list_all, list_any, range_with_len}
 use Rattle.std.specs.Option.{unwrap_or}
-use Rattle.std.proofs.lemmas.Bool.{and_from, true≢false}
+use Rattle.std.proofs.lemmas.Bool.{and_from, true≢false, and_parts}
 use Rattle.ps_world.specs.declared.names.Name.{Name}
 use Rattle.ps_world.specs.declared.known.Knowledge.{Knowledge}
 use Rattle.ps_action.specs.Arcs.{is_arc}
@@ -22,7 +22,6 @@ use Rattle.ps_rules.specs.Auctions.{is_engaged, says_engaged}
 use Rattle.ps_rules.specs.Known.{are_defined, grounds, hold, know, part}
 use Rattle.ps_rules.specs.Members.{edit_where, is_observed, observed, observers, performers}
 use Rattle.ps_rules.specs.Settled.{any_harmed, is_blocked, is_met, is_reached, is_settled, places, unreached, verdict}
-use Rattle.ps_rules.proofs.Kept.{both}
 use Rattle.ps_rules.proofs.Pushed.{read-push}
 use Rattle.ps_asked.specs.Asked.{ends_plan, may_come}
 
@@ -88,8 +87,8 @@ module _ (i : Input) (es fs : List Entry) (same : ReadsTheSame i es fs) where
   settled_still h s =
       let rest : Bool = any_harmed es || (list_all (λ act. is_done (state act es)) (places es) || is_blocked i es) in
       let free : Bool = list_all (λ p. not (is_engaged p.name es)) (performers i) in
-      let w = both (list_all (λ act. not (is_active (state act es))) (places es)) (free && rest) s in
-      let u = both free rest w.1 in
+      let w = and_parts (list_all (λ act. not (is_active (state act es))) (places es)) (free && rest) s in
+      let u = and_parts free rest w.1 in
       and_from _ _ (quiet_same ∙ w.0)
       (and_from _ _ (free_same ∙ u.0)
       (some_way (any_harmed fs) (list_all (λ act. is_done (state act fs)) (places fs)) (is_blocked i fs) (any_harmed es) (list_all (λ act. is_done (state act es)) (places es)) (is_blocked i es)

@@ -4,6 +4,7 @@ use Rattle.std.proofs.Math.Seq.{take-append_seam}
 use Rattle.std.proofs.lemmas.Bool.{cases_order, false_from_ne_true}
 use Rattle.std.proofs.lemmas.List.{length-take-le, take-append-drop}
 use Rattle.std.proofs.lemmas.Option.{slice_get_past}
+use Rattle.ps_world.proofs.Optionals.{some_same}
 use Rattle.ps_machine.specs.declared.inputs.Input.{Input}
 use Rattle.ps_machine.specs.declared.journal.Entry.{Entry}
 use Rattle.ps_rules.specs.Known.{know}
@@ -11,12 +12,12 @@ use Rattle.ps_rules.specs.History.{IsHistory}
 use Rattle.ps_rules.specs.Choices.{wants_plan}
 use Rattle.ps_rules.specs.Prefixes.{Leads}
 use Rattle.ps_rules.proofs.Prefixes.{history-leads, lead-next, prefixes_go_on}
-use Rattle.ps_ends.proofs.Picking.{some_eq}
+use Rattle.ps_rules.proofs.InOrder.{get-seam}
 use Rattle.ps_asked.specs.Asked.{Counts, ends_plan, may_come, NoneCount, NoneCountBetween, OnlyEditsCount, StillAsked, WasAsked}
 use Rattle.ps_asked.specs.Asked.Counts.{planned, changed}
 use Rattle.ps_asked.proofs.Asking.{all_quiet, asked_of, asked_still, AskedStill, IsAsked, legal_may_come, of_asked}
 use Rattle.ps_asked.proofs.Due.{cut, none_due}
-use Rattle.ps_asked.proofs.Lists.{get_seam, take_seam}
+use Rattle.ps_asked.proofs.Lists.{take_seam}
 use Rattle.ps_asked.proofs.Sameness.{knowledge_decides}
 
 -- ---- one entry
@@ -34,7 +35,7 @@ next_idle : (i : Input) (before : List Entry) (e : Entry) (rest : List Entry) �
     → (Counts i (before ++ e ∷ rest) (length before) → ⊥) → Next i before e rest
 next_idle i before e rest history asked l n =
     let w = lead-next i before rest [] e l in
-    let u = idle i (before ++ e ∷ rest) (length before) e (get_seam before e rest) n in
+    let u = idle i (before ++ e ∷ rest) (length before) e (get-seam before e rest) n in
     let known : know i (before ++ e ∷ []) ≡ know i before =
     ap (know i) (sym (take_seam before e rest)) ∙ sym u.1 ∙ ap (know i) (take-append_seam before (e ∷ rest)) in
     let still = asked_still i before e history asked w.0 w.1 u.0 known in
@@ -67,7 +68,7 @@ comes_at i before [] k f history asked l m at n =
 comes_at i before (e ∷ rest) k f history asked l m at n =
     elim (cases_order (length before) k) [
       | inl same ↦
-          let it : e ≡ f = some_eq e f (sym (get_seam before e rest) ∙ ap (slice_get (before ++ e ∷ rest)) same ∙ at) in
+          let it : e ≡ f = some_same e f (sym (get-seam before e rest) ∙ ap (slice_get (before ++ e ∷ rest)) same ∙ at) in
           ap (λ x. may_come x.what) (sym it) ∙ legal_may_come i before history asked e.what (lead-next i before rest [] e l).0
       | inr (inl less) ↦
           let w = next_idle i before e rest history asked l (n (length before) (omega arith) less) in

@@ -1,7 +1,7 @@
 -- What answers the lines of the terminal.
 use Rattle.std.proofs.Common.{◌≡◌, ◌==◌, ℕ, suc, ◌+◌, ◌≤◌, ◌<◌, ◌&&◌, Bool, true, false, if◌then◌else◌, Option, Some, None, is_none, is_ok, IsSome, Result, Ok, Err, List, [], ◌∷◌, option_and_then, length, slice_get, refl, ap, sym, subst, arith, ◌∙◌}
-use Rattle.std.specs.Cmp.{unsigned_Decides}
 use Rattle.std.proofs.lemmas.Option.{slice_get_within}
+use Rattle.std.proofs.lemmas.Bool.{and_from}
 use Rattle.ps_world.specs.Knowledge.{edited}
 use Rattle.ps_world.specs.declared.conditions.Cond.{Cond}
 use Rattle.ps_world.specs.declared.domains.Domain.{Domain}
@@ -15,9 +15,6 @@ use Rattle.ps_action.specs.declared.acts.Act.{Act}
 use Rattle.ps_action.specs.declared.acts.PlanStep.{PlanStep}
 use Rattle.ps_action.specs.declared.answers.Answer.{Answer}
 use Rattle.ps_action.specs.declared.answers.Answer.TheVariants as answer
-use Rattle.ps_action.specs.declared.acts.GroundAction.{GroundAction}
-use Rattle.ps_action.specs.declared.refusals.GroundRefusal.{GroundRefusal}
-use Rattle.ps_action.specs.declared.refusals.PlanRefusal.{PlanRefusal}
 use Rattle.ps_action.specs.declared.refusals.PlanTextRefusal.{PlanTextRefusal}
 use Rattle.ps_machine.specs.declared.inputs.Command.TheVariants as command
 use Rattle.ps_machine.specs.declared.inputs.Input.{Input}
@@ -33,27 +30,19 @@ use Rattle.ps_machine.specs.declared.journal.Event.TheVariants as event
 use Rattle.ps_machine.specs.declared.journal.Entry.{Entry}
 use Rattle.ps_rules.specs.Runs.{has_run}
 use Rattle.ps_rules.specs.Known.{know}
-use Rattle.ps_rules.specs.Lines.{acts_of, answered, answers_line, due_lines, edit_refusal, ground_refusal, next_line, plan_refusal, refusal_of, refusal_of_goal, refusal_of_query, refusal_of_steps, unplanned, with_goal}
+use Rattle.ps_rules.specs.Lines.{acts_of, answered, answers_line, due_lines, edit_refusal, ground_refusal, next_line, plan_refusal, refusal_of, refusal_of_goal, refusal_of_query, refusal_of_steps, unplanned}
 use Rattle.ps_rules.specs.Same.{same_acts}
 use Rattle.ps_rules.specs.Legal.{fits, is_accepted, is_cause, is_edit, is_query, is_quit, line_edit, opens_with}
 use Rattle.ps_rules.specs.Choices.{answer_event, edit_event, line_event, outcome_of, run_by, Says}
 use Rattle.ps_rules.proofs.Choosing.{plan-so}
 use Rattle.ps_rules.proofs.SameThings.{same_acts-decides, same_cause-decides, same_edit-itself, same_query-decides}
+use Rattle.ps_rules.proofs.InOrder.{number-itself, some-none, accepted-act, accepted-plan, goal-so}
 use Rattle.ps_rows.specs.Table.{MayBegin}
 use Rattle.ps_rows.proofs.Answered.{fits-unplanned, with-some-goal}
 use Rattle.ps_rows.proofs.Grounded.{good-each, one-each}
 use Rattle.ps_board.specs.declared.whole.Core.{Core}
 use Rattle.ps_board.specs.Core.{Stands}
 use Rattle.ps_board.specs.Commands.{AnswersBy, AnswersNext, line_of, MayAnswer}
-
-both-so : (x y : Bool) → x ≡ true → y ≡ true → (x && y) ≡ true
-both-so x y e f = rw (e, f) refl
-
-number-itself : (n : ℕ) → (n == n) ≡ true
-number-itself n = (unsigned_Decides n n).1 refl
-
-some-none : {A : Type 0} (x : A) → Some x ≡ None → ⊥
-some-none x e = cc
 
 -- what is known in the domain is what the entries say
 pub told-now : {A : Type 0} (f : Domain → Knowledge → A) (c : Core) → Stands c → f c.present.expert c.present.problem ≡ f c.input.domain (know c.input c.entries.items)
@@ -96,7 +85,7 @@ refused says c line why next given =
       answers = record {
         event = ap (option_and_then (line_event says i es)) next ∙ ap (answer_event says i es line) given;
         own = refl;
-        fit = both-so (answered es + 1 == answered es + 1) (is_cause why (option_and_then (refusal_of i es) (next_line i es))) (number-itself (answered es + 1)) cause;
+        fit = and_from (answered es + 1 == answered es + 1) (is_cause why (option_and_then (refusal_of i es) (next_line i es))) (number-itself (answered es + 1)) cause;
       };
       plan = tt;
     }
@@ -124,7 +113,7 @@ pub asks : (says : Says) (c : Core) (q : Query) → line_of c ≡ Some (Good (co
 asks says c q next given =
     let said : is_query q (line_of c) ≡ true = ap (is_query q) next ∙ (same_query-decides q q).1 refl in
     let fine : is_accepted c.input c.entries.items (line_of c) ≡ true = ap (is_accepted c.input c.entries.items) next ∙ ap is_none given in
-    accepted says c (Good (command.Ask q)) (event.Ask q) next given refl refl (both-so (is_query q (line_of c)) (is_accepted c.input c.entries.items (line_of c)) said fine) tt
+    accepted says c (Good (command.Ask q)) (event.Ask q) next given refl refl (and_from (is_query q (line_of c)) (is_accepted c.input c.entries.items (line_of c)) said fine) tt
 
 -- why a query is refused
 pub query-cause : (c : Core) (b : Bool) (q : Query) → Stands c → b ≡ has_run c.entries.items
@@ -144,8 +133,8 @@ edit-outcome says c edit next (Ok k) given =
     let o : Result Knowledge EditRefusal = edited c.input.domain (know c.input es) edit in
     let said : is_edit edit (line_edit (line_of c)) ≡ true = ap (λ l. is_edit edit (line_edit l)) next ∙ same_edit-itself edit in
     (accepted says c (Good (command.Edit edit)) (event.Edit (Terminal (answered es + 1)) edit) next (ap edit_refusal given) refl refl
-    (both-so (answered es + 1 == answered es + 1) (is_edit edit (line_edit (line_of c)) && is_ok o) (number-itself (answered es + 1))
-    (both-so (is_edit edit (line_edit (line_of c))) (is_ok o) said (ap is_ok given))) tt).answers
+    (and_from (answered es + 1 == answered es + 1) (is_edit edit (line_edit (line_of c)) && is_ok o) (number-itself (answered es + 1))
+    (and_from (is_edit edit (line_edit (line_of c))) (is_ok o) said (ap is_ok given))) tt).answers
 
 pub edits : (says : Says) (c : Core) (edit : Edit) → line_of c ≡ Some (Good (command.Edit edit))
     → AnswersNext says c (edit_event c.input c.entries.items (Terminal (answered c.entries.items + 1)) edit)
@@ -153,20 +142,16 @@ edits says c edit next = edit-outcome says c edit next (edited c.input.domain (k
 
 -- ---- runs of one act
 
-act-fine : (o : Result GroundAction GroundRefusal) → ground_refusal o ≡ None → is_ok o ≡ true
-act-fine (Ok g) h = refl
-act-fine (Err r) h = absurd (cc)
-
 pub runs-act : (says : Says) (c : Core) (act : Act) (acts : List Act) → Stands c → acts ≡ act ∷ [] → line_of c ≡ Some (Good (command.RunAction act))
     → ground_refusal (ground_act c.present.expert c.present.problem.instances act) ≡ None → MayAnswer says c (event.Run run.Action acts)
 runs-act says c act acts s one next given =
     let i : Input = c.input in
     let es : List Entry = c.entries.items in
-    let fine : is_ok (ground_act c.present.expert c.present.problem.instances act) ≡ true = act-fine (ground_act c.present.expert c.present.problem.instances act) given in
+    let fine : is_ok (ground_act c.present.expert c.present.problem.instances act) ≡ true = accepted-act (ground_act c.present.expert c.present.problem.instances act) given in
     let now = told-now (λ d k. ground_act d k.instances act) c s in
     let fit : fits i es (event.Run run.Action (act ∷ [])) ≡ true =
     ap (opens_with i es run.Action (act ∷ [])) next
-    ∙ both-so (same_acts (act ∷ []) (act ∷ [])) (is_ok (ground_act i.domain (know i es).instances act)) ((same_acts-decides (act ∷ []) (act ∷ [])).1 refl) (ap is_ok (sym now) ∙ fine) in
+    ∙ and_from (same_acts (act ∷ []) (act ∷ [])) (is_ok (ground_act i.domain (know i es).instances act)) ((same_acts-decides (act ∷ []) (act ∷ [])).1 refl) (ap is_ok (sym now) ∙ fine) in
     subst (λ xs. MayAnswer says c (event.Run run.Action xs)) (sym one)
     (accepted says c (Good (command.RunAction act)) (event.Run run.Action (act ∷ [])) next (ap ground_refusal (sym now) ∙ given) refl refl fit
     (record { few = omega arith; grounded = one-each c.present.expert c.present.problem act fine }))
@@ -183,20 +168,6 @@ pub plan-cause : (c : Core) (steps : Result (List PlanStep) PlanTextRefusal) →
     → refusal_of c.input c.entries.items (Good (command.RunPlan steps)) ≡ refusal_of_steps c.present.expert c.present.problem steps
 plan-cause c steps s = sym (told-now (λ d k. refusal_of_steps d k steps) c s)
 
-plan-fine : (o : Result Knowledge PlanRefusal) → plan_refusal o ≡ None → is_ok o ≡ true
-plan-fine (Ok g) h = refl
-plan-fine (Err r) h = absurd (cc)
-
--- where nothing refuses, no other cause is given than that there is no goal
-goal-so : (k : Knowledge) (why : Option Refusal) → with_goal k why ≡ None → why ≡ None
-goal-so k why h =
-    let cases : (b : Bool) → (if b then Some refusal.NoGoal else why) ≡ None → why ≡ None =
-    λ b. elim b as (λ b. (if b then Some refusal.NoGoal else why) ≡ None → why ≡ None) [
-      | true ↦ λ e. absurd (cc)
-      | false ↦ λ e. e
-    ] in
-    cases (is_none k.goal) h
-
 length-acts : (steps : List PlanStep) → length (acts_of steps) ≡ length steps
 length-acts [] = refl
 length-acts (step ∷ steps) = ap (λ (n : ℕ). suc n) (length-acts steps)
@@ -208,11 +179,11 @@ runs-plan says c steps acts s all next few given =
     let es : List Entry = c.entries.items in
     let these : List Act = acts_of steps in
     let fine : is_ok (judged c.present.expert c.present.problem these) ≡ true =
-    plan-fine (judged c.present.expert c.present.problem these) (goal-so c.present.problem (plan_refusal (judged c.present.expert c.present.problem these)) given) in
+    accepted-plan (judged c.present.expert c.present.problem these) (goal-so c.present.problem (plan_refusal (judged c.present.expert c.present.problem these)) given) in
     let now = told-now (λ d k. judged d k these) c s in
     let fit : fits i es (event.Run run.Plan these) ≡ true =
     ap (opens_with i es run.Plan these) next
-    ∙ both-so (same_acts these these) (is_ok (judged i.domain (know i es) these)) ((same_acts-decides these these).1 refl) (ap is_ok (sym now) ∙ fine) in
+    ∙ and_from (same_acts these these) (is_ok (judged i.domain (know i es) these)) ((same_acts-decides these these).1 refl) (ap is_ok (sym now) ∙ fine) in
     let many = length-acts steps in
     subst (λ xs. MayAnswer says c (event.Run run.Plan xs)) (sym all)
     (accepted says c (Good (command.RunPlan (Ok steps))) (event.Run run.Plan these) next (sym (told-now (λ d k. refusal_of_steps d k (Ok steps)) c s) ∙ given) refl refl fit

@@ -1,6 +1,7 @@
 -- That the solver is asked only where there is a goal, and that whoever a tick hands a snapshot out to asks it.
 use Rattle.std.proofs.Common.{◌≡◌, ◌&&◌, not, Bool, true, false, if◌then◌else◌, Option, Some, None, is_none, IsSome, List, length, take, refl, ap, arith, sym, ◌∙◌}
 use Rattle.std.proofs.Math.Seq.{take-length}
+use Rattle.std.proofs.lemmas.Bool.{and_parts}
 use Rattle.ps_world.specs.declared.conditions.Cond.{Cond}
 use Rattle.ps_machine.specs.declared.inputs.Input.{Input}
 use Rattle.ps_machine.specs.declared.journal.Event.{Event}
@@ -13,7 +14,6 @@ use Rattle.ps_rules.specs.Choices.{ticked, wants_plan}
 use Rattle.ps_rules.specs.Known.{know}
 use Rattle.ps_rules.specs.Runs.{is_running, kind}
 use Rattle.ps_rules.specs.Settled.{is_reached, is_settled, unreached, verdict}
-use Rattle.ps_rules.proofs.Kept.{both}
 use Rattle.ps_asked.specs.Asked.{WasAsked}
 use Rattle.ps_ledger.specs.Ends.{last_outcome, outcome_of}
 use Rattle.ps_board.specs.declared.board.Shown.{Shown}
@@ -42,8 +42,8 @@ verdict-goal i es false e = unreached-goal i es (kind es) e
 -- the solver is asked only where there is a goal
 pub asked-goal : (i : Input) (es : List Entry) → wants_plan i es ≡ true → IsSome (know i es).goal
 asked-goal i es wants =
-    let settled = (both (is_running es) (is_settled i es && is_none (verdict i es)) wants).1 in
-    verdict-goal i es (is_reached i es (kind es)) (both (is_settled i es) (is_none (verdict i es)) settled).1
+    let settled = (and_parts (is_running es) (is_settled i es && is_none (verdict i es)) wants).1 in
+    verdict-goal i es (is_reached i es (kind es)) (and_parts (is_settled i es) (is_none (verdict i es)) settled).1
 
 -- ---- who is told to ask
 

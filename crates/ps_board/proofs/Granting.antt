@@ -12,16 +12,18 @@ use Rattle.ps_machine.specs.declared.journal.Event.{Event}
 use Rattle.ps_machine.specs.declared.journal.Event.TheVariants as event
 use Rattle.ps_machine.specs.declared.journal.Entry.{Entry}
 use Rattle.std.specs.List.{AllPairs}
+use Rattle.ps_world.proofs.SameTexts.{name_itself}
+use Rattle.ps_world.proofs.Optionals.{none_not_some, some_same}
+use Rattle.ps_action.proofs.Facts.{same_name-is}
 use Rattle.ps_rules.specs.Auctions.{is_last, is_working, says_working}
 use Rattle.ps_rules.specs.Choices.{with_block}
 use Rattle.ps_rules.specs.Legal.{is_legal}
 use Rattle.ps_rules.specs.Members.{as_performer}
 use Rattle.ps_rules.specs.Sound.{IsSound, member_name}
-use Rattle.ps_rules.proofs.Kept.{name_eq}
 use Rattle.ps_choices.proofs.Hearing.{hearing_stays}
 use Rattle.ps_ends.proofs.Blocks.{working-block}
 use Rattle.ps_ends.proofs.Lists.{In}
-use Rattle.ps_ends.proofs.Picking.{clash, name_itself, not_some, pick_no, some_eq, stays}
+use Rattle.ps_ends.proofs.Picking.{clash, pick_no, stays}
 use Rattle.ps_ends.proofs.SoundMembers.{all-one, differ-head, differ-tail}
 use Rattle.ps_ledger.specs.Members.{place_in}
 use Rattle.ps_board.specs.Grants.{AreOut, granted, performer_names}
@@ -33,23 +35,23 @@ abbrev named : List Member → List Name
 named ms = map (λ p. p.name) (filter_map as_performer ms)
 
 named-member : (ms : List Member) (k : ℕ) (n : Name) → slice_get (named ms) k ≡ Some n → (p : Performer) × In (member.Performer p) ms × (p.name ≡ n)
-named-member [] k n e = not_some n e
+named-member [] k n e = none_not_some n e
 named-member (member.Observer o ∷ ms) k n e = let w = named-member ms k n e in (w.0, inr w.1, w.2)
-named-member (member.Performer p ∷ ms) zero n e = (p, inl refl, some_eq p.name n e)
+named-member (member.Performer p ∷ ms) zero n e = (p, inl refl, some_same p.name n e)
 named-member (member.Performer p ∷ ms) (suc k) n e = let w = named-member ms k n e in (w.0, inr w.1, w.2)
 
 place-of : (ms : List Member) → AllPairs (λ a b. same_name (member_name a) (member_name b) ≡ false) ms → (k : ℕ) (n : Name) → slice_get (named ms) k ≡ Some n → place_in (named ms) n ≡ k
-place-of [] differ k n e = not_some n e
+place-of [] differ k n e = none_not_some n e
 place-of (member.Observer o ∷ ms) differ k n e = place-of ms (differ-tail (member.Observer o) ms differ) k n e
 place-of (member.Performer p ∷ ms) differ zero n e =
-    cond-true (same_name n p.name) 0 (suc (place_in (named ms) n)) (ap (same_name n) (some_eq p.name n e) ∙ name_itself n)
+    cond-true (same_name n p.name) 0 (suc (place_in (named ms) n)) (ap (same_name n) (some_same p.name n e) ∙ name_itself n)
 place-of (member.Performer p ∷ ms) differ (suc k) n e =
     let w = named-member ms k n e in
     let apart : same_name p.name n ≡ false =
     ap (same_name p.name) (sym w.2)
     ∙ all-one (λ b. same_name p.name (member_name b) ≡ false) ms (differ-head (member.Performer p) ms differ) (member.Performer w.0) w.1 in
     let not_first : same_name n p.name ≡ false =
-    false_from_ne_true (same_name n p.name) (λ t. clash (same_name p.name n) (ap (same_name p.name) (name_eq n p.name t) ∙ name_itself p.name) apart) in
+    false_from_ne_true (same_name n p.name) (λ t. clash (same_name p.name n) (ap (same_name p.name) (same_name-is n p.name t) ∙ name_itself p.name) apart) in
     cond-false (same_name n p.name) 0 (suc (place_in (named ms) n)) not_first ∙ ap suc (place-of ms (differ-tail (member.Performer p) ms differ) k n e)
 
 pub place-is : (i : Input) → IsSound i → (k : ℕ) (n : Name) → slice_get (performer_names i) k ≡ Some n → place_in (performer_names i) n ≡ k
@@ -59,7 +61,7 @@ place-is i sound k n e = place-of i.members sound.names_differ k n e
 pub names-apart : (i : Input) → IsSound i → (j k : ℕ) (m n : Name) → slice_get (performer_names i) j ≡ Some m → slice_get (performer_names i) k ≡ Some n → (j ≡ k → ⊥) → same_name m n ≡ false
 names-apart i sound j k m n e f differ =
     false_from_ne_true (same_name m n) (λ t.
-    differ (sym (place-is i sound j m e) ∙ ap (place_in (performer_names i)) (name_eq m n t) ∙ place-is i sound k n f))
+    differ (sym (place-is i sound j m e) ∙ ap (place_in (performer_names i)) (same_name-is m n t) ∙ place-is i sound k n f))
 
 -- ---- work goes on
 

@@ -2,7 +2,7 @@
 use Rattle.std.proofs.Common.{◌≡◌, ℕ, zero, suc, ◌<◌, ◌==◌, ◌&&◌, Bool, true, false, if◌then◌else◌, Option, Some, None, option_map, IfSome, IsTrue, OnErr, OnOk, Result, Ok, Err, List, [], ◌∷◌, filter_map, find, get_or, length, map, replicate, slice_get, slice_index_or, slice_set, refl, arith, ap, sym, subst, ◌∙◌}
 use Rattle.std.specs.List.{cons_option}
 use Rattle.std.specs.Option.{option_map_or, unwrap_or}
-use Rattle.std.proofs.lemmas.Bool.{cond-false, cond-true, eqb-true, true≢false}
+use Rattle.std.proofs.lemmas.Bool.{cond-false, cond-true, eqb-true, true≢false, and_right}
 use Rattle.std.proofs.lemmas.Option.{slice_get-get_or, slice_get_within}
 use Rattle.std.proofs.lemmas.List.{length-set}
 use Rattle.ps_ledger.proofs.Lists.{at-set}
@@ -11,6 +11,8 @@ use Rattle.ps_world.specs.Names.{object, same_name}
 use Rattle.ps_world.specs.Knowledge.{edited}
 use Rattle.ps_world.specs.declared.names.Name.{Name}
 use Rattle.ps_world.specs.declared.edits.Edit.{Edit}
+use Rattle.ps_world.proofs.Optionals.{none_not_some, some_same}
+use Rattle.ps_action.proofs.Facts.{same_name-is}
 use Rattle.ps_machine.specs.declared.inputs.Input.{Input}
 use Rattle.ps_machine.specs.declared.members.Unit.{Unit as Task}
 use Rattle.ps_machine.specs.declared.members.Unit.TheVariants as unit
@@ -28,13 +30,11 @@ use Rattle.ps_rules.specs.Lines.{edit_refusal}
 use Rattle.ps_rules.specs.Members.{next_seen, next_unit, performers}
 use Rattle.ps_rules.specs.Runs.{is_running, says_open}
 use Rattle.ps_rules.specs.Sound.{IsSound}
-use Rattle.ps_rules.proofs.Kept.{name_eq}
 use Rattle.ps_choices.specs.Heard.{HasHeard}
 use Rattle.ps_choices.specs.Turns.{is_choice_of}
 use Rattle.ps_choices.proofs.First.{passes}
 use Rattle.ps_ends.specs.Working.{recorded, unit_due}
 use Rattle.ps_ends.proofs.Blocks.{running-block}
-use Rattle.ps_ends.proofs.Picking.{not_some, some_eq}
 use Rattle.ps_ends.proofs.Recording.{who_works_can_record}
 use Rattle.ps_board.specs.declared.whole.Core.{Core}
 use Rattle.ps_board.specs.Core.{Stands, with_turn}
@@ -177,23 +177,19 @@ observers-legal i o es live = by-next (next_seen i o es) refl
 pub first-legal : (i : Input) (es : List Entry) (xs : List Event) → IfSome (find (is_legal i es) xs) (λ e. is_legal i es e ≡ true)
 first-legal i es xs = by-option (λ e. is_legal i es e ≡ true) (find (is_legal i es) xs) (λ e is. passes (is_legal i es) xs e (sym is))
 
-and-false : (a b : Bool) → b ≡ false → (a && b) ≡ false
-and-false true b h = h
-and-false false b h = refl
-
 -- what a performer does before any work spares all others
 choice-spares : (e : Event) (n m : Name) (r : ℕ) → is_choice_of n e ≡ true → same_name m n ≡ false → is_last r m e ≡ false
 choice-spares (event.Offer s q) n m r its other = refl
 choice-spares (event.Pass s q why) n m r its other = refl
 choice-spares (event.Begin s q) n m r its other = refl
-choice-spares (event.Stopped s q) n m r its other = and-false (r == s) (same_name m q) (ap (same_name m) (sym (name_eq n q its)) ∙ other)
+choice-spares (event.Stopped s q) n m r its other = and_right (r == s) (same_name m q) (ap (same_name m) (sym (same_name-is n q its)) ∙ other)
 choice-spares e n m r its other = absurd (true≢false (sym its))
 
 -- so it spares all whose grant is out, where its own isn't
 pub performers-spare : (i : Input) → IsSound i → (grants : List (Option ℕ)) (k : ℕ) (n : Name) → slice_get (performer_names i) k ≡ Some n → granted grants k ≡ None
     → (e : Event) → is_choice_of n e ≡ true → Spares i grants e
 performers-spare i sound grants k n at none_out e its p r m there out =
-    choice-spares e n m r its (names-apart i sound p k m n there at (λ same. not_some r (sym none_out ∙ ap (granted grants) (sym same) ∙ out)))
+    choice-spares e n m r its (names-apart i sound p k m n there at (λ same. none_not_some r (sym none_out ∙ ap (granted grants) (sym same) ∙ out)))
 
 -- what one who works records spares all others
 unit-spares : (i : Input) (es : List Entry) (s : ℕ) (q : Name) (u : Task) (r : ℕ) (m : Name) → same_name m q ≡ false → is_last r m (unit_event i es s q u) ≡ false
@@ -204,17 +200,17 @@ unit-spares i es s q (unit.Edit edit) r m other = by-outcome (edit_refusal (edit
     by-outcome : (why : Option Refusal) → is_last r m (outcome_of (by.Performer s q) edit why) ≡ false
     by-outcome None = refl
     by-outcome (Some w) = refl
-unit-spares i es s q (unit.Finish ok) r m other = and-false (r == s) (same_name m q) other
+unit-spares i es s q (unit.Finish ok) r m other = and_right (r == s) (same_name m q) other
 
 pub recorded-spares : (i : Input) → IsSound i → (es : List Entry) (grants : List (Option ℕ)) (k s : ℕ) (q : Name) → slice_get (performer_names i) k ≡ Some q → granted grants k ≡ None
     → IfSome (recorded i es s q) (Spares i grants)
 recorded-spares i sound es grants k s q at none_out = by-active (is_for_active s es) (unit_due i s q es)
   where
     apart : (p r : ℕ) (m : Name) → slice_get (performer_names i) p ≡ Some m → granted grants p ≡ Some r → same_name m q ≡ false
-    apart p r m there out = names-apart i sound p k m q there at (λ same. not_some r (sym none_out ∙ ap (granted grants) (sym same) ∙ out))
+    apart p r m there out = names-apart i sound p k m q there at (λ same. none_not_some r (sym none_out ∙ ap (granted grants) (sym same) ∙ out))
 
     by-active : (active : Bool) (u : Option Task) → IfSome (if active then option_map (unit_event i es s q) u else Some (event.Stopped s q)) (Spares i grants)
-    by-active false u = λ p r m there out. and-false (r == s) (same_name m q) (apart p r m there out)
+    by-active false u = λ p r m there out. and_right (r == s) (same_name m q) (apart p r m there out)
     by-active true None = tt
     by-active true (Some u) = λ p r m there out. unit-spares i es s q u r m (apart p r m there out)
 
@@ -259,8 +255,8 @@ out-more i es grants out k r n at works = record {
 
     by-place : (p s : ℕ) (m : Name) → slice_get (performer_names i) p ≡ Some m → (t : Bool) → (p == k) ≡ t → granted (slice_set grants k (Some r)) p ≡ Some s → is_working s m es ≡ true
     by-place p s m there true same its =
-        let r_is : r ≡ s = some_eq r s (sym (at-set grants k p (Some r) None true same below) ∙ its) in
-        let m_is : m ≡ n = some_eq m n (sym there ∙ ap (slice_get (performer_names i)) (eqb-true p k same) ∙ at) in
+        let r_is : r ≡ s = some_same r s (sym (at-set grants k p (Some r) None true same below) ∙ its) in
+        let m_is : m ≡ n = some_same m n (sym there ∙ ap (slice_get (performer_names i)) (eqb-true p k same) ∙ at) in
         ap (λ x. is_working x m es) (sym r_is) ∙ ap (λ x. is_working r x es) m_is ∙ works
     by-place p s m there false other its = out.working p s m there (sym (at-set grants k p (Some r) None false other below) ∙ its)
 
@@ -271,7 +267,7 @@ out-fewer i es grants out k below = record {
 }
   where
     by-place : (p s : ℕ) (m : Name) → slice_get (performer_names i) p ≡ Some m → (t : Bool) → (p == k) ≡ t → granted (slice_set grants k None) p ≡ Some s → is_working s m es ≡ true
-    by-place p s m there true same its = not_some s (sym (at-set grants k p None None true same below) ∙ its)
+    by-place p s m there true same its = none_not_some s (sym (at-set grants k p None None true same below) ∙ its)
     by-place p s m there false other its = out.working p s m there (sym (at-set grants k p None None false other below) ∙ its)
 
 -- where a performer has a unit next it works
@@ -283,7 +279,7 @@ work-on i n es (s ∷ rs) r u e = by-next (work-on i n es rs r u) (next_unit i s
         → head_of (cons_option (option_map (λ v. (s, v)) next) (filter_map (unit_on i n es) rs)) ≡ Some (r, u) → next_unit i r n es ≡ Some u
     by-next later None is e = later e
     by-next later (Some v) is e =
-        let pair = some_eq (s, v) (r, u) e in
+        let pair = some_same (s, v) (r, u) e in
         ap (λ t. next_unit i t n es) (sym (ap (λ p. p.0) pair)) ∙ is ∙ ap Some (ap (λ p. p.1) pair)
 
 pub work-works : (i : Input) (n : Name) (es : List Entry) (r : ℕ) (u : Task) → work_of i n es ≡ Some (r, u)
@@ -292,8 +288,8 @@ work-works i n es r u e = by-tests (is_working r n es) (is_for_active r es) (wor
   where
     by-tests : (a b : Bool) → (if a && b then unit_due i r n es else None) ≡ Some u → (a ≡ true) × (b ≡ true) × (unit_due i r n es ≡ Some u)
     by-tests true true e = (refl, refl, e)
-    by-tests true false e = not_some u e
-    by-tests false b e = not_some u e
+    by-tests true false e = none_not_some u e
+    by-tests false b e = none_not_some u e
 
 -- ---- what one who works records may come
 
@@ -303,7 +299,7 @@ unit-legal i es sound h r p works active u due =
     let can = who_works_can_record i es sound h r p works in
     let records : recorded i es r p ≡ Some (unit_event i es r p u) =
     ap (λ b. if b then option_map (unit_event i es r p) (unit_due i r p es) else Some (event.Stopped r p)) active ∙ ap (option_map (unit_event i es r p)) due in
-    subst (λ e. IsTrue (is_legal i es e)) (some_eq can.what (unit_event i es r p u) (sym can.records ∙ records)) can.legal
+    subst (λ e. IsTrue (is_legal i es e)) (some_same can.what (unit_event i es r p u) (sym can.records ∙ records)) can.legal
 
 pub stop-legal : (i : Input) (es : List Entry) → IsSound i → IsHistory i es → (r : ℕ) (p : Name) → is_working r p es ≡ true → is_for_active r es ≡ false
     → IsTrue (is_legal i es (event.Stopped r p))
@@ -311,17 +307,17 @@ stop-legal i es sound h r p works shut =
     let can = who_works_can_record i es sound h r p works in
     let records : recorded i es r p ≡ Some (event.Stopped r p) =
     ap (λ b. if b then option_map (unit_event i es r p) (unit_due i r p es) else Some (event.Stopped r p)) shut in
-    subst (λ e. IsTrue (is_legal i es e)) (some_eq can.what (event.Stopped r p) (sym can.records ∙ records)) can.legal
+    subst (λ e. IsTrue (is_legal i es e)) (some_same can.what (event.Stopped r p) (sym can.records ∙ records)) can.legal
 
 pub recorded-legal : (i : Input) (es : List Entry) → IsSound i → IsHistory i es → (r : ℕ) (p : Name) → is_working r p es ≡ true → IfSome (recorded i es r p) (λ e. is_legal i es e ≡ true)
 recorded-legal i es sound h r p works =
     let can = who_works_can_record i es sound h r p works in
-    by-option (λ e. is_legal i es e ≡ true) (recorded i es r p) (λ e is. ap (is_legal i es) (some_eq e can.what (sym is ∙ can.records)) ∙ can.legal)
+    by-option (λ e. is_legal i es e ≡ true) (recorded i es r p) (λ e is. ap (is_legal i es) (some_same e can.what (sym is ∙ can.records)) ∙ can.legal)
 
 -- ---- the name at a place, and the grant there
 
 pub granted-below : (grants : List (Option ℕ)) (p r : ℕ) → granted grants p ≡ Some r → p < length grants
-granted-below [] p r e = not_some r e
+granted-below [] p r e = none_not_some r e
 granted-below (g ∷ gs) zero r e = omega arith
 granted-below (g ∷ gs) (suc p) r e = let lt = granted-below gs p r e in omega (arith, lt)
 
@@ -330,7 +326,7 @@ place-there [] n lt = absurd (omega (arith, lt))
 place-there (m ∷ ms) n lt = by-first (place-there ms n) (same_name n m) refl
   where
     by-first : (place_in ms n < length ms → slice_get ms (place_in ms n) ≡ Some n) → (b : Bool) → same_name n m ≡ b → slice_get (m ∷ ms) (place_in (m ∷ ms) n) ≡ Some n
-    by-first rest true t = ap (slice_get (m ∷ ms)) (cond-true (same_name n m) 0 (suc (place_in ms n)) t) ∙ ap Some (sym (name_eq n m t))
+    by-first rest true t = ap (slice_get (m ∷ ms)) (cond-true (same_name n m) 0 (suc (place_in ms n)) t) ∙ ap Some (sym (same_name-is n m t))
     by-first rest false t =
         let is : place_in (m ∷ ms) n ≡ suc (place_in ms n) = cond-false (same_name n m) 0 (suc (place_in ms n)) t in
         ap (slice_get (m ∷ ms)) is ∙ rest (omega (arith, lt, is))
@@ -370,7 +366,7 @@ heard-more i es heard have k upto n at hears = record {
 
     by-place : (p : ℕ) (m : Name) → slice_get (performer_names i) p ≡ Some m → (t : Bool) → (p == k) ≡ t → HasHeard m (slice_index_or (slice_set heard k upto) p 0) es
     by-place p m there true same =
-        let m_is : m ≡ n = some_eq m n (sym there ∙ ap (slice_get (performer_names i)) (eqb-true p k same) ∙ at) in
+        let m_is : m ≡ n = some_same m n (sym there ∙ ap (slice_get (performer_names i)) (eqb-true p k same) ∙ at) in
         subst (λ u. HasHeard m u es) (sym (at-set heard k p upto 0 true same below)) (subst (λ x. HasHeard x upto es) (sym m_is) hears)
     by-place p m there false other = subst (λ u. HasHeard m u es) (sym (at-set heard k p upto 0 false other below)) (have.each p m there)
 

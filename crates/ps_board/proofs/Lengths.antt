@@ -1,6 +1,6 @@
 -- How long a block is.
 use Rattle.std.proofs.Common.{◌≡◌, ℕ, zero, suc, ◌+◌, ◌<◌, ◌≤◌, ◌==◌, nat_lt, ◌&&◌, ◌||◌, not, Bool, true, false, cond, if◌then◌else◌, List, [], ◌∷◌, ◌++◌, count_by, filter, length, slice_index_or, refl, ap, arith, eq-eqb, subst, sym, length-append, ◌∙◌}
-use Rattle.std.proofs.lemmas.Bool.{eqb-true, true≢false}
+use Rattle.std.proofs.lemmas.Bool.{eqb-true, true≢false, ne_eqb, and_parts}
 use Rattle.std.proofs.lemmas.Bool.Decides.{nat_tests}
 use Rattle.std.proofs.lemmas.List.Sums.{sum_by-cons}
 use Rattle.std.specs.List.{range_with_len}
@@ -20,8 +20,8 @@ use Rattle.ps_rules.specs.Settled.{may_go_on}
 use Rattle.ps_rules.specs.Legal.{fits, is_act_active, is_legal, same_flag}
 use Rattle.ps_rules.specs.History.{any_of, broken as broken_after, IsHistory, is_fail, sound}
 use Rattle.ps_rules.specs.Choices.{with_block}
-use Rattle.ps_rules.proofs.Kept.{both}
 use Rattle.ps_rules.proofs.Pushed.{read-push}
+use Rattle.ps_rules.proofs.Failing.{fail_active}
 use Rattle.ps_ledger.specs.Acts.{TellsActs}
 use Rattle.ps_ledger.specs.declared.acts.Acts.{Acts}
 use Rattle.ps_ledger.specs.declared.ledger.Ledger.{Ledger}
@@ -122,13 +122,6 @@ count-places (s ∷ states) p a h =
     (count-places states p (a + 1) (λ k. ap p (omega (arith)) ∙ h (suc k)))
     ∙ counts-first (p a) s states (ap p (omega (arith)) ∙ h 0)
 
-other-act : (k act : ℕ) → (k ≡ act → ⊥) → (k == act) ≡ false
-other-act k act other = by-test (k == act) refl
-  where
-    by-test : (t : Bool) → (k == act) ≡ t → t ≡ false
-    by-test true e = absurd (other (eqb-true k act e))
-    by-test false e = refl
-
 -- a failure's block has an entry for each act that was active
 pub fail-block : (i : Input) (es : List Entry) (hand act : ℕ) (why : FailWhy) (l : Acts) → TellsActs es l → is_act_active es act ≡ true → act < length (plan es)
     → length (with_block i hand es (event.Fail act why)) ≡ length es + count_by is_active l.states.items
@@ -143,7 +136,7 @@ fail-block i es hand act why l t on there =
     let fewer : length (filter (λ k. is_active (state k after)) (range_with_len 0 (length (plan after)))) + 1 ≡ length (filter (λ k. is_active (state k es)) (range_with_len 0 (length (plan after)))) =
     one-fewer (λ k. is_active (state k es)) (λ k. is_active (state k after)) act 0 (length (plan after)) (omega arith) (omega (arith, there, many)) on
     (ap is_active (states act) ∙ ap (λ b. is_active (unwrap_or (only_if b Failed) (state act es))) (eq-eqb act act refl))
-    (λ k other. ap is_active (states k) ∙ ap (λ b. is_active (unwrap_or (only_if b Failed) (state k es))) (other-act k act other)) in
+    (λ k other. ap is_active (states k) ∙ ap (λ b. is_active (unwrap_or (only_if b Failed) (state k es))) (ne_eqb k act other)) in
     let counted : length (filter (λ k. is_active (state k es)) (range_with_len 0 (length l.states.items))) ≡ count_by is_active l.states.items =
     count-places l.states.items (λ k. is_active (state k es)) 0 (λ k. ap (λ n. is_active (state n es)) (omega (arith)) ∙ ap is_active (t.states k)) in
     let as_many : length (plan after) ≡ length l.states.items = many ∙ ap length t.acts ∙ sym t.many in
@@ -153,13 +146,7 @@ fail-block i es hand act why l t on there =
 -- ---- how much room a block needs
 
 legal-fits : (i : Input) (es : List Entry) (e : Event) → is_legal i es e ≡ true → fits i es e ≡ true
-legal-fits i es e legal = (both (same_flag (answers_line e) (not (is_running es))) (fits i es e) legal).1
-
-fail-acts : (i : Input) (es : List Entry) (act : ℕ) (why : FailWhy) → fits i es (event.Fail act why) ≡ true → is_act_active es act ≡ true
-fail-acts i es act fail.NoPerformer fit = (both (is_act_active es act) _ fit).0
-fail-acts i es act fail.Script fit = (both (is_act_active es act) _ fit).0
-fail-acts i es act fail.AtEnd fit = (both (is_act_active es act) _ fit).0
-fail-acts i es act fail.Effect fit = (both (is_act_active es act) _ fit).0
+legal-fits i es e legal = (and_parts (same_flag (answers_line e) (not (is_running es))) (fits i es e) legal).1
 
 failed-block : (i : Input) (es : List Entry) (hand act : ℕ) (why : FailWhy) (l : Acts) → TellsActs es l → is_legal i es (event.Fail act why) ≡ true
     → length (with_block i hand es (event.Fail act why)) ≡ length es + count_by is_active l.states.items
@@ -168,7 +155,7 @@ failed-block i es hand act why l t legal =
     let there : nat_lt act (length l.states.items) ≡ true = acts-there i es (event.Fail act why) l t fit in
     let lt : act < length l.states.items = grind (arith, nat_tests, there) in
     let many = t.many ∙ ap length (sym t.acts) in
-    fail-block i es hand act why l t (fail-acts i es act why fit) (omega (arith, lt, many))
+    fail-block i es hand act why l t (fail_active i es act why fit) (omega (arith, lt, many))
 
 long-by : (b : Bool) (n m s : ℕ) → (b ≡ true → m ≡ n + 1) → m ≤ n + 1 + s → s ≤ 256 → m ≤ n + (if b then 1 else 257)
 long-by true n m s one most few = let e = one refl in omega (arith, e)

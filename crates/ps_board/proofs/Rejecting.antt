@@ -1,14 +1,15 @@
 -- Which offer is rejected first.
 use Rattle.std.proofs.Common.{◌≡◌, ℕ, ◌<◌, ◌≤◌, ◌==◌, ◌&&◌, ◌||◌, not, nat_lt, Bool, true, false, Option, Some, None, is_some, if◌then◌else◌, IsTrue, List, [], ◌∷◌, ◌++◌, find, map, refl, ap, sym, arith, subst, ◌∙◌}
-use Rattle.std.proofs.lemmas.Bool.{eqb-true, true≢false}
+use Rattle.std.proofs.lemmas.Bool.{eqb-true, or_right, or_left}
 use Rattle.std.proofs.lemmas.Bool.Decides.{nat_tests}
 use Rattle.std.proofs.lemmas.List.{map-append}
 use Rattle.std.proofs.lemmas.List.Folds.{find-append}
-use Rattle.std.specs.Cmp.{unsigned_Decides}
 use Rattle.std.specs.List.{AllByRecursion}
 use Rattle.std.specs.Option.{option_map_or, option_or}
 use Rattle.ps_world.specs.Names.{same_name}
 use Rattle.ps_world.specs.declared.names.Name.{Name}
+use Rattle.ps_world.proofs.Truths.{or_false}
+use Rattle.ps_world.proofs.SameTexts.{name_itself}
 use Rattle.ps_machine.specs.declared.inputs.Input.{Input}
 use Rattle.ps_machine.specs.declared.journal.Event.{Event}
 use Rattle.ps_machine.specs.declared.journal.Event.TheVariants as event
@@ -23,8 +24,10 @@ use Rattle.ps_rules.specs.Reading.{only_if, with_last}
 use Rattle.ps_rules.specs.Runs.{is_running}
 use Rattle.ps_rules.proofs.Kept.{first_offer_wins}
 use Rattle.ps_rules.proofs.Pushed.{read-block}
-use Rattle.ps_rules.proofs.SameThings.{same_name-decides, same_name-itself}
+use Rattle.ps_rules.proofs.SameThings.{same_name-decides}
 use Rattle.ps_rules.proofs.Speaking.{legal_events_speak}
+use Rattle.ps_rules.proofs.InOrder.{number-itself}
+use Rattle.ps_ends.proofs.Picking.{count_other}
 use Rattle.ps_ledger.specs.Offers.{offered_on, standing, standing_next, without}
 use Rattle.ps_ledger.specs.declared.offers.Offer.{Offer}
 use Rattle.ps_ledger.proofs.Standing.{on-more}
@@ -34,12 +37,6 @@ use Rattle.ps_board.specs.Ticks.{better, first_legal, first_of, IsEarliest, reje
 use Rattle.ps_choices.proofs.First.{found-at, found-nowhere, passes}
 
 -- ---- an offer more
-
-differs : (r n : ℕ) → r < n → (r == n) ≡ false
-differs r n lt = grind (arith, nat_tests, lt)
-
-itself : (n : ℕ) → (n == n) ≡ true
-itself n = (unsigned_Decides n n).1 refl
 
 nothing-more : (t : Bool) (o : Option Event) → (if t then option_or o None else o) ≡ o
 nothing-more true None = refl
@@ -55,10 +52,10 @@ abbrev pub MoreFirsts : (ℕ → Option Event) → (ℕ → Option Event) → Of
 MoreFirsts g h x b = (r : ℕ) → h r ≡ (if r == x.r then option_or (g r) (if b then Some (rejection x) else None) else g r)
 
 earlier : (g h : ℕ → Option Event) (x : Offer) → MoreFirsts g h x true → (r : ℕ) → r < x.r → h r ≡ g r
-earlier g h x now r lt = now r ∙ ap (λ t. if t then option_or (g r) (Some (rejection x)) else g r) (differs r x.r lt)
+earlier g h x now r lt = now r ∙ ap (λ t. if t then option_or (g r) (Some (rejection x)) else g r) (count_other r x.r lt)
 
 at-last : (g h : ℕ → Option Event) (x : Offer) → MoreFirsts g h x true → g x.r ≡ None → h x.r ≡ Some (rejection x)
-at-last g h x now none = now x.r ∙ ap (λ t. if t then option_or (g x.r) (Some (rejection x)) else g x.r) (itself x.r) ∙ ap (λ o. option_or o (Some (rejection x))) none
+at-last g h x now none = now x.r ∙ ap (λ t. if t then option_or (g x.r) (Some (rejection x)) else g x.r) (number-itself x.r) ∙ ap (λ o. option_or o (Some (rejection x))) none
 
 -- where there is a best one before
 more-some : (g h : ℕ → Option Event) (x o : Offer) (t : Bool) → nat_lt x.r o.r ≡ t → IsEarliest g (Some o) → MoreFirsts g h x true → IsEarliest h (if t then Some x else Some o)
@@ -130,7 +127,7 @@ strike-case p r n os ps true e h = e ∙ sym (skip p r n ps (h refl))
 strike-case p r n os ps false e h = e
 
 strikes : (r s : ℕ) (n : Name) → (r == s) ≡ true → ((r == s) && same_name n n) ≡ true
-strikes r s n h = ap (λ b. b && same_name n n) h ∙ same_name-itself n
+strikes r s n h = ap (λ b. b && same_name n n) h ∙ name_itself n
 
 next-found : (p : Event → Bool) (r : ℕ) (e : Event) (os ps : List Name) → find p (map (event.Reject r) os) ≡ find p (map (event.Reject r) ps)
     → ((n : Name) → is_reject r n e ≡ true → p (event.Reject r n) ≡ false) → ((n : Name) → says_confirmed r e ≡ Some n → p (event.Reject r n) ≡ false)
@@ -139,18 +136,6 @@ next-found p r (event.Offer s n) os ps e rej con = offer-case p r n os ps (r == 
 next-found p r (event.Reject s n) os ps e rej con = strike-case p r n os ps (r == s) e (λ t. rej n (strikes r s n t))
 next-found p r (event.Confirm s n) os ps e rej con = strike-case p r n os ps (r == s) e (λ t. con n (ap (λ b. only_if b n) t))
 next-found p r other os ps e rej con = e
-
-or-false : (a : Bool) → (a || false) ≡ a
-or-false true = refl
-or-false false = refl
-
-or-left : (a b : Bool) → a ≡ true → (a || b) ≡ true
-or-left true b h = refl
-or-left false b h = absurd (true≢false (sym h))
-
-or-right : (a b : Bool) → b ≡ true → (a || b) ≡ true
-or-right true b h = refl
-or-right false b h = h
 
 last-init : (P : Name → Type 0) (xs : List Name) (o : Option Name) → AllByRecursion P (with_last xs o) → AllByRecursion P xs
 last-init P xs None h = h
@@ -166,13 +151,13 @@ standing-found : (i : Input) (es : List Entry) → IsHistory i es → (p : Event
     → AllByRecursion (λ n. p (event.Reject r n) ≡ false) (all_confirmed r es) → find p (map (event.Reject r) (offers r es)) ≡ find p (map (event.Reject r) (standing r es))
 standing-found i _ nothing p r rej con = refl
 standing-found i _ (block es e before legal hand) p r rej con =
-    let rejected = λ (n : Name). read-block (λ found f. found || is_reject r n f) false i es e (λ a act why. or-false a) in
+    let rejected = λ (n : Name). read-block (λ found f. found || is_reject r n f) false i es e (λ a act why. or_false a) in
     let both = subst (AllByRecursion (λ n. p (event.Reject r n) ≡ false)) (read-block (λ xs f. with_last xs (says_confirmed r f)) [] i es e (λ a act why. refl)) con in
-    let was = standing-found i es before p r (λ n h. rej n (rejected n ∙ or-left (is_rejected r n es) (is_reject r n e.what) h))
+    let was = standing-found i es before p r (λ n h. rej n (rejected n ∙ or_left (is_rejected r n es) (is_reject r n e.what) h))
     (last-init (λ n. p (event.Reject r n) ≡ false) (all_confirmed r es) (says_confirmed r e.what) both) in
     ap (λ xs. find p (map (event.Reject r) xs)) (read-block (λ xs f. with_last xs (says_offer r f)) [] i es e (λ a act why. refl))
     ∙ next-found p r e.what (offers r es) (standing r es) was
-    (λ n h. rej n (rejected n ∙ or-right (is_rejected r n es) (is_reject r n e.what) h))
+    (λ n h. rej n (rejected n ∙ or_right (is_rejected r n es) (is_reject r n e.what) h))
     (λ n h. last-has (λ m. p (event.Reject r m) ≡ false) (all_confirmed r es) n
     (subst (λ o. AllByRecursion (λ m. p (event.Reject r m) ≡ false) (with_last (all_confirmed r es) o)) h both))
     ∙ ap (λ xs. find p (map (event.Reject r) xs)) (sym (read-block (standing_next r) [] i es e (λ a act why. refl)))
@@ -195,7 +180,7 @@ not-twice i es r n h = third-false (same_flag false (not (is_running es))) (has_
 not-chosen : (i : Input) (es : List Entry) (r : ℕ) (n : Name) → confirmed r es ≡ Some n → is_legal i es (event.Reject r n) ≡ false
 not-chosen i es r n h =
     fourth-false (same_flag false (not (is_running es))) (has_offered r n es) (not (is_rejected r n es)) (is_confirmed r n es) (is_some (confirmed r es) || is_for_cancelled r es)
-    (ap (λ o. option_map_or (same_name n) o false) h ∙ same_name-itself n)
+    (ap (λ o. option_map_or (same_name n) o false) h ∙ name_itself n)
 
 all-once : (P : Name → Type 0) (cs os : List Name) (now : Option Name) → IsOnce cs now os → ((n : Name) → now ≡ Some n → P n) → AllByRecursion P cs
 all-once P [] os now once h = tt

@@ -1,6 +1,6 @@
 -- What the ticker need not look at.
 use Rattle.std.proofs.Common.{◌≡◌, ℕ, zero, suc, ◌+◌, ◌<◌, ◌≤◌, ◌==◌, ◌&&◌, not, Bool, true, false, Option, Some, None, is_none, if◌then◌else◌, List, [], ◌∷◌, length, map, refl, ap, arith, sym, ◌∙◌}
-use Rattle.std.proofs.lemmas.Bool.{eqb-true}
+use Rattle.std.proofs.lemmas.Bool.{eqb-true, and_right, and_left}
 use Rattle.std.proofs.lemmas.Bool.Decides.{nat_tests}
 use Rattle.std.specs.List.{list_all, range_with_len}
 use Rattle.std.specs.Option.{option_to_list}
@@ -19,31 +19,24 @@ use Rattle.ps_board.specs.declared.whole.Core.{Core}
 use Rattle.ps_board.specs.declared.ticks.AboutAct.TheVariants as act
 use Rattle.ps_board.specs.Ticks.{fails_of, first_legal, on_act}
 
-and-false : (a b : Bool) → b ≡ false → (a && b) ≡ false
-and-false true b h = h
-and-false false b h = refl
-
-first-false : (a b : Bool) → a ≡ false → (a && b) ≡ false
-first-false a b h = ap (λ x. x && b) h
-
 second-false : (a b d : Bool) → b ≡ false → (a && (b && d)) ≡ false
-second-false a b d h = and-false a (b && d) (first-false b d h)
+second-false a b d h = and_right a (b && d) (and_left b d h)
 
 -- an event that doesn't fit is passed over
 skip : (c : Core) (e : Event) (xs : List Event) → fits c.input c.entries.items e ≡ false → first_legal c (e ∷ xs) ≡ first_legal c xs
 skip c e xs h =
     ap (λ b. if b then Some e else first_legal c xs)
-    (and-false (same_flag (answers_line e) (not (is_running c.entries.items))) (fits c.input c.entries.items e) h)
+    (and_right (same_flag (answers_line e) (not (is_running c.entries.items))) (fits c.input c.entries.items e) h)
 
 -- ---- acts
 
 -- an act that isn't active neither ends nor fails
 pub not-active : (c : Core) (a : ℕ) → is_act_active c.entries.items a ≡ false → None ≡ first_legal c (on_act act.Finish c.entries.items a)
 not-active c a h =
-    sym (skip c (event.End a) (fails_of a) (first-false (is_act_active c.entries.items a) _ h)
-    ∙ skip c (event.Fail a fail.Script) (event.Fail a fail.AtEnd ∷ event.Fail a fail.Effect ∷ []) (first-false (is_act_active c.entries.items a) _ h)
-    ∙ skip c (event.Fail a fail.AtEnd) (event.Fail a fail.Effect ∷ []) (first-false (is_act_active c.entries.items a) _ h)
-    ∙ skip c (event.Fail a fail.Effect) [] (first-false (is_act_active c.entries.items a) _ h))
+    sym (skip c (event.End a) (fails_of a) (and_left (is_act_active c.entries.items a) _ h)
+    ∙ skip c (event.Fail a fail.Script) (event.Fail a fail.AtEnd ∷ event.Fail a fail.Effect ∷ []) (and_left (is_act_active c.entries.items a) _ h)
+    ∙ skip c (event.Fail a fail.AtEnd) (event.Fail a fail.Effect ∷ []) (and_left (is_act_active c.entries.items a) _ h)
+    ∙ skip c (event.Fail a fail.Effect) [] (and_left (is_act_active c.entries.items a) _ h))
 
 -- an act that wasn't finished well may only have been finished badly
 pub not-finished : (c : Core) (a : ℕ) → is_finished true c.entries.items a ≡ false
@@ -66,13 +59,13 @@ not-all p a zero k low high h = absurd (omega (arith, low, high))
 not-all p a (suc n) k low high h = by-first (λ next. not-all p (a + 1) n k next (omega (arith, high)) h) (a == k) refl
   where
     by-first : (a + 1 ≤ k → list_all p (range_with_len (a + 1) n) ≡ false) → (t : Bool) → (a == k) ≡ t → (p a && list_all p (range_with_len (a + 1) n)) ≡ false
-    by-first later true e = first-false (p a) (list_all p (range_with_len (a + 1) n)) (ap p (eqb-true a k e) ∙ h)
-    by-first later false e = and-false (p a) (list_all p (range_with_len (a + 1) n)) (later (grind (arith, nat_tests, low, e)))
+    by-first later true e = and_left (p a) (list_all p (range_with_len (a + 1) n)) (ap p (eqb-true a k e) ∙ h)
+    by-first later false e = and_right (p a) (list_all p (range_with_len (a + 1) n)) (later (grind (arith, nat_tests, low, e)))
 
 -- a run with an active act isn't settled
 pub not-settled : (i : Input) (es : List Entry) (a : ℕ) → a < length (plan es) → is_active (state a es) ≡ true → is_settled i es ≡ false
 not-settled i es a lt h =
-    first-false (list_all (λ k. not (is_active (state k es))) (places es)) _
+    and_left (list_all (λ k. not (is_active (state k es))) (places es)) _
     (not-all (λ k. not (is_active (state k es))) 0 (length (plan es)) a (omega arith) (omega (arith, lt)) (ap not h))
 
 -- and so it isn't over
@@ -81,8 +74,8 @@ not-over c h = by-verdict (verdict c.input c.entries.items)
   where
     by-verdict : (v : Option Outcome) → None ≡ first_legal c (map event.Over (option_to_list v))
     by-verdict None = refl
-    by-verdict (Some how) = sym (skip c (event.Over how) [] (first-false (is_settled c.input c.entries.items) _ h))
+    by-verdict (Some how) = sym (skip c (event.Over how) [] (and_left (is_settled c.input c.entries.items) _ h))
 
 -- nor is a plan wanted
 pub not-wanted : (i : Input) (es : List Entry) → is_settled i es ≡ false → wants_plan i es ≡ false
-not-wanted i es h = and-false (is_running es) (is_settled i es && is_none (verdict i es)) (first-false (is_settled i es) _ h)
+not-wanted i es h = and_right (is_running es) (is_settled i es && is_none (verdict i es)) (and_left (is_settled i es) _ h)

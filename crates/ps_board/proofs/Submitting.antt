@@ -1,10 +1,11 @@
 -- What comes of the answer of a solver.
 use Rattle.std.proofs.Common.{◌≡◌, ◌≢◌, ℕ, ◌+◌, ◌&&◌, Bool, true, false, Option, Some, None, is_none, List, slice_get, take, refl, ap, sym, subst, ◌∙◌, Result, Ok, Err, IfOk, IfSome, OnErr, OnOk}
 use Rattle.std.specs.Bool.{Decides}
-use Rattle.std.proofs.lemmas.Bool.{true≢false}
+use Rattle.std.proofs.lemmas.Bool.{true≢false, and_from, and_parts}
 use Rattle.ps_world.specs.Knowledge.{edited}
 use Rattle.ps_world.specs.declared.edits.Edit.{Edit}
 use Rattle.ps_world.specs.declared.known.Knowledge.{Knowledge}
+use Rattle.ps_world.proofs.Optionals.{is_none-none, none_not_some, some_same}
 use Rattle.ps_action.specs.Search.{Fits, answer as answered_by}
 use Rattle.ps_action.specs.declared.acts.Act.{Act}
 use Rattle.ps_action.specs.declared.answers.Answer.{Answer}
@@ -23,7 +24,6 @@ use Rattle.ps_rules.specs.Legal.{ending, is_legal, is_outcome, is_plan}
 use Rattle.ps_rules.specs.Runs.{is_running}
 use Rattle.ps_rules.specs.Settled.{given_up, is_settled, verdict}
 use Rattle.ps_rules.proofs.Choosing.{legal-live, plan-so}
-use Rattle.ps_rules.proofs.Kept.{both}
 use Rattle.ps_rules.proofs.SameThings.{same_outcome-decides}
 use Rattle.ps_rows.specs.Table.{MayBegin, MayBePlan}
 use Rattle.ps_rows.proofs.Grounded.{good-each}
@@ -34,7 +34,6 @@ use Rattle.ps_board.specs.declared.submits.Submitted.TheVariants.{Taken, Stale}
 use Rattle.ps_board.specs.declared.whole.Core.{Core}
 use Rattle.ps_board.proofs.Granting.{Spares}
 use Rattle.ps_board.proofs.Keeping.{by-option, kept-still, kept-turn, ticks-spare}
-use Rattle.ps_ends.proofs.Picking.{not_some, some_eq}
 use Rattle.ps_asked.specs.Asked.{Counts, ends_plan, may_come}
 use Rattle.ps_asked.proofs.Accepted.{edits_are_made}
 use Rattle.ps_board.specs.Submits.{edit_in, taken_event}
@@ -43,12 +42,12 @@ use Rattle.ps_asked.specs.Asked.Counts.{planned as by_plan, changed as by_change
 -- ---- whether an entry counts
 
 pub edit-by : (e : Event) (edit : Edit) → edit_in e ≡ Some edit → (by : By) × (e ≡ event.Edit by edit)
-edit-by (event.Edit by f) edit is = (by, ap (event.Edit by) (some_eq f edit is))
-edit-by e edit is = not_some edit is
+edit-by (event.Edit by f) edit is = (by, ap (event.Edit by) (some_same f edit is))
+edit-by e edit is = none_not_some edit is
 
 edit-plans-none : (e : Event) (edit : Edit) → edit_in e ≡ Some edit → ends_plan e ≡ false
 edit-plans-none (event.Edit by f) edit is = refl
-edit-plans-none e edit is = not_some edit is
+edit-plans-none e edit is = none_not_some edit is
 
 -- what may come and is no edit leaves what is known
 pub other-leaves : (e : Event) → edit_in e ≡ None → may_come e ≡ true → is_change e ≡ false
@@ -64,7 +63,7 @@ edit-counts i es k e edit new b at is made d = (λ t. by_change (λ same. d.0 t 
   where
     by-cause : Counts i es k → b ≡ true
     by-cause (by_plan f there ends) =
-        absurd (true≢false (sym ends ∙ ap (λ x. ends_plan x.what) (some_eq f e (sym there ∙ at)) ∙ edit-plans-none e.what edit is))
+        absurd (true≢false (sym ends ∙ ap (λ x. ends_plan x.what) (some_same f e (sym there ∙ at)) ∙ edit-plans-none e.what edit is))
     by-cause (by_change differ) = d.1 (λ same. differ (sym same ∙ made))
 
 -- anything else that may come counts where it ends the plan
@@ -72,7 +71,7 @@ pub other-counts : (i : Input) (es : List Entry) (k : ℕ) (e : Entry) → know 
 other-counts i es k e same at = (λ t. by_plan e at t, by-cause)
   where
     by-cause : Counts i es k → ends_plan e.what ≡ true
-    by-cause (by_plan f there ends) = ap (λ x. ends_plan x.what) (some_eq e f (sym at ∙ there)) ∙ ends
+    by-cause (by_plan f there ends) = ap (λ x. ends_plan x.what) (some_same e f (sym at ∙ there)) ∙ ends
     by-cause (by_change differ) = absurd (differ (sym same))
 
 -- an edit that an entry records was accepted, and made what is known after it
@@ -102,48 +101,41 @@ made-known c k e edit old new (Ok b) s at is known made = ok-same new (know c.in
 
 -- ---- what follows an answer
 
-both-so : (x y : Bool) → x ≡ true → y ≡ true → (x && y) ≡ true
-both-so x y e f = rw (e, f) refl
-
-none-so : {A : Type 0} (o : Option A) → is_none o ≡ true → o ≡ None
-none-so None h = refl
-none-so (Some a) h = absurd (cc)
-
 -- an end may come that is the answer that is due
 over-legal : (i : Input) (es : List Entry) (how : Outcome) → wants_plan i es ≡ true → given_up (answered_by i.domain (know i es) i.budget) ≡ Some how → is_legal i es (event.Over how) ≡ true
 over-legal i es how wants due =
-    let live = both (is_running es) (is_settled i es && is_none (verdict i es)) wants in
-    let settled = both (is_settled i es) (is_none (verdict i es)) live.1 in
-    let end : ending i es (verdict i es) ≡ Some how = ap (ending i es) (none-so (verdict i es) settled.1) ∙ due in
+    let live = and_parts (is_running es) (is_settled i es && is_none (verdict i es)) wants in
+    let settled = and_parts (is_settled i es) (is_none (verdict i es)) live.1 in
+    let end : ending i es (verdict i es) ≡ Some how = ap (ending i es) (is_none-none (verdict i es) settled.1) ∙ due in
     legal-live i es (event.Over how) live.0 refl
-    (both-so (is_settled i es) (is_outcome how (ending i es (verdict i es))) settled.0 (ap (is_outcome how) end ∙ (same_outcome-decides how how).1 refl))
+    (and_from (is_settled i es) (is_outcome how (ending i es (verdict i es))) settled.0 (ap (is_outcome how) end ∙ (same_outcome-decides how how).1 refl))
 
 replan-legal : (i : Input) (es : List Entry) (acts : List Act) → wants_plan i es ≡ true → Fits i.domain (know i es) i.budget (answer.Plan acts) → is_legal i es (event.Replan acts) ≡ true
 replan-legal i es acts wants fit =
-    let live = both (is_running es) (is_settled i es && is_none (verdict i es)) wants in
-    let settled = both (is_settled i es) (is_none (verdict i es)) live.1 in
+    let live = and_parts (is_running es) (is_settled i es && is_none (verdict i es)) wants in
+    let settled = and_parts (is_settled i es) (is_none (verdict i es)) live.1 in
     legal-live i es (event.Replan acts) live.0 refl
-    (both-so (is_settled i es) (is_none (verdict i es) && is_plan i.domain i.budget (know i es) acts) settled.0
-    (both-so (is_none (verdict i es)) (is_plan i.domain i.budget (know i es) acts) settled.1 (plan-so i.domain (know i es) i.budget acts fit)))
+    (and_from (is_settled i es) (is_none (verdict i es) && is_plan i.domain i.budget (know i es) acts) settled.0
+    (and_from (is_none (verdict i es)) (is_plan i.domain i.budget (know i es) acts) settled.1 (plan-so i.domain (know i es) i.budget acts fit)))
 
 -- what follows a solver's answer may come where the solver is asked
 pub follows-legal : (i : Input) (es : List Entry) (a : Answer) (e : Event) → wants_plan i es ≡ true → Fits i.domain (know i es) i.budget a → planned a ≡ Some e → is_legal i es e ≡ true
-follows-legal i es (answer.Plan acts) e wants fit made = ap (is_legal i es) (some_eq e (event.Replan acts) (sym made)) ∙ replan-legal i es acts wants fit
-follows-legal i es answer.NoPlan e wants fit made = ap (is_legal i es) (some_eq e (event.Over outcome.NoPlan) (sym made)) ∙ over-legal i es outcome.NoPlan wants (ap given_up fit)
+follows-legal i es (answer.Plan acts) e wants fit made = ap (is_legal i es) (some_same e (event.Replan acts) (sym made)) ∙ replan-legal i es acts wants fit
+follows-legal i es answer.NoPlan e wants fit made = ap (is_legal i es) (some_same e (event.Over outcome.NoPlan) (sym made)) ∙ over-legal i es outcome.NoPlan wants (ap given_up fit)
 follows-legal i es (answer.Spent depth) e wants fit made =
-    ap (is_legal i es) (some_eq e (event.Over (outcome.Spent depth)) (sym made)) ∙ over-legal i es (outcome.Spent depth) wants (ap given_up fit)
-follows-legal i es answer.TooMany e wants fit made = ap (is_legal i es) (some_eq e (event.Over outcome.TooMany) (sym made)) ∙ over-legal i es outcome.TooMany wants (ap given_up fit)
+    ap (is_legal i es) (some_same e (event.Over (outcome.Spent depth)) (sym made)) ∙ over-legal i es (outcome.Spent depth) wants (ap given_up fit)
+follows-legal i es answer.TooMany e wants fit made = ap (is_legal i es) (some_same e (event.Over outcome.TooMany) (sym made)) ∙ over-legal i es outcome.TooMany wants (ap given_up fit)
 
 -- the acts of a plan that follows can be grounded
 pub follows-may : (c : Core) (a : Answer) (e : Event) → Stands c → Fits c.input.domain (know c.input c.entries.items) c.input.budget a → planned a ≡ Some e → MayBegin e c.present
 follows-may c (answer.Plan acts) e s fit made =
     let now : MayBePlan c.input.domain (know c.input c.entries.items) acts =
     record { few = fit.0.few; grounded = good-each c.input.domain (know c.input c.entries.items) acts fit.0.goes_well } in
-    subst (λ x. MayBegin x c.present) (some_eq (event.Replan acts) e made)
+    subst (λ x. MayBegin x c.present) (some_same (event.Replan acts) e made)
     (subst (λ d. MayBePlan d c.present.problem acts) (sym s.kept.domain) (subst (λ k. MayBePlan c.input.domain k acts) (sym s.kept.known) now))
-follows-may c answer.NoPlan e s fit made = subst (λ x. MayBegin x c.present) (some_eq (event.Over outcome.NoPlan) e made) tt
-follows-may c (answer.Spent depth) e s fit made = subst (λ x. MayBegin x c.present) (some_eq (event.Over (outcome.Spent depth)) e made) tt
-follows-may c answer.TooMany e s fit made = subst (λ x. MayBegin x c.present) (some_eq (event.Over outcome.TooMany) e made) tt
+follows-may c answer.NoPlan e s fit made = subst (λ x. MayBegin x c.present) (some_same (event.Over outcome.NoPlan) e made) tt
+follows-may c (answer.Spent depth) e s fit made = subst (λ x. MayBegin x c.present) (some_same (event.Over (outcome.Spent depth)) e made) tt
+follows-may c answer.TooMany e s fit made = subst (λ x. MayBegin x c.present) (some_same (event.Over outcome.TooMany) e made) tt
 
 -- ---- what a board keeps after it
 
@@ -165,7 +157,7 @@ pub kept-submitted : {E : Type 0} (old mid new : Core) (hand : ℕ) (grants : Li
     → IfOk r (λ s. mid.entries.items ≡ with_turn old hand (taken_event s a)) → OnErr r (mid.entries.items ≡ old.entries.items)
     → IfOk r (λ s. IfSome (taken_event s a) (MayCome old)) → running ≡ is_running new.entries.items → IsKept new grants heard (halted && running)
 kept-submitted old mid new hand grants heard halted running a r k stands shown input entries mid_input ok err legal live =
-    kept-as new grants heard false (halted && running) (by-result r ok err legal) (λ h. sym live ∙ (both halted running h).1)
+    kept-as new grants heard false (halted && running) (by-result r ok err legal) (λ h. sym live ∙ (and_parts halted running h).1)
   where
     calm : IsKept old grants heard false
     calm = kept-as old grants heard halted false k (λ h. absurd (true≢false (sym h)))

@@ -3,6 +3,7 @@ use Rattle.std.proofs.Common.{◌≡◌, ℕ, ◌<◌, ◌==◌, ◌&&◌, not, 
 use Rattle.std.proofs.lemmas.Bool.Decides.{nat_tests}
 use Rattle.std.proofs.lemmas.List.Concat.{flat_map_single}
 use Rattle.std.specs.Option.{option_map_or, option_to_list}
+use Rattle.std.proofs.lemmas.Bool.{and_parts}
 use Rattle.ps_world.specs.Names.{same_name}
 use Rattle.ps_world.specs.declared.names.Name.{Name}
 use Rattle.ps_machine.specs.declared.inputs.Input.{Input}
@@ -17,12 +18,13 @@ use Rattle.ps_rules.specs.Legal.{ending, fits, has_hand, is_legal, is_outcome, s
 use Rattle.ps_rules.specs.Lines.{answers_line}
 use Rattle.ps_rules.specs.Runs.{is_active, is_running, says_plan, state}
 use Rattle.ps_rules.specs.Settled.{is_settled, places, verdict}
-use Rattle.ps_rules.proofs.Kept.{both}
 use Rattle.ps_rules.proofs.SameThings.{same_outcome-decides}
+use Rattle.ps_rules.proofs.InOrder.{unanswering}
 use Rattle.ps_ledger.specs.Requests.{request_at}
 use Rattle.ps_ledger.specs.declared.requests.Requests.{Requests}
 use Rattle.ps_rows.specs.Table.{MayBegin}
 use Rattle.ps_rows.specs.declared.present.Present.{Present}
+use Rattle.ps_rows.proofs.Answered.{and-so}
 use Rattle.ps_board.specs.declared.whole.Core.{Core}
 use Rattle.ps_board.specs.declared.ticks.AboutAct.TheVariants as act
 use Rattle.ps_board.specs.declared.ticks.AboutRequest.{AboutRequest}
@@ -97,17 +99,13 @@ starts-are es = flat_map_single event.Start (places es)
 
 -- ---- the end of the run
 
-and-right : (x y : Bool) → y ≡ true → x ≡ (x && y)
-and-right true y h = sym h
-and-right false y h = refl
-
 pub over-some : (c : Core) (how : Outcome) (b : Bool) → is_running c.entries.items ≡ true → verdict c.input c.entries.items ≡ Some how → b ≡ is_settled c.input c.entries.items
     → (if b then Some (event.Over how) else None) ≡ first_legal c (overs c.input c.entries.items)
 over-some c how b live ends may =
     let i : Input = c.input in
     let es : List Entry = c.entries.items in
     let fine : is_outcome how (ending i es (verdict i es)) ≡ true = ap (λ v. is_outcome how (ending i es v)) ends ∙ (same_outcome-decides how how).1 refl in
-    alone c (event.Over how) b live refl (may ∙ and-right (is_settled i es) (is_outcome how (ending i es (verdict i es))) fine)
+    alone c (event.Over how) b live refl (may ∙ and-so (is_settled i es) (is_outcome how (ending i es (verdict i es))) fine)
     ∙ ap (λ v. first_legal c (map event.Over (option_to_list v))) (sym ends)
 
 pub over-none : (c : Core) → verdict c.input c.entries.items ≡ None → None ≡ first_legal c (overs c.input c.entries.items)
@@ -115,16 +113,11 @@ over-none c ends = ap (λ v. first_legal c (map event.Over (option_to_list v))) 
 
 -- ---- what may be put
 
-own-line : (b r : Bool) → r ≡ true → same_flag b (not r) ≡ true → b ≡ false
-own-line false r live h = refl
-own-line true true live h = absurd (cc)
-own-line true false live h = absurd (cc)
-
 -- in an open run what may come answers no line, and so a worker may do it
 pub tick-hand : (i : Input) (es : List Entry) (e : Event) (hand : ℕ) → is_running es ≡ true → IsTrue (is_legal i es e) → IsTrue (nat_le 1 hand && nat_le hand 16)
     → IsTrue (has_hand e hand)
 tick-hand i es e hand live legal h =
-    let own : answers_line e ≡ false = own-line (answers_line e) (is_running es) live (both (same_flag (answers_line e) (not (is_running es))) (fits i es e) legal).0 in
+    let own : answers_line e ≡ false = unanswering (answers_line e) (is_running es) live (and_parts (same_flag (answers_line e) (not (is_running es))) (fits i es e) legal).0 in
     ap (λ b. if b then hand == 0 else (nat_le 1 hand && nat_le hand 16)) own ∙ h
 
 pub plan-less : (e : Event) (p : Present) → says_plan e ≡ None → MayBegin e p

@@ -1,6 +1,6 @@
 -- What is watched before an event and after.
 use Rattle.std.proofs.Common.{◌≡◌, ◌≢◌, ℕ, zero, suc, ◌<◌, ◌==◌, ◌&&◌, not, Bool, true, false, if◌then◌else◌, Option, Some, None, IsTrue, List, [], ◌∷◌, length, slice_get, slice_index_or, refl, ap, sym, arith, ◌∙◌}
-use Rattle.std.proofs.lemmas.Bool.{eqb-true}
+use Rattle.std.proofs.lemmas.Bool.{eqb-true, and_parts}
 use Rattle.std.proofs.lemmas.Bool.Decides.{nat_tests}
 use Rattle.std.specs.Option.{option_map_or, unwrap_or}
 use Rattle.ps_world.specs.Trees.{CondTree}
@@ -16,7 +16,8 @@ use Rattle.ps_rules.specs.Runs.{is_active, is_waiting, plan, says_plan, says_sta
 use Rattle.ps_rules.specs.Known.{grounds}
 use Rattle.ps_rules.specs.Settled.{any_harmed, is_ready, is_startable}
 use Rattle.ps_rules.specs.Legal.{is_legal, is_place}
-use Rattle.ps_rules.proofs.Kept.{both, fits-legal}
+use Rattle.ps_rules.proofs.Kept.{fits-legal}
+use Rattle.ps_ledger.proofs.Lists.{differ}
 use Rattle.ps_monitor.specs.declared.monitor.Monitor.{Monitor}
 use Rattle.ps_monitor.specs.Watched.{watched}
 use Rattle.ps_board.specs.Core.{over_in, watch_for}
@@ -28,9 +29,6 @@ pub get-there : {A : Type 0} (xs : List A) (k : ℕ) (d : A) → k < length xs �
 get-there [] k d lt = absurd (omega (arith, lt))
 get-there (x ∷ xs) zero d lt = refl
 get-there (x ∷ xs) (suc k) d lt = get-there xs k d (omega (arith, lt))
-
-differ : (k act : ℕ) → (k == act) ≡ false → k ≡ act → ⊥
-differ k act e h = grind (arith, nat_tests, e, h)
 
 -- an act is watched with this, and each other one as it was
 one-set : (m new : Monitor) (act k : ℕ) (over : Option (List CondTree)) (t : Bool) → (k == act) ≡ t → watched new act ≡ over
@@ -103,14 +101,14 @@ idle Cancelled h = refl
 -- the act that a legal event starts isn't active
 pub start-waits : (i : Input) (es : List Entry) (act : ℕ) → IsTrue (is_legal i es (event.Start act)) → is_active (state act es) ≡ false
 start-waits i es act legal =
-    let fit = both (is_place es act) (is_ready i es act && (is_startable i es act && not (any_harmed es))) (fits-legal i es (event.Start act) legal) in
-    let ready = both (is_ready i es act) (is_startable i es act && not (any_harmed es)) fit.1 in
-    idle (state act es) (both (is_waiting (state act es)) _ ready.0).0
+    let fit = and_parts (is_place es act) (is_ready i es act && (is_startable i es act && not (any_harmed es))) (fits-legal i es (event.Start act) legal) in
+    let ready = and_parts (is_ready i es act) (is_startable i es act && not (any_harmed es)) fit.1 in
+    idle (state act es) (and_parts (is_waiting (state act es)) _ ready.0).0
 
 -- and it is in the plan
 pub start-there : (i : Input) (es : List Entry) (e : Event) (n : ℕ) → n ≡ length (plan es) → IsTrue (is_legal i es e) → StartsWithin n e
 start-there i es (event.Start act) n long legal =
-    let fit = (both (is_place es act) (is_ready i es act && (is_startable i es act && not (any_harmed es))) (fits-legal i es (event.Start act) legal)).0 in
+    let fit = (and_parts (is_place es act) (is_ready i es act && (is_startable i es act && not (any_harmed es))) (fits-legal i es (event.Start act) legal)).0 in
     grind (arith, nat_tests, fit, long)
 start-there i es e n long legal = tt
 

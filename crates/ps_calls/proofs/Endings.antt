@@ -1,6 +1,7 @@
 -- What follows for the status of a call, by the ways in which it can end.
-use Rattle.std.proofs.Common.{◌≡◌, ◌≢◌, ℕ, ◌≤◌, Bool, true, false, Option, Some, None, Err, List, [], ◌∷◌, inl, inr, refl, sym, ap, ◌∙◌, subst, arith}
+use Rattle.std.proofs.Common.{◌≡◌, ◌≢◌, ℕ, ◌≤◌, Option, Some, None, Err, List, [], ◌∷◌, inl, inr, refl, sym, ap, ◌∙◌, subst, arith}
 use Rattle.ps_world.specs.declared.failures.Failure.TheVariants as failure
+use Rattle.ps_action.proofs.ArcTables.{true_false}
 use Rattle.ps_text.specs.Outside.{FilesView, SinkView, next}
 use Rattle.ps_validate.specs.declared.verdicts.Invalid.{Invalid}
 use Rattle.ps_words.specs.Words.{Request, asked_of}
@@ -303,14 +304,11 @@ modes_decide c _ (cannot_write w l p s) = ((λ h. absurd (omega arith)), (λ h. 
 modes_decide c _ (starved_at_work w l p s) = ((λ h. absurd (omega arith)), (λ h. absurd (omega arith)))
 modes_decide c _ (starved_before l o s) = ((λ h. absurd (omega arith)), (λ h. absurd (omega arith)))
 
-flags-apart : (b : Bool) → b ≡ true → b ≡ false → ⊥
-flags-apart b h l = cc
-
 pub first_words_decide : FirstWordsDecide
 first_words_decide c status h =
     let modes = modes_decide c status h in (
-      (λ quiet one. let is = modes.0 one in flags-apart (is_quiet c.words) quiet (running-loud c.words is.0 is.1 is.2)),
-      (λ loud seven. let is = modes.1 seven in flags-apart (is_quiet c.words) (judging-quiet c.words is.0 is.1 is.2) loud),
+      (λ quiet one. let is = modes.0 one in true_false (is_quiet c.words) quiet (running-loud c.words is.0 is.1 is.2)),
+      (λ loud seven. let is = modes.1 seven in true_false (is_quiet c.words) (judging-quiet c.words is.0 is.1 is.2) loud),
     )
 
 -- ---- the greatest status

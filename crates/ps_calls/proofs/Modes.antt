@@ -1,7 +1,7 @@
 -- The mode of what words ask for is their first.
 use Rattle.std.proofs.Common.{◌≡◌, ℕ, Bool, true, false, ◌||◌, Option, Some, None, IfSome, inl, inr, ap, ◌∙◌, option_map, option_and_then, List, [], ◌∷◌, codes, if◌then◌else◌, refl, sym, subst}
 use Rattle.ps_world.specs.Lines.{same_text}
-use Rattle.ps_text.proofs.Tables.{same_text-same}
+use Rattle.ps_world.proofs.SameTexts.{same_text-is}
 use Rattle.ps_words.specs.Words.{Request, SessionRequest, asked_by, asked_in, asked_of, budget_in, carts_in, check_app, check_of, gen_app, generation_of, journal_app, is_well_formed, mode_of, replans_in, replay_of, replay_with, rows_read, session_app, session_of, session_with, validate_app, validation_of, workers_in}
 use Rattle.ps_words.specs.Words.Request.{a_generation, a_session, a_check, a_validation, a_replay}
 use Rattle.ps_words.specs.declared.commands.Mode.{Mode}
@@ -153,11 +153,11 @@ quiet-replay word true e = subst (λ (w : List ℕ). quiet w ≡ true) (sym e) r
 
 -- a session isn't asked for by the words of a mode that always returns
 pub session-loud : (ws : List (List ℕ)) (s : SessionRequest) → asked_of ws ≡ Some (a_session s) → is_quiet ws ≡ false
-session-loud ws s e = loud-word (argument ws 0) (same_text-same (argument ws 0) (codes "session") (begins-asked ws (a_session s) e))
+session-loud ws s e = loud-word (argument ws 0) (same_text-is (argument ws 0) (codes "session") (begins-asked ws (a_session s) e))
 
 -- and neither is a generation
 pub generation-loud : (ws : List (List ℕ)) (n : ℕ) → asked_of ws ≡ Some (a_generation n) → is_quiet ws ≡ false
-generation-loud ws n e = loud-gen (argument ws 0) (same_text-same (argument ws 0) (codes "gen") (begins-asked ws (a_generation n) e))
+generation-loud ws n e = loud-gen (argument ws 0) (same_text-is (argument ws 0) (codes "gen") (begins-asked ws (a_generation n) e))
 
 -- so doing a session isn't
 pub running-loud : (ws : List (List ℕ)) (r : Request) → asked_of ws ≡ Some r → IsToRun r → is_quiet ws ≡ false
@@ -168,8 +168,8 @@ running-loud ws r e (inr h) = generation-loud ws h.0 (e ∙ ap Some h.1)
 pub judging-quiet : (ws : List (List ℕ)) (r : Request) → asked_of ws ≡ Some r → IsToJudge r → is_quiet ws ≡ true
 judging-quiet ws r e (inl h) =
     let asked : asked_of ws ≡ Some (a_validation h.0 h.1 h.2) = e ∙ ap Some h.3 in
-    quiet-validate (argument ws 0) (same_text-same (argument ws 0) (codes "validate") (begins-asked ws (a_validation h.0 h.1 h.2) asked))
+    quiet-validate (argument ws 0) (same_text-is (argument ws 0) (codes "validate") (begins-asked ws (a_validation h.0 h.1 h.2) asked))
 judging-quiet ws r e (inr h) =
     let asked : asked_of ws ≡ Some (a_replay h.0) = e ∙ ap Some h.1 in
     let migrates = h.0.migrates in
-    quiet-replay (argument ws 0) migrates (same_text-same (argument ws 0) (word_of (replay_mode migrates)) (begins-asked ws (a_replay h.0) asked))
+    quiet-replay (argument ws 0) migrates (same_text-is (argument ws 0) (word_of (replay_mode migrates)) (begins-asked ws (a_replay h.0) asked))

@@ -1,10 +1,13 @@
 -- Legal events of performers and observers are by members of the input.
 use Rattle.std.proofs.Common.{◌≡◌, ℕ, ◌&&◌, Bool, true, false, not, Option, Some, None, is_ok, is_some, List, [], ◌∷◌, find, if◌then◌else◌, option_and_then, refl, ap, sym, ◌∙◌, inl, inr}
-use Rattle.std.specs.Option.{option_map_or}
+use Rattle.std.proofs.lemmas.Bool.{and_parts}
 use Rattle.ps_world.specs.Knowledge.{edited}
 use Rattle.ps_world.specs.Names.{same_name}
 use Rattle.ps_world.specs.declared.names.Name.{Name}
 use Rattle.ps_world.specs.declared.edits.Edit.{Edit}
+use Rattle.ps_world.proofs.Optionals.{some_passed}
+use Rattle.ps_world.proofs.SameTexts.{name_itself}
+use Rattle.ps_action.proofs.Facts.{same_name-is}
 use Rattle.ps_machine.specs.declared.inputs.Input.{Input}
 use Rattle.ps_machine.specs.declared.members.Unit.{Unit as Task}
 use Rattle.ps_machine.specs.declared.members.Performer.{Performer}
@@ -19,17 +22,12 @@ use Rattle.ps_rules.specs.Lines.{edit_refusal}
 use Rattle.ps_rules.specs.Members.{as_edit, is_observed, next_edit, next_seen, next_unit, observer_of, performer_of, performers, seen_by, unit_of}
 use Rattle.ps_rules.specs.Legal.{fits, is_cause, is_confirmed, is_edit, is_feedback, is_finish, is_pass, is_work, pass_reason}
 use Rattle.ps_rules.specs.History.{IsHistory}
-use Rattle.ps_rules.proofs.Kept.{both, confirmed_by, fits-legal, name_eq}
+use Rattle.ps_rules.proofs.Kept.{confirmed_by, fits-legal}
 use Rattle.ps_ends.proofs.Lists.{In}
 use Rattle.ps_ends.proofs.Offers.{confirmed_offered, offer_says}
 use Rattle.ps_ends.proofs.Passes.{offered_member}
-use Rattle.ps_ends.proofs.Picking.{by_test, clash, name_itself}
+use Rattle.ps_ends.proofs.Picking.{by_test, clash}
 use Rattle.ps_choice_laws.specs.Whose.{is_performer_event, MembersAloneAct}
-
--- an option on whose value a test is passed has one
-some_passed : {A : Type 0} (test : A → Bool) (o : Option A) → option_map_or test o false ≡ true → is_some o ≡ true
-some_passed test None t = clash false t refl
-some_passed test (Some x) t = refl
 
 -- who is named by a performer is found by the name
 named : (n : Name) (p : Performer) (ps : List Performer) → In p ps → n ≡ p.name → is_some (find (λ performer. same_name n performer.name) ps) ≡ true
@@ -59,21 +57,21 @@ module _ (i : Input) (es : List Entry) (h : IsHistory i es) where
 
   -- the performer that an event names
   performs : (p q : Name) → same_name p q ≡ true → is_some (performer_of i q) ≡ true → is_some (performer_of i p) ≡ true
-  performs p q same m = ap (λ n. is_some (performer_of i n)) (name_eq p q same) ∙ m
+  performs p q same m = ap (λ n. is_some (performer_of i n)) (same_name-is p q same) ∙ m
 
   by_performer : (p : Name) (e : Event) → is_performer_event p e ≡ true → fits i es e ≡ true → is_some (performer_of i p) ≡ true
   by_performer p (event.Offer r q) own f = performs p q own (offer_says i es r q f).member
   by_performer p (event.Pass r q why) own f =
       performs p q own (some_passed (λ performer. is_of_run r es && (not (has_answered r q es) && is_pass why (pass_reason performer r es))) (performer_of i q) f)
-  by_performer p (event.Begin r q) own f = performs p q own (confirmed_takes r q (both (is_confirmed r q es) _ f).0)
-  by_performer p (event.Stopped r q) own f = performs p q own (confirmed_takes r q (both (is_confirmed r q es) _ f).0)
+  by_performer p (event.Begin r q) own f = performs p q own (confirmed_takes r q (and_parts (is_confirmed r q es) _ f).0)
+  by_performer p (event.Stopped r q) own f = performs p q own (confirmed_takes r q (and_parts (is_confirmed r q es) _ f).0)
   by_performer p (event.UnitWork r q) own f = performs p q own (next_by i es r q is_work refl f)
   by_performer p (event.Feedback r q percent text) own f = performs p q own (next_by i es r q (is_feedback percent text) refl f)
   by_performer p (event.Finish r q ok) own f = performs p q own (next_by i es r q (is_finish ok) refl f)
   by_performer p (event.Edit (by.Performer r q) edit) own f =
       performs p q own
       (next_by i es r q (λ u. is_edit edit (option_and_then as_edit u)) refl
-      (both (is_edit edit (next_edit i r q es)) (is_ok (edited i.domain (know i es) edit)) f).0)
+      (and_parts (is_edit edit (next_edit i r q es)) (is_ok (edited i.domain (know i es) edit)) f).0)
   by_performer p (event.Refused (by.Performer r q) why) own f =
       performs p q own
       (next_by i es r q (λ u. is_cause why (option_and_then (λ edit. edit_refusal (edited i.domain (know i es) edit)) (option_and_then as_edit u))) refl f)
@@ -82,7 +80,7 @@ module _ (i : Input) (es : List Entry) (h : IsHistory i es) where
 -- an edit that is seen is one of an observer
 seen_by_one : (i : Input) (es : List Entry) (o n : Name) (test : Option Edit → Bool) → test None ≡ false → same_name o n ≡ true → test (next_seen i n es) ≡ true
     → is_some (observer_of i o) ≡ true
-seen_by_one i es o n test none same t = by_found (observer_of i o) (ap (λ n. test (next_seen i n es)) (name_eq o n same) ∙ t)
+seen_by_one i es o n test none same t = by_found (observer_of i o) (ap (λ n. test (next_seen i n es)) (same_name-is o n same) ∙ t)
   where
     by_found : (x : Option Observer) → test (option_and_then (λ observer. seen_by i observer es) x) ≡ true → is_some x ≡ true
     by_found None t = clash (test None) t none
@@ -90,7 +88,7 @@ seen_by_one i es o n test none same t = by_found (observer_of i o) (ap (λ n. te
 
 by_observer : (i : Input) (es : List Entry) (o : Name) (e : Event) → is_observed o e ≡ true → fits i es e ≡ true → is_some (observer_of i o) ≡ true
 by_observer i es o (event.Edit (by.Observer n) edit) own f =
-    seen_by_one i es o n (is_edit edit) refl own (both (is_edit edit (next_seen i n es)) (is_ok (edited i.domain (know i es) edit)) f).0
+    seen_by_one i es o n (is_edit edit) refl own (and_parts (is_edit edit (next_seen i n es)) (is_ok (edited i.domain (know i es) edit)) f).0
 by_observer i es o (event.Refused (by.Observer n) why) own f =
     seen_by_one i es o n (λ s. is_cause why (option_and_then (λ edit. edit_refusal (edited i.domain (know i es) edit)) s)) refl own f
 by_observer i es o e own f = clash (is_observed o e) own refl

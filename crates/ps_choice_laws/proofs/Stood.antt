@@ -1,6 +1,9 @@
 -- What stands in lists, and what a legal event tells.
-use Rattle.std.proofs.Common.{◌≡◌, ℕ, zero, suc, ◌<◌, ◌&&◌, Bool, true, false, not, Option, Some, None, Contains, slice_index_or, List, [], ◌∷◌, filter_map, length, refl, arith, ap, sym, ◌∙◌, inl, inr, ◌⊎◌}
+use Rattle.std.proofs.Common.{◌≡◌, ℕ, zero, suc, ◌<◌, ◌&&◌, true, false, not, Option, Some, None, Contains, slice_index_or, List, [], ◌∷◌, filter_map, length, refl, arith, ap, sym, ◌∙◌, inl, inr, ◌⊎◌}
 use Rattle.std.specs.List.{cons_option}
+use Rattle.std.proofs.lemmas.Bool.{and_parts}
+use Rattle.ps_world.proofs.Truths.{not_not}
+use Rattle.ps_world.proofs.Optionals.{some_same}
 use Rattle.ps_machine.specs.declared.inputs.Input.{Input}
 use Rattle.ps_machine.specs.declared.journal.Event.{Event}
 use Rattle.ps_machine.specs.declared.journal.Entry.{Entry}
@@ -9,16 +12,7 @@ use Rattle.ps_rules.specs.Runs.{is_running}
 use Rattle.ps_rules.specs.Lines.{answers_line}
 use Rattle.ps_rules.specs.Legal.{fits, is_legal, same_flag}
 use Rattle.ps_rules.specs.Choices.{all_requests, head_of}
-use Rattle.ps_rules.proofs.Kept.{both}
 use Rattle.ps_ends.proofs.Lists.{In, in_range}
-use Rattle.ps_ends.proofs.Picking.{some_eq}
-
--- ---- options
-
--- what follows from an option's being nothing, and from its value
-pub by_option : {B C : Type 0} (o : Option B) → (o ≡ None → C) → ((b : B) → o ≡ Some b → C) → C
-by_option None f g = f refl
-by_option (Some b) f g = g b refl
 
 -- ---- lists
 
@@ -64,7 +58,7 @@ mapped_in f y (z ∷ zs) h =
 -- the first of a list is one of it
 pub head_in : {A : Type 0} (x : A) (xs : List A) → head_of xs ≡ Some x → In x xs
 head_in x [] e = absurd (cc)
-head_in x (y ∷ ys) e = inl (sym (some_eq y x e))
+head_in x (y ∷ ys) e = inl (sym (some_same y x e))
 
 -- a list with an item has a first one
 pub some_head : {A : Type 0} (x : A) (xs : List A) → In x xs → (y : A) × (head_of xs ≡ Some y)
@@ -80,8 +74,4 @@ requested es r l = in_range r 0 (requests es) (omega arith) (omega (arith, l))
 
 -- an event that answers no line is legal in an open run alone
 pub live : (i : Input) (es : List Entry) (e : Event) → answers_line e ≡ false → is_legal i es e ≡ true → is_running es ≡ true
-live i es e own h = open_now (is_running es) (both (same_flag false (not (is_running es))) (fits i es e) (sym (ap (λ b. same_flag b (not (is_running es)) && fits i es e) own) ∙ h)).0
-  where
-    open_now : (b : Bool) → not (not b) ≡ true → b ≡ true
-    open_now true e = refl
-    open_now false e = absurd (cc)
+live i es e own h = not_not (is_running es) (and_parts (same_flag false (not (is_running es))) (fits i es e) (sym (ap (λ b. same_flag b (not (is_running es)) && fits i es e) own) ∙ h)).0

@@ -1,7 +1,7 @@
 -- Each legal event of the ticker stands in its list, or rests on the solver's answer.
 use Rattle.std.proofs.Common.{◌≡◌, ℕ, nat_lt, ◌==◌, ◌&&◌, Bool, true, false, not, is_none, List, [], ◌∷◌, ◌++◌, filter, map, length, refl, arith, ap, sym, ◌∙◌, subst, inl, inr, ◌⊎◌}
 use Rattle.std.specs.Option.{option_map_or, option_to_list}
-use Rattle.std.proofs.lemmas.Bool.{and_from, eqb-true, ltb-true}
+use Rattle.std.proofs.lemmas.Bool.{and_from, eqb-true, ltb-true, and_parts}
 use Rattle.ps_world.specs.Names.{same_name}
 use Rattle.ps_world.specs.declared.names.Name.{Name}
 use Rattle.ps_machine.specs.declared.inputs.Input.{Input}
@@ -19,16 +19,18 @@ use Rattle.ps_rules.specs.Legal.{ending, is_act_active, is_legal, is_outcome, is
 use Rattle.ps_rules.specs.Choices.{all_requests, confirms, ends, leaves, open_requests, overs, puts_up, rejects, starts, wants_plan}
 use Rattle.ps_rules.specs.History.{IsHistory}
 use Rattle.ps_rules.proofs.Going.{placed}
-use Rattle.ps_rules.proofs.Kept.{both, confirmed_by, fits-legal}
+use Rattle.ps_rules.proofs.Kept.{confirmed_by, fits-legal}
 use Rattle.ps_rules.proofs.SameThings.{same_outcome-decides}
 use Rattle.ps_rules.proofs.Speaking.{legal_events_speak}
+use Rattle.ps_rules.proofs.Between.{active-so}
 use Rattle.ps_ends.proofs.Lists.{find_none, In, in_flat, in_left, in_map, in_range, in_right}
-use Rattle.ps_ends.proofs.Offers.{active_is, numbered}
+use Rattle.ps_ends.proofs.Offers.{numbered}
 use Rattle.ps_ends.proofs.Picking.{by_test, clash}
 use Rattle.ps_ends.proofs.Requests.{asked, offered}
+use Rattle.ps_ends.proofs.Quiet.{by_option}
 use Rattle.ps_choice_laws.specs.Whose.{is_ticker_event}
 use Rattle.ps_choice_laws.specs.Choosing.{IsTickersChoice, ticker_choices, TickerLeavesNothing, TickerListsAll}
-use Rattle.ps_choice_laws.proofs.Stood.{by_option, in_of, live, requested, stands}
+use Rattle.ps_choice_laws.proofs.Stood.{in_of, live, requested, stands}
 
 in_filter : (test : ℕ → Bool) (r : ℕ) (xs : List ℕ) → In r xs → test r ≡ true → In r (filter test xs)
 in_filter test r [] h t = absurd h
@@ -83,20 +85,20 @@ module _ (i : Input) (es : List Entry) (h : IsHistory i es) where
   place act t = let l = ltb-true act (length (plan es)) t in in_range act 0 (length (plan es)) (omega arith) (omega (arith, l))
 
   active_place : (act : ℕ) → is_act_active es act ≡ true → In act (places es)
-  active_place act a = place act (placed i es h act (active_is (state act es) a))
+  active_place act a = place act (placed i es h act (active-so (state act es) a))
 
   -- ---- kinds of events
 
   rejects_list : (r : ℕ) (p : Name) → is_legal i es (event.Reject r p) ≡ true → Among (event.Reject r p)
   rejects_list r p legal =
-      let o = (both (has_offered r p es) _ (fits-legal i es (event.Reject r p) legal)).0 in
+      let o = (and_parts (has_offered r p es) _ (fits-legal i es (event.Reject r p) legal)).0 in
       among_rejects (event.Reject r p)
       (in_flat (λ r. map (event.Reject r) (offers r es)) r (event.Reject r p) (all_requests es) (below r (legal_events_speak i es (event.Reject r p) h legal))
       (in_map (event.Reject r) p (offers r es) (offered i es h r p o)))
 
   confirms_list : (r : ℕ) (p : Name) → is_legal i es (event.Confirm r p) ≡ true → Among (event.Confirm r p)
   confirms_list r p legal =
-      let f = (both (is_open r es) (option_map_or (same_name p) (first_offer (offers r es)) false) (fits-legal i es (event.Confirm r p) legal)).1 in
+      let f = (and_parts (is_open r es) (option_map_or (same_name p) (first_offer (offers r es)) false) (fits-legal i es (event.Confirm r p) legal)).1 in
       let own : In (event.Confirm r p) (map (event.Confirm r) (option_to_list (first_offer (offers r es)))) =
       subst (λ w. In (event.Confirm r p) (map (event.Confirm r) (option_to_list w))) (sym (confirmed_by p (first_offer (offers r es)) f)) (inl refl) in
       among_confirms (event.Confirm r p)
@@ -107,11 +109,11 @@ module _ (i : Input) (es : List Entry) (h : IsHistory i es) where
   left_of r = event.Unserved r ∷ map (λ act. event.Fail act fail.NoPerformer) (option_to_list (act_of r es))
 
   passed_open : (r : ℕ) → is_passed i r es ≡ true → is_open r es ≡ true
-  passed_open r t = (both (is_open r es) _ t).0
+  passed_open r t = (and_parts (is_open r es) _ t).0
 
   unserved_list : (r : ℕ) → is_legal i es (event.Unserved r) ≡ true → Among (event.Unserved r)
   unserved_list r legal =
-      let p = (both (is_passed i r es) (was_busy i r es) (fits-legal i es (event.Unserved r) legal)).0 in
+      let p = (and_parts (is_passed i r es) (was_busy i r es) (fits-legal i es (event.Unserved r) legal)).0 in
       among_leaves (event.Unserved r)
       (in_flat left_of r (event.Unserved r) (open_requests es)
       (in_filter (λ r. is_open r es) r (all_requests es) (below r (legal_events_speak i es (event.Unserved r) h legal)) (passed_open r p)) (inl refl))
@@ -120,11 +122,11 @@ module _ (i : Input) (es : List Entry) (h : IsHistory i es) where
   noperformer_list act legal =
       let e : Event = event.Fail act fail.NoPerformer in
       let passed : option_map_or (λ r. is_passed i r es && not (was_busy i r es)) (request_of act es) false ≡ true =
-      (both (is_act_active es act) _ (fits-legal i es e legal)).1 in
+      (and_parts (is_act_active es act) _ (fits-legal i es e legal)).1 in
       by_option (request_of act es)
       (λ q. clash false (sym (ap (λ o. option_map_or (λ r. is_passed i r es && not (was_busy i r es)) o false) q) ∙ passed) refl)
       (λ r q.
-      let p = (both (is_passed i r es) (not (was_busy i r es)) (sym (ap (λ o. option_map_or (λ r. is_passed i r es && not (was_busy i r es)) o false) q) ∙ passed)).0 in
+      let p = (and_parts (is_passed i r es) (not (was_busy i r es)) (sym (ap (λ o. option_map_or (λ r. is_passed i r es && not (was_busy i r es)) o false) q) ∙ passed)).0 in
       let a = asked i es h r act q in
       let own : In e (map (λ act. event.Fail act fail.NoPerformer) (option_to_list (act_of r es))) =
       subst (λ o. In e (map (λ act. event.Fail act fail.NoPerformer) (option_to_list o))) (sym a) (inl refl) in
@@ -139,8 +141,8 @@ module _ (i : Input) (es : List Entry) (h : IsHistory i es) where
 
   request_list : (r act : ℕ) → is_legal i es (event.Request r act) ≡ true → Among (event.Request r act)
   request_list r act legal =
-      let f = both (r == requests es) _ (fits-legal i es (event.Request r act) legal) in
-      let a = (both (is_act_active es act) _ f.1).0 in
+      let f = and_parts (r == requests es) _ (fits-legal i es (event.Request r act) legal) in
+      let a = (and_parts (is_act_active es act) _ f.1).0 in
       past_ends (event.Request r act)
       (in_left (event.Request r act) (puts_up es) (starts es ++ overs i es)
       (subst (λ n. In (event.Request n act) (puts_up es)) (sym (eqb-true r (requests es) f.0))
@@ -148,7 +150,7 @@ module _ (i : Input) (es : List Entry) (h : IsHistory i es) where
 
   start_list : (act : ℕ) → is_legal i es (event.Start act) ≡ true → Among (event.Start act)
   start_list act legal =
-      let p = (both (is_place es act) _ (fits-legal i es (event.Start act) legal)).0 in
+      let p = (and_parts (is_place es act) _ (fits-legal i es (event.Start act) legal)).0 in
       among_starts (event.Start act) (in_left (event.Start act) (starts es) (overs i es) (in_map event.Start act (places es) (place act p)))
 
   -- ---- the solver's answer
@@ -159,7 +161,7 @@ module _ (i : Input) (es : List Entry) (h : IsHistory i es) where
   over_list : (how : Outcome) → is_legal i es (event.Over how) ≡ true → In (event.Over how) (ticker_choices i es) ⊎ (wants_plan i es ≡ true)
   over_list how legal =
       let e : Event = event.Over how in
-      let parts = both (is_settled i es) (is_outcome how (ending i es (verdict i es))) (fits-legal i es e legal) in
+      let parts = and_parts (is_settled i es) (is_outcome how (ending i es (verdict i es))) (fits-legal i es e legal) in
       by_option (verdict i es)
       (λ v. inr (asks e refl legal parts.0 (ap is_none v)))
       (λ due v.
@@ -170,10 +172,10 @@ module _ (i : Input) (es : List Entry) (h : IsHistory i es) where
   -- ---- all of them
 
   fail_active : (act : ℕ) (why : FailWhy) → is_legal i es (event.Fail act why) ≡ true → is_act_active es act ≡ true
-  fail_active act fail.NoPerformer legal = (both (is_act_active es act) _ (fits-legal i es (event.Fail act fail.NoPerformer) legal)).0
-  fail_active act fail.Script legal = (both (is_act_active es act) _ (fits-legal i es (event.Fail act fail.Script) legal)).0
-  fail_active act fail.AtEnd legal = (both (is_act_active es act) _ (fits-legal i es (event.Fail act fail.AtEnd) legal)).0
-  fail_active act fail.Effect legal = (both (is_act_active es act) _ (fits-legal i es (event.Fail act fail.Effect) legal)).0
+  fail_active act fail.NoPerformer legal = (and_parts (is_act_active es act) _ (fits-legal i es (event.Fail act fail.NoPerformer) legal)).0
+  fail_active act fail.Script legal = (and_parts (is_act_active es act) _ (fits-legal i es (event.Fail act fail.Script) legal)).0
+  fail_active act fail.AtEnd legal = (and_parts (is_act_active es act) _ (fits-legal i es (event.Fail act fail.AtEnd) legal)).0
+  fail_active act fail.Effect legal = (and_parts (is_act_active es act) _ (fits-legal i es (event.Fail act fail.Effect) legal)).0
 
   fail_list : (act : ℕ) (why : FailWhy) → is_legal i es (event.Fail act why) ≡ true → Among (event.Fail act why)
   fail_list act fail.NoPerformer legal = noperformer_list act legal
@@ -191,11 +193,11 @@ module _ (i : Input) (es : List Entry) (h : IsHistory i es) where
   chosen (event.Reject r p) own legal = in_list (event.Reject r p) (rejects_list r p legal)
   chosen (event.Unserved r) own legal = in_list (event.Unserved r) (unserved_list r legal)
   chosen (event.End act) own legal =
-      in_list (event.End act) (ends_list (event.End act) act (both (is_act_active es act) _ (fits-legal i es (event.End act) legal)).0 (inl refl))
+      in_list (event.End act) (ends_list (event.End act) act (and_parts (is_act_active es act) _ (fits-legal i es (event.End act) legal)).0 (inl refl))
   chosen (event.Fail act why) own legal = in_list (event.Fail act why) (fail_list act why legal)
   chosen (event.Replan acts) own legal =
-      let w = both (is_settled i es) _ (fits-legal i es (event.Replan acts) legal) in
-      inr (asks (event.Replan acts) refl legal w.0 (both (is_none (verdict i es)) _ w.1).0, refl)
+      let w = and_parts (is_settled i es) _ (fits-legal i es (event.Replan acts) legal) in
+      inr (asks (event.Replan acts) refl legal w.0 (and_parts (is_none (verdict i es)) _ w.1).0, refl)
   chosen (event.Over how) own legal =
       elim (over_list how legal) [ inl m ↦ in_list (event.Over how) m | inr w ↦ inr (w, refl) ]
   chosen e own legal = clash (is_ticker_event e) own refl

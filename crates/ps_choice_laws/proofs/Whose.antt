@@ -1,8 +1,8 @@
 -- Each event is somebody's.
 use Rattle.std.proofs.Common.{refl}
+use Rattle.ps_world.proofs.SameTexts.{name_itself}
 use Rattle.ps_machine.specs.declared.journal.By.TheVariants as by
 use Rattle.ps_machine.specs.declared.journal.Event.TheVariants as event
-use Rattle.ps_ends.proofs.Picking.{name_itself}
 use Rattle.ps_choice_laws.specs.Whose.{EachEventIsSomebodys}
 use Rattle.ps_choice_laws.specs.Whose.IsSomebodys.{terminals, tickers, performers, observers, forced}
 

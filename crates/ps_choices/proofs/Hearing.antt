@@ -1,7 +1,7 @@
 -- That what a performer has answered stays answered, and that it may not answer it again.
 use Rattle.std.proofs.Common.{◌≡◌, ℕ, ◌+◌, ◌<◌, ◌≤◌, ◌==◌, ◌&&◌, ◌||◌, not, Bool, true, false, Option, Some, None, is_none, max, nat_le, nat_lt, length, if◌then◌else◌, List, [], ◌∷◌, refl, arith, ap, sym, ◌∙◌, inl, inr}
 use Rattle.std.specs.Option.{option_map_or, unwrap_or}
-use Rattle.std.proofs.lemmas.Bool.{eqb-true, ltb-false, ltb-true, true≢false}
+use Rattle.std.proofs.lemmas.Bool.{eqb-true, ltb-false, ltb-true, true≢false, and_right, and_parts}
 use Rattle.std.proofs.lemmas.Bool.Decides.{nat_tests}
 use Rattle.ps_world.specs.declared.names.Name.{Name}
 use Rattle.ps_machine.specs.declared.inputs.Input.{Input}
@@ -16,7 +16,7 @@ use Rattle.ps_rules.specs.Auctions.{act_of, confirmed, has_answered, is_answer, 
 use Rattle.ps_rules.specs.Members.{performer_of}
 use Rattle.ps_rules.specs.Legal.{fits, is_pass, pass_reason}
 use Rattle.ps_rules.specs.History.{IsHistory}
-use Rattle.ps_rules.proofs.Kept.{both, fits-legal}
+use Rattle.ps_rules.proofs.Kept.{fits-legal}
 use Rattle.ps_ends.proofs.Blocks.{answered-block, of_run-block, requests-block}
 use Rattle.ps_ends.proofs.Picking.{clash, by_test, picked}
 use Rattle.ps_ends.proofs.Requests.{of_run}
@@ -36,7 +36,7 @@ run-before i es r (event.Request s act) low fit now =
     elim (picked (r == s) true (is_of_run r es) true now) [
       | inl w ↦
           let same = eqb-true r s w.0 in
-          let last = eqb-true s (requests es) (both (s == requests es) _ fit).0 in
+          let last = eqb-true s (requests es) (and_parts (s == requests es) _ fit).0 in
           absurd (omega (arith, low, same, last))
       | inr w ↦ w.1
     ]
@@ -66,10 +66,6 @@ shut i es r h old = cases (act_of r es) refl
     cases None its = ap (λ o. option_map_or (λ a. is_active (state a es)) o false && (is_none (confirmed r es) && not (is_unserved r es))) its
     cases (Some act) its = clash (is_of_run r es) (of_run i es h r act its) old
 
-and-false : (b c : Bool) → c ≡ false → (b && c) ≡ false
-and-false true c e = e
-and-false false c e = refl
-
 late : (es : List Entry) (r : ℕ) (q : Performer) → is_open r es ≡ false → is_none (pass_reason q r es) ≡ false
 late es r q e = rw e refl
 
@@ -84,14 +80,14 @@ module _ (i : Input) (es : List Entry) (name : Name) (r : ℕ) (history : IsHist
       none-may (λ q. not (has_answered r name es) && is_none (pass_reason q r es))
       (λ q. by_test (is_of_run r es)
       (λ now. ap (λ b. not b && is_none (pass_reason q r es)) (heard now))
-      (λ old. and-false (not (has_answered r name es)) (is_none (pass_reason q r es)) (late es r q (shut i es r history old))))
+      (λ old. and_right (not (has_answered r name es)) (is_none (pass_reason q r es)) (late es r q (shut i es r history old))))
       (performer_of i name)
 
   no-pass : (why : PassWhy) → fits i es (event.Pass r name why) ≡ false
   no-pass why =
       none-may (λ q. is_of_run r es && (not (has_answered r name es) && is_pass why (pass_reason q r es)))
       (λ q. by_test (is_of_run r es)
-      (λ now. and-false (is_of_run r es) (not (has_answered r name es) && is_pass why (pass_reason q r es))
+      (λ now. and_right (is_of_run r es) (not (has_answered r name es) && is_pass why (pass_reason q r es))
       (ap (λ b. not b && is_pass why (pass_reason q r es)) (heard now)))
       (λ old. ap (λ b. b && (not (has_answered r name es) && is_pass why (pass_reason q r es))) old))
       (performer_of i name)

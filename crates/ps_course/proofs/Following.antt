@@ -2,14 +2,12 @@
 use Rattle.std.proofs.Common.{◌≡◌, ℕ, zero, suc, ◌+◌, ◌<◌, ◌≤◌, ◌==◌, ◌&&◌, ◌||◌, nat_lt, Bool, true, false, not, List, [], ◌∷◌, ◌++◌, length, refl, arith, ap, sym, ◌∙◌, subst}
 use Rattle.std.specs.List.{list_all, range_with_len}
 use Rattle.std.specs.Option.{unwrap_or}
-use Rattle.std.proofs.lemmas.Bool.{eqb-true, ltb-true, true≢false}
-use Rattle.std.proofs.lemmas.Bool.Decides.{nat_tests}
+use Rattle.std.proofs.lemmas.Bool.{eqb-true, ltb-true, true≢false, ne_eqb, eq-eqb, and_parts}
 use Rattle.ps_action.specs.Arcs.{is_arc}
 use Rattle.ps_action.specs.declared.acts.Act.{Act}
 use Rattle.ps_action.specs.declared.states.ActState.{ActState}
 use Rattle.ps_action.specs.declared.states.ActState.TheVariants.{Waiting, Active, Done, Failed, Cancelled}
 use Rattle.ps_machine.specs.declared.inputs.Input.{Input}
-use Rattle.ps_machine.specs.declared.journal.FailWhy.{FailWhy}
 use Rattle.ps_machine.specs.declared.journal.FailWhy.TheVariants as fail
 use Rattle.ps_machine.specs.declared.journal.Event.{Event}
 use Rattle.ps_machine.specs.declared.journal.Event.TheVariants as event
@@ -22,8 +20,9 @@ use Rattle.ps_rules.specs.Runs.{is_active, is_done, is_running, is_waiting, plan
 use Rattle.ps_rules.specs.Known.{grounds}
 use Rattle.ps_rules.specs.Settled.{any_harmed, is_ready, is_startable}
 use Rattle.ps_rules.specs.Legal.{fits, is_act_active, is_legal, is_place, same_flag}
-use Rattle.ps_rules.proofs.Kept.{both, fits-legal}
+use Rattle.ps_rules.proofs.Kept.{fits-legal}
 use Rattle.ps_rules.proofs.Pushed.{read-push}
+use Rattle.ps_rules.proofs.Failing.{fail_active}
 use Rattle.ps_course.specs.Segments.{ends_plan}
 
 -- ---- lists of places
@@ -31,7 +30,7 @@ use Rattle.ps_course.specs.Segments.{ends_plan}
 pub all_in : (test : ℕ → Bool) (start n j : ℕ) → list_all test (range_with_len start n) ≡ true → start ≤ j → j < start + n → test j ≡ true
 all_in test start zero j h low high = absurd (omega (arith, low, high))
 all_in test start (suc n) j h low high =
-    let w = both (test start) (list_all test (range_with_len (start + 1) n)) h in
+    let w = and_parts (test start) (list_all test (range_with_len (start + 1) n)) h in
     elim (place start j) [
       | less l ↦ absurd (omega (arith, low, l))
       | here e ↦ ap test (sym e) ∙ w.0
@@ -73,16 +72,10 @@ is_through Cancelled s m h = absurd (cc)
 shifted : (now : ℕ → Stage) (i j : ℕ) (a was : ActState) (s : Stage) → Matches a s → Matches was (now j) → Matches (unwrap_or (only_if (j == i) a) was) (moved now i s j)
 shifted now i j a was s m old =
     elim (place i j) [
-      | less l ↦ rw (different j i (omega (arith, l)), moved_other now i j s (λ e. omega (arith, l, e))) old
-      | here e ↦ rw (equal j i (sym e), moved_here now i j s e) m
-      | more l ↦ rw (different j i (omega (arith, l)), moved_other now i j s (λ e. omega (arith, l, e))) old
+      | less l ↦ rw (ne_eqb j i (omega (arith, l)), moved_other now i j s (λ e. omega (arith, l, e))) old
+      | here e ↦ rw (eq-eqb j i (sym e), moved_here now i j s e) m
+      | more l ↦ rw (ne_eqb j i (omega (arith, l)), moved_other now i j s (λ e. omega (arith, l, e))) old
     ]
-  where
-    equal : (m n : ℕ) → m ≡ n → (m == n) ≡ true
-    equal m n e = grind (arith, nat_tests)
-
-    different : (m n : ℕ) → (m ≡ n → ⊥) → (m == n) ≡ false
-    different m n e = grind (arith, nat_tests)
 
 -- an act at one place comes to a state of the stage that it was at
 stayed : (now : ℕ → Stage) (i j : ℕ) (a was : ActState) → Matches a (now i) → Matches was (now j) → Matches (unwrap_or (only_if (j == i) a) was) (now j)
@@ -98,13 +91,6 @@ abbrev pub after : (ℕ → Stage) → Event → ℕ → Stage
 after now (event.Start act) = moved now act running
 after now (event.End act) = moved now act ended
 after now e = now
-
--- a failure is of an active act
-fail_active : (i : Input) (es : List Entry) (act : ℕ) (why : FailWhy) → fits i es (event.Fail act why) ≡ true → is_act_active es act ≡ true
-fail_active i es act fail.NoPerformer f = (both (is_act_active es act) _ f).0
-fail_active i es act fail.Script f = (both (is_act_active es act) _ f).0
-fail_active i es act fail.AtEnd f = (both (is_act_active es act) _ f).0
-fail_active i es act fail.Effect f = (both (is_act_active es act) _ f).0
 
 -- ---- the acts of a plan
 
@@ -134,7 +120,7 @@ module _ (i : Input) (acts : List Act) where
 
   pub ready_now : (es : List Entry) (now : ℕ → Stage) (act : ℕ) → FollowsAt es now → is_ready i es act ≡ true → IsReady (is_arc (grounds i.domain acts)) now act
   ready_now es now act f r j l arc =
-      let tests = (both (is_waiting (state act es)) (list_all (λ j. not (is_arc (grounds i.domain (plan es)) j act) || is_done (state j es)) (range_with_len 0 act)) r).1 in
+      let tests = (and_parts (is_waiting (state act es)) (list_all (λ j. not (is_arc (grounds i.domain (plan es)) j act) || is_done (state j es)) (range_with_len 0 act)) r).1 in
       let one : (not (is_arc (grounds i.domain (plan es)) j act) || is_done (state j es)) ≡ true =
       all_in (λ j. not (is_arc (grounds i.domain (plan es)) j act) || is_done (state j es)) 0 act j tests (omega arith) (omega (arith, l)) in
       let tied : is_arc (grounds i.domain (plan es)) j act ≡ true = ap (λ p. is_arc (grounds i.domain p) j act) f.of_plan ∙ arc in
@@ -144,7 +130,7 @@ module _ (i : Input) (acts : List Act) where
   pub waits_now : (es : List Entry) (now : ℕ → Stage) (act : ℕ) → FollowsAt es now → is_ready i es act ≡ true → now act ≡ waiting
   waits_now es now act f r =
       waits (state act es) (now act) (f.stage act)
-      (both (is_waiting (state act es)) (list_all (λ j. not (is_arc (grounds i.domain (plan es)) j act) || is_done (state j es)) (range_with_len 0 act)) r).0
+      (and_parts (is_waiting (state act es)) (list_all (λ j. not (is_arc (grounds i.domain (plan es)) j act) || is_done (state j es)) (range_with_len 0 act)) r).0
 
   pub runs_now : (es : List Entry) (now : ℕ → Stage) (act : ℕ) → FollowsAt es now → is_act_active es act ≡ true → now act ≡ running
   runs_now es now act f a = acts_on (state act es) (now act) (f.stage act) a
@@ -155,12 +141,12 @@ module _ (i : Input) (acts : List Act) where
   -- what a legal start and a legal end say
   pub starts_now : (es : List Entry) (act : ℕ) → fits i es (event.Start act) ≡ true → (is_place es act ≡ true) × (is_ready i es act ≡ true) × (is_startable i es act ≡ true)
   starts_now es act f =
-      let p = both (is_place es act) (is_ready i es act && (is_startable i es act && not (any_harmed es))) f in
-      let r = both (is_ready i es act) (is_startable i es act && not (any_harmed es)) p.1 in
-      (p.0, r.0, (both (is_startable i es act) (not (any_harmed es)) r.1).0)
+      let p = and_parts (is_place es act) (is_ready i es act && (is_startable i es act && not (any_harmed es))) f in
+      let r = and_parts (is_ready i es act) (is_startable i es act && not (any_harmed es)) p.1 in
+      (p.0, r.0, (and_parts (is_startable i es act) (not (any_harmed es)) r.1).0)
 
   pub ends_now : (es : List Entry) (act : ℕ) → fits i es (event.End act) ≡ true → is_act_active es act ≡ true
-  ends_now es act f = (both (is_act_active es act) _ f).0
+  ends_now es act f = (and_parts (is_act_active es act) _ f).0
 
   -- ---- one event
 
@@ -190,7 +176,7 @@ module _ (i : Input) (acts : List Act) where
   -- a legal event that doesn't end the plan
   pub follows_next : (es : List Entry) (now : ℕ → Stage) (e : Event) → FollowsAt es now → is_legal i es e ≡ true → ends_plan e ≡ false → FollowsAfter es e (after now e)
   follows_next es now (event.Run for new) f h stays =
-      absurd (true≢false (sym (both (same_flag true (not (is_running es))) (fits i es (event.Run for new)) h).0 ∙ ap not f.is_open))
+      absurd (true≢false (sym (and_parts (same_flag true (not (is_running es))) (fits i es (event.Run for new)) h).0 ∙ ap not f.is_open))
   follows_next es now (event.Replan new) f h stays = absurd (true≢false stays)
   follows_next es now (event.Over how) f h stays = absurd (true≢false stays)
   follows_next es now (event.Start act) f h stays =

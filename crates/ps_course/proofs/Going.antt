@@ -1,8 +1,8 @@
 -- What stays true while the acts of a good plan start and end as a journal tells.
-use Rattle.std.proofs.Common.{◌≡◌, ℕ, zero, suc, ◌+◌, ◌<◌, ◌≤◌, ◌&&◌, ◌||◌, Bool, true, false, not, Option, Some, None, Result, Ok, Err, is_ok, List, [], ◌∷◌, ◌++◌, length, slice_get, refl, arith, ap, sym, ◌∙◌, subst, inl, inr, ◌⊎◌}
+use Rattle.std.proofs.Common.{◌≡◌, ℕ, zero, suc, ◌+◌, ◌<◌, ◌≤◌, ◌&&◌, Bool, true, false, not, Option, Some, None, Result, Ok, Err, is_ok, List, [], ◌∷◌, ◌++◌, length, slice_get, refl, arith, ap, sym, ◌∙◌, subst, inl, inr}
 use Rattle.std.specs.List.{list_any, range_with_len}
 use Rattle.std.specs.Option.{option_map_or, unwrap_or}
-use Rattle.std.proofs.lemmas.Bool.{true≢false}
+use Rattle.std.proofs.lemmas.Bool.{true≢false, and_parts}
 use Rattle.ps_world.specs.declared.domains.Domain.{Domain}
 use Rattle.ps_world.specs.declared.known.Knowledge.{Knowledge}
 use Rattle.ps_world.specs.declared.actions.Effect.{Effect}
@@ -13,6 +13,7 @@ use Rattle.ps_action.specs.declared.refusals.EffectRefusal.{EffectRefusal}
 use Rattle.ps_machine.specs.declared.inputs.Input.{Input}
 use Rattle.ps_action.specs.declared.states.ActState.{ActState}
 use Rattle.ps_action.specs.declared.states.ActState.TheVariants.{Cancelled}
+use Rattle.ps_action.proofs.Contained.{or_cases}
 use Rattle.ps_machine.specs.declared.journal.RunKind.{RunKind}
 use Rattle.ps_machine.specs.declared.journal.RunKind.TheVariants as run
 use Rattle.ps_machine.specs.declared.journal.CancelWhy.{CancelWhy}
@@ -23,35 +24,25 @@ use Rattle.ps_orders.specs.Orders.{Stage, running, ended, moved}
 use Rattle.ps_arcs.specs.Beginnings.{CanGoOn, Come}
 use Rattle.ps_arcs.specs.Commuting.{IsGood, TellTheSame}
 use Rattle.ps_arcs.specs.Beginnings.Come.{started as come_started, closed as come_closed, retold as come_retold}
-use Rattle.ps_arcs.proofs.Commuting.{beginnings_go_well}
+use Rattle.ps_arcs.proofs.Commuting.{beginnings_go_well, stands}
 use Rattle.ps_rules.specs.Runs.{is_running, kind, plan, says_kind, says_open, says_plan, says_state, state}
 use Rattle.ps_rules.specs.Known.{are_defined, changed, grounds, hold, kept, know, known_after, part}
 use Rattle.ps_rules.specs.Settled.{is_ready, is_startable, may_end, may_go_on, may_start, starts_well, ends_well}
 use Rattle.ps_rules.specs.Legal.{fits, is_act_active, is_legal, is_place, same_flag}
-use Rattle.ps_rules.proofs.Kept.{both, fits-legal}
+use Rattle.ps_rules.proofs.Kept.{fits-legal}
 use Rattle.ps_rules.proofs.Pushed.{know-push, read-push}
 use Rattle.ps_course.specs.Segments.{ends_plan, is_edit}
 use Rattle.ps_course.proofs.Following.{after, ends_now, Follows, follows_next, follows-push, harmed_next, placed, ready_now, runs_now, starts_now, waits_now}
 
 -- ---- lists of places
 
-or_else : (a b : Bool) → (a || b) ≡ true → (a ≡ true) ⊎ (b ≡ true)
-or_else true b e = inl refl
-or_else false b e = inr e
-
 pub any_in : (test : ℕ → Bool) (start n : ℕ) → list_any test (range_with_len start n) ≡ true → (j : ℕ) × (start ≤ j) × (j < start + n) × (test j ≡ true)
 any_in test start zero h = absurd (cc)
 any_in test start (suc n) h =
-    elim (or_else (test start) (list_any test (range_with_len (start + 1) n)) h) [
+    elim (or_cases (test start) (list_any test (range_with_len (start + 1) n)) h) [
       | inl e ↦ (start, omega arith, omega arith, e)
       | inr later ↦ let w = any_in test (start + 1) n later in (w.0, (let l = w.1 in omega (arith, l)), (let l = w.2 in omega (arith, l)), w.3)
     ]
-
--- at each place within a list something stands
-stands : (gs : List GroundAction) (i : ℕ) → i < length gs → (a : GroundAction) × (slice_get gs i ≡ Some a)
-stands [] i l = absurd (omega (arith, l))
-stands (a ∷ gs) zero l = (a, refl)
-stands (a ∷ gs) (suc i) l = stands gs i (omega (arith, l))
 
 -- ---- effects
 
@@ -143,7 +134,7 @@ module _ (i : Input) (acts : List Act) (first last : Knowledge) (good : IsGood i
       let s = starts_now i acts es act f in
       let w = ground_at act (placed i acts es now act g.follows s.0) in
       let same : part (λ g. g.effects.at_start) i.domain (plan es) act ≡ (w.0).effects.at_start = part_now (λ g. g.effects.at_start) es now act w.0 g w.1 in
-      let well = (both (may_start i es act) (starts_well i es act) s.2).1 in
+      let well = (and_parts (may_start i es act) (starts_well i es act) s.2).1 in
       let made = defined i.domain (know i es) (w.0).effects.at_start (sym (ap (λ cs. are_defined i.domain (know i es) cs) same) ∙ well) in
       subst (λ k. Come i.domain gs first (moved now act running) k) (sym (ap (λ cs. kept (know i es) (changed i.domain (know i es) cs)) same ∙ made.2))
       (come_started now (know i es) made.0 act w.0 g.come w.1 (waits_now i acts es now act g.follows s.1) (ready_now i acts es now act g.follows s.1) made.1)
@@ -170,7 +161,7 @@ module _ (i : Input) (acts : List Act) (first last : Knowledge) (good : IsGood i
   -- what the run is for stays
   kind_stays : (es : List Entry) (now : ℕ → Stage) (e : Event) → GoesAt es now → is_legal i es e ≡ true → is_for_act (unwrap_or (says_kind e) (kind es)) ≡ false
   kind_stays es now (event.Run for new) g h =
-      absurd (true≢false (sym (both (same_flag true (not (is_running es))) (fits i es (event.Run for new)) h).0 ∙ ap not g.follows.is_open))
+      absurd (true≢false (sym (and_parts (same_flag true (not (is_running es))) (fits i es (event.Run for new)) h).0 ∙ ap not g.follows.is_open))
   kind_stays es now e g h = g.by_goal
 
   -- a legal event that doesn't end the plan, and is no edit that counts

@@ -1,5 +1,5 @@
 -- What stands first among entries that lead on, and that those after some of them lead on too.
-use Rattle.std.proofs.Common.{◌≡◌, ℕ, ◌||◌, Bool, true, false, List, [], ◌∷◌, ◌++◌, IsTrue, map, if◌then◌else◌, refl, sym, subst, inl, inr, ◌⊎◌, append_assoc, append-nil}
+use Rattle.std.proofs.Common.{◌≡◌, ℕ, ◌||◌, true, List, [], ◌∷◌, ◌++◌, IsTrue, map, if◌then◌else◌, refl, sym, subst, inl, inr, ◌⊎◌, append_assoc, append-nil}
 use Rattle.std.specs.List.{AllByRecursion}
 use Rattle.ps_machine.specs.declared.inputs.Input.{Input}
 use Rattle.ps_machine.specs.declared.journal.CancelWhy.{CancelWhy}
@@ -12,6 +12,7 @@ use Rattle.ps_rules.specs.Prefixes.{Leads}
 use Rattle.ps_rules.specs.Prefixes.Leads.{here, owed, next}
 use Rattle.ps_rules.specs.Laws.{is_cancel}
 use Rattle.ps_rules.proofs.Prefixes.{history-leads}
+use Rattle.ps_rules.proofs.Longest.{stops-are}
 
 -- what stands first: a cancel that is due, or a legal event
 abbrev pub Head : Input → List Entry → List Entry → List Entry → List Entry → Type 0
@@ -34,14 +35,10 @@ cancels_are : (hand : ℕ) (why : CancelWhy) (acts : List ℕ) (more : List Entr
 cancels_are hand why [] more h = h
 cancels_are hand why (act ∷ acts) more h = (refl, cancels_are hand why acts more h)
 
-stops_are : (hand : ℕ) (b : Bool) (acts : List ℕ) → AreCancels (if b then map (cancels hand cancel.Stop) acts else [])
-stops_are hand true acts = subst AreCancels (append-nil (map (cancels hand cancel.Stop) acts)) (cancels_are hand cancel.Stop acts [] tt)
-stops_are hand false acts = tt
-
 forced_are : (i : Input) (es : List Entry) (hand : ℕ) (e : Event) → AreCancels (forced_after i es hand e)
 forced_are i es hand e =
     cancels_are hand cancel.OverAll (broken i es) (if is_fail e || any_of (broken i es) then map (cancels hand cancel.Stop) (sound i es) else [])
-    (stops_are hand (is_fail e || any_of (broken i es)) (sound i es))
+    (stops-are hand (is_fail e || any_of (broken i es)) (sound i es))
 
 -- after the first of some entries, the others lead on
 cut : (i : Input) (past due before es last : List Entry) → AreCancels due → Leads i past due (before ++ es) last

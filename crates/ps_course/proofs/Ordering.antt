@@ -1,7 +1,9 @@
 -- The starts and ends of a plan are a beginning of an order that its arcs allow.
 use Rattle.std.proofs.Common.{◌≡◌, ℕ, zero, suc, ◌+◌, ◌<◌, ◌&&◌, ◌||◌, Bool, true, false, not, Some, None, List, [], ◌∷◌, ◌++◌, filter, length, map, if◌then◌else◌, refl, arith, ap, sym, ◌∙◌, subst, inl, inr, ◌⊎◌, append-nil, slice_index_or}
 use Rattle.std.specs.List.{AllByRecursion, cons_option}
-use Rattle.std.proofs.lemmas.Bool.{true≢false}
+use Rattle.std.proofs.lemmas.Bool.{true≢false, and_parts}
+use Rattle.ps_world.proofs.Truths.{not_not}
+use Rattle.ps_world.proofs.Optionals.{none_not_some}
 use Rattle.ps_action.specs.Arcs.{is_arc}
 use Rattle.ps_action.specs.declared.acts.Act.{Act}
 use Rattle.ps_action.specs.declared.states.ActState.TheVariants.{Cancelled}
@@ -20,7 +22,7 @@ use Rattle.ps_rules.specs.Legal.{fits, is_legal, same_flag}
 use Rattle.ps_rules.specs.History.{any_of, broken, cancels, forced, forced_after, is_fail, IsHistory, sound}
 use Rattle.ps_rules.specs.Laws.{is_cancel}
 use Rattle.ps_rules.specs.Prefixes.{Leads}
-use Rattle.ps_rules.proofs.Kept.{both, fits-legal}
+use Rattle.ps_rules.proofs.Kept.{fits-legal}
 use Rattle.ps_course.specs.Beginnings.{as_moment, JournalsGoInOrder, starts_and_ends}
 use Rattle.ps_course.specs.Segments.{IsOfOnePlan}
 use Rattle.ps_course.proofs.Following.{after, ends_now, FollowsAfter, FollowsAt, follows_next, follows-push, harmed_next, placed, ready_now, runs_now, starts_now, waits_now}
@@ -165,7 +167,7 @@ module _ (i : Input) (acts : List Act) where
   forced_stops : (es : List Entry) (now : ℕ → Stage) (hand : ℕ) (e : Event) → At es now → AreStops now (forced_after i es hand e)
   forced_stops es now hand e f =
       stops_before now hand cancel.OverAll (λ act. is_active (state act es) && not (may_go_on i es act))
-      (λ b t. runs_now i acts es now b f (both (is_active (state b es)) (not (may_go_on i es b)) t).0) (places es)
+      (λ b t. runs_now i acts es now b f (and_parts (is_active (state b es)) (not (may_go_on i es b)) t).0) (places es)
       (if is_fail e || any_of (broken i es) then map (cancels hand cancel.Stop) (sound i es) else [])
       (by_fail (is_fail e || any_of (broken i es)))
     where
@@ -173,7 +175,7 @@ module _ (i : Input) (acts : List Act) where
       by_fail true =
           subst (AreStops now) (append-nil (map (cancels hand cancel.Stop) (sound i es)))
           (stops_before now hand cancel.Stop (λ act. is_active (state act es) && may_go_on i es act)
-          (λ b t. runs_now i acts es now b f (both (is_active (state b es)) (may_go_on i es b) t).0) (places es) [] tt)
+          (λ b t. runs_now i acts es now b f (and_parts (is_active (state b es)) (may_go_on i es b) t).0) (places es) [] tt)
       by_fail false = tt
 
   stop_next : (es : List Entry) (now : ℕ → Stage) (e : Event) → At es now → IsStop now e → FollowsAfter i acts es e now
@@ -217,13 +219,6 @@ module _ (i : Input) (acts : List Act) where
 
 -- ---- where the plan begins
 
-live : (b : Bool) → not (not b) ≡ true → b ≡ true
-live true e = refl
-live false e = absurd (cc)
-
-no_plan : {A C : Type 0} (a : A) → None ≡ Some a → C
-no_plan a e = absurd (cc)
-
 -- where an event makes a plan, all acts wait
 opened : (i : Input) (acts : List Act) (es : List Entry) (e : Event) → is_legal i es e ≡ true → says_plan e ≡ Some acts → FollowsAfter i acts es e all_waiting
 opened i acts es (event.Run for new) h m = record { stage = λ j. refl; own = λ j r. absurd (cc); of_plan = (let e = m in cc); is_open = refl }
@@ -231,13 +226,13 @@ opened i acts es (event.Replan new) h m = record {
   stage = λ j. refl;
   own = λ j r. absurd (cc);
   of_plan = (let e = m in cc);
-  is_open = live (is_running es) (both (same_flag false (not (is_running es))) (fits i es (event.Replan new)) h).0;
+  is_open = not_not (is_running es) (and_parts (same_flag false (not (is_running es))) (fits i es (event.Replan new)) h).0;
 }
-opened i acts es e h m = no_plan acts m
+opened i acts es e h m = none_not_some acts m
 
 -- a cancel makes no plan
 no_cancel : (acts : List Act) (e : Event) → says_plan e ≡ Some acts → is_cancel e ≡ true → ⊥
-no_cancel acts (event.Cancel act why) m c = no_plan acts m
+no_cancel acts (event.Cancel act why) m c = none_not_some acts m
 no_cancel acts e m c = true≢false (sym c)
 
 pub journals_go_in_order : JournalsGoInOrder

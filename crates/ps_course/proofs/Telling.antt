@@ -19,7 +19,6 @@ use Rattle.ps_world.specs.declared.edits.Edit.{Edit}
 use Rattle.ps_world.specs.declared.edits.EditRefusal.{EditRefusal}
 use Rattle.ps_action.specs.declared.acts.Act.{Act}
 use Rattle.ps_action.specs.declared.refusals.EffectRefusal.{EffectRefusal}
-use Rattle.ps_action.specs.declared.touched.Touched.{Touched}
 use Rattle.ps_action.specs.declared.touched.Touched.TheVariants as touched
 use Rattle.ps_action.specs.Effects.{effect}
 use Rattle.ps_action.proofs.Facts.{exact_facts, facts_total}
@@ -31,10 +30,10 @@ use Rattle.ps_machine.specs.declared.journal.Entry.{Entry}
 use Rattle.ps_problem.specs.Changes.{Rises}
 use Rattle.ps_problem.proofs.Changes.{edits_change}
 use Rattle.ps_problem.proofs.Opening.{sorted_opened}
-use Rattle.ps_eval.specs.Laws.{Agree}
 use Rattle.ps_arcs.specs.Commuting.{TellTheSame}
 use Rattle.ps_rules.specs.Reading.{read}
 use Rattle.ps_rules.specs.Known.{both_after, kept, know, known_after, part}
+use Rattle.ps_arcs.proofs.Acting.{agree_itself}
 use Rattle.ps_course.specs.Telling.{ToldIsKnown}
 
 -- ---- lists rise
@@ -102,13 +101,8 @@ told_equal k l rises also t =
     let values : k.values ≡ l.values = same_values k.values l.values rises.values also.values (λ f. t.things (touched.Value f)) in
     λ j. record { instances = t.instances j; facts = facts j; values = values j; goal = t.goal j }
 
-agree : (k : Knowledge) (t : Touched) → Agree k k t
-agree k (touched.Fact f) = refl
-agree k (touched.Value f) = refl
-agree k (touched.Instance n) = refl
-
 pub told_is_known : ToldIsKnown
 told_is_known i es fs = (
   told_equal (know i es) (know i fs) (know_rises i es) (know_rises i fs),
-  λ e. subst (λ k. TellTheSame (know i es) k) e (record { instances = refl; goal = refl; things = agree (know i es) }),
+  λ e. subst (λ k. TellTheSame (know i es) k) e (record { instances = refl; goal = refl; things = agree_itself (know i es) }),
 )

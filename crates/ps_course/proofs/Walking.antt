@@ -1,12 +1,13 @@
 -- The entries of a plan that was good where it begins, one after another.
-use Rattle.std.proofs.Common.{◌≡◌, ℕ, ◌<◌, ◌==◌, ◌&&◌, ◌||◌, Bool, true, false, not, Option, Some, None, is_none, Ok, is_ok, List, [], ◌∷◌, ◌++◌, length, filter, map, if◌then◌else◌, nat_le, refl, arith, ap, sym, ◌∙◌, subst, inl, inr, ◌⊎◌}
+use Rattle.std.proofs.Common.{◌≡◌, ℕ, ◌<◌, ◌==◌, ◌&&◌, ◌||◌, Bool, true, false, not, Option, Some, None, is_none, Ok, is_ok, List, [], ◌∷◌, ◌++◌, length, filter, map, if◌then◌else◌, nat_le, refl, arith, ap, sym, ◌∙◌, subst, inl, inr}
 use Rattle.std.specs.List.{AllByRecursion, list_all, list_any}
 use Rattle.std.specs.Option.{unwrap_or}
-use Rattle.std.proofs.lemmas.Bool.{lt-ltb, true≢false}
+use Rattle.std.proofs.lemmas.Bool.{lt-ltb, true≢false, and_parts}
 use Rattle.ps_world.specs.CondViews.{cond_tree}
 use Rattle.ps_world.specs.declared.conditions.Cond.{Cond}
 use Rattle.ps_world.specs.declared.domains.Domain.{Domain}
 use Rattle.ps_world.specs.declared.known.Knowledge.{Knowledge}
+use Rattle.ps_world.proofs.Truths.{not_not}
 use Rattle.ps_action.specs.Plans.{judged}
 use Rattle.ps_action.specs.Search.{answer as answered_by}
 use Rattle.ps_action.specs.declared.acts.Act.{Act}
@@ -18,6 +19,7 @@ use Rattle.ps_machine.specs.declared.inputs.Line.TheVariants.{Good}
 use Rattle.ps_machine.specs.declared.inputs.Command.TheVariants as command
 use Rattle.ps_action.specs.declared.states.ActState.{ActState}
 use Rattle.ps_action.specs.declared.states.ActState.TheVariants.{Waiting, Active, Done}
+use Rattle.ps_action.proofs.Contained.{or_cases}
 use Rattle.ps_machine.specs.declared.journal.RunKind.{RunKind}
 use Rattle.ps_machine.specs.declared.journal.RunKind.TheVariants as run
 use Rattle.ps_machine.specs.declared.journal.FailWhy.TheVariants as fail
@@ -42,9 +44,10 @@ use Rattle.ps_rules.specs.Legal.{ending, fits, is_act_active, is_finished, is_le
 use Rattle.ps_rules.specs.History.{any_of, broken, cancels, forced, forced_after, is_fail, IsHistory, sound}
 use Rattle.ps_rules.specs.Prefixes.{Leads}
 use Rattle.ps_rules.specs.Laws.{is_cancel}
-use Rattle.ps_rules.proofs.Kept.{both, fits-legal}
+use Rattle.ps_rules.proofs.Kept.{fits-legal}
 use Rattle.ps_rules.proofs.Pushed.{know-push, read-push}
 use Rattle.ps_rules.proofs.SameThings.{same_outcome-decides}
+use Rattle.ps_rules.proofs.Between.{filter-none}
 use Rattle.ps_course.specs.Segments.{ends_plan, is_edit, is_given_up, is_own_fault, IsOfOnePlan, JournalsGoWell, makes_good_plan, NoEditCounts, NoneIs}
 use Rattle.ps_course.proofs.Grounded.{good_of, Good as GoodOne}
 use Rattle.ps_course.proofs.Following.{after, all_in, is_through, runs_now}
@@ -53,17 +56,9 @@ use Rattle.ps_course.proofs.Leading.{from_history, head_of}
 
 -- ---- lists
 
-filter_none : (test : ℕ → Bool) → ((b : ℕ) → test b ≡ false) → (xs : List ℕ) → filter test xs ≡ []
-filter_none test h [] = refl
-filter_none test h (x ∷ xs) = rw (h x) (filter_none test h xs)
-
 none_any : (test : ℕ → Bool) → ((b : ℕ) → test b ≡ false) → (xs : List ℕ) → list_any test xs ≡ false
 none_any test h [] = refl
 none_any test h (x ∷ xs) = rw (h x) (none_any test h xs)
-
-either : (a b : Bool) → (a || b) ≡ true → (a ≡ true) ⊎ (b ≡ true)
-either true b e = inl refl
-either false b e = inr e
 
 -- ---- what a run ends with
 
@@ -144,10 +139,10 @@ module _ (i : Input) (acts : List Act) (first last : Knowledge) (good : IsGood i
   not_blocked : (es : List Entry) (now : ℕ → Stage) → At es now → is_blocked i es ≡ true → ⊥
   not_blocked es now g b =
       let rest : Bool = list_all (λ o. is_none (seen_by i o es)) (observers i) in
-      let w = (both (not (any_harmed es)) (list_any (is_ready i es) (places es) && (list_all (λ act. not (is_ready i es act) || not (is_startable i es act)) (places es) && rest)) b).1 in
-      let u = both (list_any (is_ready i es) (places es)) (list_all (λ act. not (is_ready i es act) || not (is_startable i es act)) (places es) && rest) w in
+      let w = (and_parts (not (any_harmed es)) (list_any (is_ready i es) (places es) && (list_all (λ act. not (is_ready i es act) || not (is_startable i es act)) (places es) && rest)) b).1 in
+      let u = and_parts (list_any (is_ready i es) (places es)) (list_all (λ act. not (is_ready i es act) || not (is_startable i es act)) (places es) && rest) w in
       let one = any_in (is_ready i es) 0 (length (plan es)) u.0 in
-      let tests = (both (list_all (λ act. not (is_ready i es act) || not (is_startable i es act)) (places es)) rest u.1).0 in
+      let tests = (and_parts (list_all (λ act. not (is_ready i es act) || not (is_startable i es act)) (places es)) rest u.1).0 in
       let test : (not (is_ready i es one.0) || not (is_startable i es one.0)) ≡ true = all_in (λ act. not (is_ready i es act) || not (is_startable i es act)) 0 (length (plan es)) one.0 tests one.1 one.2 in
       let within : one.0 < length (plan es) = (let l = one.2 in omega (arith, l)) in
       let starts = ready_starts i acts first last good each es now one.0 g (lt-ltb one.0 (length (plan es)) within) one.3 in
@@ -156,18 +151,18 @@ module _ (i : Input) (acts : List Act) (first last : Knowledge) (good : IsGood i
   -- a legal event tells of no fault of the plan's own
   no_own_fault : (es : List Entry) (now : ℕ → Stage) (e : Event) → At es now → fits i es e ≡ true → is_own_fault e ≡ false
   no_own_fault es now (event.Fail act fail.AtEnd) g f =
-      let w = both (is_act_active es act) (is_finished true es act && not (may_end i es act)) f in
-      let u = (both (is_finished true es act) (not (may_end i es act)) w.1).1 in
+      let w = and_parts (is_act_active es act) (is_finished true es act && not (may_end i es act)) f in
+      let u = (and_parts (is_finished true es act) (not (may_end i es act)) w.1).1 in
       let ends = (active_ends i acts first last good each es now act g w.0).1 in
       absurd (true≢false (sym u ∙ ap not ends))
   no_own_fault es now (event.Fail act fail.Effect) g f =
-      let w = both (is_act_active es act) (is_finished true es act && (may_end i es act && not (ends_well i es act))) f in
-      let u = (both (may_end i es act) (not (ends_well i es act)) (both (is_finished true es act) (may_end i es act && not (ends_well i es act)) w.1).1).1 in
+      let w = and_parts (is_act_active es act) (is_finished true es act && (may_end i es act && not (ends_well i es act))) f in
+      let u = (and_parts (may_end i es act) (not (ends_well i es act)) (and_parts (is_finished true es act) (may_end i es act && not (ends_well i es act)) w.1).1).1 in
       let ends = (active_ends i acts first last good each es now act g w.0).2 in
       absurd (true≢false (sym u ∙ ap not ends))
   no_own_fault es now (event.Cancel act cancel.OverAll) g f = absurd (true≢false (sym f))
   no_own_fault es now (event.Over outcome.Blocked) g f =
-      let w = (both (is_settled i es) (is_outcome outcome.Blocked (ending i es (verdict i es))) f).1 in
+      let w = (and_parts (is_settled i es) (is_outcome outcome.Blocked (ending i es (verdict i es))) f).1 in
       let v = verdict_of i es (kind es) g.by_goal in
       let b = only_blocked i es (is_met i.domain (know i es) (know i es).goal) (is_none (know i es).goal) (nat_le i.replans (replans es)) (is_blocked i es)
       (sym (ap (λ v. is_outcome outcome.Blocked (ending i es v)) v) ∙ w) in
@@ -177,7 +172,7 @@ module _ (i : Input) (acts : List Act) (first last : Knowledge) (good : IsGood i
   -- ---- what is forced
 
   none_broken : (es : List Entry) (now : ℕ → Stage) → At es now → broken i es ≡ []
-  none_broken es now g = filter_none (λ act. is_active (state act es) && not (may_go_on i es act)) fine (places es)
+  none_broken es now g = filter-none (λ act. is_active (state act es) && not (may_go_on i es act)) fine (places es)
     where
       fine : (act : ℕ) → (is_active (state act es) && not (may_go_on i es act)) ≡ false
       fine act =
@@ -196,7 +191,7 @@ module _ (i : Input) (acts : List Act) (first last : Knowledge) (good : IsGood i
       by_fail : (b : Bool) → AreStops now (if b then map (cancels hand cancel.Stop) (sound i es) else [])
       by_fail true =
           stop_few now hand (λ act. is_active (state act es) && may_go_on i es act)
-          (λ b e. runs_now i acts es now b g.follows (both (is_active (state b es)) (may_go_on i es b) e).0) (places es)
+          (λ b e. runs_now i acts es now b g.follows (and_parts (is_active (state b es)) (may_go_on i es b) e).0) (places es)
       by_fail false = tt
 
   stop_next : (es : List Entry) (now : ℕ → Stage) (e : Event) → At es now → IsStop now e → GoesAfter i acts first last good each es e now
@@ -247,9 +242,9 @@ module _ (i : Input) (acts : List Act) (first last : Knowledge) (good : IsGood i
     reaches es now g un s =
         let ends : Bool = list_all (λ act. is_done (state act es)) (places es) in
         let free : Bool = list_all (λ p. not (is_engaged p.name es)) (performers i) in
-        let w = (both free (any_harmed es || (ends || is_blocked i es)) (both (list_all (λ act. not (is_active (state act es))) (places es)) (free && (any_harmed es || (ends || is_blocked i es))) s).1).1 in
+        let w = (and_parts free (any_harmed es || (ends || is_blocked i es)) (and_parts (list_all (λ act. not (is_active (state act es))) (places es)) (free && (any_harmed es || (ends || is_blocked i es))) s).1).1 in
         let none : any_harmed es ≡ false = none_any (λ act. is_harmed (state act es)) un (places es) in
-        let done : ends ≡ true = elim (either ends (is_blocked i es) (sym (ap (λ b. b || (ends || is_blocked i es)) none) ∙ w)) [ inl d ↦ d | inr b ↦ absurd (not_blocked es now g b) ] in
+        let done : ends ≡ true = elim (or_cases ends (is_blocked i es) (sym (ap (λ b. b || (ends || is_blocked i es)) none) ∙ w)) [ inl d ↦ d | inr b ↦ absurd (not_blocked es now g b) ] in
         let all : (j : ℕ) → j < length (grounds i.domain acts) → now j ≡ ended =
         λ j l. is_through (state j es) (now j) (g.follows.stage j)
         (all_in (λ act. is_done (state act es)) 0 (length (plan es)) j done (omega arith) (let e = ap length g.follows.of_plan in omega (arith, l, e, each))) in
@@ -260,11 +255,11 @@ module _ (i : Input) (acts : List Act) (first last : Knowledge) (good : IsGood i
 
     not_given : (es : List Entry) (now : ℕ → Stage) (e : Event) → At es now → Unharmed es → fits i es e ≡ true → is_given_up e ≡ false
     not_given es now (event.Replan new) g un f =
-        let w = both (is_settled i es) (is_none (verdict i es) && is_plan i.domain i.budget (know i es) new) f in
-        let u = (both (is_none (verdict i es)) (is_plan i.domain i.budget (know i es) new) w.1).0 in
+        let w = and_parts (is_settled i es) (is_none (verdict i es) && is_plan i.domain i.budget (know i es) new) f in
+        let u = (and_parts (is_none (verdict i es)) (is_plan i.domain i.budget (know i es) new) w.1).0 in
         absurd (true≢false (sym u ∙ ap is_none (reaches es now g un w.0)))
     not_given es now (event.Over how) g un f =
-        let w = both (is_settled i es) (is_outcome how (ending i es (verdict i es))) f in
+        let w = and_parts (is_settled i es) (is_outcome how (ending i es (verdict i es))) f in
         let is : how ≡ outcome.Success = given how outcome.Success (sym (ap (λ v. is_outcome how (ending i es v)) (reaches es now g un w.0)) ∙ w.1) in
         ap (λ o. is_given_up (event.Over o)) is
     not_given es now e g un f = refl
@@ -317,21 +312,21 @@ opened i es (event.Run run.Goal new) h m = run_opens (next_line i es) (fits-lega
   where
     run_opens : (line : Option Line) → opens_with i es run.Goal new line ≡ true → Opens i es (event.Run run.Goal new)
     run_opens (Some (Good command.Run)) f =
-        let g = good_of i.domain (know i es) new (both (is_ok (judged i.domain (know i es) new)) _ f).0 in
+        let g = good_of i.domain (know i es) new (and_parts (is_ok (judged i.domain (know i es) new)) _ f).0 in
         (new, g, record { come = come_opened; follows = record { stage = λ j. refl; own = λ j r. absurd (cc); of_plan = refl; is_open = refl }; by_goal = refl }, λ j. refl)
     run_opens line f = absurd (cc)
 opened i es (event.Run run.Plan new) h m = run_opens (next_line i es) (fits-legal i es (event.Run run.Plan new) h)
   where
     run_opens : (line : Option Line) → opens_with i es run.Plan new line ≡ true → Opens i es (event.Run run.Plan new)
     run_opens (Some (Good (command.RunPlan (Ok steps)))) f =
-        let g = good_of i.domain (know i es) new (both _ (is_ok (judged i.domain (know i es) new)) f).1 in
+        let g = good_of i.domain (know i es) new (and_parts _ (is_ok (judged i.domain (know i es) new)) f).1 in
         (new, g, record { come = come_opened; follows = record { stage = λ j. refl; own = λ j r. absurd (cc); of_plan = refl; is_open = refl }; by_goal = refl }, λ j. refl)
     run_opens line f = absurd (cc)
 opened i es (event.Replan new) h m =
     let f = fits-legal i es (event.Replan new) h in
-    let w = (both (is_settled i es) (is_none (verdict i es) && is_plan i.domain i.budget (know i es) new) f).1 in
-    let u = both (is_none (verdict i es)) (is_plan i.domain i.budget (know i es) new) w in
-    let g = good_of i.domain (know i es) new (both (is_ok (judged i.domain (know i es) new)) _ u.1).0 in (
+    let w = (and_parts (is_settled i es) (is_none (verdict i es) && is_plan i.domain i.budget (know i es) new) f).1 in
+    let u = and_parts (is_none (verdict i es)) (is_plan i.domain i.budget (know i es) new) w in
+    let g = good_of i.domain (know i es) new (and_parts (is_ok (judged i.domain (know i es) new)) _ u.1).0 in (
       new,
       g,
       record {
@@ -340,17 +335,13 @@ opened i es (event.Replan new) h m =
           stage = λ j. refl;
           own = λ j r. absurd (cc);
           of_plan = refl;
-          is_open = running_now (is_running es) (both (same_flag false (not (is_running es))) (fits i es (event.Replan new)) h).0;
+          is_open = not_not (is_running es) (and_parts (same_flag false (not (is_running es))) (fits i es (event.Replan new)) h).0;
         };
         by_goal = by_verdict (kind es) u.0;
       },
       λ j. refl,
     )
   where
-    running_now : (b : Bool) → not (not b) ≡ true → b ≡ true
-    running_now true e = refl
-    running_now false e = absurd (cc)
-
     by_verdict : (for : Option RunKind) → is_none (if is_reached i es for then Some outcome.Success else unreached i es for) ≡ true → is_for_act for ≡ false
     by_verdict None e = refl
     by_verdict (Some run.Goal) e = refl

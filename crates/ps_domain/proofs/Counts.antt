@@ -192,7 +192,7 @@ length-choices d instances p =
 
 -- ---- lists of arguments
 
-length-picked : (ns : List Name) (lists : List (List Name)) → length (flat_map (λ n. map (λ args. n ∷ args) lists) ns) ≡ length ns * length lists
+pub length-picked : (ns : List Name) (lists : List (List Name)) → length (flat_map (λ n. map (λ args. n ∷ args) lists) ns) ≡ length ns * length lists
 length-picked [] lists = omega arith
 length-picked (n ∷ ns) lists =
     let pieces = length-append (map (λ (args : List Name). n ∷ args) lists) (flat_map (λ n. map (λ args. n ∷ args) lists) ns) in
@@ -200,7 +200,7 @@ length-picked (n ∷ ns) lists =
     let rest = length-picked ns lists in
     omega (arith, pieces, first, rest)
 
-capped-by : (top x y : ℕ) → 50001 ≤ top → (x < 50002) ⊎ (50002 ≤ x) → min 50001 (min (min x top) 50001 * y) ≡ min 50001 (x * y)
+pub capped-by : (top x y : ℕ) → 50001 ≤ top → (x < 50002) ⊎ (50002 ≤ x) → min 50001 (min (min x top) 50001 * y) ≡ min 50001 (x * y)
 capped-by top x y high (inl few) = let same : min (min x top) 50001 ≡ x = omega arith in rw same refl
 capped-by top x zero high (inr many) = omega arith
 capped-by top x (suc y) high (inr many) =
@@ -210,7 +210,7 @@ capped-by top x (suc y) high (inr many) =
     rw most (omega arith)
 
 -- a product stops where its first factor is stopped
-capped : (top x y : ℕ) → 50001 ≤ top → min 50001 (min (min x top) 50001 * y) ≡ min 50001 (x * y)
+pub capped : (top x y : ℕ) → 50001 ≤ top → min 50001 (min (min x top) 50001 * y) ≡ min 50001 (x * y)
 capped top x y high = capped-by top x y high (cases_lt x 50002)
 
 -- the count so far, with the choices of one more parameter

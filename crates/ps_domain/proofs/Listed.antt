@@ -43,7 +43,7 @@ nothing_picked : (ns : List Name) → flat_map (λ n. map (λ args. n ∷ args) 
 nothing_picked [] = refl
 nothing_picked (n ∷ ns) = nothing_picked ns
 
-later_passes : (a b : Bool) → a ≡ false → (a || b) ≡ true → b ≡ true
+pub later_passes : (a b : Bool) → a ≡ false → (a || b) ≡ true → b ≡ true
 later_passes true b e h = cc
 later_passes false b e h = h
 

@@ -2,9 +2,10 @@
 use Rattle.std.proofs.Common.{◌≡◌, ℕ, ◌==◌, ◌&&◌, ◌||◌, Bool, true, false, not, Option, Some, None, is_some, List, refl, arith, ap, sym, ◌∙◌, inl, inr}
 use Rattle.std.specs.List.{list_all}
 use Rattle.std.specs.Option.{option_map_or, unwrap_or}
-use Rattle.std.proofs.lemmas.Bool.{and_from, and_right, cases_Bool, eqb-true, false_from_ne_true, not-true, or_cases, or_from, or_left, or_right, true≢false}
+use Rattle.std.proofs.lemmas.Bool.{and_from, and_right, cases_Bool, eqb-true, false_from_ne_true, not-true, or_cases, or_from, or_left, or_right, true≢false, and_parts, eq-eqb}
 use Rattle.ps_world.specs.Names.{same_name}
 use Rattle.ps_world.specs.declared.names.Name.{Name}
+use Rattle.ps_action.proofs.Facts.{same_name-is}
 use Rattle.ps_machine.specs.declared.inputs.Input.{Input}
 use Rattle.ps_machine.specs.declared.members.Performer.{Performer}
 use Rattle.ps_machine.specs.declared.journal.Event.{Event}
@@ -19,12 +20,12 @@ use Rattle.ps_rules.specs.Settled.{is_settled, places}
 use Rattle.ps_rules.specs.Legal.{fits, is_confirmed, is_legal, same_flag}
 use Rattle.ps_rules.specs.History.{IsHistory}
 use Rattle.ps_rules.specs.History.IsHistory.{nothing, block}
-use Rattle.ps_rules.proofs.Kept.{both, confirmed_by, fits-legal, name_eq}
+use Rattle.ps_rules.proofs.Kept.{confirmed_by, fits-legal}
 use Rattle.ps_ends.specs.Engaged.{EngagedOnOne, is_engaged_on}
 use Rattle.ps_ends.proofs.Blocks.{act-block, engaged-block, held-block, offered-block, rejected-block, running-block, through-block, working-block}
 use Rattle.ps_ends.proofs.Held.{is_held, says_held}
 use Rattle.ps_ends.proofs.Offers.{confirmed_offered, numbered, offer_says, offered_answered, opens_for}
-use Rattle.ps_ends.proofs.Picking.{at_one, clash, count_other, count_same, found, kept, pick_no, pick_yes, picked, stays}
+use Rattle.ps_ends.proofs.Picking.{at_one, clash, count_other, found, kept, pick_no, pick_yes, picked, stays}
 use Rattle.ps_ends.proofs.Working.{active_not, confirms, finish_works, IsClosed, moved, offered_held, rejected_closed, rejected_offered, through_closed, through_confirmed, working_confirmed}
 
 -- ---- nobody is engaged between runs
@@ -39,7 +40,7 @@ engaged_member i _ (block es e h legal own) p o =
         → is_some (performer_of i p) ≡ true
     step (event.Offer s q) f old o =
         elim (picked (same_name p q) true (is_engaged p es) true o) [
-          | inl w ↦ ap (λ n. is_some (performer_of i n)) (name_eq p q w.0) ∙ (offer_says i es s q f).member
+          | inl w ↦ ap (λ n. is_some (performer_of i n)) (same_name-is p q w.0) ∙ (offer_says i es s q f).member
           | inr w ↦ old w.1
         ]
     step (event.Reject s q) f old o = old (kept (same_name p q) (is_engaged p es) o).1
@@ -55,13 +56,13 @@ settled_free i es h s p e = by_found (performer_of i p) refl (engaged_member i e
     by_found None f m = absurd (cc)
     by_found (Some x) f m =
         let free : Bool = list_all (λ performer. not (is_engaged performer.name es)) (performers i) in
-        let all = (both free _ (both (list_all (λ act. not (is_active (state act es))) (places es)) _ s).1).0 in
+        let all = (and_parts free _ (and_parts (list_all (λ act. not (is_active (state act es))) (places es)) _ s).1).0 in
         let w = found (λ performer. same_name p performer.name) (λ performer. not (is_engaged performer.name es)) (performers i) x f in
-        clash (is_engaged p es) e (ap (λ n. is_engaged n es) (name_eq p x.name w.0) ∙ not-true (is_engaged x.name es) (w.1 all))
+        clash (is_engaged p es) e (ap (λ n. is_engaged n es) (same_name-is p x.name w.0) ∙ not-true (is_engaged x.name es) (w.1 all))
 
 -- an event that answers no line needs an open run
 runs : (i : Input) (es : List Entry) (e : Event) → is_legal i es e ≡ true → answers_line e ≡ false → is_running es ≡ true
-runs i es e l a = open_of (answers_line e) (is_running es) a (both (same_flag (answers_line e) (not (is_running es))) (fits i es e) l).0
+runs i es e l a = open_of (answers_line e) (is_running es) a (and_parts (same_flag (answers_line e) (not (is_running es))) (fits i es e) l).0
   where
     open_of : (own live : Bool) → own ≡ false → same_flag own (not live) ≡ true → live ≡ true
     open_of true live o f = absurd (true≢false o)
@@ -77,7 +78,7 @@ idle_free i _ (block es e h legal own) n p o =
     step : (e : Event) → is_legal i es e ≡ true → (is_running es ≡ false → (p : Name) → is_engaged p es ≡ true → ⊥) → unwrap_or (says_open e) (is_running es) ≡ false
         → unwrap_or (says_engaged p e) (is_engaged p es) ≡ true → ⊥
     step (event.Run for acts) l old n o = true≢false n
-    step (event.Over how) l old n o = settled_free i es h (both (is_settled i es) _ (fits-legal i es (event.Over how) l)).0 p o
+    step (event.Over how) l old n o = settled_free i es h (and_parts (is_settled i es) _ (fits-legal i es (event.Over how) l)).0 p o
     step (event.Offer s q) l old n o = clash (is_running es) (runs i es (event.Offer s q) l refl) n
     step (event.Reject s q) l old n o = clash (is_running es) (runs i es (event.Reject s q) l refl) n
     step (event.Finish s q ok) l old n o = clash (is_running es) (runs i es (event.Finish s q ok) l refl) n
@@ -103,18 +104,18 @@ engaged_held i _ (block es e h legal own) p o =
     step : (e : Event) → is_legal i es e ≡ true → (is_engaged p es ≡ true → HeldFor p es) → unwrap_or (says_engaged p e) (is_engaged p es) ≡ true
         → (r : ℕ) × (act : ℕ) × (unwrap_or (says_act r e) (act_of r es) ≡ Some act) × (unwrap_or (says_held r p e) (is_held r p es) ≡ true)
     step (event.Run for acts) l old o =
-        absurd (idle_free i es h (not-true (is_running es) (both (same_flag true (not (is_running es))) (fits i es (event.Run for acts)) l).0) p o)
-    step (event.Replan acts) l old o = absurd (settled_free i es h (both (is_settled i es) _ (fits-legal i es (event.Replan acts) l)).0 p o)
+        absurd (idle_free i es h (not-true (is_running es) (and_parts (same_flag true (not (is_running es))) (fits i es (event.Run for acts)) l).0) p o)
+    step (event.Replan acts) l old o = absurd (settled_free i es h (and_parts (is_settled i es) _ (fits-legal i es (event.Replan acts) l)).0 p o)
     step (event.Request s j) l old o =
         let w = old o in
-        let n = eqb-true s (requests es) (both (s == requests es) _ (fits-legal i es (event.Request s j) l)).0 in
+        let n = eqb-true s (requests es) (and_parts (s == requests es) _ (fits-legal i es (event.Request s j) l)).0 in
         let m = numbered i es h w.0 w.1 w.2 in
         (w.0, w.1, pick_no (w.0 == s) (Some j) (act_of w.0 es) (count_other w.0 s (omega (arith, m, n))) ∙ w.2, w.3)
     step (event.Offer s q) l old o =
         elim (picked (same_name p q) true (is_engaged p es) true o) [
           | inl w ↦
               let a = opens_for s es (offer_says i es s q (fits-legal i es (event.Offer s q) l)).opened in
-              (s, a.0, a.1, pick_yes ((s == s) && same_name p q) true (is_held s p es) (and_from (s == s) (same_name p q) (count_same s s refl) w.0))
+              (s, a.0, a.1, pick_yes ((s == s) && same_name p q) true (is_held s p es) (and_from (s == s) (same_name p q) (eq-eqb s s refl) w.0))
           | inr w ↦ let u = old w.1 in (u.0, u.1, u.2, stays ((u.0 == s) && same_name p q) (is_held u.0 p es) u.3)
         ]
     step (event.Reject s q) l old o = let n = kept (same_name p q) (is_engaged p es) o in let w = old n.1 in (w.0, w.1, w.2, still s w.0 q n.0 w.3)
@@ -156,7 +157,7 @@ working_unfinished i _ (block es e h legal own) r p o =
         elim (picked ((r == s) && same_name p q) true (is_working r p es) true o) [
           | inl w ↦
               let same = at_one r s p q w.0 in
-              let u = both (not (has_begun s q es)) (is_for_active s es) (both (is_confirmed s q es) _ f).1 in
+              let u = and_parts (not (has_begun s q es)) (is_for_active s es) (and_parts (is_confirmed s q es) _ f).1 in
               let fresh = moved (λ t n. has_begun t n es) r s p q same ∙ not-true (has_begun s q es) u.0 in
               let open_yet = ap (λ t. is_for_active t es) same.0 ∙ u.1 in
               or_from (is_through r p es) false
@@ -189,8 +190,8 @@ held_once i _ (block es e h legal own) r p o =
         let u = old r w.1 in (
           elim (cases_Bool (same_name p q)) [
             | inl t ↦
-                let e = u.1 s (ap (λ n. is_held s n es) (name_eq p q t) ∙ has) in
-                clash ((r == s) && same_name p q) (and_from (r == s) (same_name p q) (count_same r s e) t) w.0
+                let e = u.1 s (ap (λ n. is_held s n es) (same_name-is p q t) ∙ has) in
+                clash ((r == s) && same_name p q) (and_from (r == s) (same_name p q) (eq-eqb r s e) t) w.0
             | inr t ↦ pick_no (same_name p q) false (is_engaged p es) t ∙ u.0
           ],
           λ t g. u.1 t (kept ((t == s) && same_name p q) (is_held t p es) g).1,
@@ -203,7 +204,7 @@ held_once i _ (block es e h legal own) r p o =
         elim (picked ((r == s) && same_name p q) true (is_held r p es) true o) [
           | inl w ↦
               let same = at_one r s p q w.0 in (
-                pick_yes (same_name p q) true (is_engaged p es) (both (r == s) (same_name p q) w.0).1,
+                pick_yes (same_name p q) true (is_engaged p es) (and_parts (r == s) (same_name p q) w.0).1,
                 λ t g. elim (picked ((t == s) && same_name p q) true (is_held t p es) true g) [
                   | inl v ↦ same.0 ∙ sym (at_one t s p q v.0).0
                   | inr v ↦ clash (is_engaged p es) (old t v.1).0 (ap (λ n. is_engaged n es) same.1 ∙ free)
@@ -219,9 +220,9 @@ held_once i _ (block es e h legal own) r p o =
               )
         ]
     step (event.Reject s q) f old o =
-        let w = both (has_offered s q es) _ f in
-        let u = both (not (is_rejected s q es)) _ w.1 in
-        let v = (both (not (is_confirmed s q es)) (is_some (confirmed s es) || is_for_cancelled s es) u.1).0 in
+        let w = and_parts (has_offered s q es) _ f in
+        let u = and_parts (not (is_rejected s q es)) _ w.1 in
+        let v = (and_parts (not (is_confirmed s q es)) (is_some (confirmed s es) || is_for_cancelled s es) u.1).0 in
         let unfinished =
         false_from_ne_true (is_through s q es) (λ t. clash (is_confirmed s q es) (confirms s q es (through_confirmed i es h s q t)) (not-true (is_confirmed s q es) v)) in
         dropped s q (offered_held i es h s q w.0 (not-true (is_rejected s q es) u.0) unfinished) old o
@@ -229,8 +230,8 @@ held_once i _ (block es e h legal own) r p o =
         let works = finish_works i es s q ok f in
         dropped s q (confirmed_held i es h s q (working_confirmed i es h s q works) (working_unfinished i es h s q works)) old o
     step (event.Stopped s q) f old o =
-        let w = both (is_confirmed s q es) _ f in
-        let u = both (not (is_through s q es)) (is_for_cancelled s es) w.1 in
+        let w = and_parts (is_confirmed s q es) _ f in
+        let u = and_parts (not (is_through s q es)) (is_for_cancelled s es) w.1 in
         dropped s q (confirmed_held i es h s q (confirmed_by q (confirmed s es) w.0) (not-true (is_through s q es) u.0)) old o
     step e f old o = old r o
 
@@ -278,13 +279,13 @@ on_held : (i : Input) (es : List Entry) → IsHistory i es → (r : ℕ) (p : Na
 on_held i es h r p o =
     elim (or_cases (has_offered r p es && (not (is_rejected r p es) && not (is_confirmed r p es))) (is_confirmed r p es && not (is_through r p es)) o) [
       | inl a ↦
-          let w = both (has_offered r p es) (not (is_rejected r p es) && not (is_confirmed r p es)) a in
-          let u = both (not (is_rejected r p es)) (not (is_confirmed r p es)) w.1 in
+          let w = and_parts (has_offered r p es) (not (is_rejected r p es) && not (is_confirmed r p es)) a in
+          let u = and_parts (not (is_rejected r p es)) (not (is_confirmed r p es)) w.1 in
           let unfinished =
           false_from_ne_true (is_through r p es) (λ t. clash (is_confirmed r p es) (confirms r p es (through_confirmed i es h r p t)) (not-true (is_confirmed r p es) u.1)) in
           offered_held i es h r p w.0 (not-true (is_rejected r p es) u.0) unfinished
       | inr b ↦
-          let w = both (is_confirmed r p es) (not (is_through r p es)) b in
+          let w = and_parts (is_confirmed r p es) (not (is_through r p es)) b in
           confirmed_held i es h r p (confirmed_by p (confirmed r es) w.0) (not-true (is_through r p es) w.1)
     ]
 

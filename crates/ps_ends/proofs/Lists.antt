@@ -1,8 +1,7 @@
 -- What stands in lists.
 use Rattle.std.proofs.Common.{◌≡◌, ℕ, zero, suc, ◌+◌, ◌<◌, ◌≤◌, ◌||◌, Bool, true, false, Some, None, List, [], ◌∷◌, ◌++◌, find, flat_map, map, refl, arith, ap, sym, ◌∙◌, subst, inl, inr, ◌⊎◌}
 use Rattle.std.specs.List.{list_all, list_any, range_with_len}
-use Rattle.std.proofs.lemmas.Bool.{and_from, or_cases, or_parts}
-use Rattle.ps_rules.proofs.Kept.{both}
+use Rattle.std.proofs.lemmas.Bool.{and_from, or_cases, or_parts, and_parts}
 use Rattle.ps_ends.proofs.Picking.{by_test}
 
 -- that a value is one of a list
@@ -10,7 +9,7 @@ abbrev pub In : {A : Type 0} → A → List A → Type 0
 In x [] = ⊥
 In x (y ∷ ys) = (x ≡ y) ⊎ In x ys
 
--- what stands in the first of two lists stands in both together
+-- what stands in the first of two lists stands in and_parts together
 pub in_left : {A : Type 0} (x : A) (xs ys : List A) → In x xs → In x (xs ++ ys)
 in_left x [] ys h = absurd h
 in_left x (y ∷ xs) ys (inl e) = inl e
@@ -67,8 +66,8 @@ found_in test (y ∷ ys) x e =
 -- what all pass each passes
 pub all_in : {A : Type 0} (test : A → Bool) (xs : List A) → list_all test xs ≡ true → (x : A) → In x xs → test x ≡ true
 all_in test [] e x h = absurd h
-all_in test (y ∷ ys) e x (inl s) = ap test s ∙ (both (test y) (list_all test ys) e).0
-all_in test (y ∷ ys) e x (inr h) = all_in test ys (both (test y) (list_all test ys) e).1 x h
+all_in test (y ∷ ys) e x (inl s) = ap test s ∙ (and_parts (test y) (list_all test ys) e).0
+all_in test (y ∷ ys) e x (inr h) = all_in test ys (and_parts (test y) (list_all test ys) e).1 x h
 
 -- where some item passes there is one
 pub any_in : {A : Type 0} (test : A → Bool) (xs : List A) → list_any test xs ≡ true → (x : A) × In x xs × (test x ≡ true)

@@ -1,7 +1,7 @@
 -- A performer's work is on the one request on which it is engaged, and on none where it isn't engaged.
 use Rattle.std.proofs.Common.{◌≡◌, ℕ, ◌&&◌, true, false, not, Option, Some, None, is_some, List, option_and_then, if◌then◌else◌, refl, ap, inl, inr}
 use Rattle.std.specs.Option.{option_map_or}
-use Rattle.std.proofs.lemmas.Bool.{and_from, and_right, false_from_ne_true, not-true, not_from_false, or_right}
+use Rattle.std.proofs.lemmas.Bool.{and_from, and_right, false_from_ne_true, not-true, not_from_false, or_right, and_parts}
 use Rattle.ps_world.specs.declared.names.Name.{Name}
 use Rattle.ps_machine.specs.declared.inputs.Input.{Input}
 use Rattle.ps_machine.specs.declared.members.Unit.{Unit as Task}
@@ -12,7 +12,6 @@ use Rattle.ps_rules.specs.Auctions.{has_begun, has_offered, is_engaged, is_for_a
 use Rattle.ps_rules.specs.Members.{next_unit, performer_of, unit_of}
 use Rattle.ps_rules.specs.Legal.{fits, is_confirmed}
 use Rattle.ps_rules.specs.History.{IsHistory}
-use Rattle.ps_rules.proofs.Kept.{both}
 use Rattle.ps_ends.specs.Engaged.{is_engaged_on}
 use Rattle.ps_ends.specs.Working.{IdleHasNoWork, OlderHasNoWork, OneWork}
 use Rattle.ps_ends.proofs.Engaged.{active_open, engaged_on_one, working_unfinished}
@@ -28,14 +27,14 @@ confirmed_on r p es c t =
 -- who can stop on a request is engaged on it
 stops_on : (i : Input) (es : List Entry) (r : ℕ) (p : Name) → fits i es (event.Stopped r p) ≡ true → is_engaged_on r p es ≡ true
 stops_on i es r p f =
-    let w = both (is_confirmed r p es) (not (is_through r p es) && is_for_cancelled r es) f in
-    confirmed_on r p es w.0 (not-true (is_through r p es) (both (not (is_through r p es)) (is_for_cancelled r es) w.1).0)
+    let w = and_parts (is_confirmed r p es) (not (is_through r p es) && is_for_cancelled r es) f in
+    confirmed_on r p es w.0 (not-true (is_through r p es) (and_parts (not (is_through r p es)) (is_for_cancelled r es) w.1).0)
 
 -- who can begin on a request is engaged on it
 begins_on : (i : Input) (es : List Entry) → IsHistory i es → (r : ℕ) (p : Name) → fits i es (event.Begin r p) ≡ true → is_engaged_on r p es ≡ true
 begins_on i es h r p f =
-    let w = both (is_confirmed r p es) (not (has_begun r p es) && is_for_active r es) f in
-    let u = both (not (has_begun r p es)) (is_for_active r es) w.1 in
+    let w = and_parts (is_confirmed r p es) (not (has_begun r p es) && is_for_active r es) f in
+    let u = and_parts (not (has_begun r p es)) (is_for_active r es) w.1 in
     confirmed_on r p es w.0 (false_from_ne_true (is_through r p es) (λ t. elim (through_closed i es h r p t) [
       | inl b ↦ clash (has_begun r p es) b (not-true (has_begun r p es) u.0)
       | inr c ↦ active_open r es u.1 c

@@ -2,9 +2,11 @@
 use Rattle.std.proofs.Common.{◌≡◌, ℕ, ◌+◌, ◌<◌, ◌==◌, ◌&&◌, ◌||◌, Bool, true, false, not, Option, Some, None, is_none, is_some, List, slice_get, option_and_then, if◌then◌else◌, refl, arith, ap, sym, ◌∙◌, subst, inl, inr, ◌⊎◌}
 use Rattle.std.specs.List.{list_any}
 use Rattle.std.specs.Option.{option_map_or, unwrap_or}
-use Rattle.std.proofs.lemmas.Bool.{eqb-true, true≢false, not-true, or_cases, or_left, or_parts, or_right}
+use Rattle.std.proofs.lemmas.Bool.{eqb-true, true≢false, not-true, or_cases, or_left, or_parts, or_right, and_parts}
 use Rattle.ps_world.specs.Names.{same_name}
 use Rattle.ps_world.specs.declared.names.Name.{Name}
+use Rattle.ps_world.proofs.Optionals.{none_not_some, some_same}
+use Rattle.ps_action.proofs.Facts.{same_name-is}
 use Rattle.ps_machine.specs.declared.inputs.Input.{Input}
 use Rattle.ps_machine.specs.declared.members.Performer.{Performer}
 use Rattle.ps_machine.specs.declared.journal.PassWhy.{PassWhy}
@@ -19,12 +21,12 @@ use Rattle.ps_rules.specs.Members.{matches, matches_request, performer_of, perfo
 use Rattle.ps_rules.specs.Legal.{fits, is_pass, is_passed, matches_act, pass_reason, was_busy}
 use Rattle.ps_rules.specs.History.{IsHistory}
 use Rattle.ps_rules.specs.History.IsHistory.{nothing, block}
-use Rattle.ps_rules.proofs.Kept.{fits-legal, both, name_eq}
+use Rattle.ps_rules.proofs.Kept.{fits-legal}
 use Rattle.ps_ends.proofs.Blocks.{act-block, answered-block, offered-block, pass-block, plan-block, requests-block, unserved-block}
 use Rattle.ps_ends.proofs.Offers.{numbered, offer_says, offered_answered, opens_for}
 use Rattle.ps_ends.proofs.Lists.{any_in, found_in, In, in_any}
 use Rattle.ps_ends.proofs.Requests.{run_numbered}
-use Rattle.ps_ends.proofs.Picking.{at_one, clash, not_some, pick_yes, picked, some_eq}
+use Rattle.ps_ends.proofs.Picking.{at_one, clash, pick_yes, picked}
 
 -- who answered offered or passed
 pub answered : (i : Input) (es : List Entry) → IsHistory i es → (r : ℕ) (p : Name) → has_answered r p es ≡ true → has_offered r p es ≡ false → is_some (pass_of r p es) ≡ true
@@ -48,7 +50,7 @@ answered i _ (block es e h legal own) r p a o =
 
 -- who passed answered
 pub passed_answered : (i : Input) (es : List Entry) → IsHistory i es → (r : ℕ) (p : Name) (why : PassWhy) → pass_of r p es ≡ Some why → has_answered r p es ≡ true
-passed_answered i _ nothing r p why o = not_some why o
+passed_answered i _ nothing r p why o = none_not_some why o
 passed_answered i _ (block es e h legal own) r p why o =
     answered-block i es e r p ∙ step e.what (passed_answered i es h r p why) (sym (pass-block i es e r p) ∙ o)
   where
@@ -66,7 +68,7 @@ performed i q test h = by_found (performer_of i q) refl h
   where
     by_found : (o : Option Performer) → performer_of i q ≡ o → option_map_or test o false ≡ true → (performer : Performer) × In performer (performers i) × (q ≡ performer.name) × (test performer ≡ true)
     by_found None e h = absurd (cc)
-    by_found (Some x) e h = let w = found_in (λ performer. same_name q performer.name) (performers i) x e in (x, w.0, name_eq q x.name w.1, h)
+    by_found (Some x) e h = let w = found_in (λ performer. same_name q performer.name) (performers i) x e in (x, w.0, same_name-is q x.name w.1, h)
 
 -- a performer that would offer, or is busy, finds the request open, and does its act
 reasons : (performer : Performer) (s : ℕ) (es : List Entry) (o : Option PassWhy) → pass_reason performer s es ≡ o → (is_pass pass.Late o ≡ false) → (is_pass pass.Other o ≡ false)
@@ -89,7 +91,7 @@ takes_part i p m = by_found (performer_of i p) refl m
   where
     by_found : (o : Option Performer) → performer_of i p ≡ o → is_some o ≡ true → TakesPart i p
     by_found None e m = absurd (cc)
-    by_found (Some x) e m = let w = found_in (λ performer. same_name p performer.name) (performers i) x e in (x, w.0, name_eq p x.name w.1)
+    by_found (Some x) e m = let w = found_in (λ performer. same_name p performer.name) (performers i) x e in (x, w.0, same_name-is p x.name w.1)
 
 -- who offered takes part
 pub offered_member : (i : Input) (es : List Entry) → IsHistory i es → (r : ℕ) (p : Name) → has_offered r p es ≡ true → TakesPart i p
@@ -105,7 +107,7 @@ offered_member i _ (block es e h legal own) r p o =
 
 -- who offered didn't pass
 pub offered_unpassed : (i : Input) (es : List Entry) → IsHistory i es → (r : ℕ) (p : Name) (why : PassWhy) → has_offered r p es ≡ true → pass_of r p es ≡ Some why → ⊥
-offered_unpassed i _ nothing r p why o s = not_some why s
+offered_unpassed i _ nothing r p why o s = none_not_some why s
 offered_unpassed i _ (block es e h legal own) r p why o s =
     step e.what (fits-legal i es e.what legal) (or_cases (has_offered r p es) (is_offer r p e.what) (sym (offered-block i es e r p) ∙ o)) (sym (pass-block i es e r p) ∙ s) (offered_unpassed i es h r p why)
     (passed_answered i es h r p why) (offered_answered i es h r p)
@@ -121,7 +123,7 @@ offered_unpassed i _ (block es e h legal own) r p why o s =
           | inl w ↦
               let same = at_one r s p q w.0 in
               let u = performed i q (λ performer. is_of_run s es && (not (has_answered s q es) && is_pass y (pass_reason performer s es))) f in
-              let n = (both (not (has_answered s q es)) _ (both (is_of_run s es) _ u.3).1).0 in
+              let n = (and_parts (not (has_answered s q es)) _ (and_parts (is_of_run s es) _ u.3).1).0 in
               clash (has_answered r p es) (offered o) (ap (λ t. has_answered t p es) same.0 ∙ ap (λ n. has_answered s n es) same.1 ∙ not-true (has_answered s q es) n)
           | inr w ↦ old o w.1
         ]
@@ -132,7 +134,7 @@ offered_unpassed i _ (block es e h legal own) r p why o s =
 
 -- a request that a performer passed is there
 pub pass_numbered : (i : Input) (es : List Entry) → IsHistory i es → (r : ℕ) (p : Name) (why : PassWhy) → pass_of r p es ≡ Some why → r < requests es
-pass_numbered i _ nothing r p why a = not_some why a
+pass_numbered i _ nothing r p why a = none_not_some why a
 pass_numbered i _ (block es e h legal own) r p why a =
     subst (λ n. r < n) (sym (requests-block i es e)) (step e.what (fits-legal i es e.what legal) (pass_numbered i es h r p why) (sym (pass-block i es e r p) ∙ a))
   where
@@ -145,7 +147,7 @@ pass_numbered i _ (block es e h legal own) r p why a =
         elim (picked ((r == s) && same_name p q) (Some x) (pass_of r p es) (Some why) a) [
           | inl w ↦
               let u = performed i q (λ performer. is_of_run s es && (not (has_answered s q es) && is_pass x (pass_reason performer s es))) f in
-              run_numbered i es h r (ap (λ t. is_of_run t es) (at_one r s p q w.0).0 ∙ (both (is_of_run s es) _ u.3).0)
+              run_numbered i es h r (ap (λ t. is_of_run t es) (at_one r s p q w.0).0 ∙ (and_parts (is_of_run s es) _ u.3).0)
           | inr w ↦ old w.1
         ]
     step e f old a = more (is_request e) (old a)
@@ -163,14 +165,14 @@ unserved_numbered i _ (block es e h legal own) r a =
     step : (e : Event) → (is_unserved r es ≡ true → r < requests es) → fits i es e ≡ true → (is_unserved r es ≡ true) ⊎ (leaves_unserved r e ≡ true) → r < (if is_request e then requests es + 1 else requests es)
     step e old f (inl a) = more (is_request e) (old a)
     step (event.Unserved s) old f (inr a) =
-        let o = opens_for s es (both (is_open s es) _ (both (is_passed i s es) (was_busy i s es) f).0).0 in
+        let o = opens_for s es (and_parts (is_open s es) _ (and_parts (is_passed i s es) (was_busy i s es) f).0).0 in
         numbered i es h r o.0 (ap (λ t. act_of t es) (eqb-true r s a) ∙ o.1)
     step e old f (inr a) = absurd (true≢false (sym a))
 
 -- who was busy does the act
 pub busy : (i : Input) (es : List Entry) → IsHistory i es → (r act : ℕ) (p : Name) → pass_of r p es ≡ Some pass.Busy → act_of r es ≡ Some act
     → list_any (λ p. matches_act p act es) (performers i) ≡ true
-busy i _ nothing r act p a o = not_some act o
+busy i _ nothing r act p a o = none_not_some act o
 busy i _ (block es e h legal own) r act p a o =
     ap (λ acts. list_any (λ p. option_map_or (matches p) (slice_get acts act) false) (performers i)) (plan-block i es e)
     ∙ step e.what (fits-legal i es e.what legal) (busy i es h r act p) (sym (pass-block i es e r p) ∙ a) (sym (act-block i es e r) ∙ o)
@@ -178,10 +180,10 @@ busy i _ (block es e h legal own) r act p a o =
     step : (e : Event) → fits i es e ≡ true → (pass_of r p es ≡ Some pass.Busy → act_of r es ≡ Some act → list_any (λ p. matches_act p act es) (performers i) ≡ true)
         → unwrap_or (says_pass r p e) (pass_of r p es) ≡ Some pass.Busy → unwrap_or (says_act r e) (act_of r es) ≡ Some act
         → list_any (λ p. option_map_or (matches p) (slice_get (unwrap_or (says_plan e) (plan es)) act) false) (performers i) ≡ true
-    step (event.Run for acts) f old a o = not_some act o
-    step (event.Replan acts) f old a o = not_some act o
+    step (event.Run for acts) f old a o = none_not_some act o
+    step (event.Replan acts) f old a o = none_not_some act o
     step (event.Request s j) f old a o =
-        let n = eqb-true s (requests es) (both (s == requests es) _ f).0 in
+        let n = eqb-true s (requests es) (and_parts (s == requests es) _ f).0 in
         let l = pass_numbered i es h r p pass.Busy a in
         elim (picked (r == s) (Some j) (act_of r es) (Some act) o) [
           | inl w ↦ let m = eqb-true r s w.0 in absurd (omega (arith, l, m, n))
@@ -192,7 +194,7 @@ busy i _ (block es e h legal own) r act p a o =
           | inl w ↦
               let u = performed i q (λ performer. is_of_run s es && (not (has_answered s q es) && is_pass x (pass_reason performer s es))) f in
               let same = (at_one r s p q w.0).0 in
-              let is : is_pass pass.Busy (pass_reason u.0 s es) ≡ true = ap (λ y. is_pass y (pass_reason u.0 s es)) (sym (some_eq x pass.Busy w.1)) ∙ (both (not (has_answered s q es)) _ (both (is_of_run s es) _ u.3).1).1 in
+              let is : is_pass pass.Busy (pass_reason u.0 s es) ≡ true = ap (λ y. is_pass y (pass_reason u.0 s es)) (sym (some_same x pass.Busy w.1)) ∙ (and_parts (not (has_answered s q es)) _ (and_parts (is_of_run s es) _ u.3).1).1 in
               let does = (reasons u.0 s es (pass_reason u.0 s es) refl (not_late (pass_reason u.0 s es) is) (not_other (pass_reason u.0 s es) is)).1 in
               in_any (λ p. matches_act p act es) (performers i) u.0 u.1
               (sym (ap (λ t. option_map_or (matches u.0) (option_and_then (slice_get (plan es)) t) false) (sym (ap (λ t. act_of t es) same) ∙ o)) ∙ does)
@@ -215,7 +217,7 @@ busy i _ (block es e h legal own) r act p a o =
 -- the act of an unserved request is done by some performer
 pub served : (i : Input) (es : List Entry) → IsHistory i es → (r act : ℕ) → act_of r es ≡ Some act → is_unserved r es ≡ true
     → list_any (λ p. matches_act p act es) (performers i) ≡ true
-served i _ nothing r act o u = not_some act o
+served i _ nothing r act o u = none_not_some act o
 served i _ (block es e h legal own) r act o u =
     ap (λ acts. list_any (λ p. option_map_or (matches p) (slice_get acts act) false) (performers i)) (plan-block i es e)
     ∙ step e.what (fits-legal i es e.what legal) (served i es h r act) (or_cases (is_unserved r es) (leaves_unserved r e.what) (sym (unserved-block i es e r) ∙ u)) (sym (act-block i es e r) ∙ o)
@@ -229,17 +231,17 @@ served i _ (block es e h legal own) r act o u =
     step : (e : Event) → fits i es e ≡ true → (act_of r es ≡ Some act → is_unserved r es ≡ true → list_any (λ p. matches_act p act es) (performers i) ≡ true)
         → (is_unserved r es ≡ true) ⊎ (leaves_unserved r e ≡ true) → unwrap_or (says_act r e) (act_of r es) ≡ Some act
         → list_any (λ p. option_map_or (matches p) (slice_get (unwrap_or (says_plan e) (plan es)) act) false) (performers i) ≡ true
-    step (event.Run for acts) f old u o = not_some act o
-    step (event.Replan acts) f old u o = not_some act o
+    step (event.Run for acts) f old u o = none_not_some act o
+    step (event.Replan acts) f old u o = none_not_some act o
     step (event.Request s j) f old (inl u) o =
-        let n = eqb-true s (requests es) (both (s == requests es) _ f).0 in
+        let n = eqb-true s (requests es) (and_parts (s == requests es) _ f).0 in
         let l = unserved_numbered i es h r u in
         elim (picked (r == s) (Some j) (act_of r es) (Some act) o) [
           | inl w ↦ let m = eqb-true r s w.0 in absurd (omega (arith, l, m, n))
           | inr w ↦ old w.1 u
         ]
     step (event.Unserved s) f (old) (inr u) o =
-        let w = any_in (λ p. is_pass pass.Busy (pass_of s p.name es)) (performers i) (both (is_passed i s es) (was_busy i s es) f).1 in
+        let w = any_in (λ p. is_pass pass.Busy (pass_of s p.name es)) (performers i) (and_parts (is_passed i s es) (was_busy i s es) f).1 in
         busy i es h r act (w.0).name (ap (λ t. pass_of t (w.0).name es) (eqb-true r s u) ∙ is_busy (pass_of s (w.0).name es) w.2) o
     step e f old (inl u) o = old o u
     step e f old (inr u) o = absurd (true≢false (sym u))

@@ -2,12 +2,13 @@
 use Rattle.std.proofs.Common.{◌≡◌, ℕ, ◌<◌, ◌≤◌, ◌==◌, ◌&&◌, nat_lt, Bool, true, false, Option, Some, None, is_none, is_some, List, [], ◌∷◌, find, refl, arith, ap, sym, ◌∙◌, inl, inr, ◌⊎◌}
 use Rattle.std.specs.List.{list_all}
 use Rattle.std.specs.Option.{unwrap_or}
-use Rattle.std.proofs.lemmas.Bool.{cases_Bool, cond-false, cond-true, eqb-true, ltb-false, ltb-true, true≢false}
+use Rattle.std.proofs.lemmas.Bool.{cases_Bool, cond-false, cond-true, eqb-true, ltb-false, ltb-true, true≢false, and_parts}
 use Rattle.std.proofs.lemmas.Bool.Decides.{nat_tests}
 use Rattle.ps_world.specs.Names.{same_name}
 use Rattle.ps_world.specs.declared.names.Name.{Name}
+use Rattle.ps_world.proofs.Optionals.{some_same}
+use Rattle.ps_action.proofs.Facts.{same_name-is}
 use Rattle.ps_rules.specs.Reading.{only_if}
-use Rattle.ps_rules.proofs.Kept.{both, name_eq}
 
 -- ---- tests
 
@@ -47,14 +48,6 @@ kept false old e = (refl, e)
 
 -- ---- options
 
--- one value is said
-pub some_eq : {A : Type 0} (a b : A) → Some a ≡ Some b → a ≡ b
-some_eq a b e = cc
-
--- nothing is no value
-pub not_some : {A C : Type 0} (a : A) → None ≡ Some a → C
-not_some a e = absurd (cc)
-
 -- a value isn't nothing
 pub none_some : {A C : Type 0} (o : Option A) (a : A) → o ≡ Some a → is_none o ≡ true → C
 none_some o a e n = absurd (true≢false (sym n ∙ ap is_none e))
@@ -66,10 +59,6 @@ none_is (Some x) e = absurd (cc)
 
 -- ---- numbers and names
 
--- a number is itself
-pub count_same : (m n : ℕ) → m ≡ n → (m == n) ≡ true
-count_same m n e = grind (arith, nat_tests)
-
 -- a smaller number is another
 pub count_other : (m n : ℕ) → m < n → (m == n) ≡ false
 count_other m n e = grind (arith, nat_tests)
@@ -78,13 +67,9 @@ count_other m n e = grind (arith, nat_tests)
 pub below : (m n : ℕ) → (n ≤ m → ⊥) → m < n
 below m n h = elim (cases_Bool (nat_lt m n)) [ inl t ↦ ltb-true m n t | inr f ↦ absurd (h (ltb-false m n f)) ]
 
--- a name is itself
-pub name_itself : (p : Name) → same_name p p ≡ true
-name_itself p = count_same p.0 p.0 refl
-
 -- one request and one performer
 pub at_one : (r s : ℕ) (p q : Name) → ((r == s) && same_name p q) ≡ true → (r ≡ s) × (p ≡ q)
-at_one r s p q h = let w = both (r == s) (same_name p q) h in (eqb-true r s w.0, name_eq p q w.1)
+at_one r s p q h = let w = and_parts (r == s) (same_name p q) h in (eqb-true r s w.0, same_name-is p q w.1)
 
 -- ---- lists
 
@@ -94,9 +79,9 @@ found test other [] x e = absurd (cc)
 found test other (y ∷ ys) x e =
     elim (cases_Bool (test y)) [
       | inl t ↦
-          let same : x ≡ y = sym (some_eq y x (sym (cond-true (test y) (Some y) (find test ys) t) ∙ e)) in
-          (ap test same ∙ t, λ all. ap other same ∙ (both (other y) (list_all other ys) all).0)
+          let same : x ≡ y = sym (some_same y x (sym (cond-true (test y) (Some y) (find test ys) t) ∙ e)) in
+          (ap test same ∙ t, λ all. ap other same ∙ (and_parts (other y) (list_all other ys) all).0)
       | inr t ↦
           let w = found test other ys x (sym (cond-false (test y) (Some y) (find test ys) t) ∙ e) in
-          (w.0, λ all. w.1 (both (other y) (list_all other ys) all).1)
+          (w.0, λ all. w.1 (and_parts (other y) (list_all other ys) all).1)
     ]

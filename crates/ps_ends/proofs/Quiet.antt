@@ -1,10 +1,12 @@
 -- Where nobody has anything to do no run is open, by what histories keep.
 use Rattle.std.proofs.Common.{◌≡◌, ℕ, zero, suc, ◌<◌, ◌==◌, ◌&&◌, ◌||◌, Bool, true, false, not, Option, Some, None, is_none, is_some, List, [], ◌∷◌, ◌++◌, find, filter, filter_map, map, length, option_map, option_and_then, if◌then◌else◌, refl, arith, ap, sym, ◌∙◌, subst, inl, inr, ◌⊎◌}
 use Rattle.std.specs.List.{list_all, list_any, range_with_len}
-use Rattle.std.specs.Option.{option_map_or, option_or, option_to_list}
-use Rattle.std.proofs.lemmas.Bool.{and_from, lt-ltb, not_from_false, not-false, or_parts, or_right, true≢false}
+use Rattle.std.specs.Option.{option_map_or, option_to_list}
+use Rattle.std.proofs.lemmas.Bool.{and_from, lt-ltb, not_from_false, not-false, or_parts, or_right, true≢false, eq-eqb}
 use Rattle.ps_world.specs.Names.{same_name}
 use Rattle.ps_world.specs.declared.names.Name.{Name}
+use Rattle.ps_world.proofs.Optionals.{or_none, map_none}
+use Rattle.ps_world.proofs.SameTexts.{name_itself}
 use Rattle.ps_action.specs.Arcs.{is_arc}
 use Rattle.ps_action.specs.declared.states.ActState.{ActState}
 use Rattle.ps_action.specs.declared.states.ActState.TheVariants.{Waiting, Active, Done, Failed, Cancelled}
@@ -30,12 +32,12 @@ use Rattle.ps_rules.specs.Legal.{ending, fits, is_act_active, is_confirmed, is_f
 use Rattle.ps_rules.specs.Choices.{all_requests, answers, beginnings, edit_event, confirms, ends, leaves, observer_turn, open_requests, overs, performed, performer_turn, puts_up, rejects, starts, stops, ticked, unit_event, unit_on, wants_plan, work_of, head_of}
 use Rattle.ps_rules.proofs.Choosing.{legal-live}
 use Rattle.ps_rules.proofs.SameThings.{same_outcome-decides}
+use Rattle.ps_rules.proofs.Between.{active-so}
 use Rattle.ps_ends.specs.DeadEnd.{any_observes, any_performs}
 use Rattle.ps_ends.proofs.Held.{is_held}
 use Rattle.ps_ends.proofs.Lists.{all_or, any_in, find_none, In, in_all, in_any, in_flat, in_left, in_map, in_range, in_right, none_in, range_in}
-use Rattle.ps_ends.proofs.Offers.{active_is}
 use Rattle.ps_ends.proofs.Passes.{TakesPart}
-use Rattle.ps_ends.proofs.Picking.{by_test, clash, count_same, name_itself}
+use Rattle.ps_ends.proofs.Picking.{by_test, clash}
 use Rattle.ps_ends.proofs.SoundMembers.{observer_found}
 
 -- What histories keep of requests, performers and acts.
@@ -71,19 +73,11 @@ none_of : {A : Type 0} (o : Option A) → is_some o ≡ false → o ≡ None
 none_of None e = refl
 none_of (Some a) e = absurd (cc)
 
-no_first : {A : Type 0} (o p : Option A) → option_or o p ≡ None → (o ≡ None) × (p ≡ None)
-no_first None p e = (refl, e)
-no_first (Some a) p e = absurd (cc)
-
-no_map : {A B : Type 0} (f : A → B) (o : Option A) → option_map f o ≡ None → o ≡ None
-no_map f None e = refl
-no_map f (Some a) e = absurd (cc)
-
 no_head : {A : Type 0} (xs : List A) → head_of xs ≡ None → xs ≡ []
 no_head [] e = refl
 no_head (x ∷ xs) e = absurd (cc)
 
-by_option : {B C : Type 0} (o : Option B) → (o ≡ None → C) → ((b : B) → o ≡ Some b → C) → C
+pub by_option : {B C : Type 0} (o : Option B) → (o ≡ None → C) → ((b : B) → o ≡ Some b → C) → C
 by_option None f g = f refl
 by_option (Some b) f g = g b refl
 
@@ -169,8 +163,8 @@ module _ (i : Input) (es : List Entry) (k : Keeps i es) (sound : IsSound i) (run
   idle p h =
       let two = or_parts (any_performs i es) (any_observes i es) still in
       let none = none_of (performer_turn i p.name es) (none_in (λ p. is_some (performer_turn i p.name es)) (performers i) two.0 p h) in
-      let w = no_first (performed i p.name es) (option_map (λ w. unit_event i es w.0 p.name w.1) (work_of i p.name es)) none in
-      (w.0, no_map (λ w. unit_event i es w.0 p.name w.1) (work_of i p.name es) w.1)
+      let w = or_none (performed i p.name es) (option_map (λ w. unit_event i es w.0 p.name w.1) (work_of i p.name es)) none in
+      (w.0, map_none (λ w. unit_event i es w.0 p.name w.1) (work_of i p.name es) w.1)
 
   no_answer : (p : Performer) (e : Event) → In p (performers i) → In e (answers p.name es ++ (stops p.name es ++ beginnings p.name es)) → answers_line e ≡ false → fits i es e ≡ true → ⊥
   no_answer p e h g t f =
@@ -195,7 +189,7 @@ module _ (i : Input) (es : List Entry) (k : Keeps i es) (sound : IsSound i) (run
 
   no_work : (p : Performer) (r : ℕ) → In p (performers i) → r < requests es → next_unit i r p.name es ≡ None
   no_work p r h l =
-      no_map (λ u. (r, u)) (next_unit i r p.name es) (none_mapped (unit_on i p.name es) (all_requests es) (no_head (filter_map (unit_on i p.name es) (all_requests es)) (idle p h).1) r (requested r l))
+      map_none (λ u. (r, u)) (next_unit i r p.name es) (none_mapped (unit_on i p.name es) (all_requests es) (no_head (filter_map (unit_on i p.name es) (all_requests es)) (idle p h).1) r (requested r l))
 
   -- ---- who is engaged
 
@@ -282,7 +276,7 @@ module _ (i : Input) (es : List Entry) (k : Keeps i es) (sound : IsSound i) (run
 
   may_request : (act : ℕ) → In act (places es) → state act es ≡ Active → may_be_put_up i es act (request_of act es) ≡ true → ⊥
   may_request act l s m =
-      no_request act l (and_from (requests es == requests es) _ (count_same (requests es) (requests es) refl) (and_from (is_act_active es act) _ (ap is_active s) m))
+      no_request act l (and_from (requests es == requests es) _ (eq-eqb (requests es) (requests es) refl) (and_from (is_act_active es act) _ (ap is_active s) m))
 
   member_found : (p : Performer) (ps : List Performer) → In p ps → (q : Performer) × (find (λ performer. same_name p.name performer.name) ps ≡ Some q)
   member_found p [] h = absurd h
@@ -404,7 +398,7 @@ module _ (i : Input) (es : List Entry) (k : Keeps i es) (sound : IsSound i) (run
   all_done = list_all (λ act. is_done (state act es)) (places es)
 
   inactive : (act : ℕ) → In act (places es) → is_active (state act es) ≡ false
-  inactive act l = by_test (is_active (state act es)) (λ t. absurd (no_active act l (active_is (state act es) t))) (λ t. t)
+  inactive act l = by_test (is_active (state act es)) (λ t. absurd (no_active act l (active-so (state act es) t))) (λ t. t)
 
   settles : (any_harmed es || (all_done || is_blocked i es)) ≡ true → ⊥
   settles h =
@@ -448,7 +442,7 @@ module _ (i : Input) (es : List Entry) (k : Keeps i es) (sound : IsSound i) (run
               | inr w ↦
                   let two = or_parts (any_performs i es) (any_observes i es) still in
                   let turn_none = none_of (observer_turn i (w.0).name es) (none_in (λ o. is_some (observer_turn i o.name es)) (observers i) two.1 w.0 w.1) in
-                  let seen = no_map (edit_event i es (by.Observer (w.0).name)) (next_seen i (w.0).name es) turn_none in
+                  let seen = map_none (edit_event i es (by.Observer (w.0).name)) (next_seen i (w.0).name es) turn_none in
                   let own = observer_found i sound w.0 w.1 in
                   let none_seen : seen_by i w.0 es ≡ None = sym (ap (λ o. option_and_then (λ observer. seen_by i observer es) o) own) ∙ seen in
                   clash (is_none (seen_by i w.0 es)) (ap is_none none_seen) w.2

@@ -1,14 +1,13 @@
 -- Who works on a request can record there: its next unit while the act is active, and that it stopped once the act is cancelled.
-use Rattle.std.proofs.Common.{◌≡◌, ℕ, ◌==◌, ◌&&◌, Bool, true, false, not, Option, Some, None, is_ok, Result, Ok, Err, List, [], ◌∷◌, option_and_then, option_map, if◌then◌else◌, refl, ap, sym, ◌∙◌, inl, inr, ◌⊎◌}
+use Rattle.std.proofs.Common.{◌≡◌, ℕ, ◌&&◌, Bool, true, false, not, Option, Some, None, List, option_and_then, option_map, if◌then◌else◌, refl, ap, sym, ◌∙◌, inl, inr, ◌⊎◌}
 use Rattle.std.specs.Option.{option_map_or}
-use Rattle.std.proofs.lemmas.Bool.{and_from, not_from_false}
+use Rattle.std.proofs.lemmas.Bool.{and_from, not_from_false, eq-eqb}
 use Rattle.ps_world.specs.Knowledge.{edited}
-use Rattle.ps_world.specs.Lines.{same_text}
 use Rattle.ps_world.specs.Names.{same_name}
 use Rattle.ps_world.specs.declared.names.Name.{Name}
-use Rattle.ps_world.specs.declared.known.Knowledge.{Knowledge}
 use Rattle.ps_world.specs.declared.edits.Edit.{Edit}
-use Rattle.ps_world.specs.declared.edits.EditRefusal.{EditRefusal}
+use Rattle.ps_world.proofs.SameTexts.{name_itself}
+use Rattle.ps_world.proofs.Optionals.{some_same}
 use Rattle.ps_action.specs.declared.states.ActState.{ActState}
 use Rattle.ps_action.specs.declared.states.ActState.TheVariants.{Active, Cancelled}
 use Rattle.ps_machine.specs.declared.inputs.Input.{Input}
@@ -24,47 +23,20 @@ use Rattle.ps_rules.specs.Runs.{is_active, is_cancelled, is_running, says_plan, 
 use Rattle.ps_rules.specs.Auctions.{act_of, confirmed, is_engaged, is_for_active, is_for_cancelled, is_through, is_working}
 use Rattle.ps_rules.specs.Known.{know}
 use Rattle.ps_rules.specs.Lines.{answers_line, edit_refusal}
-use Rattle.ps_rules.specs.Members.{as_edit, next_edit, next_unit, performer_of, unit_of}
-use Rattle.ps_rules.specs.Legal.{fits, is_cause, is_confirmed, is_edit, is_feedback, is_finish, is_work, same_flag}
+use Rattle.ps_rules.specs.Members.{next_unit, performer_of, unit_of}
+use Rattle.ps_rules.specs.Legal.{fits, is_confirmed}
 use Rattle.ps_rules.specs.Choices.{outcome_of, unit_event}
 use Rattle.ps_rules.specs.History.{IsHistory}
-use Rattle.ps_rules.proofs.Choosing.{legal-live}
-use Rattle.ps_rules.proofs.SameThings.{same_cause-decides, same_edit-itself}
+use Rattle.ps_rules.proofs.Choosing.{legal-live, unit-fits}
 use Rattle.ps_ends.specs.Working.{unit_due, WhoWorksCanRecord}
 use Rattle.ps_ends.proofs.Acting.{standing}
 use Rattle.ps_ends.proofs.Engaged.{confirmed_held, engaged_held, held_once, idle_free, working_unfinished}
 use Rattle.ps_ends.proofs.Held.{is_held}
-use Rattle.ps_ends.proofs.Picking.{by_test, clash, count_same, name_itself, some_eq}
+use Rattle.ps_ends.proofs.Picking.{by_test, clash}
 use Rattle.ps_ends.proofs.Units.{has_unit}
 use Rattle.ps_ends.proofs.Working.{confirms, working_confirmed}
 
 -- ---- what records a unit
-
-same_text-itself : (bytes : List ℕ) → same_text bytes bytes ≡ true
-same_text-itself [] = refl
-same_text-itself (b ∷ bs) = and_from (b == b) (same_text bs bs) (count_same b b refl) (same_text-itself bs)
-
-same_flag-itself : (b : Bool) → same_flag b b ≡ true
-same_flag-itself true = refl
-same_flag-itself false = refl
-
--- a performer's next edit fits, accepted or refused
-edit_fits : (i : Input) (es : List Entry) (r : ℕ) (p : Name) (edit : Edit) → next_edit i r p es ≡ Some edit
-    → (o : Result Knowledge EditRefusal) → edited i.domain (know i es) edit ≡ o → fits i es (outcome_of (by.Performer r p) edit (edit_refusal o)) ≡ true
-edit_fits i es r p edit next (Ok new) given =
-    and_from (is_edit edit (next_edit i r p es)) (is_ok (edited i.domain (know i es) edit)) (ap (is_edit edit) next ∙ same_edit-itself edit) (ap is_ok given)
-edit_fits i es r p edit next (Err why) given =
-    ap (λ said. is_cause (refusal.Edit why) (option_and_then (λ x. edit_refusal (edited i.domain (know i es) x)) said)) next
-    ∙ ap (λ o. is_cause (refusal.Edit why) (edit_refusal o)) given
-    ∙ (same_cause-decides (refusal.Edit why) (refusal.Edit why)).1 refl
-
--- what records the next unit fits
-unit_fits : (i : Input) (es : List Entry) (r : ℕ) (p : Name) (u : Task) → next_unit i r p es ≡ Some u → fits i es (unit_event i es r p u) ≡ true
-unit_fits i es r p unit.Work next = ap is_work next
-unit_fits i es r p (unit.Feedback percent text) next =
-    ap (is_feedback percent text) next ∙ and_from (percent == percent) (same_text text text) (count_same percent percent refl) (same_text-itself text)
-unit_fits i es r p (unit.Edit edit) next = edit_fits i es r p edit (ap (option_and_then as_edit) next) (edited i.domain (know i es) edit) refl
-unit_fits i es r p (unit.Finish ok) next = ap (is_finish ok) next ∙ same_flag-itself ok
 
 -- an event answers no line and makes no plan
 abbrev IsWork : Event → Type 0
@@ -106,7 +78,7 @@ module _ (i : Input) (es : List Entry) (h : IsHistory i es) (r : ℕ) (p : Name)
       let a : act_of r es ≡ Some w.1 = ap (λ t. act_of t es) ((held_once i es h r p held).1 w.0 w.3) ∙ w.2 in
       elim (standing i es h r w.1 p held a) [
         | inl on ↦ (w.1, a, on)
-        | inr c ↦ clash (same_name p c.0) (ap (same_name p) (some_eq c.0 p (sym c.1 ∙ now)) ∙ name_itself p) c.2
+        | inr c ↦ clash (same_name p c.0) (ap (same_name p) (some_same c.0 p (sym c.1 ∙ now)) ∙ name_itself p) c.2
       ]
 
   -- where the act is cancelled it may stop
@@ -144,7 +116,7 @@ who_works_can_record i es sound h r p works =
             what = what;
             records = ap (λ b. if b then option_map (unit_event i es r p) (unit_due i r p es) else Some (event.Stopped r p)) active
                 ∙ ap (option_map (unit_event i es r p)) due;
-            legal = legal-live i es what running own.0 (unit_fits i es r p w.2 (next_due i es r p w.2 works active due));
+            legal = legal-live i es what running own.0 (unit-fits i es r p w.2 (next_due i es r p w.2 works active due));
             no_line = own.0;
             no_plan = own.1;
           }

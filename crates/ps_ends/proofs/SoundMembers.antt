@@ -4,6 +4,8 @@ use Rattle.std.specs.List.{AllPairs}
 use Rattle.std.proofs.lemmas.Bool.{cond-false, cond-true, false_from_ne_true}
 use Rattle.std.proofs.lemmas.List.Elements.{All-head, All-tail}
 use Rattle.ps_world.specs.Names.{same_name}
+use Rattle.ps_world.proofs.SameTexts.{name_itself}
+use Rattle.ps_action.proofs.Facts.{same_name-is}
 use Rattle.ps_machine.specs.declared.inputs.Input.{Input}
 use Rattle.ps_machine.specs.declared.members.Unit.{Unit as Task}
 use Rattle.ps_machine.specs.declared.members.Member.{Member}
@@ -12,9 +14,8 @@ use Rattle.ps_machine.specs.declared.members.Performer.{Performer}
 use Rattle.ps_machine.specs.declared.members.Observer.{Observer}
 use Rattle.ps_rules.specs.Members.{as_observer, job, observer_of, observers, performers}
 use Rattle.ps_rules.specs.Sound.{ends_once, IsSound, IsSoundJob, IsSoundPerformer, member_name}
-use Rattle.ps_rules.proofs.Kept.{name_eq}
 use Rattle.ps_ends.proofs.Lists.{In}
-use Rattle.ps_ends.proofs.Picking.{clash, name_itself}
+use Rattle.ps_ends.proofs.Picking.{clash}
 
 -- what holds of all holds of one
 pub all-one : {A : Type 0} (P : A → Type 0) (xs : List A) → All P xs → (x : A) → In x xs → P x
@@ -63,7 +64,7 @@ found-first (member.Observer x ∷ ms) differ o (inr h) =
     all-one (λ b. same_name x.name (member_name b) ≡ false) ms (differ-head (member.Observer x) ms differ) (member.Observer o) (is-member ms o h) in
     let not_first : same_name o.name x.name ≡ false =
     false_from_ne_true (same_name o.name x.name) (λ t.
-    clash (same_name x.name o.name) (ap (λ n. same_name x.name n) (name_eq o.name x.name t) ∙ name_itself x.name) other) in
+    clash (same_name x.name o.name) (ap (λ n. same_name x.name n) (same_name-is o.name x.name t) ∙ name_itself x.name) other) in
     cond-false (same_name o.name x.name) (Some x) (find (λ x. same_name o.name x.name) (filter_map as_observer ms)) not_first
     ∙ found-first ms (differ-tail (member.Observer x) ms differ) o h
 

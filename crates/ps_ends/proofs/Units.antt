@@ -1,10 +1,12 @@
 -- That who works has a unit.
 use Rattle.std.proofs.Common.{◌≡◌, ℕ, zero, suc, ◌+◌, ◌<◌, ◌==◌, ◌&&◌, Bool, true, false, not, Option, Some, None, List, [], ◌∷◌, find, length, slice_get, option_and_then, if◌then◌else◌, refl, arith, ap, sym, ◌∙◌, subst, inl, inr}
 use Rattle.std.specs.Option.{unwrap_or}
-use Rattle.std.proofs.lemmas.Bool.{and_from, false_from_ne_true, not-true, true≢false}
+use Rattle.std.proofs.lemmas.Bool.{and_from, false_from_ne_true, not-true, true≢false, and_parts, eq-eqb}
 use Rattle.ps_world.specs.Names.{same_name}
 use Rattle.ps_world.specs.declared.names.Name.{Name}
 use Rattle.ps_world.specs.Knowledge.{edited}
+use Rattle.ps_world.proofs.SameTexts.{name_itself}
+use Rattle.ps_action.proofs.Facts.{same_name-is}
 use Rattle.ps_machine.specs.declared.inputs.Input.{Input}
 use Rattle.ps_machine.specs.declared.members.Unit.{Unit as Task}
 use Rattle.ps_machine.specs.declared.members.Unit.TheVariants as unit
@@ -21,7 +23,7 @@ use Rattle.ps_rules.specs.Legal.{fits, is_cause, is_edit, is_confirmed, is_feedb
 use Rattle.ps_rules.specs.History.{IsHistory}
 use Rattle.ps_rules.specs.History.IsHistory.{nothing, block}
 use Rattle.ps_rules.specs.Sound.{ends_once, is_end, IsSound}
-use Rattle.ps_rules.proofs.Kept.{both, confirmed_by, fits-legal, name_eq}
+use Rattle.ps_rules.proofs.Kept.{confirmed_by, fits-legal}
 use Rattle.ps_ends.proofs.Acting.{unbegun}
 use Rattle.ps_ends.proofs.Blocks.{begins-block, units-block, working-block}
 use Rattle.ps_ends.proofs.Engaged.{active_open, confirmed_held, held_once, working_unfinished}
@@ -29,14 +31,14 @@ use Rattle.ps_ends.proofs.Held.{is_held}
 use Rattle.ps_ends.proofs.Lists.{found_in, In}
 use Rattle.ps_ends.proofs.Offers.{confirmed_offered}
 use Rattle.ps_ends.proofs.Passes.{offered_member}
-use Rattle.ps_ends.proofs.Picking.{at_one, by_test, clash, count_same, name_itself, picked}
+use Rattle.ps_ends.proofs.Picking.{at_one, by_test, clash, picked}
 use Rattle.ps_ends.proofs.SoundMembers.{job_ends}
 use Rattle.ps_ends.proofs.Working.{through_closed, unit_works, working_confirmed}
 
 -- ---- jobs
 
 later_ends : (u v : Task) (us : List Task) → ends_once (u ∷ v ∷ us) ≡ true → ends_once (v ∷ us) ≡ true
-later_ends u v us e = (both (not (is_end u)) (ends_once (v ∷ us)) e).1
+later_ends u v us e = (and_parts (not (is_end u)) (ends_once (v ∷ us)) e).1
 
 -- a unit that isn't the one that finishes isn't the last
 not_last : (test : Option Task → Bool) → test None ≡ false → ((ok : Bool) → test (Some (unit.Finish ok)) ≡ false) → (us : List Task) (k : ℕ) → ends_once us ≡ true → k < length us → test (slice_get us k) ≡ true → k + 1 < length us
@@ -98,8 +100,8 @@ working_units i sound _ (block es e h legal own) r p o =
     step : (e : Event) → fits i es e ≡ true → (is_working r p es ≡ true → HasUnits i p (begins p es) (units_done r p es)) → unwrap_or (says_working r p e) (is_working r p es) ≡ true
         → HasUnits i p (if begins_by p e then begins p es + 1 else begins p es) (if is_unit r p e then units_done r p es + 1 else units_done r p es)
     step (event.Begin s q) f old o =
-        let c = both (is_confirmed s q es) _ f in
-        let u = both (not (has_begun s q es)) (is_for_active s es) c.1 in
+        let c = and_parts (is_confirmed s q es) _ f in
+        let u = and_parts (not (has_begun s q es)) (is_for_active s es) c.1 in
         let now = confirmed_by q (confirmed s es) c.0 in
         elim (picked ((r == s) && same_name p q) true (is_working r p es) true o) [
           | inl w ↦
@@ -113,7 +115,7 @@ working_units i sound _ (block es e h legal own) r p o =
                 found.0,
                 us.0,
                 found.1,
-                ap (λ b. job found.0 (if b then begins p es + 1 else begins p es)) (both (r == s) (same_name p q) w.0).1 ∙ us.1,
+                ap (λ b. job found.0 (if b then begins p es + 1 else begins p es)) (and_parts (r == s) (same_name p q) w.0).1 ∙ us.1,
                 us.2,
                 omega (arith, none, more),
               )
@@ -121,17 +123,17 @@ working_units i sound _ (block es e h legal own) r p o =
               let x = old w.1 in
               by_test (same_name p q)
               (λ t.
-              let e = name_eq p q t in
+              let e = same_name-is p q t in
               let through : is_through s q es ≡ false =
               false_from_ne_true (is_through s q es)
               (λ d. elim (through_closed i es h s q d) [ inl b ↦ clash (has_begun s q es) b (not-true (has_begun s q es) u.0) | inr c ↦ active_open s es u.1 c ]) in
               let here = confirmed_held i es h r p (working_confirmed i es h r p w.1) (working_unfinished i es h r p w.1) in
               let there = confirmed_held i es h s q now through in
               let one = (held_once i es h r p here).1 s (ap (λ n. is_held s n es) e ∙ there) in
-              clash ((r == s) && same_name p q) (and_from (r == s) (same_name p q) (count_same r s one) t) w.0)
+              clash ((r == s) && same_name p q) (and_from (r == s) (same_name p q) (eq-eqb r s one) t) w.0)
               (λ t. (x.0, x.1, x.2, ap (λ b. job x.0 (if b then begins p es + 1 else begins p es)) t ∙ x.3, x.4, x.5))
         ]
-    step (event.Edit (by.Performer s q) edit) f old o = did s q (λ u. is_edit edit (option_and_then as_edit u)) refl (λ ok. refl) (both (is_edit edit (next_edit i s q es)) _ f).0 (old o)
+    step (event.Edit (by.Performer s q) edit) f old o = did s q (λ u. is_edit edit (option_and_then as_edit u)) refl (λ ok. refl) (and_parts (is_edit edit (next_edit i s q es)) _ f).0 (old o)
     step (event.Refused (by.Performer s q) why) f old o =
         did s q (λ u. is_cause why (option_and_then (λ edit. edit_refusal (edited i.domain (know i es) edit)) (option_and_then as_edit u))) refl (λ ok. refl) f (old o)
     step (event.UnitWork s q) f old o = did s q is_work refl (λ ok. refl) f (old o)

@@ -1,14 +1,15 @@
 -- What histories keep of who was rejected, who works and who is through.
 use Rattle.std.proofs.Common.{◌≡◌, ℕ, ◌<◌, ◌==◌, ◌&&◌, ◌||◌, Bool, true, false, not, Option, Some, None, is_some, List, option_and_then, if◌then◌else◌, refl, arith, ap, sym, ◌∙◌, subst, inl, inr, ◌⊎◌}
 use Rattle.std.specs.Option.{option_map_or, unwrap_or}
-use Rattle.std.proofs.lemmas.Bool.{cases_Bool, eqb-true, not-true, or_cases, or_left, or_parts, or_right, true≢false}
+use Rattle.std.proofs.lemmas.Bool.{cases_Bool, eqb-true, not-true, or_cases, or_left, or_parts, or_right, true≢false, and_parts}
 use Rattle.ps_world.specs.Names.{same_name}
 use Rattle.ps_world.specs.declared.names.Name.{Name}
+use Rattle.ps_world.proofs.SameTexts.{name_itself}
+use Rattle.ps_world.proofs.Optionals.{none_not_some}
 use Rattle.ps_action.specs.declared.states.ActState.{ActState}
 use Rattle.ps_action.specs.declared.states.ActState.TheVariants.{Waiting, Active, Done, Failed, Cancelled}
 use Rattle.ps_machine.specs.declared.inputs.Input.{Input}
 use Rattle.ps_machine.specs.declared.members.Unit.{Unit as Task}
-use Rattle.ps_machine.specs.declared.journal.FailWhy.{FailWhy}
 use Rattle.ps_machine.specs.declared.journal.FailWhy.TheVariants as fail
 use Rattle.ps_machine.specs.declared.journal.Event.{Event}
 use Rattle.ps_machine.specs.declared.journal.Event.TheVariants as event
@@ -21,11 +22,12 @@ use Rattle.ps_rules.specs.Settled.{any_harmed, is_ready, is_startable}
 use Rattle.ps_rules.specs.Legal.{fits, is_act_active, is_confirmed, is_finish, is_place}
 use Rattle.ps_rules.specs.History.{IsHistory}
 use Rattle.ps_rules.specs.History.IsHistory.{nothing, block}
-use Rattle.ps_rules.proofs.Kept.{both, confirmed_by, fits-legal}
+use Rattle.ps_rules.proofs.Kept.{confirmed_by, fits-legal}
+use Rattle.ps_rules.proofs.Failing.{fail_active}
 use Rattle.ps_ends.proofs.Blocks.{act-block, begun-block, block_of, cancelled-block, confirmed-block, held-block, offered-block, rejected-block, through-block, working-block}
 use Rattle.ps_ends.proofs.Held.{is_held, says_held}
 use Rattle.ps_ends.proofs.Offers.{confirmed_offered, offered_numbered, opens_for}
-use Rattle.ps_ends.proofs.Picking.{at_one, clash, kept, name_itself, none_is, none_some, not_some, pick_no, pick_yes, picked, stays}
+use Rattle.ps_ends.proofs.Picking.{at_one, clash, kept, none_is, none_some, pick_no, pick_yes, picked, stays}
 
 -- who does a unit works, for an active act
 pub unit_works : (i : Input) (es : List Entry) (s : ℕ) (q : Name) (test : Option Task → Bool) → test None ≡ false → test (next_unit i s q es) ≡ true
@@ -62,14 +64,14 @@ rejected_offered i _ (block es e h legal own) r p o =
     step : (e : Event) → fits i es e ≡ true → (is_rejected r p es ≡ true → has_offered r p es ≡ true) → (is_rejected r p es ≡ true) ⊎ (is_reject r p e ≡ true) → (has_offered r p es || is_offer r p e) ≡ true
     step e f old (inl o) = or_left (has_offered r p es) (is_offer r p e) (old o)
     step (event.Reject s q) f old (inr o) =
-        or_left (has_offered r p es) false (moved (λ t n. has_offered t n es) r s p q (at_one r s p q o) ∙ (both (has_offered s q es) _ f).0)
+        or_left (has_offered r p es) false (moved (λ t n. has_offered t n es) r s p q (at_one r s p q o) ∙ (and_parts (has_offered s q es) _ f).0)
     step e f old (inr o) = absurd (true≢false (sym o))
 
 -- a confirmation stays
 confirmed_on : (i : Input) (es : List Entry) (e : Event) → fits i es e ≡ true → (r : ℕ) (p : Name) → confirmed r es ≡ Some p → unwrap_or (says_confirm r e) (confirmed r es) ≡ Some p
 confirmed_on i es (event.Confirm s q) f r p c =
     elim (cases_Bool (r == s)) [
-      | inl t ↦ let o = opens_for s es (both (is_open s es) _ f).0 in none_some (confirmed s es) p (ap (λ t. confirmed t es) (sym (eqb-true r s t)) ∙ c) o.3
+      | inl t ↦ let o = opens_for s es (and_parts (is_open s es) _ f).0 in none_some (confirmed s es) p (ap (λ t. confirmed t es) (sym (eqb-true r s t)) ∙ c) o.3
       | inr t ↦ pick_no (r == s) (Some q) (confirmed r es) t ∙ c
     ]
 confirmed_on i es e f r p c = c
@@ -84,7 +86,7 @@ working_confirmed i _ (block es e h legal own) r p o =
     step : (e : Event) → fits i es e ≡ true → (is_working r p es ≡ true → confirmed r es ≡ Some p) → unwrap_or (says_working r p e) (is_working r p es) ≡ true → confirmed r es ≡ Some p
     step (event.Begin s q) f old o =
         elim (picked ((r == s) && same_name p q) true (is_working r p es) true o) [
-          | inl w ↦ let same = at_one r s p q w.0 in ap (λ t. confirmed t es) same.0 ∙ confirmed_by q (confirmed s es) (both (is_confirmed s q es) _ f).0 ∙ ap Some (sym same.1)
+          | inl w ↦ let same = at_one r s p q w.0 in ap (λ t. confirmed t es) same.0 ∙ confirmed_by q (confirmed s es) (and_parts (is_confirmed s q es) _ f).0 ∙ ap Some (sym same.1)
           | inr w ↦ old w.1
         ]
     step (event.Finish s q ok) f old o = old (kept ((r == s) && same_name p q) (is_working r p es) o).1
@@ -103,7 +105,7 @@ through_confirmed i _ (block es e h legal own) r p o =
     step e f old (inl o) = old o
     step (event.Finish s q ok) f old (inr o) =
         working_confirmed i es h r p (moved (λ t n. is_working t n es) r s p q (at_one r s p q o) ∙ finish_works i es s q ok f)
-    step (event.Stopped s q) f old (inr o) = let same = at_one r s p q o in ap (λ t. confirmed t es) same.0 ∙ confirmed_by q (confirmed s es) (both (is_confirmed s q es) _ f).0 ∙ ap Some (sym same.1)
+    step (event.Stopped s q) f old (inr o) = let same = at_one r s p q o in ap (λ t. confirmed t es) same.0 ∙ confirmed_by q (confirmed s es) (and_parts (is_confirmed s q es) _ f).0 ∙ ap Some (sym same.1)
     step e f old (inr o) = absurd (true≢false (sym o))
 
 -- who works has begun
@@ -167,13 +169,6 @@ active_not s e a = true≢false (sym a ∙ ap is_active e)
 waiting_not : (s : ActState) → s ≡ Cancelled → is_waiting s ≡ true → ⊥
 waiting_not s e a = true≢false (sym a ∙ ap is_waiting e)
 
--- a legal failure is of an active act
-fail_active : (i : Input) (es : List Entry) (act : ℕ) (why : FailWhy) → fits i es (event.Fail act why) ≡ true → is_act_active es act ≡ true
-fail_active i es act fail.NoPerformer f = (both (is_act_active es act) _ f).0
-fail_active i es act fail.Script f = (both (is_act_active es act) _ f).0
-fail_active i es act fail.AtEnd f = (both (is_act_active es act) _ f).0
-fail_active i es act fail.Effect f = (both (is_act_active es act) _ f).0
-
 -- a closed request stays closed
 closed_on : (i : Input) (es : List Entry) (e : Entry) → fits i es e.what ≡ true → (r : ℕ) → r < requests es → IsClosed r es → IsClosed r (block_of i es e)
 closed_on i es e f r l c act a = cancelled-block i es e act (step e.what f (sym (act-block i es e r) ∙ a))
@@ -186,18 +181,18 @@ closed_on i es e f r l c act a = cancelled-block i es e act (step e.what f (sym 
         ]
 
     step : (e : Event) → fits i es e ≡ true → unwrap_or (says_act r e) (act_of r es) ≡ Some act → unwrap_or (says_state act e) (state act es) ≡ Cancelled
-    step (event.Run for acts) f a = not_some act a
-    step (event.Replan acts) f a = not_some act a
+    step (event.Run for acts) f a = none_not_some act a
+    step (event.Replan acts) f a = none_not_some act a
     step (event.Request s j) f a =
-        let n = eqb-true s (requests es) (both (s == requests es) _ f).0 in
+        let n = eqb-true s (requests es) (and_parts (s == requests es) _ f).0 in
         elim (picked (r == s) (Some j) (act_of r es) (Some act) a) [
           | inl w ↦ let m = eqb-true r s w.0 in absurd (omega (arith, l, m, n))
           | inr w ↦ c act w.1
         ]
     step (event.Start j) f a =
-        let ready = (both (is_ready i es j) (is_startable i es j && not (any_harmed es)) (both (is_place es j) _ f).1).0 in
-        other j Active a (λ s. waiting_not (state j es) s (both (is_waiting (state j es)) _ ready).0)
-    step (event.End j) f a = other j Done a (λ s. active_not (state j es) s (both (is_act_active es j) _ f).0)
+        let ready = (and_parts (is_ready i es j) (is_startable i es j && not (any_harmed es)) (and_parts (is_place es j) _ f).1).0 in
+        other j Active a (λ s. waiting_not (state j es) s (and_parts (is_waiting (state j es)) _ ready).0)
+    step (event.End j) f a = other j Done a (λ s. active_not (state j es) s (and_parts (is_act_active es j) _ f).0)
     step (event.Fail j why) f a = other j Failed a (λ s. active_not (state j es) s (fail_active i es j why f))
     step (event.Cancel j why) f a = absurd (true≢false (sym f))
     step e f a = c act a
@@ -234,7 +229,7 @@ rejected_closed i _ (block es e h legal own) r p o =
         let l = offered_numbered i es h r p (rejected_offered i es h r p o) in
         elim (cases_Bool (r == s)) [
           | inl t ↦
-              let u = opens_for s es (both (is_open s es) _ f).0 in
+              let u = opens_for s es (and_parts (is_open s es) _ f).0 in
               let same = eqb-true r s t in
               elim w.1 [
                 | inl c ↦ clash (is_some (confirmed r es)) c (ap (λ t. is_some (confirmed t es)) same ∙ none_is (confirmed s es) u.3)
@@ -246,9 +241,9 @@ rejected_closed i _ (block es e h legal own) r p o =
         ]
     step (event.Reject s q) f old (inr o) =
         let same = at_one r s p q o in
-        let w = both (has_offered s q es) _ f in
-        let u = both (not (is_rejected s q es)) _ w.1 in
-        let v = both (not (is_confirmed s q es)) (is_some (confirmed s es) || is_for_cancelled s es) u.1 in
+        let w = and_parts (has_offered s q es) _ f in
+        let u = and_parts (not (is_rejected s q es)) _ w.1 in
+        let v = and_parts (not (is_confirmed s q es)) (is_some (confirmed s es) || is_for_cancelled s es) u.1 in
         let l = offered_numbered i es h s q w.0 in (
           λ c. clash (is_confirmed s q es) (confirms s q es (ap (λ t. confirmed t es) (sym same.0) ∙ c ∙ ap Some same.1)) (not-true (is_confirmed s q es) v.0),
           elim (or_cases (is_some (confirmed s es)) (is_for_cancelled s es) v.1) [
@@ -281,8 +276,8 @@ through_closed i _ (block es e h legal own) r p o =
         inl (working_begun i es h r p (moved (λ t n. is_working t n es) r s p q (at_one r s p q o) ∙ finish_works i es s q ok f))
     step (event.Stopped s q) f old (inr o) =
         let same = at_one r s p q o in
-        let w = both (is_confirmed s q es) _ f in
-        let u = both (not (is_through s q es)) (is_for_cancelled s es) w.1 in
+        let w = and_parts (is_confirmed s q es) _ f in
+        let u = and_parts (not (is_through s q es)) (is_for_cancelled s es) w.1 in
         let l = offered_numbered i es h s q (confirmed_offered i es h s q (confirmed_by q (confirmed s es) w.0)) in
         inr (subst (λ n. n < requests es) (sym same.0) l, subst (λ n. IsClosed n es) (sym same.0) (for_cancelled s es u.1))
     step e f old (inr o) = absurd (true≢false (sym o))

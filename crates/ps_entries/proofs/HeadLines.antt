@@ -5,10 +5,10 @@ use Rattle.std.proofs.lemmas.Bool.Decides.{nat_tests}
 use Rattle.std.proofs.lemmas.List.{take_all}
 use Rattle.std.specs.Fmt.{decimal}
 use Rattle.ps_world.specs.Lines.{lines_of, same_text}
+use Rattle.ps_world.proofs.SameTexts.{same_text-itself, same_text-is}
 use Rattle.ps_rules.specs.Heads.{AreSettings, Head, IsHead, Settings, bare_title, head_lines, settings_line, title}
 use Rattle.ps_text.specs.Words.{pieces, words}
 use Rattle.ps_text.specs.declared.spans.Span.{Span}
-use Rattle.ps_text.proofs.Tables.{same_text-refl, same_text-same}
 use Rattle.ps_entries.specs.Heads.{are_settings, believed_settings, settings_at}
 use Rattle.ps_entries.specs.Journals.{BeginsWith, HasSettings, SaysOrNot}
 use Rattle.ps_entries.specs.declared.heads.Heading.{Heading}
@@ -55,13 +55,13 @@ module _ (line : List ℕ) where
       → o ≡ (if b then Some found else None) → SaysOrNot line o
   of_test found o true at test is =
       let parts = and_parts (are_settings found) (same_text (settings_line found) line) test in
-      subst (SaysOrNot line) (sym is) (are_settings-to found parts.0, sym (same_text-same (settings_line found) line parts.1))
+      subst (SaysOrNot line) (sym is) (are_settings-to found parts.0, sym (same_text-is (settings_line found) line parts.1))
   of_test found o false at test is = subst (SaysOrNot line) (sym is) (λ s h. λ same.
       let read : settings_at (words line) ≡ Some s = ap (λ l. settings_at (words l)) same ∙ settings-read s h in
       let one : Some found ≡ Some s = sym at ∙ read in
       let own : found ≡ s = cc in
       let printed : same_text (settings_line found) line ≡ true =
-      subst (λ l. same_text (settings_line found) l ≡ true) (ap settings_line own ∙ sym same) (same_text-refl (settings_line found)) in
+      subst (λ l. same_text (settings_line found) l ≡ true) (ap settings_line own ∙ sym same) (same_text-itself (settings_line found)) in
       let ranged : are_settings found ≡ true = ap are_settings own ∙ are_settings-from s h in
       let all : are_settings found && same_text (settings_line found) line ≡ true = and_from _ _ ranged printed in
       absurd (cc))
@@ -119,7 +119,7 @@ module _ (bytes : List ℕ) where
       → pieces bytes spans ≡ text ∷ pieces bytes (take (length spans - 1) (drop 1 spans))
   begins-with [] d text some same = absurd (omega (arith, some))
   begins-with (s ∷ more) d text some same =
-      ap (λ l. l ∷ pieces bytes more) (same_text-same (slice_range bytes s.from s.to) text same)
+      ap (λ l. l ∷ pieces bytes more) (same_text-is (slice_range bytes s.from s.to) text same)
       ∙ ap (λ ss. text ∷ pieces bytes ss) (sym (whole s more))
 
   -- after the title stands a line of settings

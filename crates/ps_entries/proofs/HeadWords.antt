@@ -1,6 +1,6 @@
 -- The words of printed texts, and what stands after them.
-use Rattle.std.proofs.Common.{◌≡◌, ℕ, suc, ◌+◌, ◌-◌, ◌^◌, ◌<◌, ◌≤◌, ◌==◌, ◌||◌, Bool, true, false, not, cond, List, [], ◌∷◌, ◌++◌, codes, length, take, drop, position, nat_lt, nat_eq, Option, Some, None, refl, sym, ap, ◌∙◌, inl, inr, arith, append_assoc, append-nil}
-use Rattle.std.proofs.lemmas.Bool.{and_from, and_parts, cases_Bool}
+use Rattle.std.proofs.Common.{◌≡◌, ℕ, suc, ◌+◌, ◌-◌, ◌^◌, ◌<◌, ◌==◌, ◌||◌, Bool, true, false, not, List, [], ◌∷◌, ◌++◌, codes, length, take, drop, nat_eq, refl, sym, ap, ◌∙◌, arith, append_assoc, append-nil}
+use Rattle.std.proofs.lemmas.Bool.{and_parts}
 use Rattle.std.proofs.lemmas.Bool.Decides.{nat_tests}
 use Rattle.std.proofs.lemmas.Fmt.{decimal_nonempty}
 use Rattle.std.proofs.lemmas.List.{length-append}
@@ -10,48 +10,17 @@ use Rattle.std.specs.List.{list_all, position_or_len}
 use Rattle.ps_world.specs.Lines.{same_text}
 use Rattle.ps_world.specs.Names.{Table, name_text}
 use Rattle.ps_world.specs.declared.names.Name.{Name}
-use Rattle.ps_text.specs.Names.{AreNames, bad_place, fault_at, is_letter, is_name_byte, name_fault}
+use Rattle.ps_text.specs.Names.{AreNames, is_name_byte}
 use Rattle.ps_text.specs.Words.{goes_on, is_run_byte, words}
-use Rattle.ps_text.proofs.Pieces.{first-yes, first-no}
-use Rattle.ps_print.proofs.Writing.{is_run, one_word}
+use Rattle.ps_text.proofs.Pieces.{first-no}
+use Rattle.ps_print.proofs.Writing.{is_run, one_word, list_all-is_run}
+use Rattle.ps_print.proofs.CanonicalWords.{is_run-name as is_run-text, list_all-decimal}
 use Rattle.ps_entries.specs.Words.{after_word, is_space}
-use Rattle.ps_entries.proofs.Numbers.{run-decimal}
 
 -- ---- names and numbers are words
 
 abbrev is_other : ℕ → Bool
 is_other c = not (is_name_byte c)
-
-is_run_byte-name : (b : ℕ) → is_name_byte b ≡ true → is_run_byte b ≡ true
-is_run_byte-name b h = grind (arith, nat_tests)
-
-is_run_byte-no_other : (b : ℕ) (e : Bool) → is_name_byte b ≡ e → not e ≡ false → is_run_byte b ≡ true
-is_run_byte-no_other b true e h = is_run_byte-name b e
-is_run_byte-no_other b false e h = absurd (cc)
-
-list_all-no_other : (bs : List ℕ) → length bs ≤ position_or_len is_other bs → list_all is_run_byte bs ≡ true
-list_all-no_other [] h = refl
-list_all-no_other (b ∷ bs) h =
-    elim (cases_Bool (is_other b)) [
-      | inl other ↦ absurd (omega (arith, first-yes is_other b bs other))
-      | inr fits ↦ and_from (is_run_byte b) (list_all is_run_byte bs) (is_run_byte-no_other b (is_name_byte b) refl fits) (list_all-no_other bs (omega (arith, first-no is_other b bs fits)))
-    ]
-
-no_position-by : (n k : ℕ) (e : Bool) → nat_lt k n ≡ e → cond e (Some k) None ≡ None → n ≤ k
-no_position-by n k true e h = absurd (cc)
-no_position-by n k false e h = grind (arith, nat_tests)
-
-no_bad_place : (at : Option ℕ) (n : ℕ) → fault_at at n ≡ None → at ≡ None
-no_bad_place None n h = refl
-no_bad_place (Some at) n h = absurd (cc)
-
-list_all-begun : (bs : List ℕ) (e : Bool) → cond e (position is_other bs) (Some 0) ≡ None → list_all is_run_byte bs ≡ true
-list_all-begun bs true h = list_all-no_other bs (no_position-by (length bs) (position_or_len is_other bs) _ refl h)
-list_all-begun bs false h = absurd (cc)
-
-is_run-text : (text : List ℕ) → name_fault text ≡ None → is_run text ≡ true
-is_run-text [] h = absurd (cc)
-is_run-text (b ∷ bs) h = list_all-begun (b ∷ bs) (is_letter b) (no_bad_place (bad_place (b ∷ bs)) (length (b ∷ bs)) h)
 
 -- a name is a word
 pub is_run-name : (t : Table) (n : Name) → AreNames t → n.0 < length t → is_run (name_text t n) ≡ true
@@ -63,7 +32,7 @@ is_run-from (b ∷ bs) some h = h
 
 -- a number is a word
 pub is_run-decimal : (n : ℕ) → n < 2 ^ 64 → is_run (decimal n) ≡ true
-is_run-decimal n h = is_run-from (decimal n) (decimal_nonempty n h) (run-decimal n h)
+is_run-decimal n h = is_run-from (decimal n) (decimal_nonempty n h) (list_all-decimal n h)
 
 -- ---- words one after another
 
@@ -105,12 +74,8 @@ after-all (b ∷ bs) rest h =
     let more = after-all bs rest parts.1 in
     step b (bs ++ 32 ∷ rest) (space-of b parts.0) ∙ more
 
-list_all-run : (w : List ℕ) → is_run w ≡ true → list_all is_run_byte w ≡ true
-list_all-run [] h = refl
-list_all-run (b ∷ bs) h = h
-
 pub after_word-then : (w rest : List ℕ) → is_run w ≡ true → after_word (w ++ 32 ∷ rest) ≡ rest
-after_word-then w rest h = after-all w rest (list_all-run w h)
+after_word-then w rest h = after-all w rest (list_all-is_run w h)
 
 -- ---- two parts
 

@@ -1,10 +1,11 @@
 -- What the lines of a journal are, one line after another.
-use Rattle.std.proofs.Common.{◌≡◌, ℕ, suc, ◌+◌, ◌<◌, ◌≤◌, Bool, true, false, List, [], ◌∷◌, ◌++◌, drop, length, slice_index_or, slice_range, Option, Some, refl, sym, subst, append_assoc, append-nil, arith}
-use Rattle.std.proofs.lemmas.List.{drop_all, drop_more}
+use Rattle.std.proofs.Common.{◌≡◌, ℕ, suc, ◌+◌, ◌<◌, ◌≤◌, Bool, true, false, List, [], ◌∷◌, ◌++◌, drop, length, slice_index_or, slice_range, Option, Some, sym, subst, append_assoc, append-nil, arith}
+use Rattle.std.proofs.lemmas.List.{drop_all}
 use Rattle.ps_world.specs.Names.{Table}
 use Rattle.ps_machine.specs.declared.journal.Entry.{Entry}
 use Rattle.ps_text.specs.Words.{pieces}
 use Rattle.ps_text.specs.declared.spans.Span.{Span}
+use Rattle.ps_text.proofs.Pieces.{pieces_more}
 use Rattle.ps_entries.specs.EntryLines.{IsEntryLine, IsLineOf, IsNoEntryLine}
 use Rattle.ps_entries.specs.Journals.{AreEntries, IsFirstOther, Takes, TakesOrNot, is_reply}
 use Rattle.ps_entries.specs.Journals.AreEntries.{none_left, reply as are_reply, entry as are_entry}
@@ -51,9 +52,6 @@ takes_entry n names line before now o e after r x is items =
     subst (λ (l : List (ℕ × Entry)). Takes n names line before l after) (sym items) (take_entry e after r here)
 
 -- ---- the lines that are left
-
-pieces_more : (bytes : List ℕ) (spans : List Span) (i : ℕ) (s : Span) (line : List ℕ) → i < length spans → line ≡ slice_range bytes (slice_index_or spans i s).from (slice_index_or spans i s).to → pieces bytes (drop i spans) ≡ line ∷ pieces bytes (drop (i + 1) spans)
-pieces_more bytes spans i s line lt l = rw (drop_more spans i s lt, l) refl
 
 one_more : (start i : ℕ) → suc (i + start) ≡ i + 1 + start
 one_more start i = omega arith

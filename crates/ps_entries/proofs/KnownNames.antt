@@ -1,5 +1,5 @@
 -- Tables with the names of words.
-use Rattle.std.proofs.Common.{◌≡◌, ℕ, ◌<◌, true, List, [], ◌∷◌, map, length, slice_get, get_or, Option, Some, None, is_none, refl, sym, ap, ◌∙◌, inl, inr}
+use Rattle.std.proofs.Common.{◌≡◌, ℕ, ◌<◌, true, List, [], ◌∷◌, map, length, slice_get, get_or, Some, None, refl, sym, ap, ◌∙◌, inl, inr}
 use Rattle.std.proofs.lemmas.Bool.{cases_Bool}
 use Rattle.std.proofs.lemmas.Option.{slice_get_within, slice_get-get_or}
 use Rattle.std.proofs.lemmas.List.Folds.{list_any_at}
@@ -7,18 +7,16 @@ use Rattle.std.specs.List.{list_any}
 use Rattle.ps_world.specs.Lines.{same_text}
 use Rattle.ps_world.specs.Names.{Table, name_text}
 use Rattle.ps_world.specs.declared.names.Name.{Name}
+use Rattle.ps_world.proofs.Optionals.{is_none-none}
+use Rattle.ps_world.proofs.SameTexts.{same_text-itself}
 use Rattle.ps_text.specs.Names.{AreNames, Keeps, folded, interned, is_name, name_fault, place_of}
 use Rattle.ps_text.proofs.Folds.{IsNameText-folded}
 use Rattle.ps_text.proofs.Kept.{kept_along, kept_interned}
-use Rattle.ps_text.proofs.Tables.{AreNames-interned, interned-there, place_of-interned, same_text-refl, slice_get-interned}
+use Rattle.ps_text.proofs.Tables.{AreNames-interned, interned-there, place_of-interned, slice_get-interned, placed}
 use Rattle.ps_entries.specs.Words.{name_of, names_of, with_word, with_words}
 
-none_by : {A : Type 0} (o : Option A) → is_none o ≡ true → o ≡ None
-none_by None h = refl
-none_by (Some x) h = absurd (cc)
-
 pub no_fault : (text : List ℕ) → is_name text ≡ true → name_fault text ≡ None
-no_fault text h = none_by (name_fault text) h
+no_fault text h = is_none-none (name_fault text) h
 
 -- ---- names stay
 
@@ -60,14 +58,8 @@ in_table t i x here =
     let li = slice_get_within t i x here in
     let some : Some (get_or t i []) ≡ Some x = sym (slice_get-get_or t i [] li) ∙ here in
     let same : get_or t i [] ≡ x = cc in
-    let any : list_any (same_text x) t ≡ true = list_any_at (same_text x) t i [] li (rw same (same_text-refl x)) in
+    let any : list_any (same_text x) t ≡ true = list_any_at (same_text x) t i [] li (rw same (same_text-itself x)) in
     ap (λ u. slice_get u (place_of t x)) (sym (interned-there t x any)) ∙ place_of-interned t x
-
--- a text is at its place in a table that keeps the names of one that has it
-placed : (t u : Table) (x : List ℕ) → Keeps (interned t x) u → slice_get u (place_of t x) ≡ Some x
-placed t u x keeps =
-    let here = place_of-interned t x in
-    keeps (place_of t x) (slice_get_within (interned t x) (place_of t x) x here) ∙ here
 
 same_place : (t u : Table) (x : List ℕ) → AreNames u → Keeps (interned t x) u → place_of t x ≡ place_of u x
 same_place t u x names keeps =

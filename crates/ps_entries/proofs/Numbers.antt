@@ -1,5 +1,5 @@
 -- Printed numbers are read back, and each is one word.
-use Rattle.std.proofs.Common.{◌≡◌, ℕ, ◌+◌, ◌-◌, ◌%◌, ◌^◌, ◌<◌, ◌≤◌, Bool, true, not, ◌==◌, List, [], ◌∷◌, length, min, Some, refl, ap, ◌∙◌, arith}
+use Rattle.std.proofs.Common.{◌≡◌, ℕ, ◌+◌, ◌-◌, ◌%◌, ◌^◌, ◌<◌, ◌≤◌, Bool, true, [], ◌∷◌, min, Some, refl, ap, ◌∙◌, arith}
 use Rattle.std.proofs.lemmas.Bool.{and_from}
 use Rattle.std.proofs.lemmas.Bool.Decides.{nat_tests}
 use Rattle.std.proofs.lemmas.Fmt.{decimal_by_steps, decimal_is_IsNumeral, decimal_nonempty}
@@ -10,6 +10,7 @@ use Rattle.std.specs.List.{list_all}
 use Rattle.std.specs.Str.Parse.{digits_value}
 use Rattle.ps_text.specs.Decimals.{are_digits}
 use Rattle.ps_text.specs.Words.{is_run_byte}
+use Rattle.ps_text.proofs.Printed.{are_digits-from}
 use Rattle.ps_entries.specs.Words.{up_to, whole_number}
 
 -- ---- digits
@@ -28,13 +29,6 @@ module _ (p : ℕ → Bool) (each : (d : ℕ) → d < 10 → p (48 + d) ≡ true
 
 digits-decimal : (n : ℕ) → n < 2 ^ 64 → list_all is_ascii_digit (decimal n) ≡ true
 digits-decimal = list_all-decimal is_ascii_digit (λ d h. (digit d h).0)
-
-pub run-decimal : (n : ℕ) → n < 2 ^ 64 → list_all is_run_byte (decimal n) ≡ true
-run-decimal = list_all-decimal is_run_byte (λ d h. (digit d h).1)
-
-are_digits-from : (ds : List ℕ) → 0 < length ds → list_all is_ascii_digit ds ≡ true → are_digits ds ≡ true
-are_digits-from [] some all = absurd (omega (arith, some))
-are_digits-from (d ∷ ds) some all = and_from (not (length (d ∷ ds) == 0)) (list_all is_ascii_digit (d ∷ ds)) (grind (arith, nat_tests)) all
 
 pub whole_number-decimal : (n : ℕ) → n < 2 ^ 64 → whole_number (decimal n) ≡ Some n
 whole_number-decimal n h =

@@ -8,6 +8,7 @@ use Rattle.ps_world.specs.Names.{Table, name_text}
 use Rattle.ps_world.specs.Texts.{edit_text}
 use Rattle.ps_world.specs.declared.names.Name.{Name}
 use Rattle.ps_world.specs.declared.edits.Edit.{Edit as Change}
+use Rattle.ps_world.proofs.SameTexts.{same_text-itself, same_text-is}
 use Rattle.ps_machine.specs.Tables.{is_note}
 use Rattle.ps_machine.specs.Texts.{acts_text, by_text, entry_line, event_text, query_text}
 use Rattle.ps_machine.specs.declared.inputs.Command.TheVariants as command
@@ -19,7 +20,6 @@ use Rattle.ps_machine.specs.declared.journal.Event.TheVariants as event
 use Rattle.ps_machine.specs.declared.journal.Entry.{Entry}
 use Rattle.ps_text.specs.Names.{AreNames}
 use Rattle.ps_text.specs.Words.{words}
-use Rattle.ps_text.proofs.Tables.{same_text-refl, same_text-same}
 use Rattle.ps_script.specs.Lines.{IsRead}
 use Rattle.ps_script.specs.declared.reading.Read.TheVariants as read
 use Rattle.ps_entries.specs.Words.{after_by, after_two, after_word, head_of, name_of, names_of, reads, tail_after, tail_of, up_to, whole_number, with_words}
@@ -299,7 +299,7 @@ module _ (t : Table) (names : AreNames t) where
 
 -- ---- lines
 
-goes_told : (mid : Table) (e : Event) (after : Table) → IsTold mid e after → Goes mid after
+pub goes_told : (mid : Table) (e : Event) (after : Table) → IsTold mid e after → Goes mid after
 goes_told mid (event.Edit who change) after x = goes_read mid (edit_text after change) (read.Line (Good (command.Edit change))) after x
 goes_told mid (event.Ask q) after x = goes_read mid (query_text after q) (read.Line (Good (command.Ask q))) after x
 goes_told mid e after x = subst (Goes mid) (sym x) (goes_nowhere mid)
@@ -338,7 +338,7 @@ module _ (names : Table) (line : List ℕ) (are : AreNames names) where
   pub said-line : (e : Entry) (after : Table) → LineSays names (head_of line) (tail_of line) e after → (is_entry (length after) e && same_text (entry_line after e) line) ≡ true → IsEntryLine names line e after
   said-line e after x printed =
       let parts = and_parts (is_entry (length after) e) (same_text (entry_line after e) line) printed in
-      let text : entry_line after e ≡ line = same_text-same (entry_line after e) line parts.1 in
+      let text : entry_line after e ≡ line = same_text-is (entry_line after e) line parts.1 in
       let ws = words (head_of line) in
       let goes = goes_says (with_words names ws) ws (names_of names ws) (tail_of line) e.what after x.what in
       let known = goes.names (names_words names ws are) in
@@ -355,7 +355,7 @@ module _ (names : Table) (line : List ℕ) (are : AreNames names) where
   no-line e after x printed = λ f other y.
       let ws = words (head_of line) in
       let once = entry_once (with_words names ws) ws (names_of names ws) (tail_of line) e f after other x (line-says f other y) in
-      let yes : (is_entry (length other) f && same_text (entry_line other f) line) ≡ true = and_from (is_entry (length other) f) (same_text (entry_line other f) line) y.in_form (ap (λ l. same_text l line) y.text ∙ same_text-refl line) in
+      let yes : (is_entry (length other) f && same_text (entry_line other f) line) ≡ true = and_from (is_entry (length other) f) (same_text (entry_line other f) line) y.in_form (ap (λ l. same_text l line) y.text ∙ same_text-itself line) in
       let here : (is_entry (length after) e && same_text (entry_line after e) line) ≡ true = ap (λ t. is_entry (length t) e && same_text (entry_line t e) line) once.1 ∙ ap (λ (d : Entry). is_entry (length other) d && same_text (entry_line other d) line) once.0 ∙ yes in
       absurd (cc)
 

@@ -4,6 +4,7 @@ use Rattle.std.specs.Option.{option_map}
 use Rattle.ps_world.specs.Names.{Table}
 use Rattle.ps_world.specs.declared.names.Name.{Name}
 use Rattle.ps_world.specs.declared.edits.Edit.{Edit as Change}
+use Rattle.ps_world.proofs.Optionals.{some_same}
 use Rattle.ps_machine.specs.declared.inputs.Command.TheVariants as command
 use Rattle.ps_machine.specs.declared.inputs.Line.TheVariants.{Good, Bad}
 use Rattle.ps_machine.specs.declared.inputs.Query.{Query}
@@ -19,9 +20,6 @@ use Rattle.ps_entries.specs.Words.{number_at, reads, up_to}
 use Rattle.ps_entries.specs.Events.{by_of, feedback_of, plain_event}
 use Rattle.ps_entries.specs.Says.{Finds, FindsEntry, Says, SaysEntry, edit_in, query_in}
 use Rattle.ps_entries.specs.Says.Says.{edit, ask, told, plain}
-
-one_some : {A : Type 0} (x y : A) → Some x ≡ Some y → x ≡ y
-one_some x y e = cc
 
 one_edit : (c d : Change) → read.Line (Good (command.Edit c)) ≡ read.Line (Good (command.Edit d)) → c ≡ d
 one_edit c d e = cc
@@ -39,7 +37,7 @@ same_entry e f h w =
 
 -- what holds an edit, and a query
 is_edit : (r : Read) (c : Change) → edit_in r ≡ Some c → r ≡ read.Line (Good (command.Edit c))
-is_edit (read.Line (Good (command.Edit d))) c e = ap (λ (x : Change). read.Line (Good (command.Edit x))) (one_some d c e)
+is_edit (read.Line (Good (command.Edit d))) c e = ap (λ (x : Change). read.Line (Good (command.Edit x))) (some_same d c e)
 is_edit (read.Line (Good (command.Ask q))) c e = absurd (cc)
 is_edit (read.Line (Good command.Run)) c e = absurd (cc)
 is_edit (read.Line (Good (command.RunAction act))) c e = absurd (cc)
@@ -51,7 +49,7 @@ is_edit (read.Source file) c e = absurd (cc)
 is_edit (read.RunPlan file) c e = absurd (cc)
 
 is_query : (r : Read) (q : Query) → query_in r ≡ Some q → r ≡ read.Line (Good (command.Ask q))
-is_query (read.Line (Good (command.Ask p))) q e = ap (λ (x : Query). read.Line (Good (command.Ask x))) (one_some p q e)
+is_query (read.Line (Good (command.Ask p))) q e = ap (λ (x : Query). read.Line (Good (command.Ask x))) (some_same p q e)
 is_query (read.Line (Good (command.Edit d))) q e = absurd (cc)
 is_query (read.Line (Good command.Run)) q e = absurd (cc)
 is_query (read.Line (Good (command.RunAction act))) q e = absurd (cc)
@@ -66,7 +64,7 @@ module _ (t : Table) (ws : List (List ℕ)) (ns : List Name) (tail : List ℕ) w
   pub says_once : (e f : Event) (after other : Table) → Says t ws ns tail e after → Says t ws ns tail f other → (e ≡ f) × (after ≡ other)
   says_once _ _ _ _ (edit who c after r b x) (edit whom d other s k y) =
       let same = lines_are_read_as_one t tail (read.Line (Good (command.Edit c))) (read.Line (Good (command.Edit d))) after other x y in
-      let first : who ≡ whom = one_some who whom (sym b ∙ k) in
+      let first : who ≡ whom = some_same who whom (sym b ∙ k) in
       let second : c ≡ d = one_edit c d same.0 in
       (rw (first, second) refl, same.1)
   says_once _ _ _ _ (edit who c after r b x) (ask q other s k y) = absurd (cc)
@@ -80,17 +78,17 @@ module _ (t : Table) (ws : List (List ℕ)) (ns : List Name) (tail : List ℕ) w
   says_once _ _ _ _ (ask q after r b x) (plain f s k m y) = absurd (cc)
   says_once _ _ _ _ (told e r b n x) (edit whom d other s k y) = absurd (cc)
   says_once _ _ _ _ (told e r b n x) (ask q other s k y) = absurd (cc)
-  says_once _ _ _ _ (told e r b n x) (told f s k m y) = (one_some e f (sym x ∙ y), refl)
+  says_once _ _ _ _ (told e r b n x) (told f s k m y) = (some_same e f (sym x ∙ y), refl)
   says_once _ _ _ _ (told e r b n x) (plain f s k m y) = absurd (cc)
   says_once _ _ _ _ (plain e r b n x) (edit whom d other s k y) = absurd (cc)
   says_once _ _ _ _ (plain e r b n x) (ask q other s k y) = absurd (cc)
   says_once _ _ _ _ (plain e r b n x) (told f s k m y) = absurd (cc)
-  says_once _ _ _ _ (plain e r b n x) (plain f s k m y) = (one_some e f (sym x ∙ y), refl)
+  says_once _ _ _ _ (plain e r b n x) (plain f s k m y) = (some_same e f (sym x ∙ y), refl)
 
   pub entry_once : (e f : Entry) (after other : Table) → SaysEntry t ws ns tail e after → SaysEntry t ws ns tail f other → (e ≡ f) × (after ≡ other)
   entry_once e f after other x y =
       let what = says_once e.what f.what after other x.what y.what in
-      let hand : e.hand ≡ f.hand = one_some e.hand f.hand (sym x.hand ∙ y.hand) in
+      let hand : e.hand ≡ f.hand = some_same e.hand f.hand (sym x.hand ∙ y.hand) in
       (same_entry e f hand what.0, what.1)
 
   -- ---- what is found

@@ -21,6 +21,7 @@ use Rattle.ps_world.specs.declared.names.Name.{Name}
 use Rattle.ps_world.specs.declared.schemas.Lifted.{Lifted}
 use Rattle.ps_world.specs.declared.schemas.Term.{Term}
 use Rattle.ps_world.specs.declared.schemas.Term.TheVariants.{Var, Const}
+use Rattle.ps_world.proofs.Optionals.{some_same}
 use Rattle.ps_action.specs.declared.acts.Act.{Act}
 use Rattle.ps_action.specs.declared.refusals.GroundRefusal.{GroundRefusal}
 use Rattle.ps_action.specs.declared.refusals.GroundRefusal.TheVariants as ground
@@ -44,9 +45,6 @@ use Rattle.ps_entries.specs.Forms.{is_act, is_by, is_byte, is_cause, is_edit_cau
 use Rattle.ps_entries.proofs.PrintedCauses.{known-of}
 use Rattle.ps_entry_laws.specs.Laws.{IsSayable}
 
-one_some : {A : Type 0} (x y : A) → Some x ≡ Some y → x ≡ y
-one_some x y e = cc
-
 known-by : (count : ℕ) (n : Name) → n.0 < count → is_known count n ≡ true
 known-by count n h = grind (arith, nat_tests)
 
@@ -60,7 +58,7 @@ module _ (t u : Table) (keeps : Keeps t u) where
   within n lt = slice_get_within u n.0 (name_text t n) (here n lt)
 
   name-kept : (n : Name) → n.0 < length t → name_text u n ≡ name_text t n
-  name-kept n lt = one_some (name_text u n) (name_text t n) (sym (slice_get-get_or u n.0 [] (within n lt)) ∙ here n lt)
+  name-kept n lt = some_same (name_text u n) (name_text t n) (sym (slice_get-get_or u n.0 [] (within n lt)) ∙ here n lt)
 
   name-same : (n : Name) → is_known (length t) n ≡ true → name_text u n ≡ name_text t n
   name-same n h = name-kept n (known-of (length t) n h)

@@ -1,33 +1,22 @@
 -- A text is one journal at most.
 use Rattle.std.proofs.Common.{◌≡◌, ℕ, suc, true, false, List, ◌∷◌, map, refl, sym, ap, ◌∙◌, subst}
 use Rattle.ps_world.specs.Names.{Table}
-use Rattle.ps_world.specs.Texts.{edit_text}
-use Rattle.ps_machine.specs.Texts.{query_text}
 use Rattle.ps_machine.specs.declared.inputs.Command.TheVariants as command
-use Rattle.ps_machine.specs.declared.inputs.Line.TheVariants.{Good}
-use Rattle.ps_machine.specs.declared.journal.Event.{Event}
 use Rattle.ps_machine.specs.declared.journal.Event.TheVariants as event
 use Rattle.ps_machine.specs.declared.journal.Entry.{Entry}
 use Rattle.ps_rules.specs.Heads.{Head, line_after}
 use Rattle.ps_rules.specs.Journal.{text_with}
 use Rattle.ps_text.specs.Names.{AreNames}
 use Rattle.ps_text.specs.Words.{words}
-use Rattle.ps_script.specs.declared.reading.Read.TheVariants.{Line}
 use Rattle.ps_entries.specs.Words.{with_words}
-use Rattle.ps_entries.specs.EntryLines.{IsEntryLine, IsTold, head_text}
+use Rattle.ps_entries.specs.EntryLines.{IsEntryLine, head_text}
 use Rattle.ps_entries.specs.Journals.{AreEntries, is_reply}
 use Rattle.ps_entries.specs.Journals.AreEntries.{none_left, reply, entry}
 use Rattle.ps_entries.proofs.HeadLines.{heads_one}
 use Rattle.ps_entries.proofs.KnownNames.{names_words}
-use Rattle.ps_entries.proofs.OneEntry.{line-once}
-use Rattle.ps_entries.proofs.ReadTables.{Goes, goes_nowhere, goes_read}
+use Rattle.ps_entries.proofs.OneEntry.{line-once, goes_told}
 use Rattle.ps_entry_laws.specs.Laws.{HistoriesArePrintedApart, IsJournalOf, TextsAreOneJournal}
 use Rattle.ps_entry_laws.proofs.ReadJournals.{printed_journals_are_read}
-
-goes_told : (mid : Table) (e : Event) (after : Table) → IsTold mid e after → Goes mid after
-goes_told mid (event.Edit who change) after x = goes_read mid (edit_text after change) (Line (Good (command.Edit change))) after x
-goes_told mid (event.Ask q) after x = goes_read mid (query_text after q) (Line (Good (command.Ask q))) after x
-goes_told mid e after x = subst (Goes mid) (sym x) (goes_nowhere mid)
 
 -- the table after an entry's line is one of names
 pub names_line : (table : Table) (line : List ℕ) (e : Entry) (after : Table) → AreNames table → IsEntryLine table line e after → AreNames after

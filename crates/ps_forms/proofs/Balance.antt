@@ -1,8 +1,7 @@
 -- A domain's text is balanced: each parenthesis has its other one.
 use Rattle.std.proofs.Common.{◌≡◌, ℕ, zero, suc, ◌+◌, ◌==◌, Bool, true, false, ◌&&◌, List, [], ◌∷◌, ◌++◌, Option, None, Some, slice_get, refl, sym, ◌∙◌, ap, subst, arith}
 use Rattle.std.specs.List.{list_all}
-use Rattle.std.proofs.lemmas.Bool.{and_parts}
-use Rattle.std.proofs.lemmas.Bool.Decides.{nat_tests}
+use Rattle.std.proofs.lemmas.Bool.{and_parts, eqb-true}
 use denote.Enum.Bare.{same_true}
 use denote.Enum.Declared.{tag_of}
 use Rattle.ps_shape.specs.contracts.marks.Mark.{the_type}
@@ -87,9 +86,6 @@ abbrev fits : Option (List Symbol) → Mark → ℕ → Bool
 fits None m before = true
 fits (Some new) m before = list_all is_shut new && moves m before (closing new)
 
-same_number : (a b : ℕ) → (a == b) ≡ true → a ≡ b
-same_number a b e = grind (arith, nat_tests)
-
 -- ---- each rule
 
 fits_once : (before : Bool) (part : ListPart) (seen : Seen) (m : Mark) → fits (Some (InList part ∷ InText (text.Sections seen) ∷ [])) m 2 ≡ true → fits (once before part seen) m 2 ≡ true
@@ -163,16 +159,16 @@ fits_step (InGoal part) m shut = each_mark (λ m. fits (goal_rule part m) m (clo
 
 -- ---- whole texts
 
-after_mark : (m : Mark) (before after rest : ℕ) (ms : List Mark) → moves m before after ≡ true → is_balanced (after + rest) ms ≡ true → is_balanced (before + rest) (m ∷ ms) ≡ true
+pub after_mark : (m : Mark) (before after rest : ℕ) (ms : List Mark) → moves m before after ≡ true → is_balanced (after + rest) ms ≡ true → is_balanced (before + rest) (m ∷ ms) ≡ true
 after_mark Open before after rest ms e b =
-    let one : after ≡ before + 1 = same_number after (before + 1) e in
+    let one : after ≡ before + 1 = eqb-true after (before + 1) e in
     let same : suc (before + rest) ≡ after + rest = omega (arith, one) in
     ap (λ n. is_balanced n ms) same ∙ b
 after_mark Close before after rest ms e b =
-    let one : before ≡ after + 1 = same_number before (after + 1) e in
+    let one : before ≡ after + 1 = eqb-true before (after + 1) e in
     let same : before + rest ≡ suc (after + rest) = omega (arith, one) in
     ap (λ n. is_balanced n (Close ∷ ms)) same ∙ b
-after_mark _ before after rest ms e b = ap (λ n. is_balanced (n + rest) ms) (same_number before after e) ∙ b
+after_mark _ before after rest ms e b = ap (λ n. is_balanced (n + rest) ms) (eqb-true before after e) ∙ b
 
 shut_more : (a b : List Symbol) → list_all is_shut a ≡ true → list_all is_shut b ≡ true → list_all is_shut (a ++ b) ≡ true
 shut_more [] b p q = q

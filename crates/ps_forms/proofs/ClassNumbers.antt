@@ -68,7 +68,7 @@ module _ (b : ℕ) (d : is_ascii_digit b ≡ true) where
       (rw (more 60 (omega arith), more 62 (omega arith), less 45 (omega arith)))
   unsigned (c ∷ bs) = rw (more 60 (omega arith), more 62 (omega arith))
 
-first_number : (l r s v k g n t m : Bool) → l ≡ false → r ≡ false → s ≡ false → v ≡ false → k ≡ false → g ≡ true → n ≡ true → first_class l r s v k g n t m ≡ Some class.Number
+pub first_number : (l r s v k g n t m : Bool) → l ≡ false → r ≡ false → s ≡ false → v ≡ false → k ≡ false → g ≡ true → n ≡ true → first_class l r s v k g n t m ≡ Some class.Number
 first_number l r s v k g n t m p1 p2 p3 p4 p5 p6 p7 = rw (p1, p2, p3, p4, p5, p6, p7)
 
 -- after a digit as its first byte
@@ -88,7 +88,7 @@ digit_class b bs d h =
     h
 
 -- after `-`
-minus_class : (bs : List ℕ) → begins_digit bs ≡ true → is_ok (number_of (45 ∷ bs)) ≡ true → class_of (45 ∷ bs) ≡ Some class.Number
+pub minus_class : (bs : List ℕ) → begins_digit bs ≡ true → is_ok (number_of (45 ∷ bs)) ≡ true → class_of (45 ∷ bs) ≡ Some class.Number
 minus_class [] d h = absurd (cc)
 minus_class (c ∷ bs) d h = rw (d, h)
 

@@ -33,7 +33,7 @@ layered_open : (ts : List Tree) (starts : List ℕ) (outer : List Nesteds) (vs :
 layered_open ts starts outer vs below = subst (λ (x : List Tree). Layered x (starts ++ length ts ∷ []) (outer ++ vs ∷ []) none) (append-nil ts) (above ts [] starts outer vs below)
 
 -- what is told of a list that ends so
-some_end : {A : Type 0} (xs : List A) (x : A) → xs ++ x ∷ [] ≡ [] → ⊥
+pub some_end : {A : Type 0} (xs : List A) (x : A) → xs ++ x ∷ [] ≡ [] → ⊥
 some_end [] x e = absurd (cc)
 some_end (y ∷ xs) x e = absurd (cc)
 

@@ -12,6 +12,7 @@ pub mod NestedLists
 pub mod OneSpelling
 pub mod OneWord
 pub mod Stacks
+pub mod TakenLines
 pub mod Taking
 pub mod TokenNames
 pub mod Unfinished

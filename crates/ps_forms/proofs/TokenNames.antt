@@ -53,7 +53,7 @@ is_name-class word = name_of (same_text word (codes "(")) (same_text word (codes
 pub is_marked-class : (word : List ℕ) → class_of word ≡ Some class.Variable → is_marked 63 word ≡ true
 is_marked-class word = variable_of (same_text word (codes "(")) (same_text word (codes ")")) (is_sign word) (is_marked 63 word) (is_marked 58 word) (begins_number word) (is_ok (number_of word)) (same_text word (codes "#t")) (is_name word)
 
-marked-is_name : (word : List ℕ) → is_marked 63 word ≡ true → is_name (drop 1 word) ≡ true
+pub marked-is_name : (word : List ℕ) → is_marked 63 word ≡ true → is_name (drop 1 word) ≡ true
 marked-is_name [] h = absurd (cc)
 marked-is_name (b ∷ bs) h = (and_parts _ _ h).1
 

@@ -1,9 +1,10 @@
 -- Lists of lines that grow, and what is made of the carts in a row.
-use Rattle.std.proofs.Common.{◌≡◌, ℕ, zero, suc, ◌+◌, ◌-◌, ◌≤◌, List, [], ◌∷◌, ◌++◌, map, append_assoc, ap, sym, ◌∙◌, arith}
+use Rattle.std.proofs.Common.{◌≡◌, ℕ, suc, ◌+◌, ◌-◌, ◌≤◌, List, [], ◌∷◌, ◌++◌, map, append_assoc, ap, sym, ◌∙◌, arith}
 use Rattle.std.specs.Global.{Vec}
-use Rattle.std.specs.List.{flat_map, range_with_len}
+use Rattle.std.specs.List.{flat_map}
 use Rattle.std.proofs.lemmas.List.{append-nil, map-append}
 use Rattle.std.proofs.lemmas.List.Concat.{flat_map-append}
+use Rattle.ps_world.proofs.Counting.{range_from_more}
 use Rattle.ps_gen.specs.Texts.{carts_of, texts_of}
 
 -- what is added, and what is added after it
@@ -15,20 +16,12 @@ pub line_more : (was now : List (Vec ℕ)) (v : Vec ℕ) (line : List ℕ) → n
 line_more was now v line is same =
     ap texts_of is ∙ map-append (λ (u : Vec ℕ). u.items) was (v ∷ []) ∙ ap (λ (l : List ℕ). texts_of was ++ l ∷ []) same
 
-range_more : (a n : ℕ) → range_with_len a (suc n) ≡ range_with_len a n ++ (a + n) ∷ []
-range_more a zero =
-    let e : a ≡ a + 0 = omega arith in
-    ap (λ (x : ℕ). x ∷ []) e
-range_more a (suc n) =
-    let e : a + 1 + n ≡ a + suc n = omega arith in
-    ap (λ (l : List ℕ). a ∷ l) (range_more (a + 1) n ∙ ap (λ (x : ℕ). range_with_len (a + 1) n ++ x ∷ []) e)
-
 -- the carts up to this one are those before it, and it
 carts_more : (cart : ℕ) → 1 ≤ cart → carts_of cart ≡ carts_of (cart - 1) ++ cart ∷ []
 carts_more cart some =
     let more : cart ≡ suc (cart - 1) = omega arith in
     let same : 1 + (cart - 1) ≡ cart = omega arith in
-    ap carts_of more ∙ range_more 1 (cart - 1) ∙ ap (λ (x : ℕ). carts_of (cart - 1) ++ x ∷ []) same
+    ap carts_of more ∙ range_from_more 1 (cart - 1) ∙ ap (λ (x : ℕ). carts_of (cart - 1) ++ x ∷ []) same
 
 -- what stands first, an item of each cart before this one, and this one's
 pub one_more : {X : Type 0} (f : ℕ → X) (cart last : ℕ) (first was now : List X) → 1 ≤ cart → cart ≡ last

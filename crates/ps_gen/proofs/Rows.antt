@@ -29,7 +29,7 @@ trips_length : (a n : ℕ) → length (flat_map trip_lines (range_with_len a n))
 trips_length a zero = refl
 trips_length a (suc n) = let rest = trips_length (a + 1) n in omega arith
 
-script_length : (n : ℕ) → length (script_lines n) ≡ 4 * n + 5
+pub script_length : (n : ℕ) → length (script_lines n) ≡ 4 * n + 5
 unfolding script_lines
 script_length n =
     let trips = trips_length 1 n in

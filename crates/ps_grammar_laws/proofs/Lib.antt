@@ -2,5 +2,4 @@ pub mod DomainConditions
 pub mod GoalLists
 pub mod GoalWords
 pub mod LineForms
-pub mod LineTaking
 pub mod MemberLines

@@ -16,7 +16,7 @@ use Rattle.ps_script.specs.declared.forms.Form.TheVariants.{SetInstance, SetPred
 use Rattle.ps_grammar_laws.specs.LineForms.{GrammaticalLinesAreJudged, IsEnd, IsFact, IsGoal, IsLineForm, IsOne, IsSetting, JudgedLinesAreGrammatical, Names}
 use Rattle.ps_grammar_laws.specs.LineForms.IsSetting.{setting}
 use Rattle.ps_grammar_laws.proofs.GoalLists.{atom_of_taken, atom_taken, condition_of_taken, condition_taken}
-use Rattle.ps_grammar_laws.proofs.LineTaking.{TakesLine, judged_of_line, line_of_judged}
+use Rattle.ps_forms.proofs.TakenLines.{TakesLine, judged_of_line, line_of_judged}
 
 -- these lists are a line where what is wanted is taken to its end
 abbrev pub AreTaken : List Symbol → (Nesteds → Type 0) → Type 0

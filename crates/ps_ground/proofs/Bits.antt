@@ -3,7 +3,7 @@ use Rattle.std.proofs.Common.{◌≡◌, ℕ, ◌%◌, ◌<◌, Bool, true, fals
 use Rattle.std.specs.Prelude.{nat_eq}
 use Rattle.std.specs.Int.{bit_at}
 use Rattle.std.specs.List.{list_any}
-use Rattle.std.proofs.lemmas.Bool.{cases_eq}
+use Rattle.std.proofs.lemmas.Bool.{cases_eq, or_right, false_from_ne_true}
 use Rattle.std.proofs.lemmas.Bool.Decides.{nat_tests}
 use Rattle.std.proofs.lemmas.Nat.Bits.{bit_at-zero, bit_at_and, bit_at_set_other, bit_at_set_same}
 use Rattle.ps_ground.specs.Independence.{bits_of, with_bit}
@@ -37,7 +37,7 @@ has_bit : (n i : ℕ) (is : List ℕ) → list_any (λ j. nat_eq j i) is ≡ tru
 has_bit n i [] e = absurd (cc)
 has_bit n i (j ∷ is) e = bit_by n i j is (nat_eq j i) refl e (λ m. has_bit m i is)
 
-itself : (i : ℕ) → nat_eq i i ≡ true
+pub itself : (i : ℕ) → nat_eq i i ≡ true
 itself i = grind (arith, nat_tests)
 
 no_bit : (x y k : ℕ) → bit_and x y ≡ 0 → bit_at x k ≡ 1 → bit_at y k ≡ 1 → ⊥
@@ -46,25 +46,17 @@ no_bit x y k e f g =
     let none : bit_at (bit_and x y) k ≡ 0 = ap (λ n. bit_at n k) e ∙ bit_at-zero k in
     omega (arith, both, none)
 
-not_both : (b : Bool) → (b ≡ true → ⊥) → b ≡ false
-not_both true h = absurd (h refl)
-not_both false h = refl
-
 no_place : (x : ℕ) (is js : List ℕ) → ((i : ℕ) → list_any (λ j. nat_eq j i) is ≡ true → bit_at x (i % 64) ≡ 1) → bit_and x (bits_of js) ≡ 0 → share is js ≡ false
 no_place x [] js h e = refl
 no_place x (i ∷ is) js h e =
-    let first : list_any (λ j. nat_eq j i) js ≡ false = not_both (list_any (λ j. nat_eq j i) js) (λ there. no_bit x (bits_of js) (i % 64) e (h i (first_there i is)) (has_bit 0 i js there)) in
+    let first : list_any (λ j. nat_eq j i) js ≡ false = false_from_ne_true (list_any (λ j. nat_eq j i) js) (λ there. no_bit x (bits_of js) (i % 64) e (h i (first_there i is)) (has_bit 0 i js there)) in
     rw first (no_place x is js (λ j there. h j (later j i is there)) e)
   where
     first_there : (i : ℕ) (is : List ℕ) → list_any (λ j. nat_eq j i) (i ∷ is) ≡ true
     first_there i is = rw (itself i) refl
 
-    or_later : (a b : Bool) → b ≡ true → (a || b) ≡ true
-    or_later true b e = refl
-    or_later false b e = e
-
     later : (k i : ℕ) (is : List ℕ) → list_any (λ j. nat_eq j k) is ≡ true → list_any (λ j. nat_eq j k) (i ∷ is) ≡ true
-    later k i is e = or_later (nat_eq i k) (list_any (λ j. nat_eq j k) is) e
+    later k i is e = or_right (nat_eq i k) (list_any (λ j. nat_eq j k) is) e
 
 -- lists with no common bit share no place
 pub no_share : (is js : List ℕ) → bit_and (bits_of is) (bits_of js) ≡ 0 → share is js ≡ false

@@ -10,6 +10,7 @@ use Rattle.ps_world.specs.Facts.{fact_cmp}
 use Rattle.ps_world.specs.Names.{name_cmp, same_name}
 use Rattle.ps_world.specs.Knowledge.{same_fact}
 use Rattle.ps_world.specs.declared.facts.Fact.{Fact}
+use Rattle.ps_world.proofs.Truths.{or_again}
 use Rattle.ps_action.proofs.Facts.{exact_facts}
 
 -- whether two facts are the same, part by part
@@ -24,10 +25,6 @@ equal_tied f g =
 pub equal_facts : (f g : Fact) → equal f g ≡ true → f ≡ g
 equal_facts f g e = tells_apart exact_facts f g (sym (equal_tied f g) ∙ e)
 
-again : (a b : Bool) → (a || b) ≡ (a || (a || b))
-again true b = refl
-again false b = refl
-
 module _ (f : Fact) where
   any_from : (x : Fact) (ys : List Fact) → list_any (same_fact f) (dedup_from equal x ys) ≡ (same_fact f x || list_any (same_fact f) ys)
   any_from x [] = refl
@@ -35,7 +32,7 @@ module _ (f : Fact) where
     where
       by : (b : Bool) → equal y x ≡ b → list_any (same_fact f) (dedup_from equal x ys) ≡ (same_fact f x || list_any (same_fact f) ys) → list_any (same_fact f) (dedup_from equal y ys) ≡ (same_fact f y || list_any (same_fact f) ys) → list_any (same_fact f) (cond b (dedup_from equal x ys) (x ∷ dedup_from equal y ys)) ≡ (same_fact f x || (same_fact f y || list_any (same_fact f) ys))
       by true e first next =
-          first ∙ again (same_fact f x) (list_any (same_fact f) ys)
+          first ∙ or_again (same_fact f x) (list_any (same_fact f) ys)
           ∙ ap (λ z. same_fact f x || (same_fact f z || list_any (same_fact f) ys)) (sym (equal_facts y x e))
       by false e first next = ap (λ b. same_fact f x || b) next
 

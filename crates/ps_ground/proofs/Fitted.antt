@@ -2,6 +2,7 @@
 use Rattle.std.proofs.Common.{◌≡◌, ℕ, ◌+◌, Bool, true, false, ◌&&◌, List, [], ◌∷◌, ◌++◌, Option, Some, None, Err, cond, length, refl, ap, sym, ◌∙◌, eq-eqb}
 use Rattle.std.specs.Option.{option_or}
 use Rattle.std.specs.Result.{result_ok}
+use Rattle.std.proofs.lemmas.Bool.{and_from, and_parts}
 use Rattle.ps_world.specs.Knowledge.{action_of, is_below, kind_of}
 use Rattle.ps_world.specs.declared.actions.ActionDef.{ActionDef}
 use Rattle.ps_world.specs.declared.domains.Domain.{Domain}
@@ -18,21 +19,14 @@ use Rattle.ps_action.specs.declared.refusals.GroundRefusal.TheVariants.{Arity, W
 use Rattle.ps_ground.specs.Fitting.{AreFit, IsFit, all_fit}
 use Rattle.ps_ground.specs.States.{State, at}
 
-both_so : (a b : Bool) → (a && b) ≡ true → (a ≡ true) × (b ≡ true)
-both_so true b e = (refl, e)
-both_so false b e = absurd (cc)
-
-and_so : (a b : Bool) → a ≡ true → b ≡ true → (a && b) ≡ true
-and_so a b e f = λ i. e i && f i
-
 module _ (d : Domain) (k : Knowledge) where
   -- what fits does so in every state
   fit_always : (ps : List Param) (ns : List Name) → all_fit d k ps ns ≡ true → (s : State) → all_true d (at k s) (fitting ps ns) ≡ true
   fit_always [] ns e s = refl
   fit_always (p ∷ ps) [] e s = refl
   fit_always (p ∷ ps) (n ∷ ns) e s =
-      let w = both_so (fits d (kind_of k n) p.kind) (all_fit d k ps ns) e in
-      and_so (fits d (kind_of k n) p.kind) (all_true d (at k s) (fitting ps ns)) w.0 (fit_always ps ns w.1 s)
+      let w = and_parts (fits d (kind_of k n) p.kind) (all_fit d k ps ns) e in
+      and_from (fits d (kind_of k n) p.kind) (all_true d (at k s) (fitting ps ns)) w.0 (fit_always ps ns w.1 s)
 
   fits_one : (o : Option Name) (want n : Name) (i : ℕ) (rest : Option GroundRefusal) → fits d o want ≡ true → option_or (unfit d o want n i) rest ≡ rest
   fits_one None want n i rest e = absurd (cc)
@@ -42,7 +36,7 @@ module _ (d : Domain) (k : Knowledge) where
   none_unfit [] ns i e = refl
   none_unfit (p ∷ ps) [] i e = refl
   none_unfit (p ∷ ps) (n ∷ ns) i e =
-      let w = both_so (fits d (kind_of k n) p.kind) (all_fit d k ps ns) e in
+      let w = and_parts (fits d (kind_of k n) p.kind) (all_fit d k ps ns) e in
       fits_one (kind_of k n) p.kind n i (first_unfit d k.instances ps ns (i + 1)) w.0 ∙ none_unfit ps ns (i + 1) w.1
 
   module _ (g : GroundAction) where

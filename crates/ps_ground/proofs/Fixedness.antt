@@ -1,15 +1,16 @@
 -- What is said of facts that never are known is never so, and leads nowhere.
-use Rattle.std.proofs.Common.{◌≡◌, ℕ, zero, suc, Bool, true, false, not, cond, ◌&&◌, ◌||◌, List, [], ◌∷◌, ◌++◌, Option, Some, None, option_and_then, Result, Ok, Err, ◌<◌, drop, filter, filter_map, find, flat_map, fold, length, map, refl, ap, sym, ◌∙◌, arith}
+use Rattle.std.proofs.Common.{◌≡◌, ℕ, zero, suc, Bool, true, false, not, cond, ◌&&◌, List, [], ◌∷◌, ◌++◌, Option, Some, None, option_and_then, Result, Ok, Err, ◌<◌, drop, filter, filter_map, find, flat_map, fold, length, map, refl, ap, sym, ◌∙◌, arith}
 use Rattle.std.specs.Prelude.{nat_le, slice_get, slice_index_or, unwrap_or, ◌==◌}
 use Rattle.std.specs.List.{cons_option, list_all, list_any}
 use Rattle.std.specs.BTreeSet.{insert_key}
-use Rattle.std.specs.Cmp.{IsTotalOrder, first_so, on_total, nat_cmp_total, second_so}
+use Rattle.std.specs.Cmp.{first_so, second_so}
 use Rattle.std.specs.Result.{result_ok}
 use Rattle.std.specs.Ordering.{eq_by_cmp}
 use Rattle.std.proofs.lemmas.Bool.Decides.{nat_tests}
 use Rattle.std.proofs.lemmas.List.Folds.{list_any-append}
 use Rattle.std.proofs.lemmas.Map.Views.{any-filter_same, tells_apart}
 use Rattle.std.proofs.lemmas.Option.{unwrap_or-slice_get}
+use Rattle.std.proofs.lemmas.Bool.{or_from, or_parts}
 use Rattle.ps_world.specs.Bound.{ground_in, name_in}
 use Rattle.ps_world.specs.CondViews.{cond_tree}
 use Rattle.ps_world.specs.Knowledge.{action_of, ground, same_fact}
@@ -27,6 +28,7 @@ use Rattle.ps_world.specs.declared.names.Name.{Name}
 use Rattle.ps_world.specs.declared.schemas.Lifted.{Lifted}
 use Rattle.ps_world.specs.declared.schemas.Term.{Term}
 use Rattle.ps_world.specs.declared.schemas.Term.TheVariants.{Var, Const}
+use Rattle.ps_world.proofs.SameTexts.{name_itself}
 use Rattle.ps_action.specs.Effects.{added_by, unless}
 use Rattle.ps_action.specs.Grounding.{first_unfit, fitting, ground_act, ground_by, grounded, put_cond, put_effect, put_lifted, put_list, put_term, put_var}
 use Rattle.ps_action.specs.Search.{possible_acts}
@@ -35,7 +37,7 @@ use Rattle.ps_action.specs.declared.acts.Act.{Act}
 use Rattle.ps_action.specs.declared.acts.GroundAction.{GroundAction}
 use Rattle.ps_action.specs.declared.refusals.GroundRefusal.{GroundRefusal}
 use Rattle.ps_action.specs.declared.refusals.GroundRefusal.TheVariants.{Arity, NoAction}
-use Rattle.ps_action.proofs.Facts.{exact_facts}
+use Rattle.ps_action.proofs.Facts.{exact_facts, names_total}
 use Rattle.ps_action.proofs.Keys.{any-insert_key}
 use Rattle.ps_domain.proofs.Indexes.{at_same}
 use Rattle.ps_ground.specs.Fixed.{AreFixed, all_heads_added, head_added, heads_added, is_from, possible_facts}
@@ -165,19 +167,6 @@ many_grounded d instances act g a is h e =
 
 -- ---- what is added
 
-either_no : (a b : Bool) → a ≡ false → b ≡ false → (a || b) ≡ false
-either_no a b e f = λ i. e i || f i
-
-both_no : (a b : Bool) → (a || b) ≡ false → (a ≡ false) × (b ≡ false)
-both_no true b e = absurd (cc)
-both_no false b e = (refl, e)
-
-name_itself : (n : Name) → same_name n n ≡ true
-name_itself n = grind (arith, nat_tests)
-
-names_total : IsTotalOrder name_cmp
-names_total = on_total (λ n. n.0) nat_cmp_total
-
 -- facts of other predicates are other facts
 other_fact : (f g : Fact) (b c : Bool) → same_fact f g ≡ b → same_name f.head g.head ≡ c → c ≡ false → b ≡ false
 other_fact f g false c e h other = refl
@@ -191,18 +180,18 @@ module _ (f : Fact) (args : List Name) where
   effects_none : (es : List Effect) → list_any (same_name f.head) (filter_map head_added es) ≡ false → list_any (same_fact f) (filter_map added_by (map (put_effect args) es)) ≡ false
   effects_none [] e = refl
   effects_none (Add l ∷ es) e =
-      let w = both_no (same_name f.head l.head) (list_any (same_name f.head) (filter_map head_added es)) e in
+      let w = or_parts (same_name f.head l.head) (list_any (same_name f.head) (filter_map head_added es)) e in
       let g = ground (put_lifted args l) in
-      either_no (same_fact f g) (list_any (same_fact f) (filter_map added_by (map (put_effect args) es))) (other_fact f g (same_fact f g) (same_name f.head g.head) refl refl w.0) (effects_none es w.1)
+      or_from (same_fact f g) (list_any (same_fact f) (filter_map added_by (map (put_effect args) es))) (other_fact f g (same_fact f g) (same_name f.head g.head) refl refl w.0) (effects_none es w.1)
   effects_none (Delete l ∷ es) e = effects_none es e
   effects_none (Number how l x ∷ es) e = effects_none es e
 
 module _ (f : Fact) where
   split_none : {A : Type 0} (p : A → Bool) (xs ys : List A) → list_any p (xs ++ ys) ≡ false → (list_any p xs ≡ false) × (list_any p ys ≡ false)
-  split_none p xs ys e = both_no (list_any p xs) (list_any p ys) (sym (list_any-append p xs ys) ∙ e)
+  split_none p xs ys e = or_parts (list_any p xs) (list_any p ys) (sym (list_any-append p xs ys) ∙ e)
 
   join_none : {A : Type 0} (p : A → Bool) (xs ys : List A) → list_any p xs ≡ false → list_any p ys ≡ false → list_any p (xs ++ ys) ≡ false
-  join_none p xs ys e h = list_any-append p xs ys ∙ either_no (list_any p xs) (list_any p ys) e h
+  join_none p xs ys e h = list_any-append p xs ys ∙ or_from (list_any p xs) (list_any p ys) e h
 
   -- neither does an action
   action_none : (a : ActionDef) (act : Act) → list_any (same_name f.head) (heads_added a) ≡ false → list_any (same_fact f) (adds (grounded a act)) ≡ false
@@ -246,8 +235,8 @@ names_put : (n : Name) (xs ns : List Name) → list_any (eq_by_cmp name_cmp n) (
 names_put n [] ns e = (e, refl)
 names_put n (x ∷ xs) ns e =
     let w = names_put n xs (insert_key name_cmp ns x) e in
-    let v = both_no (eq_by_cmp name_cmp n x) (list_any (eq_by_cmp name_cmp n) ns) (sym (any-insert_key names_total n x ns) ∙ w.0) in
-    (v.1, either_no (eq_by_cmp name_cmp n x) (list_any (eq_by_cmp name_cmp n) xs) v.0 w.1)
+    let v = or_parts (eq_by_cmp name_cmp n x) (list_any (eq_by_cmp name_cmp n) ns) (sym (any-insert_key names_total n x ns) ∙ w.0) in
+    (v.1, or_from (eq_by_cmp name_cmp n x) (list_any (eq_by_cmp name_cmp n) xs) v.0 w.1)
 
 tied : (n m : Name) → eq_by_cmp name_cmp n m ≡ same_name n m
 tied n m = at_same n m

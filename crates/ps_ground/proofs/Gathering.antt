@@ -11,6 +11,7 @@ use Rattle.ps_world.specs.declared.known.Knowledge.{Knowledge}
 use Rattle.ps_world.specs.Knowledge.{same_fact}
 use Rattle.ps_world.specs.declared.facts.Fact.{Fact}
 use Rattle.ps_world.specs.declared.names.Name.{Name}
+use Rattle.ps_world.proofs.Optionals.{cons_option-nil}
 use Rattle.ps_action.specs.Grounding.{ground_act}
 use Rattle.ps_action.specs.declared.acts.Act.{Act}
 use Rattle.ps_action.specs.declared.acts.GroundAction.{GroundAction}
@@ -22,10 +23,6 @@ use Rattle.ps_ground.specs.Atoms.{AreAtoms, IsOver, adds}
 use Rattle.ps_ground.specs.States.{State, stepped}
 use Rattle.ps_ground.specs.Thinned.{IsIdle, IsThinned}
 use Rattle.ps_ground.proofs.Preparing.{atoms_of_both}
-
-as_list : {A : Type 0} (o : Option A) → cons_option o [] ≡ option_to_list o
-as_list None = refl
-as_list (Some x) = refl
 
 module _ (d : Domain) (k : Knowledge) (n : Node) where
   moves_of_one : (o : Option GroundAction) (rest : List GroundAction) → moves d k (option_to_list o) n ++ moves d k rest n ≡ moves d k (cons_option o rest) n
@@ -54,7 +51,7 @@ module _ (d : Domain) (k : Knowledge) (n : Node) where
   one_more ground found a =
       ap (λ (gs : List GroundAction). moves d k gs n) (filter_map-append ground found (a ∷ []))
       ∙ filter_map-append (move d k n) (filter_map ground found) (cons_option (ground a) [])
-      ∙ ap (λ (gs : List GroundAction). moves d k (filter_map ground found) n ++ moves d k gs n) (as_list (ground a))
+      ∙ ap (λ (gs : List GroundAction). moves d k (filter_map ground found) n ++ moves d k gs n) (cons_option-nil (ground a))
 
 -- ---- what is added
 
@@ -92,7 +89,7 @@ same_ok g h r e f = cc
 -- one more adds nothing else
 pub more_added : {A : Type 0} (ground : A → Option GroundAction) (f : Fact) (found : List A) (a : A) → list_any (same_fact f) (flat_map adds (filter_map ground found)) ≡ false → list_any (same_fact f) (flat_map adds (option_to_list (ground a))) ≡ false → list_any (same_fact f) (flat_map adds (filter_map ground (found ++ a ∷ []))) ≡ false
 more_added ground f found a old new =
-    ap (λ (gs : List GroundAction). list_any (same_fact f) (flat_map adds gs)) (filter_map-append ground found (a ∷ []) ∙ ap (λ (gs : List GroundAction). filter_map ground found ++ gs) (as_list (ground a)))
+    ap (λ (gs : List GroundAction). list_any (same_fact f) (flat_map adds gs)) (filter_map-append ground found (a ∷ []) ∙ ap (λ (gs : List GroundAction). filter_map ground found ++ gs) (cons_option-nil (ground a)))
     ∙ none_both f (flat_map adds (filter_map ground found)) (flat_map adds (option_to_list (ground a))) _ (flat_map-append adds (filter_map ground found) (option_to_list (ground a))) old new
 
 -- what leads nowhere where the facts that it adds are atoms leads to nothing

@@ -12,18 +12,20 @@ use Rattle.std.specs.BTreeSet.{insert_key}
 use Rattle.std.proofs.lemmas.Cmp.{eq_by_cmp_equiv}
 use Rattle.std.proofs.lemmas.List.Folds.{list_any-append}
 use Rattle.std.proofs.lemmas.List.Kept.{IsStrictlySortedBy-filter}
-use Rattle.std.proofs.lemmas.Map.Lookups.{btree_set_from_contains}
 use Rattle.std.proofs.lemmas.Map.Made.{is_member-filter}
+use Rattle.std.proofs.lemmas.Bool.{or_left, or_parts, false_from_ne_true, or_right}
 use Rattle.ps_world.specs.Facts.{fact_cmp}
 use Rattle.ps_world.specs.Knowledge.{same_fact}
 use Rattle.ps_world.specs.Trees.{CondTree}
 use Rattle.ps_world.specs.declared.domains.Domain.{Domain}
 use Rattle.ps_world.specs.declared.facts.Fact.{Fact}
 use Rattle.ps_world.specs.declared.known.Knowledge.{Knowledge}
+use Rattle.ps_world.proofs.Truths.{and_true, or_false}
 use Rattle.ps_action.specs.Truth.{all_true}
-use Rattle.ps_action.proofs.Contained.{fact_itself, fact_same, or_second}
-use Rattle.ps_action.proofs.Facts.{exact_facts}
+use Rattle.ps_action.proofs.Contained.{fact_itself, fact_same}
 use Rattle.ps_action.proofs.Keys.{any-insert_key, sorted-insert_key}
+use Rattle.ps_action.proofs.ArcTables.{true_false}
+use Rattle.ps_problem.proofs.PutFacts.{facts_same}
 use Rattle.ps_ground.specs.Independence.{HasFootprint, are_independent, changed_by, changes, is_plain, is_plain_change, is_plain_test, reads}
 use Rattle.ps_ground.specs.Orders.{facts_total}
 use Rattle.ps_ground.specs.Prepared.{landed, successor, passes, turned, with_at, without_at}
@@ -32,7 +34,7 @@ use Rattle.ps_ground.specs.declared.prepared.Change.{Change}
 use Rattle.ps_ground.specs.declared.prepared.Change.TheVariants.{Flags, Effects}
 use Rattle.ps_ground.specs.declared.prepared.Prepared.{Prepared}
 use Rattle.ps_ground.specs.declared.prepared.Test.{Test}
-use Rattle.ps_ground.proofs.Bits.{no_share, share}
+use Rattle.ps_ground.proofs.Bits.{no_share, share, itself as nat_itself}
 use Rattle.ps_ground.proofs.Below.{IsBelow}
 
 -- ---- what is known
@@ -40,18 +42,6 @@ use Rattle.ps_ground.proofs.Below.{IsBelow}
 -- whether a fact is one of these
 abbrev known : Fact → List Fact → Bool
 known f fs = list_any (same_fact f) fs
-
--- facts that rise are told by what is known
-known_same : (fs gs : List Fact) → IsStrictlySortedBy fact_cmp fs → IsStrictlySortedBy fact_cmp gs → ((f : Fact) → known f fs ≡ known f gs) → fs ≡ gs
-known_same fs gs s t h = btree_set_from_contains facts_total (record { keys = fs }) (record { keys = gs }) s t h exact_facts
-
-or_false : (a : Bool) → (a || false) ≡ a
-or_false true = refl
-or_false false = refl
-
-and_true : (a : Bool) → (a && true) ≡ a
-and_true true = refl
-and_true false = refl
 
 known_put : (f : Fact) (fs : List Fact) (o : Option Fact) → known f (option_map_or (insert_key fact_cmp fs) o fs) ≡ (known f fs || option_map_or (same_fact f) o false)
 known_put f fs None = sym (or_false (known f fs))
@@ -100,32 +90,13 @@ one_place f (a ∷ atoms) (suc i) zero s p q =
     absurd (cc)
 one_place f (a ∷ atoms) (suc i) (suc j) s p q = ap suc (one_place f atoms i j s.1 p q)
 
-or_parts : (a b : Bool) → (a || b) ≡ false → (a ≡ false) × (b ≡ false)
-or_parts true b e = absurd (cc)
-or_parts false b e = (refl, e)
-
-or_first : (a b : Bool) → a ≡ true → (a || b) ≡ true
-or_first true b e = refl
-or_first false b e = absurd (cc)
-
-nat_itself : (i : ℕ) → nat_eq i i ≡ true
-nat_itself i = grind (arith, nat_tests)
-
-true_false : (b : Bool) → b ≡ true → b ≡ false → ⊥
-true_false b e f = cc
-
--- what is not true is false
-if_not : (b : Bool) → (b ≡ true → ⊥) → b ≡ false
-if_not true h = absurd (h refl)
-if_not false h = refl
-
 module _ (atoms : List Fact) (rise : IsStrictlySortedBy fact_cmp atoms) where
   -- an atom stands at none of the places that don't have its own
   none_there : (f : Fact) (i : ℕ) (js : List ℕ) → list_any (λ j. nat_eq j i) js ≡ false → stands atoms f i ≡ true → among atoms js f ≡ false
   none_there f i [] e p = refl
   none_there f i (j ∷ js) e p =
       let w = or_parts (nat_eq j i) (list_any (λ j. nat_eq j i) js) e in
-      let away : stands atoms f j ≡ false = if_not (stands atoms f j) (λ q. true_false (nat_eq j i) (subst (λ m. nat_eq j m ≡ true) (one_place f atoms j i rise q p) (nat_itself j)) w.0) in
+      let away : stands atoms f j ≡ false = false_from_ne_true (stands atoms f j) (λ q. true_false (nat_eq j i) (subst (λ m. nat_eq j m ≡ true) (one_place f atoms j i rise q p) (nat_itself j)) w.0) in
       rw away (none_there f i js w.1 p)
 
   independent_at : (f : Fact) (i : ℕ) (is js : List ℕ) (b : Bool) → stands atoms f i ≡ b → (b || among atoms is f) ≡ true → list_any (λ j. nat_eq j i) js ≡ false → (among atoms is f ≡ true → among atoms js f ≡ false) → among atoms js f ≡ false
@@ -279,8 +250,8 @@ module _ (atoms : List Fact) where
   read_alike : (fs gs : List Fact) (is : List ℕ) → ((f : Fact) → among atoms is f ≡ true → known f fs ≡ known f gs) → all_known atoms fs is ≡ all_known atoms gs is
   read_alike fs gs [] h = refl
   read_alike fs gs (i ∷ is) h =
-      let one = known_alike_at fs gs (slice_get atoms i) (λ f e. h f (or_first (stands atoms f i) (among atoms is f) e)) in
-      let rest = read_alike fs gs is (λ f e. h f (or_second (stands atoms f i) (among atoms is f) e)) in
+      let one = known_alike_at fs gs (slice_get atoms i) (λ f e. h f (or_left (stands atoms f i) (among atoms is f) e)) in
+      let rest = read_alike fs gs is (λ f e. h f (or_right (stands atoms f i) (among atoms is f) e)) in
       λ j. one j && rest j
 
   -- a ground action can step alike where the atoms that it reads are known alike
@@ -292,10 +263,10 @@ module _ (atoms : List Fact) where
       let later : (f : Fact) → among atoms (reads p) f ≡ true → known f (altered atoms p.at_start fs) ≡ known f (altered atoms p.at_start gs) =
       λ f e. known_altered atoms f p.at_start fs ∙ ap (stays atoms p.at_start f) (h f e) ∙ sym (known_altered atoms f p.at_start gs) in
       let in_rest : (f : Fact) → among atoms (over ++ last) f ≡ true → among atoms (reads p) f ≡ true =
-      λ f e. list_any-append (stands atoms f) start (over ++ last) ∙ or_second (among atoms start f) (among atoms (over ++ last) f) e in
-      let begins = read_alike fs gs start (λ f e. h f (list_any-append (stands atoms f) start (over ++ last) ∙ or_first (among atoms start f) (among atoms (over ++ last) f) e)) in
-      let runs = read_alike (altered atoms p.at_start fs) (altered atoms p.at_start gs) over (λ f e. later f (in_rest f (list_any-append (stands atoms f) over last ∙ or_first (among atoms over f) (among atoms last f) e))) in
-      let ends = read_alike (altered atoms p.at_start fs) (altered atoms p.at_start gs) last (λ f e. later f (in_rest f (list_any-append (stands atoms f) over last ∙ or_second (among atoms over f) (among atoms last f) e))) in
+      λ f e. list_any-append (stands atoms f) start (over ++ last) ∙ or_right (among atoms start f) (among atoms (over ++ last) f) e in
+      let begins = read_alike fs gs start (λ f e. h f (list_any-append (stands atoms f) start (over ++ last) ∙ or_left (among atoms start f) (among atoms (over ++ last) f) e)) in
+      let runs = read_alike (altered atoms p.at_start fs) (altered atoms p.at_start gs) over (λ f e. later f (in_rest f (list_any-append (stands atoms f) over last ∙ or_left (among atoms over f) (among atoms last f) e))) in
+      let ends = read_alike (altered atoms p.at_start fs) (altered atoms p.at_start gs) last (λ f e. later f (in_rest f (list_any-append (stands atoms f) over last ∙ or_right (among atoms over f) (among atoms last f) e))) in
       λ i. begins i && (runs i && ends i)
 
 -- ---- in either order
@@ -306,15 +277,15 @@ module _ (atoms : List Fact) (rise : IsStrictlySortedBy fact_cmp atoms) where
   step_after a b fs e =
       step_alike atoms b (left_by atoms a fs) fs
       (λ f r.
-      let touched : among atoms (reads b ++ changes b) f ≡ true = list_any-append (stands atoms f) (reads b) (changes b) ∙ or_first (among atoms (reads b) f) (among atoms (changes b) f) r in
+      let touched : among atoms (reads b ++ changes b) f ≡ true = list_any-append (stands atoms f) (reads b) (changes b) ∙ or_left (among atoms (reads b) f) (among atoms (changes b) f) r in
       let away : among atoms (changes a) f ≡ false =
-      if_not (among atoms (changes a) f) (λ c. true_false (among atoms (reads b ++ changes b) f) touched (independent_among atoms rise f (changes a) (reads b ++ changes b) e c)) in
+      false_from_ne_true (among atoms (changes a) f) (λ c. true_false (among atoms (reads b ++ changes b) f) touched (independent_among atoms rise f (changes a) (reads b ++ changes b) e c)) in
       known_left atoms f a fs ∙ remains_there atoms f a (known f fs) away)
 
   -- they leave the same facts in either order
   left_alike : (a b : Prepared) (fs : List Fact) → share (changes a) (reads b ++ changes b) ≡ false → IsStrictlySortedBy fact_cmp fs → left_by atoms b (left_by atoms a fs) ≡ left_by atoms a (left_by atoms b fs)
   left_alike a b fs e s =
-      known_same (left_by atoms b (left_by atoms a fs)) (left_by atoms a (left_by atoms b fs))
+      facts_same (left_by atoms b (left_by atoms a fs)) (left_by atoms a (left_by atoms b fs))
       (rises_left atoms b (left_by atoms a fs) (rises_left atoms a fs s)) (rises_left atoms a (left_by atoms b fs) (rises_left atoms b fs s))
       (λ f.
       known_left atoms f b (left_by atoms a fs) ∙ ap (remains atoms b f) (known_left atoms f a fs)

@@ -1,39 +1,17 @@
 -- The acts of an action, listed one list of arguments after another, and how many they are.
-use Rattle.std.proofs.Common.{◌≡◌, ℕ, zero, suc, ◌+◌, ◌*◌, ◌<◌, ◌≤◌, ◌⊎◌, inl, inr, min, List, [], ◌∷◌, length, get_or, map, drop, refl, ap, sym, ◌∙◌, arith, length-append, mul_assoc}
+use Rattle.std.proofs.Common.{◌≡◌, ℕ, ◌+◌, ◌*◌, ◌<◌, ◌≤◌, min, List, [], ◌∷◌, length, get_or, map, drop, refl, ap, sym, ◌∙◌, arith, mul_assoc}
 use Rattle.std.specs.List.{flat_map}
-use Rattle.std.proofs.lemmas.List.{drop_more, length-map}
-use Rattle.std.proofs.lemmas.Nat.{mul-le}
-use Rattle.std.proofs.lemmas.Bool.{cases_lt}
+use Rattle.std.proofs.lemmas.List.{drop_more}
 use Rattle.ps_world.specs.declared.names.Name.{Name}
 use Rattle.ps_world.specs.declared.actions.ActionDef.{ActionDef}
 use Rattle.ps_world.specs.declared.domains.Domain.{Domain}
 use Rattle.ps_action.specs.Grounding.{all_ground, all_of_action, by_name, choices, grounded, picks}
 use Rattle.ps_action.specs.declared.acts.GroundAction.{GroundAction}
+use Rattle.ps_domain.proofs.Counts.{length-picked, capped}
 use Rattle.ps_ground.specs.Acts.{act_with, acts_with}
 use Rattle.ps_ground.proofs.Lists.{map-flat_map, map-map}
 
 -- ---- how many there are
-
-length-picked : (ns : List Name) (lists : List (List Name)) → length (flat_map (λ n. map (λ args. n ∷ args) lists) ns) ≡ length ns * length lists
-length-picked [] lists = omega arith
-length-picked (n ∷ ns) lists =
-    let pieces = length-append (map (λ (args : List Name). n ∷ args) lists) (flat_map (λ n. map (λ args. n ∷ args) lists) ns) in
-    let first = length-map lists (λ (args : List Name). n ∷ args) in
-    let rest = length-picked ns lists in
-    omega (arith, pieces, first, rest)
-
-capped-by : (top x y : ℕ) → 50001 ≤ top → (x < 50002) ⊎ (50002 ≤ x) → min 50001 (min (min x top) 50001 * y) ≡ min 50001 (x * y)
-capped-by top x y high (inl few) = let same : min (min x top) 50001 ≡ x = omega arith in rw same refl
-capped-by top x zero high (inr many) = omega arith
-capped-by top x (suc y) high (inr many) =
-    let most : min (min x top) 50001 ≡ 50001 = omega arith in
-    let left : 50001 * 1 ≤ 50001 * suc y = mul-le 50001 1 50001 (suc y) (omega arith) (omega arith) in
-    let right : 50001 * 1 ≤ x * suc y = mul-le 50001 1 x (suc y) (omega arith) (omega arith) in
-    rw most (omega arith)
-
--- a product stops where its first factor is stopped
-capped : (top x y : ℕ) → 50001 ≤ top → min 50001 (min (min x top) 50001 * y) ≡ min 50001 (x * y)
-capped top x y high = capped-by top x y high (cases_lt x 50002)
 
 -- the count so far, with one more of the choices
 pub count_more : (lists : List (List Name)) (i : ℕ) (none : List Name) (top was : ℕ) → 50001 ≤ top → i < length lists

@@ -7,6 +7,7 @@ use Rattle.std.specs.BTreeSet.{insert_key}
 use Rattle.std.specs.Result.{result_ok}
 use Rattle.std.proofs.lemmas.Cmp.{eq_by_cmp_equiv}
 use Rattle.std.proofs.lemmas.List.Elements.{filter_map-append}
+use Rattle.std.proofs.lemmas.Bool.{or_from, or_parts}
 use Rattle.ps_world.specs.Facts.{fact_cmp}
 use Rattle.ps_world.specs.Knowledge.{same_fact}
 use Rattle.ps_world.specs.CondViews.{cond_tree}
@@ -19,6 +20,7 @@ use Rattle.ps_world.specs.declared.facts.Fact.{Fact}
 use Rattle.ps_world.specs.declared.known.Knowledge.{Knowledge}
 use Rattle.ps_world.specs.declared.names.Name.{Name}
 use Rattle.ps_world.specs.declared.numbers.Num.{Num}
+use Rattle.ps_world.proofs.Truths.{and_true}
 use Rattle.ps_action.specs.Effects.{added_by, deletes, fault_of_effects, faults_from, made, unless, value_set, values_set}
 use Rattle.ps_action.specs.Grounding.{put_cond}
 use Rattle.ps_action.specs.Truth.{all_true, is_true}
@@ -38,10 +40,6 @@ use Rattle.ps_ground.proofs.Settled.{both_true}
 
 -- ---- changes
 
-both : (a b : Bool) → (a || b) ≡ false → (a ≡ false) × (b ≡ false)
-both true b e = absurd (cc)
-both false b e = (refl, e)
-
 none_left_at : (p q : Fact → Bool) (f : Fact) (fs : List Fact) (a b : Bool) → p f ≡ a → (a || list_any p fs) ≡ false → list_any p (filter q fs) ≡ false → list_any p (cond b (f ∷ filter q fs) (filter q fs)) ≡ false
 none_left_at p q f fs true b h e rest = absurd (cc)
 none_left_at p q f fs false true h e rest = rw h rest
@@ -49,35 +47,32 @@ none_left_at p q f fs false false h e rest = rest
 
 none_left : (p q : Fact → Bool) (fs : List Fact) → list_any p fs ≡ false → list_any p (filter q fs) ≡ false
 none_left p q [] e = refl
-none_left p q (f ∷ fs) e = none_left_at p q f fs (p f) (q f) refl e (none_left p q fs (both (p f) (list_any p fs) e).1)
-
-neither : (a b : Bool) → a ≡ false → b ≡ false → (a || b) ≡ false
-neither a b e f = λ i. e i || f i
+none_left p q (f ∷ fs) e = none_left_at p q f fs (p f) (q f) refl e (none_left p q fs (or_parts (p f) (list_any p fs) e).1)
 
 -- what is put among facts that aren't it leaves it out
 pub none_put : (f : Fact) (adds fs : List Fact) → list_any (same_fact f) adds ≡ false → list_any (same_fact f) fs ≡ false → list_any (same_fact f) (fold (insert_key fact_cmp) fs adds) ≡ false
 none_put f [] fs a e = e
 none_put f (g ∷ adds) fs a e =
-    let w = both (same_fact f g) (list_any (same_fact f) adds) a in
-    none_put f adds (insert_key fact_cmp fs g) w.1 (any-insert_key facts_total f g fs ∙ neither (same_fact f g) (list_any (same_fact f) fs) w.0 e)
+    let w = or_parts (same_fact f g) (list_any (same_fact f) adds) a in
+    none_put f adds (insert_key fact_cmp fs g) w.1 (any-insert_key facts_total f g fs ∙ or_from (same_fact f g) (list_any (same_fact f) fs) w.0 e)
 
 -- what is no atom is none of the atoms
 other_atom : (f g : Fact) (atoms : List Fact) (i : ℕ) → slice_get atoms i ≡ Some g → list_any (same_fact f) atoms ≡ false → same_fact f g ≡ false
 other_atom f g [] i e none = absurd (cc)
 other_atom f g (a ∷ atoms) zero e gone =
     let same : a ≡ g = cc in
-    ap (same_fact f) (sym same) ∙ (both (same_fact f a) (list_any (same_fact f) atoms) gone).0
-other_atom f g (a ∷ atoms) (suc i) e gone = other_atom f g atoms i e (both (same_fact f a) (list_any (same_fact f) atoms) gone).1
+    ap (same_fact f) (sym same) ∙ (or_parts (same_fact f a) (list_any (same_fact f) atoms) gone).0
+other_atom f g (a ∷ atoms) (suc i) e gone = other_atom f g atoms i e (or_parts (same_fact f a) (list_any (same_fact f) atoms) gone).1
 
 -- the place of an atom is none of what is no atom
 pub placed_atom : (f g : Fact) (atoms : List Fact) (i : ℕ) → slice_get atoms i ≡ Some g → list_any (same_fact f) atoms ≡ false → list_any (same_fact f) (g ∷ []) ≡ false
-placed_atom f g atoms i e gone = neither (same_fact f g) false (other_atom f g atoms i e gone) refl
+placed_atom f g atoms i e gone = or_from (same_fact f g) false (other_atom f g atoms i e gone) refl
 
 none_in : (p : Fact → Bool) (o : Option Fact) (fs : List Fact) → list_any p (cons_option o fs) ≡ false → (list_any p (option_to_list o) ≡ false) × (list_any p fs ≡ false)
 none_in p None fs e = (refl, e)
 none_in p (Some f) fs e =
-    let w = both (p f) (list_any p fs) e in
-    (neither (p f) false w.0 refl, w.1)
+    let w = or_parts (p f) (list_any p fs) e in
+    (or_from (p f) false w.0 refl, w.1)
 
 -- the first of some effects, and the others, add atoms alone where all do
 pub adds_split : (atoms : List Fact) (e : Effect) (es : List Effect) (i : ℕ) → drop i es ≡ e ∷ drop (i + 1) es → AddAtoms atoms (drop i es) → AreAtoms atoms (option_to_list (added_by e)) × AddAtoms atoms (drop (i + 1) es)
@@ -88,9 +83,9 @@ adds_split atoms e es i split a =
 none_of_both : (p : Fact → Bool) (fs gs : List Fact) → list_any p (fs ++ gs) ≡ false → (list_any p fs ≡ false) × (list_any p gs ≡ false)
 none_of_both p [] gs e = (refl, e)
 none_of_both p (f ∷ fs) gs e =
-    let w = both (p f) (list_any p (fs ++ gs)) e in
+    let w = or_parts (p f) (list_any p (fs ++ gs)) e in
     let rest = none_of_both p fs gs w.1 in
-    (neither (p f) (list_any p fs) w.0 rest.0, rest.1)
+    (or_from (p f) (list_any p fs) w.0 rest.0, rest.1)
 
 -- where two lists together are atoms, each is
 pub atoms_of_both : (atoms fs gs : List Fact) → AreAtoms atoms (fs ++ gs) → AreAtoms atoms fs × AreAtoms atoms gs
@@ -113,7 +108,7 @@ facts_split atoms f fs i split a =
 -- what is one of the atoms has a place
 pub no_place : {A : Type 0} (f : Fact) (atoms : List Fact) → list_any (same_fact f) atoms ≡ false → AreAtoms atoms (f ∷ []) → A
 no_place f atoms gone a =
-    let other = (both (same_fact f f) false (a f gone)).0 in
+    let other = (or_parts (same_fact f f) false (a f gone)).0 in
     absurd (cc (other, (eq_by_cmp_equiv facts_total).refl f))
 
 module _ (d : Domain) (k : Knowledge) (atoms : List Fact) where
@@ -177,15 +172,11 @@ and_last : (a b c : Bool) → (a && (b && c)) ≡ ((a && b) && c)
 and_last true b c = refl
 and_last false b c = refl
 
-pub true_last : (a : Bool) → (a && true) ≡ a
-true_last true = refl
-true_last false = refl
-
 module _ (d : Domain) (k : Knowledge) (atoms : List Fact) (s : State) where
   -- one more of the other conditions
   pub more_others : (wanted : List ℕ) (others : List CondTree) (c : CondTree) → (list_all (known_at atoms s) wanted && all_true d (at k s) (others ++ c ∷ [])) ≡ ((list_all (known_at atoms s) wanted && all_true d (at k s) others) && is_true d (at k s) c)
   more_others wanted others c =
-      ap (λ b. list_all (known_at atoms s) wanted && b) (both_true d (at k s) others (c ∷ []) ∙ ap (λ b. all_true d (at k s) others && b) (true_last (is_true d (at k s) c)))
+      ap (λ b. list_all (known_at atoms s) wanted && b) (both_true d (at k s) others (c ∷ []) ∙ ap (λ b. all_true d (at k s) others && b) (and_true (is_true d (at k s) c)))
       ∙ and_last (list_all (known_at atoms s) wanted) (all_true d (at k s) others) (is_true d (at k s) c)
 
   -- what is taken into a test of no conditions is what is tested

@@ -1,16 +1,13 @@
 -- Conditions that hold in every state may be left out.
-use Rattle.std.proofs.Common.{◌≡◌, Bool, true, false, ◌&&◌, List, [], ◌∷◌, ◌++◌, option_map, option_and_then, refl, ap, sym, ◌∙◌}
+use Rattle.std.proofs.Common.{◌≡◌, true, ◌&&◌, List, [], ◌∷◌, ◌++◌, option_map, option_and_then, refl, ap, sym, ◌∙◌}
 use Rattle.ps_world.specs.Trees.{CondTree}
 use Rattle.ps_world.specs.declared.domains.Domain.{Domain}
 use Rattle.ps_world.specs.declared.known.Knowledge.{Knowledge}
+use Rattle.ps_world.proofs.Truths.{and_assoc}
 use Rattle.ps_action.specs.declared.acts.GroundAction.{GroundAction}
 use Rattle.ps_action.specs.Truth.{all_true, is_true}
 use Rattle.ps_ground.specs.States.{State, at, changed, stepped, where_so}
 use Rattle.ps_ground.specs.Moves.{Node, move}
-
-and_assoc : (a b c : Bool) → ((a && b) && c) ≡ (a && (b && c))
-and_assoc true b c = refl
-and_assoc false b c = refl
 
 module _ (d : Domain) (l : Knowledge) where
   pub both_true : (xs ys : List CondTree) → all_true d l (xs ++ ys) ≡ (all_true d l xs && all_true d l ys)

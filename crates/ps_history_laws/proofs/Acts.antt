@@ -17,6 +17,7 @@ use Rattle.ps_world.specs.declared.domains.Domain.{Domain}
 use Rattle.ps_world.specs.declared.domains.Param.{Param}
 use Rattle.ps_world.specs.declared.known.Knowledge.{Knowledge}
 use Rattle.ps_world.specs.declared.names.Name.{Name}
+use Rattle.ps_world.proofs.Optionals.{or_none}
 use Rattle.ps_action.specs.Effects.{effect, unless}
 use Rattle.ps_action.specs.Grounding.{first_unfit, ground_act, ground_by, grounded, unfit}
 use Rattle.ps_action.specs.Plans.{after_steps, and_then, judged, judged_by, step, step_of, where_true}
@@ -27,8 +28,8 @@ use Rattle.ps_action.specs.declared.refusals.GroundRefusal.{GroundRefusal}
 use Rattle.ps_action.specs.declared.refusals.GroundRefusal.TheVariants as ground
 use Rattle.ps_action.specs.declared.refusals.PlanRefusal.{PlanRefusal}
 use Rattle.ps_action.specs.declared.refusals.PlanRefusal.TheVariants as plan
+use Rattle.ps_action.proofs.Facts.{same_name-is}
 use Rattle.ps_machine.specs.Tables.{IsActOf as HasNamesOf, IsGroundRefusalOf, IsPlanRefusalOf}
-use Rattle.ps_rules.proofs.Kept.{name_eq}
 use Rattle.ps_script_laws.specs.Sayable.{IsActOf}
 use Rattle.ps_history_laws.specs.Inputs.{IsSayableAction, IsSayableDomain}
 use Rattle.ps_history_laws.proofs.Faults.{AreInstancesOf}
@@ -50,10 +51,6 @@ and_then-ok : {A B E F : Type 0} (P : A → Type 0) (why : E → F) (r : Result 
 and_then-ok P why (Ok a) next h well = (refl, (a, h, well))
 and_then-ok P why (Err e) next h well = absurd (true≢false (sym well))
 
-or-none : {A : Type 0} (a b : Option A) → option_or a b ≡ None → (a ≡ None) × (b ≡ None)
-or-none None b h = (refl, h)
-or-none (Some x) b h = absurd (cc)
-
 -- ---- acts that are grounded
 
 module _ (count : ℕ) (d : Domain) (sayable : IsSayableDomain count d) where
@@ -64,7 +61,7 @@ module _ (count : ℕ) (d : Domain) (sayable : IsSayableDomain count d) where
   declared : (n : Name) → IfSome (action_of d n) (IsDeclaredAs n)
   declared n =
       IfSome_then (action_of d n) (found-has (IsSayableAction count) (λ a. same_name n a.name) d.actions sayable.actions)
-      (λ a h. (subst (IsOf count) (sym (name_eq n a.name h.1)) h.0.name, h.0.few))
+      (λ a h. (subst (IsOf count) (sym (same_name-is n a.name h.1)) h.0.name, h.0.few))
 
   there : (kind : Option Name) (want n : Name) (at : ℕ) → unfit d kind want n at ≡ None → IsSome kind
   there None want n at h = absurd (cc)
@@ -77,9 +74,9 @@ module _ (count : ℕ) (d : Domain) (sayable : IsSayableDomain count d) where
   args-named instances named [] (n ∷ ns) at same fits = absurd (omega (arith, same))
   args-named instances named (p ∷ ps) [] at same fits = All-nil (IsOf count)
   args-named instances named (p ∷ ps) (n ∷ ns) at same fits =
-      let none = or-none (unfit d (lookup (same_name n) instances) p.kind n at) (first_unfit d instances ps ns (at + 1)) fits in
+      let none = or_none (unfit d (lookup (same_name n) instances) p.kind n at) (first_unfit d instances ps ns (at + 1)) fits in
       let some = there (lookup (same_name n) instances) p.kind n at none.0 in
-      let one : IsOf count n = All-contains (IsOf count) (keys_of instances) n named (Contains-keys_from_lookup name_eq n instances some) in
+      let one : IsOf count n = All-contains (IsOf count) (keys_of instances) n named (Contains-keys_from_lookup same_name-is n instances some) in
       let fewer : length ps ≡ length ns = omega (arith, same) in
       All-cons (IsOf count) n ns one (args-named instances named ps ns (at + 1) fewer none.1)
 

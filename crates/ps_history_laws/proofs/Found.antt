@@ -1,5 +1,5 @@
 -- What holds of the items of a list holds of those that are found in it.
-use Rattle.std.proofs.Common.{◌≡◌, ℕ, zero, suc, Bool, true, false, Option, Some, None, IfSome, List, [], ◌∷◌, All, if◌then◌else◌, find, filter, filter_map, map, slice_get, option_and_then, refl}
+use Rattle.std.proofs.Common.{◌≡◌, Bool, true, false, Option, Some, None, IfSome, List, [], ◌∷◌, All, if◌then◌else◌, find, filter, filter_map, map, refl}
 use Rattle.std.specs.List.{cons_option}
 use Rattle.std.proofs.lemmas.List.Elements.{All-nil, All-cons, All-head, All-tail}
 
@@ -12,18 +12,6 @@ found-has P test (x ∷ xs) h =
       | false ↦ λ e. found-has P test xs (All-tail P x xs h)
     ] in
     cases (test x) refl
-
--- so does the item at a place
-pub got-has : {A : Type 0} (P : A → Type 0) (xs : List A) (n : ℕ) → All P xs → IfSome (slice_get xs n) P
-got-has P [] n h = tt
-got-has P (x ∷ xs) zero h = All-head P x xs h
-got-has P (x ∷ xs) (suc n) h = got-has P xs n (All-tail P x xs h)
-
--- what holds of whatever comes of a value holds of what comes of it where there is one
-pub then-has : {A B : Type 0} (P : A → Type 0) (Q : B → Type 0) (f : A → Option B) → ((x : A) → P x → IfSome (f x) Q) → (o : Option A) → IfSome o P
-    → IfSome (option_and_then f o) Q
-then-has P Q f step None h = tt
-then-has P Q f step (Some x) h = step x h
 
 -- what holds of the views of all items holds of those of the items that are left
 pub left-have : {A B : Type 0} (P : B → Type 0) (view : A → B) (test : A → Bool) (xs : List A) → All P (map view xs) → All P (map view (filter test xs))

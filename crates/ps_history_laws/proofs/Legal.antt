@@ -1,11 +1,9 @@
 -- A legal event says what can be said.
 use Rattle.std.proofs.Common.{◌≡◌, ℕ, ◌+◌, ◌≤◌, ◌==◌, ◌&&◌, ◌||◌, Bool, true, false, not, Option, Some, None, is_none, is_ok, is_some, IfSome, IsTrue, Ok, List, [], ◌∷◌, All, length, option_and_then, refl, sym, subst, ap, ◌∙◌}
-use Rattle.std.specs.Cmp.{unsigned_Decides}
 use Rattle.std.specs.Option.{option_map_or}
-use Rattle.std.proofs.lemmas.Bool.{eqb-true, true≢false}
+use Rattle.std.proofs.lemmas.Bool.{eqb-true, true≢false, and_parts}
 use Rattle.std.proofs.lemmas.Option.{IfSome_then}
 use Rattle.std.proofs.lemmas.List.Elements.{All-cons, All-head, All-nil}
-use Rattle.std.proofs.lemmas.Slice.Eq.{slice_eq-Decides}
 use Rattle.ps_world.specs.Lines.{same_text}
 use Rattle.ps_world.specs.Names.{Table, same_name}
 use Rattle.ps_world.specs.Knowledge.{edited}
@@ -13,6 +11,7 @@ use Rattle.ps_world.specs.Tables.{IsOf}
 use Rattle.ps_world.specs.declared.edits.Edit.{Edit}
 use Rattle.ps_world.specs.declared.known.Knowledge.{Knowledge}
 use Rattle.ps_world.specs.declared.names.Name.{Name}
+use Rattle.ps_world.proofs.SameTexts.{same_text-is}
 use Rattle.ps_action.specs.Grounding.{ground_act}
 use Rattle.ps_action.specs.Plans.{judged}
 use Rattle.ps_action.specs.Search.{answer as answered_by}
@@ -35,6 +34,7 @@ use Rattle.ps_machine.specs.declared.journal.Refusal.TheVariants as refusal
 use Rattle.ps_machine.specs.declared.journal.RunKind.{RunKind}
 use Rattle.ps_machine.specs.declared.journal.RunKind.TheVariants as run
 use Rattle.ps_action.specs.declared.refusals.GroundRefusal.TheVariants as ground
+use Rattle.ps_action.proofs.Facts.{same_name-is}
 use Rattle.ps_rules.specs.Auctions.{confirmed, first_offer, has_answered, has_begun, has_offered, is_for_active, is_for_cancelled, is_of_run, is_open, is_rejected, is_through, offers}
 use Rattle.ps_rules.specs.Known.{know}
 use Rattle.ps_rules.specs.Legal.{fits, is_accepted, is_as_long, is_cause, is_confirmed, is_edit, is_feedback, is_finish, is_pass, is_plan, is_query, is_work, line_edit, opens_with, pass_reason}
@@ -44,14 +44,13 @@ use Rattle.ps_rules.specs.Runs.{has_run}
 use Rattle.ps_rules.specs.Same.{first_alike, same_acts, same_cause, same_edit}
 use Rattle.ps_rules.specs.Settled.{is_settled, verdict}
 use Rattle.ps_rules.specs.Sound.{IsSound, IsSoundUnit}
-use Rattle.ps_rules.proofs.Kept.{both, name_eq}
 use Rattle.ps_rules.proofs.SameThings.{same_acts-decides, same_cause-decides, same_edit-decides, same_query-decides}
+use Rattle.ps_rules.proofs.Notes.{then-has}
 use Rattle.ps_script_laws.specs.Sayable.{IsActOf, IsEditOf, IsQueryOf}
 use Rattle.ps_entries.specs.Forms.{may_run}
 use Rattle.ps_history_laws.specs.Inputs.{IsSayableInput, IsSayableLine, IsSayableUnit}
 use Rattle.ps_history_laws.proofs.Acts.{act-said, plan-said}
 use Rattle.ps_history_laws.proofs.Faults.{AreInstancesOf, edited-gives}
-use Rattle.ps_history_laws.proofs.Found.{then-has}
 use Rattle.ps_history_laws.proofs.Lines.{edit-named, next-line, refused-line}
 use Rattle.ps_history_laws.proofs.Members.{IsWorker, next-edit, next-said, next-seen, next-sound, performer-of}
 use Rattle.ps_history_laws.proofs.Said.{IsSaid, IsSaidEntry, confirmed-named, offered-named, offers-named}
@@ -94,13 +93,10 @@ unit-some : (P : Task → Type 0) (test : Option Task → Bool) → test None �
 unit-some P test none Q step None h passed = absurd (true≢false (sym passed ∙ none))
 unit-some P test none Q step (Some u) h passed = step u h
 
-same_text-is : (a b : List ℕ) → same_text a b ≡ true → a ≡ b
-same_text-is a b h = (slice_eq-Decides unsigned_Decides a b (same_text a b) refl).0 h
-
 -- feedback that is a sound unit is a percentage with a note in form
 feedback-is : (percent : ℕ) (text : List ℕ) (u : Option Task) → IfSome u IsSoundUnit → is_feedback percent text u ≡ true → (percent ≤ 100) × IsTrue (is_note text)
 feedback-is percent text (Some (unit.Feedback p t)) h f =
-    let same = both (percent == p) (same_text text t) f in
+    let same = and_parts (percent == p) (same_text text t) f in
     (subst (λ n. n ≤ 100) (sym (eqb-true percent p same.0)) h.0, ap is_note (same_text-is text t same.1) ∙ h.1)
 feedback-is percent text None h f = absurd (cc)
 feedback-is percent text (Some unit.Work) h f = absurd (cc)
@@ -120,16 +116,16 @@ module _ (names : Table) (i : Input) (sound : IsSound i) (sayable : IsSayableInp
 
   plan-is : (k : Knowledge) (acts : List Act) → AreInstancesOf (length names) k.instances → is_plan i.domain i.budget k acts ≡ true → All (IsActOf (length names)) acts
   plan-is k acts named passed =
-      plan-said (length names) i.domain sayable.domain k acts named (both (is_ok (judged i.domain k acts)) (is_as_long acts (answered_by i.domain k i.budget)) passed).0
+      plan-said (length names) i.domain sayable.domain k acts named (and_parts (is_ok (judged i.domain k acts)) (is_as_long acts (answered_by i.domain k i.budget)) passed).0
 
   -- the acts that open a run can be said, and are one where it is of an action
   acts-are : (es : List Entry) → AreInstancesOf (length names) (know i es).instances → (for : RunKind) (acts : List Act) (line : Option Line)
       → opens_with i es for acts line ≡ true → (may_run for acts ≡ true) × All (IsActOf (length names)) acts
   acts-are es named run.Goal acts (Some (Good command.Run)) passed = (refl, plan-is (know i es) acts named passed)
   acts-are es named run.Plan acts (Some (Good (command.RunPlan (Ok steps)))) passed =
-      (refl, plan-said (length names) i.domain sayable.domain (know i es) acts named (both (same_acts acts (acts_of steps)) (is_ok (judged i.domain (know i es) acts)) passed).1)
+      (refl, plan-said (length names) i.domain sayable.domain (know i es) acts named (and_parts (same_acts acts (acts_of steps)) (is_ok (judged i.domain (know i es) acts)) passed).1)
   acts-are es named run.Action acts (Some (Good (command.RunAction act))) passed =
-      let parts = both (same_acts acts (act ∷ [])) (is_ok (ground_act i.domain (know i es).instances act)) passed in
+      let parts = and_parts (same_acts acts (act ∷ [])) (is_ok (ground_act i.domain (know i es).instances act)) passed in
       let one : IsActOf (length names) act = act-said (length names) i.domain sayable.domain (know i es).instances named act parts.1 in
       subst (λ (all : List Act). (may_run run.Action all ≡ true) × All (IsActOf (length names)) all) (sym ((same_acts-decides acts (act ∷ [])).0 parts.0))
       (refl, All-cons (IsActOf (length names)) act [] one (All-nil (IsActOf (length names))))
@@ -157,27 +153,27 @@ module _ (names : Table) (i : Input) (sound : IsSound i) (sayable : IsSayableInp
 
     confirmed-is : (r : ℕ) (p : Name) → is_confirmed r p es ≡ true → IsOf (length names) p
     confirmed-is r p passed =
-        test-some (IsOf (length names)) (same_name p) (IsOf (length names) p) (λ q h same. subst (IsOf (length names)) (sym (name_eq p q same)) h)
+        test-some (IsOf (length names)) (same_name p) (IsOf (length names) p) (λ q h same. subst (IsOf (length names)) (sym (same_name-is p q same)) h)
         (confirmed r es) (confirmed-named names r es said) passed
 
     -- an event that fits says what can be said
     pub fitting-said : (e : Event) → fits i es e ≡ true → IsSaid names e
     fitting-said (event.Edit (by.Terminal n) edit) f =
-        let parts = both (n == answered es + 1) (is_edit edit (line_edit (next_line i es)) && is_ok (edited i.domain (know i es) edit)) f in
-        let is = both (is_edit edit (line_edit (next_line i es))) (is_ok (edited i.domain (know i es) edit)) parts.1 in
+        let parts = and_parts (n == answered es + 1) (is_edit edit (line_edit (next_line i es)) && is_ok (edited i.domain (know i es) edit)) f in
+        let is = and_parts (is_edit edit (line_edit (next_line i es))) (is_ok (edited i.domain (know i es) edit)) parts.1 in
         (tt, edit-is (IsEditOf names) edit (line_edit (next_line i es)) (line-edit (next_line i es) next) is.0)
     fitting-said (event.Edit (by.Performer r p) edit) f =
         edit-is (λ edit. IsOf (length names) p × IsEditOf names edit) edit (next_edit i r p es) (next-edit names i sayable r p es)
-        (both (is_edit edit (next_edit i r p es)) (is_ok (edited i.domain (know i es) edit)) f).0
+        (and_parts (is_edit edit (next_edit i r p es)) (is_ok (edited i.domain (know i es) edit)) f).0
     fitting-said (event.Edit (by.Observer o) edit) f =
         edit-is (λ edit. IsOf (length names) o × IsEditOf names edit) edit (next_seen i o es) (next-seen names i sayable o es)
-        (both (is_edit edit (next_seen i o es)) (is_ok (edited i.domain (know i es) edit)) f).0
+        (and_parts (is_edit edit (next_seen i o es)) (is_ok (edited i.domain (know i es) edit)) f).0
     fitting-said (event.Refused (by.Terminal n) why) f =
         let due : Option Refusal = option_and_then (refusal_of i es) (next_line i es) in
         let given : IfSome due (λ why. Unit {0} × IsRefusalOf (length names) why) =
         then-has (IsSayableLine names) (λ why. Unit {0} × IsRefusalOf (length names) why) (refusal_of i es)
         (λ line h. IfSome_then (refusal_of i es line) (refused-line names i.domain i.budget (know i es) (has_run es) line named h) (λ why g. (tt, g))) (next_line i es) next in
-        cause-is (length names) (Unit {0}) why due given (both (n == answered es + 1) (is_cause why due) f).1
+        cause-is (length names) (Unit {0}) why due given (and_parts (n == answered es + 1) (is_cause why due) f).1
     fitting-said (event.Refused (by.Performer r p) why) f =
         cause-is (length names) (IsOf (length names) p) why (option_and_then (λ edit. edit_refusal (edited i.domain (know i es) edit)) (next_edit i r p es))
         (then-has (λ edit. IsOf (length names) p × IsEditOf names edit) (λ why. IsOf (length names) p × IsRefusalOf (length names) why)
@@ -186,25 +182,25 @@ module _ (names : Table) (i : Input) (sound : IsSound i) (sayable : IsSayableInp
         cause-is (length names) (IsOf (length names) o) why (option_and_then (λ edit. edit_refusal (edited i.domain (know i es) edit)) (next_seen i o es))
         (then-has (λ edit. IsOf (length names) o × IsEditOf names edit) (λ why. IsOf (length names) o × IsRefusalOf (length names) why)
         (λ edit. edit_refusal (edited i.domain (know i es) edit)) (refused (IsOf (length names) o)) (next_seen i o es) (next-seen names i sayable o es)) f
-    fitting-said (event.Ask q) f = query-is q (next_line i es) next (both (is_query q (next_line i es)) (is_accepted i es (next_line i es)) f).0
+    fitting-said (event.Ask q) f = query-is q (next_line i es) next (and_parts (is_query q (next_line i es)) (is_accepted i es (next_line i es)) f).0
     fitting-said (event.Run for acts) f = acts-are es named for acts (next_line i es) f
     fitting-said (event.Offer r p) f = performer-is p (λ performer. not (has_answered r p es) && is_none (pass_reason performer r es)) f
     fitting-said (event.Pass r p why) f =
         performer-is p (λ performer. is_of_run r es && (not (has_answered r p es) && is_pass why (pass_reason performer r es))) f
     fitting-said (event.Confirm r p) f =
-        test-some (IsOf (length names)) (same_name p) (IsOf (length names) p) (λ q h same. subst (IsOf (length names)) (sym (name_eq p q same)) h) (first_offer (offers r es))
-        (first-has (IsOf (length names)) (offers r es) (offers-named names r es said)) (both (is_open r es) (option_map_or (same_name p) (first_offer (offers r es)) false) f).1
+        test-some (IsOf (length names)) (same_name p) (IsOf (length names) p) (λ q h same. subst (IsOf (length names)) (sym (same_name-is p q same)) h) (first_offer (offers r es))
+        (first-has (IsOf (length names)) (offers r es) (offers-named names r es said)) (and_parts (is_open r es) (option_map_or (same_name p) (first_offer (offers r es)) false) f).1
     fitting-said (event.Reject r p) f =
         offered-named names r p es said
-        (both (has_offered r p es) (not (is_rejected r p es) && (not (is_confirmed r p es) && (is_some (confirmed r es) || is_for_cancelled r es))) f).0
-    fitting-said (event.Begin r p) f = confirmed-is r p (both (is_confirmed r p es) (not (has_begun r p es) && is_for_active r es) f).0
+        (and_parts (has_offered r p es) (not (is_rejected r p es) && (not (is_confirmed r p es) && (is_some (confirmed r es) || is_for_cancelled r es))) f).0
+    fitting-said (event.Begin r p) f = confirmed-is r p (and_parts (is_confirmed r p es) (not (has_begun r p es) && is_for_active r es) f).0
     fitting-said (event.UnitWork r p) f = worker-is r p is_work refl f
     fitting-said (event.Feedback r p percent text) f =
         let told = feedback-is percent text (next_unit i r p es) (next-sound names i sayable r p es sound) f in
         (worker-is r p (is_feedback percent text) refl f, told.0, told.1)
     fitting-said (event.Finish r p ok) f = worker-is r p (is_finish ok) refl f
-    fitting-said (event.Stopped r p) f = confirmed-is r p (both (is_confirmed r p es) (not (is_through r p es) && is_for_cancelled r es) f).0
+    fitting-said (event.Stopped r p) f = confirmed-is r p (and_parts (is_confirmed r p es) (not (is_through r p es) && is_for_cancelled r es) f).0
     fitting-said (event.Replan acts) f =
-        let parts = both (is_settled i es) (is_none (verdict i es) && is_plan i.domain i.budget (know i es) acts) f in
-        plan-is (know i es) acts named (both (is_none (verdict i es)) (is_plan i.domain i.budget (know i es) acts) parts.1).1
+        let parts = and_parts (is_settled i es) (is_none (verdict i es) && is_plan i.domain i.budget (know i es) acts) f in
+        plan-is (know i es) acts named (and_parts (is_none (verdict i es)) (is_plan i.domain i.budget (know i es) acts) parts.1).1
     fitting-said e f = tt

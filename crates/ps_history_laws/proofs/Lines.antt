@@ -27,10 +27,10 @@ use Rattle.ps_machine.specs.declared.journal.Entry.{Entry}
 use Rattle.ps_machine.specs.declared.journal.Refusal.{Refusal}
 use Rattle.ps_machine.specs.declared.journal.Refusal.TheVariants as refusal
 use Rattle.ps_rules.specs.Lines.{acts_of, answered, due_lines, edit_refusal, ground_refusal, line_refusal, next_line, plan_refusal, refusal_of_goal, refusal_of_query, unplanned, with_goal}
+use Rattle.ps_rules.proofs.Notes.{got-has}
 use Rattle.ps_history_laws.specs.Inputs.{IsSayableLine}
 use Rattle.ps_history_laws.proofs.Acts.{act-refused, plan-refused}
 use Rattle.ps_history_laws.proofs.Faults.{AreInstancesOf, edited-gives}
-use Rattle.ps_history_laws.proofs.Found.{got-has}
 
 -- ---- the next line
 

@@ -8,6 +8,7 @@ use Rattle.ps_world.specs.declared.conditions.Cond.{Cond}
 use Rattle.ps_world.specs.declared.edits.Edit.{Edit}
 use Rattle.ps_world.specs.declared.known.Knowledge.{Knowledge}
 use Rattle.ps_world.specs.declared.names.Name.{Name}
+use Rattle.ps_action.proofs.Facts.{same_name-is}
 use Rattle.ps_machine.specs.declared.inputs.Input.{Input}
 use Rattle.ps_machine.specs.declared.members.Unit.{Unit as Task}
 use Rattle.ps_machine.specs.declared.members.Unit.TheVariants as unit
@@ -19,10 +20,10 @@ use Rattle.ps_rules.specs.Auctions.{begins, is_for_active, is_working, units_don
 use Rattle.ps_rules.specs.Known.{hold, know}
 use Rattle.ps_rules.specs.Members.{as_edit, as_observer, as_performer, edit_where, job, next_edit, next_seen, next_unit, observed, observer_of, observers, performer_of, performers, seen_by, unit_of}
 use Rattle.ps_rules.specs.Sound.{IsSound, IsSoundPerformer, IsSoundUnit}
-use Rattle.ps_rules.proofs.Kept.{name_eq}
+use Rattle.ps_rules.proofs.Notes.{got-has, then-has}
 use Rattle.ps_script_laws.specs.Sayable.{IsEditOf}
 use Rattle.ps_history_laws.specs.Inputs.{IsSayableInput, IsSayableMember, IsSayableObserver, IsSayablePerformer, IsSayableUnit}
-use Rattle.ps_history_laws.proofs.Found.{found-has, got-has, mapped-have, then-has}
+use Rattle.ps_history_laws.proofs.Found.{found-has, mapped-have}
 
 module _ (names : Table) (i : Input) (sayable : IsSayableInput names i) where
   -- ---- performers
@@ -40,7 +41,7 @@ module _ (names : Table) (i : Input) (sayable : IsSayableInput names i) where
   performer-of p =
       IfSome_then (performer_of i p)
       (found-has (IsSayablePerformer names) (λ performer. same_name p performer.name) (performers i) (mapped-have (IsSayableMember names) (IsSayablePerformer names) as_performer as-performer i.members sayable.members))
-      (λ performer h. record { named = subst (IsOf (length names)) (sym (name_eq p performer.name h.1)) h.0.name; jobs = h.0.jobs })
+      (λ performer h. record { named = subst (IsOf (length names)) (sym (same_name-is p performer.name h.1)) h.0.name; jobs = h.0.jobs })
 
   -- what holds of all units of a performer holds of its next one
   next-has : (P : Task → Type 0) (r : ℕ) (p : Name) (es : List Entry) → IfSome (performer_of i p) (λ performer. All (All P) performer.jobs) → IfSome (next_unit i r p es) P
@@ -102,4 +103,4 @@ module _ (names : Table) (i : Input) (sayable : IsSayableInput names i) where
       (observer_of i o)
       (IfSome_then (observer_of i o)
       (found-has (IsSayableObserver names) (λ observer. same_name o observer.name) (observers i) (mapped-have (IsSayableMember names) (IsSayableObserver names) as_observer as-observer i.members sayable.members))
-      (λ observer h k item below. (subst (IsOf (length names)) (sym (name_eq o observer.name h.1)) h.0.name, h.0.units k item below)))
+      (λ observer h k item below. (subst (IsOf (length names)) (sym (same_name-is o observer.name h.1)) h.0.name, h.0.units k item below)))

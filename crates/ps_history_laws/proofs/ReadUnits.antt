@@ -1,8 +1,9 @@
 -- What a line of a member script says can be said, and the table after it keeps the names before it.
-use Rattle.std.proofs.Common.{◌≡◌, ℕ, Bool, true, false, if◌then◌else◌, List, [], ◌∷◌, codes, drop, length, Option, None, Some, is_none, IfOk, Result, Ok, Err, refl, sym, ap, subst}
+use Rattle.std.proofs.Common.{◌≡◌, ℕ, Bool, true, false, if◌then◌else◌, List, [], ◌∷◌, codes, drop, length, Option, None, Some, IfOk, Result, Ok, Err, refl, sym, ap, subst}
 use Rattle.ps_world.specs.Names.{Table}
 use Rattle.ps_world.specs.Tables.{IsOf}
 use Rattle.ps_world.specs.declared.names.Name.{Name}
+use Rattle.ps_world.proofs.Optionals.{is_none-none}
 use Rattle.ps_machine.specs.Tables.{is_note}
 use Rattle.ps_machine.specs.declared.inputs.Line.TheVariants.{Good}
 use Rattle.ps_machine.specs.declared.inputs.LineCause.{LineCause}
@@ -18,14 +19,13 @@ use Rattle.ps_text.proofs.Kept.{kept_along, kept_interned}
 use Rattle.ps_text.proofs.Tables.{AreNames-interned}
 use Rattle.ps_shape.specs.Shape.{Derives, IsShallowFrom}
 use Rattle.ps_shape.specs.declared.marks.Mark.{Mark}
-use Rattle.ps_forms.specs.Lexemes.{lexemes_of, marks, name_within, table_after}
+use Rattle.ps_forms.specs.Lexemes.{lexemes_of, marks}
 use Rattle.ps_forms.specs.Nested.{Nesteds}
 use Rattle.ps_forms.specs.Places.{rest}
 use Rattle.ps_forms.specs.Spelling.{SpellAll}
 use Rattle.ps_forms.specs.declared.lexemes.Lexeme.{Lexeme}
-use Rattle.ps_forms.proofs.Kept.{kept_named}
 use Rattle.ps_pddl.specs.Reading.{HasWords}
-use Rattle.ps_pddl.proofs.ReadNames.{AreTold, first_below, lists_told, names_after}
+use Rattle.ps_pddl.proofs.ReadNames.{AreTold, first_below, lists_told, names_after, tables_kept}
 use Rattle.ps_script.specs.Files.{first_run, without_end}
 use Rattle.ps_script.specs.Lines.{marks_of}
 use Rattle.ps_members.specs.Args.{pattern_of, places_of}
@@ -55,28 +55,18 @@ pub record Follows (table after : Table) : Type 0 where
 pub same_table : (table : Table) → AreNames table → Follows table table
 same_table table known = record { names = known; keeps = λ n lt. refl }
 
-words_kept : (bytes : List ℕ) (table : Table) (tokens : List Token) → Keeps table (lexemes_of bytes table tokens).1
-words_kept bytes table [] = λ n lt. refl
-words_kept bytes table (token ∷ tokens) =
-    let next = table_after bytes table token in
-    kept_along table next (lexemes_of bytes next tokens).1 (kept_named table (name_within token.class _)) (words_kept bytes next tokens)
-
 words_follow : (table after : Table) (bytes : List ℕ) (tokens : List Token) (ls : List Lexeme) → AreNames table → AreTokens bytes tokens → lexemes_of bytes table tokens ≡ (ls, after) → Follows table after
 words_follow table after bytes tokens ls known are ws = record {
   names = names_after table bytes ls after known (record { tokens = tokens; are_tokens = are; words = ws });
-  keeps = subst (Keeps table) (ap (λ (x : List Lexeme × Table). x.1) ws) (words_kept bytes table tokens);
+  keeps = subst (Keeps table) (ap (λ (x : List Lexeme × Table). x.1) ws) (tables_kept bytes table tokens);
 }
-
-no_fault : {X : Type 0} (o : Option X) → is_none o ≡ true → o ≡ None
-no_fault None h = refl
-no_fault (Some x) h = absurd (cc)
 
 pub then_follow : (table middle after : Table) → Follows table middle → Follows middle after → Follows table after
 then_follow table middle after x y = record { names = y.names; keeps = kept_along table middle after x.keeps y.keeps }
 
 place_follows : (table : Table) (w : List ℕ) → AreNames table → is_name w ≡ true → Follows table (interned table (folded w))
 place_follows table w known h = record {
-  names = AreNames-interned table (folded w) known (IsNameText-folded w (no_fault (name_fault w) h));
+  names = AreNames-interned table (folded w) known (IsNameText-folded w (is_none-none (name_fault w) h));
   keeps = kept_interned table (folded w);
 }
 

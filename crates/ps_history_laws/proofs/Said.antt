@@ -1,11 +1,12 @@
 -- Events of which all that they say can be said, and what such entries say of requests.
 use Rattle.std.proofs.Common.{◌≡◌, ℕ, ◌≤◌, ◌==◌, ◌||◌, Bool, true, false, Option, Some, None, IfSome, IsTrue, List, [], ◌∷◌, All, length, refl, sym, subst}
 use Rattle.std.specs.Option.{unwrap_or}
-use Rattle.std.proofs.lemmas.Bool.{true≢false}
+use Rattle.std.proofs.lemmas.Bool.{true≢false, and_parts}
 use Rattle.std.proofs.lemmas.List.Elements.{All-head, All-nil, All-push, All-tail}
 use Rattle.ps_world.specs.Names.{Table, same_name}
 use Rattle.ps_world.specs.Tables.{IsOf}
 use Rattle.ps_world.specs.declared.names.Name.{Name}
+use Rattle.ps_action.proofs.Facts.{same_name-is}
 use Rattle.ps_machine.specs.Tables.{IsByOf, IsRefusalOf, is_note}
 use Rattle.ps_machine.specs.declared.journal.Event.{Event}
 use Rattle.ps_machine.specs.declared.journal.Event.TheVariants as event
@@ -13,7 +14,6 @@ use Rattle.ps_machine.specs.declared.journal.Entry.{Entry}
 use Rattle.ps_rules.specs.Auctions.{confirmed, has_offered, is_offer, offers, says_confirm, says_offer}
 use Rattle.ps_rules.specs.Reading.{latest, only_if, read, with_last}
 use Rattle.ps_rules.specs.Same.{first_alike}
-use Rattle.ps_rules.proofs.Kept.{both, name_eq}
 use Rattle.ps_script_laws.specs.Sayable.{IsActOf, IsEditOf, IsQueryOf}
 use Rattle.ps_entries.specs.Forms.{may_run}
 
@@ -88,7 +88,7 @@ module _ (names : Table) where
   found-offer : (r : ℕ) (p : Name) (found : Bool) (e : Event) → IsSaid names e → (found ≡ true → IsOf (length names) p) → (found || is_offer r p e) ≡ true → IsOf (length names) p
   found-offer r p true e h old now = old refl
   found-offer r p false (event.Offer s q) h old now =
-      subst (IsOf (length names)) (sym (name_eq p q (both (r == s) (same_name p q) now).1)) h
+      subst (IsOf (length names)) (sym (same_name-is p q (and_parts (r == s) (same_name p q) now).1)) h
   found-offer r p false e h old now = absurd (true≢false (sym now))
 
   offered-from : (r : ℕ) (p : Name) (found : Bool) (es : List Entry) → All (IsSaidEntry names) es → (found ≡ true → IsOf (length names) p)

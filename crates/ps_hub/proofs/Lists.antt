@@ -1,10 +1,8 @@
 -- Lists of reports by performer and by request, and lists read by `get_elem?`.
-use Rattle.std.proofs.Common.{◌≡◌, ◌≢◌, ◌⊎◌, ℕ, zero, suc, slice_set, length, inl, inr, ⊎_elim, ◌<◌, ◌+◌, List, [], ◌∷◌, ◌++◌, refl, sym, ap, ◌∙◌, subst, arith}
+use Rattle.std.proofs.Common.{◌≡◌, ◌≢◌, ℕ, length, ◌<◌, ◌+◌, List, [], ◌∷◌, ◌++◌, refl, sym, ap, ◌∙◌, subst, arith}
 use Rattle.std.specs.Prelude.{◌==◌, slice_index_or}
-use mathlib.Core.Option.{some, some-injective, some-ne-none}
 use mathlib.Core.Logic.{dite}
 use native.Mathlib.Decide.{ℕ_discrete}
-use lib.ListN.{get_elem?}
 use Rattle.std.specs.List.{All}
 use Rattle.std.proofs.lemmas.List.Elements.{All-head, All-tail, filter-append}
 use Rattle.std.proofs.lemmas.List.{append-nil, length-append, get_or_append_left}
@@ -80,23 +78,3 @@ numbered_prefix xs ys num by r =
     let split : on r (of by (xs ++ ys)) ≡ on r (of by xs) ++ on r (of by ys) =
     ap (on r) (filter-append (λ (y : Report). y.by == by) xs ys) ∙ filter-append (λ (y : Report). y.r == r) (of by xs) (of by ys) in
     count_prefix (on r (of by xs)) (on r (of by ys)) (subst CountsUp split (num by r))
-
--- ---- lists read by `get_elem?`
-
--- what is written over an element stands there
-pub set_over : {A : Type 0} (l : List A) (i : ℕ) (a b : A) → get_elem? l i ≡ some a → get_elem? (slice_set l i b) i ≡ some b
-set_over [] i a b e = absurd (some-ne-none a (sym e))
-set_over (x ∷ xs) zero a b e = refl
-set_over (x ∷ xs) (suc i) a b e = set_over xs i a b e
-
--- what stands in a list with one more element stands there already, or is the last
-pub at_end_or_before : {A : Type 0} (l : List A) (a b : A) (j : ℕ) → get_elem? (l ++ a ∷ []) j ≡ some b → (get_elem? l j ≡ some b) ⊎ ((j ≡ length l) × (a ≡ b))
-at_end_or_before [] a b zero e = inr (refl, some-injective a b e)
-at_end_or_before [] a b (suc j) e = absurd (some-ne-none b (sym e))
-at_end_or_before (x ∷ xs) a b zero e = inl e
-at_end_or_before (x ∷ xs) a b (suc j) e = ⊎_elim inl (λ t. inr (ap suc t.0, t.1)) (at_end_or_before xs a b j e)
-
--- what stands in a list of one element is that
-pub at_only : {A : Type 0} (a b : A) (j : ℕ) → get_elem? (a ∷ []) j ≡ some b → (j ≡ 0) × (a ≡ b)
-at_only a b zero e = (refl, some-injective a b e)
-at_only a b (suc j) e = absurd (some-ne-none b (sym e))

@@ -6,6 +6,7 @@ use mathlib.Core.Option.{some}
 use lib.ListN.{get_elem?}
 use Rattle.crossbeam_queue.specs.Fifo.{Pushes, Pops, Forks, Merges, Learns}
 use Rattle.crossbeam_queue.proofs.Lists.{at_set, set_else}
+use Rattle.ps_world.proofs.Elements.{at_end_or_before, at_only}
 use Rattle.ps_hub.specs.declared.report.Report.{Report}
 use Rattle.ps_hub.specs.declared.view.Note.{Note}
 use Rattle.ps_hub.specs.declared.view.View.{View}
@@ -13,7 +14,7 @@ use Rattle.ps_hub.specs.Reports.{of, on, IsNumbered}
 use Rattle.ps_hub.specs.Looks.{IsLearned}
 use Rattle.ps_hub.specs.Rule.{HasNote, AreNoted, FitsDesk, FitsTray, Carries}
 use Rattle.ps_hub.specs.Steps.{opener, dealer, newcomer, sending, getting, noting, spent, IsNext, ToldDesk, ToldTray}
-use Rattle.ps_hub.proofs.Lists.{of_more, of_same, of_none, numbered_more, numbered_prefix, at_end_or_before, at_only}
+use Rattle.ps_hub.proofs.Lists.{of_more, of_same, of_none, numbered_more, numbered_prefix}
 
 -- ---- notes
 

@@ -9,21 +9,7 @@ use Rattle.atomic_table.specs.contracts.shared.Seat as Token
 use Rattle.atomic_table.proofs.shared.Seat.TheSendSync as token
 use Rattle.crossbeam_queue.specs.contracts.array_queue.Doing as Doing
 use Rattle.crossbeam_queue.proofs.array_queue.Slotted.TheSendSync as queue
-use Rattle.ps_world.specs.contracts.expressions.Expr as Expr
-use Rattle.ps_world.specs.contracts.conditions.Conds as Conds
-use Rattle.ps_world.specs.contracts.conditions.Cond as Cond
-use Rattle.ps_world.specs.contracts.edits.Edit as Edit
-use Rattle.ps_world.proofs.expressions.BoxedExpr.TheLaws.TheKnot as expr
-use Rattle.ps_world.proofs.conditions.BoxedCond.TheLaws.TheKnot as cond
-use Rattle.ps_world.proofs.numbers.Num.TheSendSync as num
-use Rattle.ps_world.proofs.schemas.Lifted.TheSendSync as lifted
-use Rattle.ps_world.proofs.schemas.Term.TheSendSync as term
-use Rattle.ps_world.proofs.names.Name.TheSendSync as name
-use Rattle.ps_world.proofs.domains.Param.TheSendSync as param
-use Rattle.ps_world.proofs.domains.Decl.TheSendSync as decl
-use Rattle.ps_world.proofs.facts.Fact.TheSendSync as fact
-use Rattle.ps_world.proofs.lists.Seq.TheSendSync as seq
-use Rattle.ps_machine.specs.contracts.members.Unit as Task
+use Rattle.ps_machine.proofs.Sends.{unit_send, lists}
 use Rattle.ps_hub.specs.contracts.report.Report as Report
 use Rattle.ps_hub.specs.contracts.view.View as View
 use Rattle.ps_hub.specs.contracts.desk.Desk as Desk
@@ -32,27 +18,6 @@ use Rattle.ps_hub.specs.contracts.belt.Belt as Belt
 use Rattle.ps_hub.specs.contracts.locked.Post as Post
 use Rattle.ps_hub.specs.contracts.locked.Pile as Pile
 use Rattle.ps_hub.proofs.belt.Size.TheSendSync as size
-
--- ---- units
-
-ruleset parts = (sendable, crosses, num.the_send, num.the_sync, lifted.the_field_send, lifted.the_field_sync, term.the_field_send, term.the_field_sync, name.the_field_send, name.the_field_sync, param.the_send, param.the_sync, decl.the_send, decl.the_sync, fact.the_field_send, fact.the_field_sync, seq.the_send, seq.the_sync)
-
-expr_send : IsSend Expr.the_field.row
-expr_send = search (parts, expr.send-Expr, expr.send-BoxedExpr) depth 12
-
-conds_send : IsSend Conds.the_row
-conds_send = search (parts, expr_send, cond.send-Conds) depth 12
-
-cond_send : IsSend Cond.the_field.row
-cond_send = search (parts, expr_send, conds_send, cond.send-BoxedCond, cond.send-Cond) depth 12
-
-edit_send : IsSend Edit.the_field.row
-edit_send = search (parts, cond_send) depth 12
-
-ruleset lists = (sendable, crosses, seq.the_send, seq.the_sync, name.the_field_send, name.the_field_sync)
-
-unit_send : IsSend Task.the_field.row
-unit_send = search (lists, edit_send) depth 12
 
 -- ---- reports, desks, trays and belts
 

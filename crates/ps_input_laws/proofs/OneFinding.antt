@@ -6,9 +6,10 @@ use Rattle.ps_machine.specs.declared.journal.Entry.{Entry}
 use Rattle.ps_rules.specs.Heads.{Head}
 use Rattle.ps_rules.specs.Journal.{text_with}
 use Rattle.ps_text.specs.Names.{AreNames}
+use Rattle.ps_entry_laws.proofs.OneFault.{faults_are_one}
 use Rattle.ps_entries.specs.Journals.{IsFault, IsJournal}
 use Rattle.ps_entries.specs.declared.journals.JournalRefusal.{JournalRefusal}
-use Rattle.ps_entry_laws.proofs.OneFault.{faults_are_one, journals_have_no_fault}
+use Rattle.ps_entry_laws.proofs.OneFault.{journals_have_no_fault}
 use Rattle.ps_entry_laws.proofs.OneJournal.{texts_are_one_journal}
 use Rattle.ps_audit.specs.Findings.{Finds, IsLegal, compared, due_head, entries_of, good_entries, line_of, line_of_fault, lines_in}
 use Rattle.ps_audit.specs.Findings.Finds.{unread, broken, whole}

@@ -49,20 +49,3 @@ pub held_commands : (lines : List (Vec ℕ)) → All IsCommand (texts_of lines) 
 held_commands [] is = All-nil (λ (line : Vec ℕ). IsCommand line.items)
 held_commands (line ∷ lines) is =
     All-cons (λ (l : Vec ℕ). IsCommand l.items) line lines (All-head IsCommand line.items (texts_of lines) is) (held_commands lines (All-tail IsCommand line.items (texts_of lines) is))
-
--- ---- how many there are
-
-trips_length : (carts : List ℕ) → length (flat_map trip_lines carts) ≡ 2 * length carts
-trips_length [] = refl
-trips_length (cart ∷ carts) = omega (arith, trips_length carts)
-
-pub script_length : (carts : ℕ) → length (script_lines carts) ≡ 4 * carts + 5
-unfolding script_lines
-script_length carts =
-    let cs = carts_of carts in
-    let trips = flat_map trip_lines cs in
-    let stores = map store_line cs in
-    let names = map cart_line cs in
-    let five : length stage_lines ≡ 5 = refl in
-    let count : length cs ≡ carts = length-range_with_len 1 carts in
-    omega (arith, five, count, length-append stage_lines (names ++ (stores ++ trips)), length-append names (stores ++ trips), length-append stores trips, length-map cs cart_line, length-map cs store_line, trips_length cs)

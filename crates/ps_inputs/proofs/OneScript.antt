@@ -4,6 +4,7 @@ use Rattle.ps_world.specs.Names.{Table}
 use Rattle.ps_machine.specs.declared.inputs.Command.TheVariants.{RunPlan}
 use Rattle.ps_machine.specs.declared.inputs.Line.{Line}
 use Rattle.ps_machine.specs.declared.inputs.Line.TheVariants.{Good}
+use Rattle.ps_forms.proofs.Layers.{some_end}
 use Rattle.ps_script.specs.declared.reading.Read.{Read}
 use Rattle.ps_script.specs.declared.reading.Read.TheVariants as read
 use Rattle.ps_script.proofs.OneAnswer.{lines_are_read_as_one}
@@ -37,15 +38,11 @@ one_end (a ∷ xs) (b ∷ ys) x y p =
     let first : a ≡ b = cc in
     (λ i. first i ∷ same.0 i, same.1)
 
-no_end : {A : Type 0} (xs : List A) (x : A) → xs ++ x ∷ [] ≡ [] → ⊥
-no_end [] x p = absurd (cc)
-no_end (a ∷ xs) x p = absurd (cc)
-
 module _ (first : Table) where
   one_script : (script other_script : List Flattened) (lines more : List Line) (after other : Table) → script ≡ other_script → IsScript first script lines after → IsScript first other_script more other → (lines ≡ more) × (after ≡ other)
   one_script _ _ _ _ _ _ p nothing nothing = (refl, refl)
-  one_script _ _ _ _ _ _ p nothing (one_more before lines table one new after h a) = absurd (no_end before one (sym p))
-  one_script _ _ _ _ _ _ p (one_more before lines table one new after h a) nothing = absurd (no_end before one p)
+  one_script _ _ _ _ _ _ p nothing (one_more before lines table one new after h a) = absurd (some_end before one (sym p))
+  one_script _ _ _ _ _ _ p (one_more before lines table one new after h a) nothing = absurd (some_end before one p)
   one_script _ _ _ _ _ _ p (one_more before lines table one new after h a) (one_more before2 lines2 table2 one2 new2 after2 g b) =
       let ends = one_end before before2 one one2 p in
       let rest = one_script before before2 lines lines2 table table2 ends.0 h g in

@@ -12,15 +12,15 @@ use Rattle.ps_plan.specs.PlanText.{Said, amount_of, fits, is_skipped, line_of, n
 use Rattle.ps_action.specs.declared.refusals.PlanTextRefusal.{PlanTextRefusal}
 use Rattle.ps_plan.proofs.LineParts.{names_from-more}
 use Rattle.ps_plan.proofs.NamedParts.{fit_parts}
+use Rattle.ps_pddl.proofs.WordLexemes.{AreNames-name}
 use Rattle.ps_inputs.specs.Scripts.{plan_in, unless_faulty}
-use Rattle.ps_inputs.proofs.TableNames.{with_name}
 
 -- names are put into a table of names, one after another
 all_named : (t : Table) (ws : List (List ℕ)) → list_all is_name ws ≡ true → AreNames t → AreNames (named_all t ws).1
 all_named t [] h n = n
 all_named t (w ∷ ws) h n =
     let both = and_parts (is_name w) (list_all is_name ws) h in
-    all_named (interned t (folded w)) ws both.1 (with_name t w both.0 n)
+    all_named (interned t (folded w)) ws both.1 (AreNames-name t w both.0 n)
 
 -- what a line says has names alone
 record IsNamed (said : Said) : Type 0 where
@@ -56,7 +56,7 @@ line_named line = by_case (is_skipped line) where
 one_named : (t : Table) (steps : List PlanStep) (o : Option Said) (more : List Said) → ((t' : Table) (steps' : List PlanStep) → AreNames t' → AreNames (planned t' steps' more).1) → IfSome o IsNamed → AreNames t → AreNames (planned t steps (cons_option o more)).1
 one_named t steps None more rest h n = rest t steps n
 one_named t steps (Some said) more rest h n =
-    rest (table_after t said) (placed (step_of t said) steps) (all_named (interned t (folded said.action)) said.args h.args (with_name t said.action h.action n))
+    rest (table_after t said) (placed (step_of t said) steps) (all_named (interned t (folded said.action)) said.args h.args (AreNames-name t said.action h.action n))
 
 all_lines_named : (t : Table) (steps : List PlanStep) (lines : List (List ℕ)) → AreNames t → AreNames (planned t steps (filter_map says lines)).1
 all_lines_named t steps [] n = n

@@ -6,6 +6,7 @@ use Rattle.std.proofs.lemmas.Bool.Decides.{nat_tests}
 use Rattle.ps_world.specs.declared.failures.Failure.{Failure}
 use Rattle.ps_world.specs.declared.failures.Failure.TheVariants.{Refused, OutOfMemory}
 use Rattle.std.specs.Global.{Vec}
+use Rattle.ps_world.proofs.Elements.{get_first}
 use Rattle.ps_text.specs.Outside.{FilesView, MayHold, Reads, Told, after, next}
 use Rattle.ps_text.specs.Outside.Told.{untold, absent, text}
 use Rattle.ps_inputs.specs.Reading.{FileFault, MayBe, MayFail, MayGive, MayReadNext, Reading, Texts, after_files, and_then, file_gives, longest_file, most_lines}
@@ -23,12 +24,6 @@ after-sum j zero n = let e : j ≡ j + 0 = omega arith in ap (λ (m : ℕ). afte
 after-sum j (suc k) n =
     let e : suc (j + k) ≡ j + suc k = omega arith in
     ap next (after-sum j k n) ∙ ap (λ (m : ℕ). after m n) e
-
--- an item of the first list is one of both
-get_first : {A : Type 0} (xs ys : List A) (n : ℕ) (x : A) → slice_get xs n ≡ Some x → slice_get (xs ++ ys) n ≡ Some x
-get_first [] ys n x e = absurd (cc)
-get_first (y ∷ xs) ys zero x e = e
-get_first (y ∷ xs) ys (suc n) x e = get_first xs ys n x e
 
 -- and so is one of the second, after those of the first
 get_second : {A : Type 0} (xs ys : List A) (n : ℕ) (x : A) → slice_get ys n ≡ Some x → slice_get (xs ++ ys) (length xs + n) ≡ Some x

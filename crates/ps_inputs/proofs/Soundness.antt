@@ -1,7 +1,7 @@
 -- The members of an input that is read are sound.
-use Rattle.std.proofs.Common.{◌≡◌, ℕ, ◌≤◌, Bool, true, false, ◌||◌, nat_lt, List, [], ◌∷◌, All, filter_map, length, refl, arith}
-use Rattle.std.proofs.lemmas.Bool.Decides.{nat_tests}
+use Rattle.std.proofs.Common.{◌≡◌, ◌≤◌, false, nat_lt, List, [], ◌∷◌, All, filter_map, length}
 use Rattle.std.proofs.lemmas.List.Elements.{All-nil, All-cons, All-append}
+use Rattle.std.proofs.lemmas.Bool.{or_parts, ltb-false}
 use Rattle.ps_world.specs.Names.{Table}
 use Rattle.ps_world.specs.declared.domains.Domain.{Domain}
 use Rattle.ps_machine.specs.declared.members.Member.{Member}
@@ -12,18 +12,11 @@ use Rattle.ps_inputs.specs.Members.AreMembers.{nobody, one_more}
 use Rattle.ps_inputs.specs.Laws.{MembersAreSound}
 use Rattle.ps_inputs.proofs.Together.{names_differ}
 
-both_false : (a b : Bool) → (a || b) ≡ false → (a ≡ false) × (b ≡ false)
-both_false true b h = absurd (cc)
-both_false false b h = (refl, h)
-
-at_most : (most n : ℕ) → nat_lt most n ≡ false → n ≤ most
-at_most most n h = grind (arith, nat_tests)
-
 -- members who aren't a crowd are few
 pub few_members : (ms : List Member) → is_crowd ms ≡ false → (length (filter_map as_performer ms) ≤ 64) × (length (filter_map as_observer ms) ≤ 16)
 few_members ms h =
-    let few = both_false (nat_lt 64 (length (filter_map as_performer ms))) (nat_lt 16 (length (filter_map as_observer ms))) h in
-    (at_most 64 (length (filter_map as_performer ms)) few.0, at_most 16 (length (filter_map as_observer ms)) few.1)
+    let few = or_parts (nat_lt 64 (length (filter_map as_performer ms))) (nat_lt 16 (length (filter_map as_observer ms))) h in
+    (ltb-false 64 (length (filter_map as_performer ms)) few.0, ltb-false 16 (length (filter_map as_observer ms)) few.1)
 
 each_whole : MembersAreWhole → (d : Domain) (first : Table) (texts : List NamedText) (ms : List Member) (after : Table) → AreMembers d first texts ms after → All IsWholeMember ms
 each_whole law d first _ _ _ nobody = All-nil IsWholeMember

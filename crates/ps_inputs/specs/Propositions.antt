@@ -1,6 +1,7 @@
 -- That an input is sound is a proposition.
 use Rattle.std.proofs.Common.{Option, Ok, Err, List}
 use Rattle.std.proofs.Props.{props}
+use Rattle.ps_world.specs.Trees.{CondTree, CondTrees, all_of, no, holds, same, compares, is_a, none, more}
 use Rattle.ps_world.specs.declared.conditions.Cond.{Cond}
 use Rattle.ps_world.specs.declared.domains.Domain.{Domain}
 use Rattle.ps_world.specs.declared.edits.Edit.{Edit}
@@ -13,10 +14,23 @@ use Rattle.ps_machine.specs.declared.members.Unit.{Unit as Task}
 use Rattle.ps_machine.specs.declared.members.Unit.TheVariants as unit
 use Rattle.ps_machine.specs.declared.members.Performer.{Performer}
 use Rattle.ps_machine.specs.declared.members.Observer.{Observer}
-use Rattle.ps_rules.specs.Sound.{IsScriptCond, IsScriptEdit, IsSound, IsSoundItem, IsSoundJob, IsSoundLine, IsSoundObserver, IsSoundPerformer, IsSoundUnit}
+use Rattle.ps_rules.specs.Sound.{AreGroundConds, IsGroundCond, IsScriptCond, IsScriptEdit, IsSound, IsSoundItem, IsSoundJob, IsSoundLine, IsSoundObserver, IsSoundPerformer, IsSoundUnit}
+
+mutual
+  ground-prop : (c : CondTree) → IsProp (IsGroundCond c)
+  ground-prop (all_of cs) = grounds-prop cs
+  ground-prop (no c) = ground-prop c
+  ground-prop (holds l) = hlevel props
+  ground-prop (same s t) = hlevel props
+  ground-prop (compares rel x y) = hlevel props
+  ground-prop (is_a t kind) = hlevel props
+
+  grounds-prop : (cs : CondTrees) → IsProp (AreGroundConds cs)
+  grounds-prop none = hlevel props
+  grounds-prop (more c cs) = hlevel (props, ground-prop c, grounds-prop cs)
 
 written-cond-prop : (c : Cond) → IsProp (IsScriptCond c)
-written-cond-prop c = hlevel props
+written-cond-prop c = hlevel (props, ground-prop)
 
 written-edit-prop : (edit : Edit) → IsProp (IsScriptEdit edit)
 written-edit-prop (AddInstance x t) = hlevel props

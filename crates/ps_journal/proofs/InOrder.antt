@@ -9,35 +9,21 @@ use Rattle.std.proofs.lemmas.Cmp.{nat_list_cmp_total}
 use Rattle.std.proofs.lemmas.List.Kept.{IsStrictlySortedBy-dedup}
 use Rattle.std.proofs.lemmas.List.Sorted.{list_any-IsPermutation}
 use Rattle.std.proofs.lemmas.Map.Lookups.{btree_set_from_contains, exact_bytes}
-use Rattle.std.proofs.lemmas.Map.Views.{tells_apart}
 use Rattle.ps_world.specs.Lines.{same_text}
+use Rattle.ps_world.proofs.Truths.{or_false, or_again}
+use Rattle.ps_world.proofs.SameTexts.{same_text-is}
 use Rattle.ps_action.proofs.Keys.{any-insert_key, sorted-insert_key}
 use Rattle.ps_rules.specs.Journal.{in_order}
+use Rattle.ps_problem.proofs.PutFacts.{or_swap}
 
 -- whether a line is among others
 abbrev has : List ℕ → List (List ℕ) → Bool
 has line lines = list_any (eq_by_cmp (slice_cmp nat_cmp) line) lines
 
-or_same : (a b : Bool) → (a || b) ≡ (a || (a || b))
-or_same true b = refl
-or_same false b = refl
-
-or_swap : (a b c : Bool) → ((a || b) || c) ≡ (b || (a || c))
-or_swap true true c = refl
-or_swap true false c = refl
-or_swap false b c = refl
-
-or_false : (a : Bool) → (a || false) ≡ a
-or_false true = refl
-or_false false = refl
-
 -- ---- with no two neighbours the same
 
-same_text-is : (x y : List ℕ) → same_text x y ≡ true → x ≡ y
-same_text-is x y e = tells_apart exact_bytes x y (sym (texts_ties x y) ∙ e)
-
 has-neighbour : (q k x : List ℕ) (xs : List (List ℕ)) (b : Bool) → same_text x k ≡ b → has q (dedup_from same_text k xs) ≡ has q (k ∷ xs) → has q (dedup_from same_text x xs) ≡ has q (x ∷ xs) → has q (cond b (dedup_from same_text k xs) (k ∷ dedup_from same_text x xs)) ≡ has q (k ∷ x ∷ xs)
-has-neighbour q k x xs true e h g = h ∙ rw (same_text-is x k e) (or_same (eq_by_cmp (slice_cmp nat_cmp) q k) (has q xs))
+has-neighbour q k x xs true e h g = h ∙ rw (same_text-is x k e) (or_again (eq_by_cmp (slice_cmp nat_cmp) q k) (has q xs))
 has-neighbour q k x xs false e h g = ap (λ b. eq_by_cmp (slice_cmp nat_cmp) q k || b) g
 
 has-dedup_from : (q k : List ℕ) (xs : List (List ℕ)) → has q (dedup_from same_text k xs) ≡ has q (k ∷ xs)

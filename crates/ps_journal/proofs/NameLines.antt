@@ -1,12 +1,12 @@
 -- The text of a name is one line.
-use Rattle.std.proofs.Common.{◌≡◌, ℕ, ◌+◌, ◌≤◌, ◌==◌, suc, Bool, true, false, not, Option, Some, None, List, [], ◌∷◌, length, position, nat_lt, cond, refl, subst, slice_index_or, arith}
+use Rattle.std.proofs.Common.{◌≡◌, ℕ, ◌+◌, ◌≤◌, ◌==◌, suc, Bool, true, false, not, Some, None, List, [], ◌∷◌, length, position, cond, refl, subst, slice_index_or, arith}
 use Rattle.std.specs.List.{position_or_len}
 use Rattle.std.proofs.lemmas.Bool.{eqb-true}
-use Rattle.std.proofs.lemmas.Bool.Decides.{nat_tests}
 use Rattle.ps_world.specs.Names.{Table}
 use Rattle.ps_world.specs.Lines.{is_line}
 use Rattle.ps_world.specs.Lines.{AreLines}
-use Rattle.ps_text.specs.Names.{is_letter, is_name_byte, bad_place, fault_at, name_fault, AreNames}
+use Rattle.ps_text.specs.Names.{is_letter, is_name_byte, bad_place, name_fault, AreNames}
+use Rattle.ps_text.proofs.NameRuns.{no_position-by, no_bad_place}
 
 -- a byte that no name has
 abbrev is_other : ℕ → Bool
@@ -25,14 +25,6 @@ is_line-cons b bs false e more h = absurd (omega arith)
 is_line-all : (bs : List ℕ) → length bs ≤ position_or_len is_other bs → is_line bs ≡ true
 is_line-all [] h = refl
 is_line-all (b ∷ bs) h = is_line-cons b bs (is_name_byte b) refl (is_line-all bs) h
-
-no_position-by : (n k : ℕ) (e : Bool) → nat_lt k n ≡ e → cond e (Some k) None ≡ None → n ≤ k
-no_position-by n k true e h = absurd (cc)
-no_position-by n k false e h = grind (arith, nat_tests)
-
-no_bad_place : (at : Option ℕ) (n : ℕ) → fault_at at n ≡ None → at ≡ None
-no_bad_place None n h = refl
-no_bad_place (Some at) n h = absurd (cc)
 
 is_line-begun : (bs : List ℕ) (e : Bool) → cond e (position is_other bs) (Some 0) ≡ None → is_line bs ≡ true
 is_line-begun bs true h = is_line-all bs (no_position-by (length bs) (position_or_len is_other bs) _ refl h)

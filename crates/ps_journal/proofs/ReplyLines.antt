@@ -1,7 +1,7 @@
 -- The lines of a text that is written line by line.
-use Rattle.std.proofs.Common.{◌≡◌, ◌==◌, ℕ, Bool, true, false, not, List, [], ◌∷◌, ◌++◌, refl, ap, ◌∙◌}
+use Rattle.std.proofs.Common.{◌≡◌, ◌==◌, ℕ, true, not, List, [], ◌∷◌, ◌++◌, refl, ap, ◌∙◌}
 use Rattle.std.specs.List.{flat_map}
-use Rattle.std.proofs.lemmas.Bool.{and_parts}
+use Rattle.std.proofs.lemmas.Bool.{and_parts, not-true}
 use Rattle.ps_world.specs.Lines.{is_line, line_end, lines_of}
 use Rattle.ps_world.specs.Names.{Table}
 use Rattle.ps_world.specs.DomainTexts.{action_lines, domain_lines, domain_text}
@@ -11,16 +11,12 @@ use Rattle.ps_world.proofs.OneLine.{are_lines, are_lines-action, are_lines-domai
 use Rattle.ps_text.specs.Names.{AreNames}
 use Rattle.ps_journal.proofs.NameLines.{AreLines-names}
 
-is_false : (x : Bool) → not x ≡ true → x ≡ false
-is_false true h = absurd (cc)
-is_false false h = refl
-
 -- a line with its end, before other lines
 lines_of-line : (line rest : List ℕ) → is_line line ≡ true → lines_of ((line ++ line_end) ++ rest) ≡ line ∷ lines_of rest
 lines_of-line [] rest h = refl
 lines_of-line (b ∷ bs) rest h =
     let parts = and_parts (not (b == 10)) (is_line bs) h in
-    rw (is_false (b == 10) parts.0, lines_of-line bs rest parts.1) refl
+    rw (not-true (b == 10) parts.0, lines_of-line bs rest parts.1) refl
 
 -- what is written line by line has these lines
 pub lines_of-lines : (lines : List (List ℕ)) → are_lines lines ≡ true → lines_of (flat_map (λ line. line ++ line_end) lines) ≡ lines

@@ -1,15 +1,16 @@
 -- What changes of a job is told of the one who was confirmed.
 use Rattle.std.proofs.Common.{◌≡◌, ℕ, ◌+◌, ◌<◌, ◌==◌, ◌&&◌, ◌||◌, nat_lt, Bool, true, false, Option, Some, None, is_none, if◌then◌else◌, List, [], ◌∷◌, ◌++◌, length, refl, ap, sym, arith, ◌∙◌}
-use Rattle.std.proofs.lemmas.Bool.{eqb-true, true≢false}
+use Rattle.std.proofs.lemmas.Bool.{eqb-true, true≢false, and_parts}
 use Rattle.std.proofs.lemmas.Bool.Decides.{nat_tests}
 use Rattle.std.specs.Option.{unwrap_or}
 use Rattle.ps_world.specs.Names.{same_name}
 use Rattle.ps_world.specs.declared.names.Name.{Name}
+use Rattle.ps_world.proofs.Truths.{or_false}
 use Rattle.ps_machine.specs.declared.journal.Event.TheVariants as event
 use Rattle.ps_machine.specs.declared.journal.Entry.{Entry}
 use Rattle.ps_rules.specs.Reading.{only_if}
 use Rattle.ps_rules.specs.Auctions.{confirmed, has_begun, is_begin, is_last, is_through, is_unit, is_working, says_confirm, says_working, units_done}
-use Rattle.ps_rules.proofs.Kept.{both, confirmed_by}
+use Rattle.ps_rules.proofs.Kept.{confirmed_by}
 use Rattle.ps_rules.proofs.Pushed.{read-push}
 use Rattle.ps_ledger.specs.Kept.{put}
 use Rattle.ps_ledger.proofs.Lists.{at-set, put-set}
@@ -58,10 +59,6 @@ stays-by old new r x made there by k = kept-by (job_at old r) x (job_at old k) (
 
 -- ---- flags and counts
 
-told-none : (b : Bool) → (b || false) ≡ b
-told-none true = refl
-told-none false = refl
-
 tell : (s b : Bool) → ((s && b) || s) ≡ (s && true)
 tell true true = refl
 tell true false = refl
@@ -84,12 +81,12 @@ pub begun : (es : List Entry) (e : Entry) (old new : Work) (r : ℕ) (q : Name) 
     → new.jobs.items ≡ with_job begun_job old.jobs.items r → (nat_lt r (length old.jobs.items) && is_by (job_at old.jobs.items r).by q) ≡ true
     → TellsWork (es ++ e ∷ []) new
 begun es e old new r q t is made speaks =
-    let ok = both (nat_lt r (length old.jobs.items)) (is_by (job_at old.jobs.items r).by q) speaks in
+    let ok = and_parts (nat_lt r (length old.jobs.items)) (is_by (job_at old.jobs.items r).by q) speaks in
     record {
       confirms = λ k. read-push (λ a f. unwrap_or (says_confirm k f) a) None es e ∙ ap (λ w. unwrap_or (says_confirm k w) (confirmed k es)) is ∙ t.confirms k
           ∙ stays-by old.jobs.items new.jobs.items r (begun_job (job_at old.jobs.items r)) made ok.0 refl k;
       begins = λ k p. read-push (λ a f. a || is_begin k p f) false es e ∙ ap (λ w. has_begun k p es || is_begin k p w) is ∙ ap (λ b. b || ((k == r) && same_name p q)) (t.begins k p)
-          ∙ change (λ s j. s && j.begun) (λ s b. b || s) old.jobs.items new.jobs.items r q (begun_job (job_at old.jobs.items r)) made ok.0 ok.1 refl told-none (λ s. tell s (job_at old.jobs.items r).begun) k p;
+          ∙ change (λ s j. s && j.begun) (λ s b. b || s) old.jobs.items new.jobs.items r q (begun_job (job_at old.jobs.items r)) made ok.0 ok.1 refl or_false (λ s. tell s (job_at old.jobs.items r).begun) k p;
       works = λ k p. read-push (λ a f. unwrap_or (says_working k p f) a) false es e ∙ ap (λ w. unwrap_or (says_working k p w) (is_working k p es)) is ∙ ap (unwrap_or (only_if ((k == r) && same_name p q) true)) (t.works k p)
           ∙ change (λ s j. s && j.works) (λ s b. unwrap_or (only_if s true) b) old.jobs.items new.jobs.items r q (begun_job (job_at old.jobs.items r)) made ok.0 ok.1 refl keep (λ s. flag true s (job_at old.jobs.items r).works) k p;
     }
@@ -98,9 +95,9 @@ pub begun-units : (es : List Entry) (e : Entry) (old new : Work) (r : ℕ) (q : 
     → new.jobs.items ≡ with_job begun_job old.jobs.items r → (nat_lt r (length old.jobs.items) && is_by (job_at old.jobs.items r).by q) ≡ true
     → TellsUnits (es ++ e ∷ []) new
 begun-units es e old new r q t is made speaks =
-    let ok = both (nat_lt r (length old.jobs.items)) (is_by (job_at old.jobs.items r).by q) speaks in
+    let ok = and_parts (nat_lt r (length old.jobs.items)) (is_by (job_at old.jobs.items r).by q) speaks in
     record {
-      ends = λ k p. read-push (λ a f. a || is_last k p f) false es e ∙ ap (λ w. is_through k p es || is_last k p w) is ∙ told-none _ ∙ t.ends k p
+      ends = λ k p. read-push (λ a f. a || is_last k p f) false es e ∙ ap (λ w. is_through k p es || is_last k p w) is ∙ or_false _ ∙ t.ends k p
           ∙ change (λ s j. s && j.through) (λ s b. b) old.jobs.items new.jobs.items r q (begun_job (job_at old.jobs.items r)) made ok.0 ok.1 refl keep (λ s. refl) k p;
       counts = λ k p. read-push (λ n f. if is_unit k p f then n + 1 else n) 0 es e ∙ ap (λ w. if is_unit k p w then units_done k p es + 1 else units_done k p es) is ∙ t.counts k p
           ∙ change (λ s j. if s then j.units else 0) (λ s b. b) old.jobs.items new.jobs.items r q (begun_job (job_at old.jobs.items r)) made ok.0 ok.1 refl keep (λ s. refl) k p;
@@ -115,7 +112,7 @@ pub ended : (es : List Entry) (e : Entry) (old new : Work) (r : ℕ) (q : Name) 
 ended es e old new r q x t no_confirm no_begin stops made by same_begun no_work there mine =
     record {
       confirms = λ k. read-push (λ a f. unwrap_or (says_confirm k f) a) None es e ∙ ap (λ o. unwrap_or o (confirmed k es)) (no_confirm k) ∙ t.confirms k ∙ stays-by old.jobs.items new.jobs.items r x made there by k;
-      begins = λ k p. read-push (λ a f. a || is_begin k p f) false es e ∙ ap (λ b. has_begun k p es || b) (no_begin k p) ∙ told-none _ ∙ t.begins k p
+      begins = λ k p. read-push (λ a f. a || is_begin k p f) false es e ∙ ap (λ b. has_begun k p es || b) (no_begin k p) ∙ or_false _ ∙ t.begins k p
           ∙ change (λ s j. s && j.begun) (λ s b. b) old.jobs.items new.jobs.items r q x made there mine by keep (λ s. ap (λ b. s && b) (sym same_begun)) k p;
       works = λ k p. read-push (λ a f. unwrap_or (says_working k p f) a) false es e ∙ ap (λ o. unwrap_or o (is_working k p es)) (stops k p) ∙ ap (unwrap_or (only_if ((k == r) && same_name p q) false)) (t.works k p)
           ∙ change (λ s j. s && j.works) (λ s b. unwrap_or (only_if s false) b) old.jobs.items new.jobs.items r q x made there mine by keep (λ s. flag false s (job_at old.jobs.items r).works ∙ ap (λ b. s && b) (sym no_work)) k p;
@@ -125,10 +122,10 @@ pub stopped-units : (es : List Entry) (e : Entry) (old new : Work) (r : ℕ) (q 
     → new.jobs.items ≡ with_job stopped_job old.jobs.items r → (nat_lt r (length old.jobs.items) && is_by (job_at old.jobs.items r).by q) ≡ true
     → TellsUnits (es ++ e ∷ []) new
 stopped-units es e old new r q t is made speaks =
-    let ok = both (nat_lt r (length old.jobs.items)) (is_by (job_at old.jobs.items r).by q) speaks in
+    let ok = and_parts (nat_lt r (length old.jobs.items)) (is_by (job_at old.jobs.items r).by q) speaks in
     record {
       ends = λ k p. read-push (λ a f. a || is_last k p f) false es e ∙ ap (λ w. is_through k p es || is_last k p w) is ∙ ap (λ b. b || ((k == r) && same_name p q)) (t.ends k p)
-          ∙ change (λ s j. s && j.through) (λ s b. b || s) old.jobs.items new.jobs.items r q (stopped_job (job_at old.jobs.items r)) made ok.0 ok.1 refl told-none (λ s. tell s (job_at old.jobs.items r).through) k p;
+          ∙ change (λ s j. s && j.through) (λ s b. b || s) old.jobs.items new.jobs.items r q (stopped_job (job_at old.jobs.items r)) made ok.0 ok.1 refl or_false (λ s. tell s (job_at old.jobs.items r).through) k p;
       counts = λ k p. read-push (λ n f. if is_unit k p f then n + 1 else n) 0 es e ∙ ap (λ w. if is_unit k p w then units_done k p es + 1 else units_done k p es) is ∙ t.counts k p
           ∙ change (λ s j. if s then j.units else 0) (λ s b. b) old.jobs.items new.jobs.items r q (stopped_job (job_at old.jobs.items r)) made ok.0 ok.1 refl keep (λ s. refl) k p;
     }
@@ -164,13 +161,13 @@ pub confirmed-now : (es : List Entry) (e : Entry) (old new : Work) (r : ℕ) (q 
     → new.jobs.items ≡ with_worker old.jobs.items r q → (nat_lt r (length old.jobs.items) && is_none (job_at old.jobs.items r).by) ≡ true
     → TellsWork (es ++ e ∷ []) new
 confirmed-now es e old new r q t is made speaks =
-    let ok = both (nat_lt r (length old.jobs.items)) (is_none (job_at old.jobs.items r).by) speaks in
+    let ok = and_parts (nat_lt r (length old.jobs.items)) (is_none (job_at old.jobs.items r).by) speaks in
     let none = nobody (job_at old.jobs.items r).by ok.1 in
     record {
       confirms = λ k. read-push (λ a f. unwrap_or (says_confirm k f) a) None es e ∙ ap (λ w. unwrap_or (says_confirm k w) (confirmed k es)) is
           ∙ named (k == r) q (job_at old.jobs.items k) (new_job q) (confirmed k es) refl (t.confirms k)
           ∙ ap (λ j. j.by) (sym (at-job old.jobs.items new.jobs.items r k (new_job q) made ok.0));
-      begins = λ k p. read-push (λ a f. a || is_begin k p f) false es e ∙ ap (λ w. has_begun k p es || is_begin k p w) is ∙ told-none _ ∙ t.begins k p
+      begins = λ k p. read-push (λ a f. a || is_begin k p f) false es e ∙ ap (λ w. has_begun k p es || is_begin k p w) is ∙ or_false _ ∙ t.begins k p
           ∙ renew (λ s j. s && j.begun) old.jobs.items new.jobs.items r (new_job q) made ok.0 none and-false k p;
       works = λ k p. read-push (λ a f. unwrap_or (says_working k p f) a) false es e ∙ ap (λ w. unwrap_or (says_working k p w) (is_working k p es)) is ∙ t.works k p
           ∙ renew (λ s j. s && j.works) old.jobs.items new.jobs.items r (new_job q) made ok.0 none and-false k p;
@@ -180,10 +177,10 @@ pub confirmed-units : (es : List Entry) (e : Entry) (old new : Work) (r : ℕ) (
     → new.jobs.items ≡ with_worker old.jobs.items r q → (nat_lt r (length old.jobs.items) && is_none (job_at old.jobs.items r).by) ≡ true
     → TellsUnits (es ++ e ∷ []) new
 confirmed-units es e old new r q t is made speaks =
-    let ok = both (nat_lt r (length old.jobs.items)) (is_none (job_at old.jobs.items r).by) speaks in
+    let ok = and_parts (nat_lt r (length old.jobs.items)) (is_none (job_at old.jobs.items r).by) speaks in
     let none = nobody (job_at old.jobs.items r).by ok.1 in
     record {
-      ends = λ k p. read-push (λ a f. a || is_last k p f) false es e ∙ ap (λ w. is_through k p es || is_last k p w) is ∙ told-none _ ∙ t.ends k p
+      ends = λ k p. read-push (λ a f. a || is_last k p f) false es e ∙ ap (λ w. is_through k p es || is_last k p w) is ∙ or_false _ ∙ t.ends k p
           ∙ renew (λ s j. s && j.through) old.jobs.items new.jobs.items r (new_job q) made ok.0 none and-false k p;
       counts = λ k p. read-push (λ n f. if is_unit k p f then n + 1 else n) 0 es e ∙ ap (λ w. if is_unit k p w then units_done k p es + 1 else units_done k p es) is ∙ t.counts k p
           ∙ renew (λ s j. if s then j.units else 0) old.jobs.items new.jobs.items r (new_job q) made ok.0 none (either 0) k p;

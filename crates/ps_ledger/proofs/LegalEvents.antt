@@ -1,6 +1,6 @@
 -- Legal events speak of what is there in a ledger: members, and all of it.
 use Rattle.std.proofs.Common.{◌≡◌, ℕ, suc, ◌+◌, ◌<◌, ◌≤◌, ◌==◌, ◌&&◌, ◌||◌, nat_lt, Bool, true, false, not, Option, Some, None, is_none, is_some, is_ok, option_and_then, if◌then◌else◌, List, [], ◌∷◌, find, length, map, refl, ap, sym, arith, ◌∙◌}
-use Rattle.std.proofs.lemmas.Bool.{true≢false}
+use Rattle.std.proofs.lemmas.Bool.{true≢false, or_right, and_parts, and_from}
 use Rattle.std.proofs.Math.Bool.{or-false}
 use Rattle.std.proofs.lemmas.Bool.Decides.{nat_tests}
 use Rattle.std.proofs.lemmas.List.{length-map}
@@ -10,6 +10,8 @@ use Rattle.ps_world.specs.Names.{same_name}
 use Rattle.ps_world.specs.Knowledge.{edited}
 use Rattle.ps_world.specs.declared.names.Name.{Name}
 use Rattle.ps_world.specs.declared.edits.Edit.{Edit}
+use Rattle.ps_world.proofs.Optionals.{some_passed}
+use Rattle.ps_action.proofs.Facts.{same_name-is}
 use Rattle.ps_machine.specs.declared.inputs.Input.{Input}
 use Rattle.ps_machine.specs.declared.journal.By.TheVariants as by
 use Rattle.ps_machine.specs.declared.journal.Event.{Event}
@@ -25,7 +27,7 @@ use Rattle.ps_rules.specs.Legal.{fits, is_cause, is_confirmed, is_edit, is_finis
 use Rattle.ps_rules.specs.Laws.{all_confirmed, IsOnce, speaks_of}
 use Rattle.ps_rules.specs.History.{IsHistory}
 use Rattle.ps_rules.specs.History.IsHistory.{nothing, block}
-use Rattle.ps_rules.proofs.Kept.{both, confirmed_by, first_offer_wins, fits-legal, name_eq, works-where}
+use Rattle.ps_rules.proofs.Kept.{confirmed_by, first_offer_wins, fits-legal, works-where}
 use Rattle.ps_rules.proofs.Pushed.{read-block}
 use Rattle.ps_rules.proofs.Speaking.{legal_events_speak}
 use Rattle.ps_ledger.specs.declared.answers.Answers.{Answers}
@@ -39,15 +41,15 @@ use Rattle.ps_ledger.specs.Legal.{LegalEventsSpeakOfLedgers}
 use Rattle.ps_ledger.specs.Lines.{speaks_of_lines, TellsLines}
 use Rattle.ps_ledger.specs.Members.{at_name, has_name, may_rise, place_in, speaks_of_observers, speaks_of_performers, TellsObservers, TellsPerformers}
 use Rattle.ps_ledger.specs.Work.{is_by, job_at, TellsWork}
-use Rattle.ps_ledger.proofs.Speaking.{acts-there, ands, jobs-there, run-there, some-in}
+use Rattle.ps_ledger.proofs.Speaking.{acts-there, jobs-there, run-there, some-in}
 
 -- ---- counters
 
-step-most : (b : Bool) (n m : ℕ) → (if b then n + 1 else n) + m ≤ n + suc m
+pub step-most : (b : Bool) (n m : ℕ) → (if b then n + 1 else n) + m ≤ n + suc m
 step-most true n m = omega (arith)
 step-most false n m = omega (arith)
 
-times-most : (test : Event → Bool) (n : ℕ) (es : List Entry) → read (λ n e. if test e then n + 1 else n) n es ≤ n + length es
+pub times-most : (test : Event → Bool) (n : ℕ) (es : List Entry) → read (λ n e. if test e then n + 1 else n) n es ≤ n + length es
 times-most test n [] = omega (arith)
 times-most test n (e ∷ es) =
     let more = times-most test (if test e.what then n + 1 else n) es in
@@ -97,24 +99,20 @@ name-there name (y ∷ ys) p h =
 
 -- ---- those who take part
 
-map-some : {A : Type 0} (f : A → Bool) (o : Option A) → option_map_or f o false ≡ true → is_some o ≡ true
-map-some f None h = absurd (true≢false (sym h))
-map-some f (Some x) h = refl
-
 -- who offered is a performer
 offer-case : (i : Input) (b : Bool) (p q : Name) (old : Bool) → (old ≡ true → is_some (performer_of i p) ≡ true) → is_some (performer_of i q) ≡ true
     → (old || (b && same_name p q)) ≡ true → is_some (performer_of i p) ≡ true
 offer-case i b p q true before now h = before refl
-offer-case i b p q false before now h = ap (λ n. is_some (performer_of i n)) (name_eq p q (both b (same_name p q) h).1) ∙ now
+offer-case i b p q false before now h = ap (λ n. is_some (performer_of i n)) (same_name-is p q (and_parts b (same_name p q) h).1) ∙ now
 
-or-left : (b : Bool) → (b || false) ≡ true → b ≡ true
+pub or-left : (b : Bool) → (b || false) ≡ true → b ≡ true
 or-left true h = refl
 or-left false h = h
 
 offered-step : (i : Input) (es : List Entry) (e : Event) (r : ℕ) (p : Name) → (has_offered r p es ≡ true → is_some (performer_of i p) ≡ true) → fits i es e ≡ true
     → (has_offered r p es || is_offer r p e) ≡ true → is_some (performer_of i p) ≡ true
 offered-step i es (event.Offer s q) r p before f h =
-    offer-case i (r == s) p q (has_offered r p es) before (map-some (λ performer. not (has_answered s q es) && is_none (pass_reason performer s es)) (performer_of i q) f) h
+    offer-case i (r == s) p q (has_offered r p es) before (some_passed (λ performer. not (has_answered s q es) && is_none (pass_reason performer s es)) (performer_of i q) f) h
 offered-step i es e r p before f h = before (or-left (has_offered r p es) h)
 
 pub offered-performer : (i : Input) (es : List Entry) → IsHistory i es → (r : ℕ) (p : Name) → has_offered r p es ≡ true → is_some (performer_of i p) ≡ true
@@ -133,7 +131,7 @@ first-case i true p q (x ∷ xs) before now h = before h
 first-step : (i : Input) (es : List Entry) (e : Event) (r : ℕ) (p : Name) → (first_offer (offers r es) ≡ Some p → is_some (performer_of i p) ≡ true) → fits i es e ≡ true
     → first_offer (with_last (offers r es) (says_offer r e)) ≡ Some p → is_some (performer_of i p) ≡ true
 first-step i es (event.Offer s q) r p before f h =
-    first-case i (r == s) p q (offers r es) before (map-some (λ performer. not (has_answered s q es) && is_none (pass_reason performer s es)) (performer_of i q) f) h
+    first-case i (r == s) p q (offers r es) before (some_passed (λ performer. not (has_answered s q es) && is_none (pass_reason performer s es)) (performer_of i q) f) h
 first-step i es e r p before f h = before h
 
 first-performer : (i : Input) (es : List Entry) → IsHistory i es → (r : ℕ) (p : Name) → first_offer (offers r es) ≡ Some p → is_some (performer_of i p) ≡ true
@@ -166,18 +164,18 @@ engaged-there i es l p t same h = ap (nat_lt (place_in l.names.items p)) t.many 
 pub performers-there : (i : Input) (es : List Entry) (e : Event) (l : Performers) → IsHistory i es → length es < 18446744073709551615 → TellsPerformers es l
     → l.names.items ≡ map (λ p. p.name) (performers i) → ((s : ℕ) (q : Name) → is_working s q es ≡ true → is_confirmed s q es ≡ true) → fits i es e ≡ true → speaks_of_performers l e ≡ true
 performers-there i es (event.Offer s q) l h few t same works f =
-    engaged-there i es l q t same (map-some (λ performer. not (has_answered s q es) && is_none (pass_reason performer s es)) (performer_of i q) f)
+    engaged-there i es l q t same (some_passed (λ performer. not (has_answered s q es) && is_none (pass_reason performer s es)) (performer_of i q) f)
 performers-there i es (event.Reject s q) l h few t same works f =
-    engaged-there i es l q t same (offered-performer i es h s q (both (has_offered s q es) (not (is_rejected s q es) && (not (is_confirmed s q es) && (is_some (confirmed s es) || is_for_cancelled s es))) f).0)
+    engaged-there i es l q t same (offered-performer i es h s q (and_parts (has_offered s q es) (not (is_rejected s q es) && (not (is_confirmed s q es) && (is_some (confirmed s es) || is_for_cancelled s es))) f).0)
 performers-there i es (event.Begin s q) l h few t same works f =
-    ands (has_name l.names.items l.begun.items q) (nat_lt (at_name l.names.items l.begun.items q 0) 18446744073709551615)
-    (ap (nat_lt (place_in l.names.items q)) t.as_many ∙ performer-there i l q same (confirmed-performer i es h s q (both (is_confirmed s q es) (not (has_begun s q es) && is_for_active s es) f).0))
+    and_from (has_name l.names.items l.begun.items q) (nat_lt (at_name l.names.items l.begun.items q 0) 18446744073709551615)
+    (ap (nat_lt (place_in l.names.items q)) t.as_many ∙ performer-there i l q same (confirmed-performer i es h s q (and_parts (is_confirmed s q es) (not (has_begun s q es) && is_for_active s es) f).0))
     (ap (λ n. nat_lt n 18446744073709551615) (sym (t.counts q)) ∙ may-begin q es few)
 performers-there i es (event.Finish s q ok) l h few t same works f =
     engaged-there i es l q t same (confirmed-performer i es h s q
     (works s q (works-where (is_finish ok) refl (is_working s q es) (is_for_active s es) (option_and_then (λ performer. unit_of performer s q es) (performer_of i q)) f)))
 performers-there i es (event.Stopped s q) l h few t same works f =
-    engaged-there i es l q t same (confirmed-performer i es h s q (both (is_confirmed s q es) (not (is_through s q es) && is_for_cancelled s es) f).0)
+    engaged-there i es l q t same (confirmed-performer i es h s q (and_parts (is_confirmed s q es) (not (is_through s q es) && is_for_cancelled s es) f).0)
 performers-there i es e l h few t same works f = refl
 
 -- an observer whose next edit passes a test is there
@@ -185,7 +183,7 @@ observer-there : (i : Input) (es : List Entry) (l : Observers) (o : Name) → le
     → l.names.items ≡ map (λ o. o.name) (observers i) → (test : Option Edit → Bool) → test None ≡ false → test (next_seen i o es) ≡ true → may_rise l.names.items l.seen.items o ≡ true
 observer-there i es l o few t same test none h =
     let one = some-in test (λ observer. seen_by i observer es) none (observer_of i o) h in
-    ands (has_name l.names.items l.seen.items o) (nat_lt (at_name l.names.items l.seen.items o 0) 18446744073709551615)
+    and_from (has_name l.names.items l.seen.items o) (nat_lt (at_name l.names.items l.seen.items o 0) 18446744073709551615)
     (ap (nat_lt (place_in l.names.items o)) t.many ∙ ap (λ ms. nat_lt (place_in ms o) (length ms)) same ∙ name-there (λ o. o.name) (observers i) o (ap is_some one.1))
     (ap (λ n. nat_lt n 18446744073709551615) (sym (t.counts o)) ∙ may-observe o es few)
 
@@ -193,7 +191,7 @@ observer-there i es l o few t same test none h =
 pub observers-there : (i : Input) (es : List Entry) (e : Event) (l : Observers) → length es < 18446744073709551615 → TellsObservers es l
     → l.names.items ≡ map (λ o. o.name) (observers i) → fits i es e ≡ true → speaks_of_observers l e ≡ true
 observers-there i es (event.Edit (by.Observer o) edit) l few t same f =
-    observer-there i es l o few t same (is_edit edit) refl (both (is_edit edit (next_seen i o es)) (is_ok (edited i.domain (know i es) edit)) f).0
+    observer-there i es l o few t same (is_edit edit) refl (and_parts (is_edit edit (next_seen i o es)) (is_ok (edited i.domain (know i es) edit)) f).0
 observers-there i es (event.Refused (by.Observer o) why) l few t same f =
     observer-there i es l o few t same (λ u. is_cause why (option_and_then (λ edit. edit_refusal (edited i.domain (know i es) edit)) u)) refl f
 observers-there i es e l few t same f = refl
@@ -208,34 +206,30 @@ answer-there : (i : Input) (es : List Entry) (l : Answers) (names : List Name) (
 answer-there i es l names s q few t same there h =
     let at : nat_lt (place_in names q) (length names) ≡ true = ap (λ ms. nat_lt (place_in ms q) (length ms)) same ∙ name-there (λ p. p.name) (performers i) q h in
     let many : length names ≡ length (performers i) = ap length same ∙ length-map (performers i) (λ p. p.name) in
-    ands (nat_lt s (length l.rows.items)) (nat_lt (place_in names q) (length names) && nat_lt (place_in names q) 64) (sym (ap (nat_lt s) t.count) ∙ there)
-    (ands (nat_lt (place_in names q) (length names)) (nat_lt (place_in names q) 64) at (below (place_in names q) (length names) (omega (arith, many, few)) at))
+    and_from (nat_lt s (length l.rows.items)) (nat_lt (place_in names q) (length names) && nat_lt (place_in names q) 64) (sym (ap (nat_lt s) t.count) ∙ there)
+    (and_from (nat_lt (place_in names q) (length names)) (nat_lt (place_in names q) 64) at (below (place_in names q) (length names) (omega (arith, many, few)) at))
 
 -- a legal event speaks of answers of performers that are there
 pub answers-there : (i : Input) (es : List Entry) (e : Event) (l : Answers) (names : List Name) → length (performers i) ≤ 64 → IsHistory i es → TellsRows es l
     → names ≡ map (λ p. p.name) (performers i) → speaks_of (requests es) e ≡ true → fits i es e ≡ true → speaks_of_answers names l.rows.items e ≡ true
 answers-there i es (event.Offer s q) l names few h t same sp f =
-    answer-there i es l names s q few t same sp (map-some (λ performer. not (has_answered s q es) && is_none (pass_reason performer s es)) (performer_of i q) f)
+    answer-there i es l names s q few t same sp (some_passed (λ performer. not (has_answered s q es) && is_none (pass_reason performer s es)) (performer_of i q) f)
 answers-there i es (event.Pass s q why) l names few h t same sp f =
-    answer-there i es l names s q few t same sp (map-some (λ performer. is_of_run s es && (not (has_answered s q es) && is_pass why (pass_reason performer s es))) (performer_of i q) f)
+    answer-there i es l names s q few t same sp (some_passed (λ performer. is_of_run s es && (not (has_answered s q es) && is_pass why (pass_reason performer s es))) (performer_of i q) f)
 answers-there i es (event.Reject s q) l names few h t same sp f =
-    answer-there i es l names s q few t same sp (offered-performer i es h s q (both (has_offered s q es) (not (is_rejected s q es) && (not (is_confirmed s q es) && (is_some (confirmed s es) || is_for_cancelled s es))) f).0)
+    answer-there i es l names s q few t same sp (offered-performer i es h s q (and_parts (has_offered s q es) (not (is_rejected s q es) && (not (is_confirmed s q es) && (is_some (confirmed s es) || is_for_cancelled s es))) f).0)
 answers-there i es e l names few h t same sp f = refl
-
-or-right : (a b : Bool) → b ≡ true → (a || b) ≡ true
-or-right true b h = refl
-or-right false b h = h
 
 pub lines-there : (es : List Entry) (e : Event) (l : Lines) → length es < 18446744073709551615 → TellsLines es l → speaks_of_lines l e ≡ true
 lines-there es e l few t =
-    or-right (not (answers_line e)) (nat_lt l.answered 18446744073709551615) (ap (λ n. nat_lt n 18446744073709551615) (sym t.count) ∙ may-answer es few)
+    or_right (not (answers_line e)) (nat_lt l.answered 18446744073709551615) (ap (λ n. nat_lt n 18446744073709551615) (sym t.count) ∙ may-answer es few)
 
 -- ---- the ledger
 
 -- who works on a request was confirmed there
 working-confirmed : (es : List Entry) (l : Work) → TellsWork es l → (s : ℕ) (q : Name) → is_working s q es ≡ true → is_confirmed s q es ≡ true
 working-confirmed es l w s q h =
-    ap (λ o. option_map_or (same_name q) o false) (w.confirms s) ∙ (both (is_by (job_at l.jobs.items s).by q) (job_at l.jobs.items s).works (sym (w.works s q) ∙ h)).0
+    ap (λ o. option_map_or (same_name q) o false) (w.confirms s) ∙ (and_parts (is_by (job_at l.jobs.items s).by q) (job_at l.jobs.items s).works (sym (w.works s q) ∙ h)).0
 
 pub legal_events_speak_of_ledgers : LegalEventsSpeakOfLedgers
 legal_events_speak_of_ledgers i es e l sound h few m t legal =

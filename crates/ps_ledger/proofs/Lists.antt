@@ -33,7 +33,7 @@ at-push-default [] (suc k) d = refl
 at-push-default (x ∷ xs) zero d = refl
 at-push-default (x ∷ xs) (suc k) d = at-push-default xs k d
 
-differ : (j k : ℕ) → (j == k) ≡ false → j ≡ k → ⊥
+pub differ : (j k : ℕ) → (j == k) ≡ false → j ≡ k → ⊥
 differ j k e h = grind (arith, nat_tests, e, h)
 
 -- the item at a place of a list with another item at one

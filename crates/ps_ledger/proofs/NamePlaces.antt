@@ -6,12 +6,12 @@ use Rattle.std.proofs.lemmas.List.{length-set}
 use Rattle.std.specs.Option.{unwrap_or}
 use Rattle.ps_world.specs.Names.{same_name}
 use Rattle.ps_world.specs.declared.names.Name.{Name}
+use Rattle.ps_action.proofs.Facts.{same_name-is}
 use Rattle.ps_machine.specs.declared.journal.Entry.{Entry}
 use Rattle.ps_rules.specs.Reading.{only_if}
 use Rattle.ps_rules.specs.Runs.{opens}
 use Rattle.ps_rules.specs.Auctions.{begins, begins_by, is_engaged, says_engaged}
 use Rattle.ps_rules.specs.Members.{is_observed, observed}
-use Rattle.ps_rules.proofs.Kept.{name_eq}
 use Rattle.ps_rules.proofs.Pushed.{read-push}
 use Rattle.ps_ledger.specs.declared.members.Observers.{Observers}
 use Rattle.ps_ledger.specs.declared.members.Performers.{Performers}
@@ -64,7 +64,7 @@ named-put names old new q p x d many there made =
 
 risen : (names : List Name) (xs : List ℕ) (p q : Name) (t : Bool) → same_name p q ≡ t
     → (if t then at_name names xs p 0 + 1 else at_name names xs p 0) ≡ (if t then at_name names xs q 0 + 1 else at_name names xs p 0)
-risen names xs p q true e = ap (λ n. at_name names xs n 0 + 1) (name_eq p q e)
+risen names xs p q true e = ap (λ n. at_name names xs n 0 + 1) (same_name-is p q e)
 risen names xs p q false e = refl
 
 -- the number of a name, where that of a name that is there rises by one

@@ -1,17 +1,20 @@
 -- What one more answer makes of the answers that are kept.
-use Rattle.std.proofs.Common.{◌≡◌, ℕ, zero, suc, ◌<◌, ◌≤◌, ◌==◌, ◌&&◌, ◌||◌, nat_lt, Bool, true, false, Some, None, if◌then◌else◌, List, [], ◌∷◌, ◌++◌, length, replicate, slice_index_or, refl, ap, sym, arith, ◌∙◌}
-use Rattle.std.proofs.lemmas.Bool.{eqb-true}
+use Rattle.std.proofs.Common.{◌≡◌, ℕ, ◌<◌, ◌≤◌, ◌==◌, ◌&&◌, ◌||◌, nat_lt, Bool, true, false, Some, None, if◌then◌else◌, List, [], ◌∷◌, ◌++◌, length, replicate, refl, ap, sym, arith, ◌∙◌}
+use Rattle.std.proofs.lemmas.Bool.{eqb-true, and_parts}
 use Rattle.std.proofs.lemmas.Bool.Decides.{nat_tests}
 use Rattle.std.proofs.lemmas.List.{length-set}
 use Rattle.std.specs.Option.{unwrap_or}
 use Rattle.ps_world.specs.Names.{same_name}
 use Rattle.ps_world.specs.declared.names.Name.{Name}
+use Rattle.ps_world.proofs.Truths.{or_false}
+use Rattle.ps_world.proofs.Elements.{index_replicate}
+use Rattle.ps_action.proofs.MadeValues.{or_true}
+use Rattle.ps_action.proofs.Facts.{same_name-is}
 use Rattle.ps_machine.specs.declared.journal.PassWhy.{PassWhy}
 use Rattle.ps_machine.specs.declared.journal.Event.TheVariants as event
 use Rattle.ps_machine.specs.declared.journal.Entry.{Entry}
 use Rattle.ps_rules.specs.Reading.{only_if}
 use Rattle.ps_rules.specs.Auctions.{has_answered, has_offered, is_answer, is_offer, is_reject, is_rejected, pass_of, says_pass}
-use Rattle.ps_rules.proofs.Kept.{both, name_eq}
 use Rattle.ps_rules.proofs.Pushed.{read-push}
 use Rattle.ps_ledger.specs.declared.answers.Answer.{Answer}
 use Rattle.ps_ledger.specs.declared.answers.Answers.{Answers}
@@ -20,16 +23,10 @@ use Rattle.ps_ledger.specs.Members.{at_name, place_in, with_named}
 use Rattle.ps_ledger.proofs.Lists.{at-push-default, at-set, beyond, put-set}
 use Rattle.ps_ledger.proofs.NamePlaces.{named-at}
 
--- a list of one value has it at each place and past its end
-pub at-replicate : {A : Type 0} (n k : ℕ) (d : A) → slice_index_or (replicate n d) k d ≡ d
-at-replicate zero k d = refl
-at-replicate (suc n) zero d = refl
-at-replicate (suc n) (suc k) d = at-replicate n k d
-
 -- an empty journal tells of no answer
 pub told-nothing : (names : List Name) (l : Answers) → l.rows.items ≡ [] → TellsAnswers names [] l
 told-nothing names l none =
-    let at : (r : ℕ) (p : Name) → answer_at names l.rows.items r p ≡ no_answer = λ r p. ap (λ rows. answer_at names rows r p) none ∙ at-replicate 64 (place_in names p) no_answer in
+    let at : (r : ℕ) (p : Name) → answer_at names l.rows.items r p ≡ no_answer = λ r p. ap (λ rows. answer_at names rows r p) none ∙ index_replicate 64 (place_in names p) no_answer in
     record {
       wide = λ r. ap (λ rows. length (row_at rows r)) none;
       answers = λ r p. sym (ap is_given (at r p));
@@ -41,16 +38,7 @@ told-nothing names l none =
 -- where there is no row there is no answer
 pub no-row : (names : List Name) (rows : List (List Answer)) (r : ℕ) (p : Name) → length rows ≤ r → no_answer ≡ answer_at names rows r p
 no-row names rows r p none =
-    sym (ap (λ row. at_name names row p no_answer) (beyond rows r (replicate 64 no_answer) none) ∙ at-replicate 64 (place_in names p) no_answer)
-
--- what was said of a flag that holds now
-told-none : (b : Bool) → (b || false) ≡ b
-told-none true = refl
-told-none false = refl
-
-told-now : (b : Bool) → (b || true) ≡ true
-told-now true = refl
-told-now false = refl
+    sym (ap (λ row. at_name names row p no_answer) (beyond rows r (replicate 64 no_answer) none) ∙ index_replicate 64 (place_in names p) no_answer)
 
 keep : {B : Type 0} (b : B) → b ≡ b
 keep b = refl
@@ -68,8 +56,8 @@ answer-now : (names : List Name) (old new : List (List Answer)) (r k : ℕ) (q p
     → length (row_at old r) ≡ 64 → has_answer names old r q ≡ true → new ≡ with_answer names old r q x
     → answer_at names new k p ≡ (if (k == r) && same_name p q then x else answer_at names old k p)
 answer-now names old new r k q p x wide there made =
-    let one = both (nat_lt r (length old)) (nat_lt (place_in names q) (length names) && nat_lt (place_in names q) 64) there in
-    let two = both (nat_lt (place_in names q) (length names)) (nat_lt (place_in names q) 64) one.1 in
+    let one = and_parts (nat_lt r (length old)) (nat_lt (place_in names q) (length names) && nat_lt (place_in names q) 64) there in
+    let two = and_parts (nat_lt (place_in names q) (length names)) (nat_lt (place_in names q) 64) one.1 in
     let lt : r < length old = grind (arith, nat_tests, one.0) in
     let row : List Answer = with_named names (row_at old r) q x in
     ap (λ rows. answer_at names rows k p) (made ∙ put-set old r row one.0)
@@ -82,7 +70,7 @@ told-step : {B : Type 0} (f : Answer → B) (next : Bool → B → B) (names : L
     → next (s && t) (f (answer_at names old k p)) ≡ f (if s && t then x else answer_at names old k p)
 told-step f next names old r k q p x true true e g stays goes =
     ap (λ n. next true (f (answer_at names old n p))) (eqb-true k r e)
-    ∙ ap (λ n. next true (f (answer_at names old r n))) (name_eq p q g)
+    ∙ ap (λ n. next true (f (answer_at names old r n))) (same_name-is p q g)
     ∙ goes
 told-step f next names old r k q p x true false e g stays goes = stays (f (answer_at names old k p))
 told-step f next names old r k q p x false t e g stays goes = stays (f (answer_at names old k p))
@@ -104,8 +92,8 @@ wide-if names old r k q x false wide there = wide k
 wide-now : (names : List Name) (old new : List (List Answer)) (r : ℕ) (q : Name) (x : Answer) → ((k : ℕ) → length (row_at old k) ≡ 64) → has_answer names old r q ≡ true
     → new ≡ with_answer names old r q x → (k : ℕ) → length (row_at new k) ≡ 64
 wide-now names old new r q x wide there made k =
-    let one = both (nat_lt r (length old)) (nat_lt (place_in names q) (length names) && nat_lt (place_in names q) 64) there in
-    let two = both (nat_lt (place_in names q) (length names)) (nat_lt (place_in names q) 64) one.1 in
+    let one = and_parts (nat_lt r (length old)) (nat_lt (place_in names q) (length names) && nat_lt (place_in names q) 64) there in
+    let two = and_parts (nat_lt (place_in names q) (length names)) (nat_lt (place_in names q) 64) one.1 in
     let lt : r < length old = grind (arith, nat_tests, one.0) in
     let row : List Answer = with_named names (row_at old r) q x in
     ap (λ rows. length (row_at rows k)) (made ∙ put-set old r row one.0)
@@ -124,12 +112,12 @@ offered-now names es e old new r q t is there made =
     record {
       wide = wide-now names rows new.rows.items r q x t.wide there made;
       answers = λ k p. read-push (λ b f. b || is_answer k p f) false es e ∙ ap (λ w. has_answered k p es || is_answer k p w) is ∙ ap (λ b. b || ((k == r) && same_name p q)) (t.answers k p)
-          ∙ told is_given (λ s b. b || s) names rows new.rows.items r q x (t.wide r) there made told-none (told-now (is_given a)) k p;
+          ∙ told is_given (λ s b. b || s) names rows new.rows.items r q x (t.wide r) there made or_false (or_true (is_given a)) k p;
       offers = λ k p. read-push (λ b f. b || is_offer k p f) false es e ∙ ap (λ w. has_offered k p es || is_offer k p w) is ∙ ap (λ b. b || ((k == r) && same_name p q)) (t.offers k p)
-          ∙ told (λ y. y.offered) (λ s b. b || s) names rows new.rows.items r q x (t.wide r) there made told-none (told-now a.offered) k p;
+          ∙ told (λ y. y.offered) (λ s b. b || s) names rows new.rows.items r q x (t.wide r) there made or_false (or_true a.offered) k p;
       passes = λ k p. read-push (λ b f. unwrap_or (says_pass k p f) b) None es e ∙ ap (λ w. unwrap_or (says_pass k p w) (pass_of k p es)) is ∙ t.passes k p
           ∙ told (λ y. y.passed) (λ s b. b) names rows new.rows.items r q x (t.wide r) there made keep refl k p;
-      rejects = λ k p. read-push (λ b f. b || is_reject k p f) false es e ∙ ap (λ w. is_rejected k p es || is_reject k p w) is ∙ told-none _ ∙ t.rejects k p
+      rejects = λ k p. read-push (λ b f. b || is_reject k p f) false es e ∙ ap (λ w. is_rejected k p es || is_reject k p w) is ∙ or_false _ ∙ t.rejects k p
           ∙ told (λ y. y.rejected) (λ s b. b) names rows new.rows.items r q x (t.wide r) there made keep refl k p;
     }
 
@@ -145,12 +133,12 @@ passed-now names es e old new r q why t is there made =
     record {
       wide = wide-now names rows new.rows.items r q x t.wide there made;
       answers = λ k p. read-push (λ b f. b || is_answer k p f) false es e ∙ ap (λ w. has_answered k p es || is_answer k p w) is ∙ ap (λ b. b || ((k == r) && same_name p q)) (t.answers k p)
-          ∙ told is_given (λ s b. b || s) names rows new.rows.items r q x (t.wide r) there made told-none (told-now (is_given a) ∙ sym (told-now a.offered)) k p;
-      offers = λ k p. read-push (λ b f. b || is_offer k p f) false es e ∙ ap (λ w. has_offered k p es || is_offer k p w) is ∙ told-none _ ∙ t.offers k p
+          ∙ told is_given (λ s b. b || s) names rows new.rows.items r q x (t.wide r) there made or_false (or_true (is_given a) ∙ sym (or_true a.offered)) k p;
+      offers = λ k p. read-push (λ b f. b || is_offer k p f) false es e ∙ ap (λ w. has_offered k p es || is_offer k p w) is ∙ or_false _ ∙ t.offers k p
           ∙ told (λ y. y.offered) (λ s b. b) names rows new.rows.items r q x (t.wide r) there made keep refl k p;
       passes = λ k p. read-push (λ b f. unwrap_or (says_pass k p f) b) None es e ∙ ap (λ w. unwrap_or (says_pass k p w) (pass_of k p es)) is ∙ ap (unwrap_or (only_if ((k == r) && same_name p q) (Some why))) (t.passes k p)
           ∙ told (λ y. y.passed) (λ s b. unwrap_or (only_if s (Some why)) b) names rows new.rows.items r q x (t.wide r) there made keep refl k p;
-      rejects = λ k p. read-push (λ b f. b || is_reject k p f) false es e ∙ ap (λ w. is_rejected k p es || is_reject k p w) is ∙ told-none _ ∙ t.rejects k p
+      rejects = λ k p. read-push (λ b f. b || is_reject k p f) false es e ∙ ap (λ w. is_rejected k p es || is_reject k p w) is ∙ or_false _ ∙ t.rejects k p
           ∙ told (λ y. y.rejected) (λ s b. b) names rows new.rows.items r q x (t.wide r) there made keep refl k p;
     }
 
@@ -165,14 +153,14 @@ rejected-now names es e old new r q t is there made =
     let x : Answer = record a { rejected = true } in
     record {
       wide = wide-now names rows new.rows.items r q x t.wide there made;
-      answers = λ k p. read-push (λ b f. b || is_answer k p f) false es e ∙ ap (λ w. has_answered k p es || is_answer k p w) is ∙ told-none _ ∙ t.answers k p
+      answers = λ k p. read-push (λ b f. b || is_answer k p f) false es e ∙ ap (λ w. has_answered k p es || is_answer k p w) is ∙ or_false _ ∙ t.answers k p
           ∙ told is_given (λ s b. b) names rows new.rows.items r q x (t.wide r) there made keep refl k p;
-      offers = λ k p. read-push (λ b f. b || is_offer k p f) false es e ∙ ap (λ w. has_offered k p es || is_offer k p w) is ∙ told-none _ ∙ t.offers k p
+      offers = λ k p. read-push (λ b f. b || is_offer k p f) false es e ∙ ap (λ w. has_offered k p es || is_offer k p w) is ∙ or_false _ ∙ t.offers k p
           ∙ told (λ y. y.offered) (λ s b. b) names rows new.rows.items r q x (t.wide r) there made keep refl k p;
       passes = λ k p. read-push (λ b f. unwrap_or (says_pass k p f) b) None es e ∙ ap (λ w. unwrap_or (says_pass k p w) (pass_of k p es)) is ∙ t.passes k p
           ∙ told (λ y. y.passed) (λ s b. b) names rows new.rows.items r q x (t.wide r) there made keep refl k p;
       rejects = λ k p. read-push (λ b f. b || is_reject k p f) false es e ∙ ap (λ w. is_rejected k p es || is_reject k p w) is ∙ ap (λ b. b || ((k == r) && same_name p q)) (t.rejects k p)
-          ∙ told (λ y. y.rejected) (λ s b. b || s) names rows new.rows.items r q x (t.wide r) there made told-none (told-now a.rejected) k p;
+          ∙ told (λ y. y.rejected) (λ s b. b || s) names rows new.rows.items r q x (t.wide r) there made or_false (or_true a.rejected) k p;
     }
 
 -- an event that is no answer
@@ -185,10 +173,10 @@ no-answer-now names es e old new t answers offers passes rejects rows =
     let at : (k : ℕ) (p : Name) → answer_at names old.rows.items k p ≡ answer_at names new.rows.items k p = λ k p. ap (λ row. at_name names row p no_answer) (rows k) in
     record {
       wide = λ k. ap length (sym (rows k)) ∙ t.wide k;
-      answers = λ k p. read-push (λ b f. b || is_answer k p f) false es e ∙ ap (λ b. has_answered k p es || b) (answers k p) ∙ told-none _ ∙ t.answers k p ∙ ap is_given (at k p);
-      offers = λ k p. read-push (λ b f. b || is_offer k p f) false es e ∙ ap (λ b. has_offered k p es || b) (offers k p) ∙ told-none _ ∙ t.offers k p ∙ ap (λ a. a.offered) (at k p);
+      answers = λ k p. read-push (λ b f. b || is_answer k p f) false es e ∙ ap (λ b. has_answered k p es || b) (answers k p) ∙ or_false _ ∙ t.answers k p ∙ ap is_given (at k p);
+      offers = λ k p. read-push (λ b f. b || is_offer k p f) false es e ∙ ap (λ b. has_offered k p es || b) (offers k p) ∙ or_false _ ∙ t.offers k p ∙ ap (λ a. a.offered) (at k p);
       passes = λ k p. read-push (λ b f. unwrap_or (says_pass k p f) b) None es e ∙ ap (λ o. unwrap_or o (pass_of k p es)) (passes k p) ∙ t.passes k p ∙ ap (λ a. a.passed) (at k p);
-      rejects = λ k p. read-push (λ b f. b || is_reject k p f) false es e ∙ ap (λ b. is_rejected k p es || b) (rejects k p) ∙ told-none _ ∙ t.rejects k p ∙ ap (λ a. a.rejected) (at k p);
+      rejects = λ k p. read-push (λ b f. b || is_reject k p f) false es e ∙ ap (λ b. is_rejected k p es || b) (rejects k p) ∙ or_false _ ∙ t.rejects k p ∙ ap (λ a. a.rejected) (at k p);
     }
 
 -- a request more, of which nothing is answered yet

@@ -1,6 +1,6 @@
 -- Legal events speak of what is there.
 use Rattle.std.proofs.Common.{◌≡◌, ℕ, zero, suc, ◌<◌, ◌≤◌, ◌==◌, ◌&&◌, nat_le, nat_lt, Bool, true, false, not, Option, Some, None, is_none, is_ok, option_and_then, if◌then◌else◌, List, [], ◌∷◌, find, length, min, ◌-◌, All, slice_get, slice_index_or, refl, ap, sym, subst, arith, ◌∙◌}
-use Rattle.std.proofs.lemmas.Bool.{true≢false}
+use Rattle.std.proofs.lemmas.Bool.{true≢false, and_from, and_parts}
 use Rattle.std.proofs.lemmas.Bool.Decides.{nat_tests}
 use Rattle.std.proofs.lemmas.Option.{none-some, slice_get_within}
 use Rattle.std.specs.Option.{option_map_or, unwrap_or}
@@ -29,7 +29,7 @@ use Rattle.ps_rules.specs.Legal.{fits, is_act_active, is_cause, is_confirmed, is
 use Rattle.ps_rules.specs.Settled.{any_harmed, is_blocked, is_reached, is_ready, is_settled, is_startable, unreached, verdict}
 use Rattle.ps_rules.specs.Laws.{speaks_of}
 use Rattle.ps_rules.specs.Sound.{IsSound, IsSoundJob, IsSoundPerformer}
-use Rattle.ps_rules.proofs.Kept.{both, works-where}
+use Rattle.ps_rules.proofs.Kept.{works-where}
 use Rattle.ps_ledger.specs.declared.acts.Acts.{Acts}
 use Rattle.ps_ledger.specs.declared.runs.Run.{Run}
 use Rattle.ps_ledger.specs.declared.work.Job.{Job}
@@ -52,14 +52,14 @@ act-there es l act t h = active-there l.states.items act (sym (ap is_active (t.s
 -- a legal event speaks of acts that are there
 pub acts-there : (i : Input) (es : List Entry) (e : Event) (l : Acts) → TellsActs es l → fits i es e ≡ true → speaks_of_acts (length l.states.items) e ≡ true
 acts-there i es (event.Start act) l t f =
-    ap (nat_lt act) (t.many ∙ ap length (sym t.acts)) ∙ (both (is_place es act) (is_ready i es act && (is_startable i es act && not (any_harmed es))) f).0
+    ap (nat_lt act) (t.many ∙ ap length (sym t.acts)) ∙ (and_parts (is_place es act) (is_ready i es act && (is_startable i es act && not (any_harmed es))) f).0
 acts-there i es (event.Request r act) l t f =
-    act-there es l act t (both (is_act_active es act) (may_be_put_up i es act (request_of act es)) (both (r == requests es) (is_act_active es act && may_be_put_up i es act (request_of act es)) f).1).0
-acts-there i es (event.End act) l t f = act-there es l act t (both (is_act_active es act) _ f).0
-acts-there i es (event.Fail act fail.NoPerformer) l t f = act-there es l act t (both (is_act_active es act) _ f).0
-acts-there i es (event.Fail act fail.Script) l t f = act-there es l act t (both (is_act_active es act) _ f).0
-acts-there i es (event.Fail act fail.AtEnd) l t f = act-there es l act t (both (is_act_active es act) _ f).0
-acts-there i es (event.Fail act fail.Effect) l t f = act-there es l act t (both (is_act_active es act) _ f).0
+    act-there es l act t (and_parts (is_act_active es act) (may_be_put_up i es act (request_of act es)) (and_parts (r == requests es) (is_act_active es act && may_be_put_up i es act (request_of act es)) f).1).0
+acts-there i es (event.End act) l t f = act-there es l act t (and_parts (is_act_active es act) _ f).0
+acts-there i es (event.Fail act fail.NoPerformer) l t f = act-there es l act t (and_parts (is_act_active es act) _ f).0
+acts-there i es (event.Fail act fail.Script) l t f = act-there es l act t (and_parts (is_act_active es act) _ f).0
+acts-there i es (event.Fail act fail.AtEnd) l t f = act-there es l act t (and_parts (is_act_active es act) _ f).0
+acts-there i es (event.Fail act fail.Effect) l t f = act-there es l act t (and_parts (is_act_active es act) _ f).0
 acts-there i es (event.Cancel act why) l t f = absurd (true≢false (sym f))
 acts-there i es e l t f = refl
 
@@ -85,16 +85,11 @@ fewer most n le h = grind (arith, nat_tests, le, h)
 -- a legal event plans a run anew only where it may be
 pub run-there : (i : Input) (es : List Entry) (e : Event) (l : Run) → i.replans ≤ 255 → TellsRun es l → fits i es e ≡ true → speaks_of_run l e ≡ true
 run-there i es (event.Replan acts) l few t f =
-    let asked : is_none (verdict i es) ≡ true = (both (is_none (verdict i es)) (is_plan i.domain i.budget (know i es) acts) (both (is_settled i es) (is_none (verdict i es) && is_plan i.domain i.budget (know i es) acts) f).1).0 in
+    let asked : is_none (verdict i es) ≡ true = (and_parts (is_none (verdict i es)) (is_plan i.domain i.budget (know i es) acts) (and_parts (is_settled i es) (is_none (verdict i es) && is_plan i.domain i.budget (know i es) acts) f).1).0 in
     ap (λ n. nat_lt n 255) (sym t.anew) ∙ fewer i.replans (replans es) few (may-replan i es (kind es) (is_reached i es (kind es)) asked)
 run-there i es e l few t f = refl
 
 -- ---- work
-
--- two tests that are passed
-pub ands : (x y : Bool) → x ≡ true → y ≡ true → (x && y) ≡ true
-ands true y e f = f
-ands false y e f = absurd (true≢false (sym e))
 
 -- a test that nothing passes is passed by what something gives
 pub some-in : {A B : Type 0} (test : Option B → Bool) (f : A → Option B) → test None ≡ false → (o : Option A) → test (option_and_then f o) ≡ true → (x : A) × (o ≡ Some x) × (test (f x) ≡ true)
@@ -148,15 +143,15 @@ unit-there : (i : Input) (s : ℕ) (q : Name) (es : List Entry) (l : Work) → I
 unit-there i s q es l sound j w u there test none h =
     let few = few-units i s q es sound test none h in
     let job : Job = job_at l.jobs.items s in
-    let mine : is_by job.by q ≡ true = (both (is_by job.by q) job.works (sym (w.works s q) ∙ few.0)).0 in
+    let mine : is_by job.by q ≡ true = (and_parts (is_by job.by q) job.works (sym (w.works s q) ∙ few.0)).0 in
     let same : units_done s q es ≡ job.units = u.counts s q ∙ ap (λ b. if b then job.units else 0) mine in
     let lt : job.units < 1000 = omega (arith, few.1, same) in
-    ands (nat_lt s (length l.jobs.items)) (is_by job.by q && nat_lt job.units 1000) (sym (ap (nat_lt s) j.count) ∙ there)
-    (ands (is_by job.by q) (nat_lt job.units 1000) mine (grind (arith, nat_tests, lt)))
+    and_from (nat_lt s (length l.jobs.items)) (is_by job.by q && nat_lt job.units 1000) (sym (ap (nat_lt s) j.count) ∙ there)
+    (and_from (is_by job.by q) (nat_lt job.units 1000) mine (grind (arith, nat_tests, lt)))
 
 job-there : (s : ℕ) (q : Name) (es : List Entry) (l : Work) → TellsJobs es l → TellsWork es l → nat_lt s (requests es) ≡ true → is_confirmed s q es ≡ true → has_job l.jobs.items s q ≡ true
 job-there s q es l j w there h =
-    ands (nat_lt s (length l.jobs.items)) (is_by (job_at l.jobs.items s).by q) (sym (ap (nat_lt s) j.count) ∙ there)
+    and_from (nat_lt s (length l.jobs.items)) (is_by (job_at l.jobs.items s).by q) (sym (ap (nat_lt s) j.count) ∙ there)
     (ap (λ o. option_map_or (same_name q) o false) (sym (w.confirms s)) ∙ h)
 
 -- a legal event speaks of work by those who were confirmed
@@ -164,13 +159,13 @@ pub jobs-there : (i : Input) (es : List Entry) (e : Event) (l : Work) → IsSoun
     → speaks_of_jobs l.jobs.items e ≡ true
 jobs-there i es (event.Request r act) l sound j w u sp f = sym (ap (λ n. r == n) j.count) ∙ sp
 jobs-there i es (event.Confirm s q) l sound j w u sp f =
-    let parts = both (is_open s es) (option_map_or (same_name q) (first_offer (offers s es)) false) f in
-    let fine = both (is_none (confirmed s es)) (not (is_unserved s es)) ((both (is_for_active s es) (is_none (confirmed s es) && not (is_unserved s es)) parts.0).1) in
-    ands (nat_lt s (length l.jobs.items)) (is_none (job_at l.jobs.items s).by) (sym (ap (nat_lt s) j.count) ∙ sp) (ap is_none (sym (w.confirms s)) ∙ fine.0)
-jobs-there i es (event.Begin s q) l sound j w u sp f = job-there s q es l j w sp (both (is_confirmed s q es) (not (has_begun s q es) && is_for_active s es) f).0
-jobs-there i es (event.Stopped s q) l sound j w u sp f = job-there s q es l j w sp (both (is_confirmed s q es) (not (is_through s q es) && is_for_cancelled s es) f).0
+    let parts = and_parts (is_open s es) (option_map_or (same_name q) (first_offer (offers s es)) false) f in
+    let fine = and_parts (is_none (confirmed s es)) (not (is_unserved s es)) ((and_parts (is_for_active s es) (is_none (confirmed s es) && not (is_unserved s es)) parts.0).1) in
+    and_from (nat_lt s (length l.jobs.items)) (is_none (job_at l.jobs.items s).by) (sym (ap (nat_lt s) j.count) ∙ sp) (ap is_none (sym (w.confirms s)) ∙ fine.0)
+jobs-there i es (event.Begin s q) l sound j w u sp f = job-there s q es l j w sp (and_parts (is_confirmed s q es) (not (has_begun s q es) && is_for_active s es) f).0
+jobs-there i es (event.Stopped s q) l sound j w u sp f = job-there s q es l j w sp (and_parts (is_confirmed s q es) (not (is_through s q es) && is_for_cancelled s es) f).0
 jobs-there i es (event.Edit (by.Performer s q) edit) l sound j w u sp f =
-    unit-there i s q es l sound j w u sp (λ u. is_edit edit (option_and_then as_edit u)) refl (both (is_edit edit (next_edit i s q es)) (is_ok (edited i.domain (know i es) edit)) f).0
+    unit-there i s q es l sound j w u sp (λ u. is_edit edit (option_and_then as_edit u)) refl (and_parts (is_edit edit (next_edit i s q es)) (is_ok (edited i.domain (know i es) edit)) f).0
 jobs-there i es (event.Refused (by.Performer s q) why) l sound j w u sp f =
     unit-there i s q es l sound j w u sp (λ u. is_cause why (option_and_then (λ edit. edit_refusal (edited i.domain (know i es) edit)) (option_and_then as_edit u))) refl f
 jobs-there i es (event.UnitWork s q) l sound j w u sp f = unit-there i s q es l sound j w u sp is_work refl f

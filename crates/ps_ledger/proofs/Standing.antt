@@ -16,6 +16,7 @@ use Rattle.ps_ledger.specs.Offers.{is_other, offered_on, standing, standing_next
 use Rattle.ps_ledger.specs.declared.ends.Ends.{Ends}
 use Rattle.ps_ledger.specs.declared.offers.Offer.{Offer}
 use Rattle.ps_ledger.specs.declared.offers.Offers.{Offers}
+use Rattle.ps_ledger.proofs.LegalEvents.{or-left}
 
 -- ---- offers
 
@@ -105,10 +106,6 @@ offer-struck es e l new s q t is made = record {
 }
 
 -- ---- how runs ended
-
-or-left : (b : Bool) → (b || false) ≡ true → b ≡ true
-or-left true h = refl
-or-left false h = h
 
 ended-next : (e : Event) (ran running : Bool) (old : Option Outcome) → (ran ≡ true → running ≡ false → is_some old ≡ true)
     → (ran || opens e) ≡ true → unwrap_or (says_open e) running ≡ false → is_some (option_or (outcome_of e) old) ≡ true

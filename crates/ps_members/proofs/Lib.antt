@@ -1,7 +1,7 @@
 mod ArgPlaces
-mod FormEdits
-mod FormLines
+pub mod FormEdits
+pub mod FormLines
 mod OneMember
 mod SaidLines
 mod TextLines
-mod WholeMembers
+pub mod WholeMembers

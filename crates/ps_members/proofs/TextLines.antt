@@ -1,6 +1,6 @@
 -- What a text is, one line after another.
-use Rattle.std.proofs.Common.{◌≡◌, ℕ, suc, ◌+◌, ◌<◌, Bool, true, false, List, [], ◌∷◌, drop, length, slice_index_or, slice_range, Result, Ok, Err, refl, sym, ◌∙◌, ap, subst, arith}
-use Rattle.std.proofs.lemmas.List.{drop_all, drop_more}
+use Rattle.std.proofs.Common.{◌≡◌, ℕ, suc, ◌+◌, ◌<◌, Bool, true, false, List, [], ◌∷◌, drop, length, slice_index_or, slice_range, Result, Ok, Err, sym, ◌∙◌, ap, subst, arith}
+use Rattle.std.proofs.lemmas.List.{drop_all}
 use Rattle.ps_world.specs.Failures.{Gives}
 use Rattle.ps_world.specs.Names.{Table}
 use Rattle.ps_world.specs.declared.domains.Domain.{Domain}
@@ -11,6 +11,7 @@ use Rattle.ps_machine.specs.declared.members.Member.{Member}
 use Rattle.ps_text.specs.ScriptLines.{script_lines}
 use Rattle.ps_text.specs.Words.{pieces}
 use Rattle.ps_text.specs.declared.spans.Span.{Span}
+use Rattle.ps_text.proofs.Pieces.{pieces_more}
 use Rattle.ps_script.specs.Lines.{is_nothing}
 use Rattle.ps_members.specs.Answers.{OnAnswer}
 use Rattle.ps_members.specs.Lines.{IsSaid}
@@ -52,9 +53,6 @@ Follows d first bytes spans i at table =
 
 pub all_follow : (d : Domain) (first : Table) (bytes : List ℕ) (spans : List Span) → pieces bytes spans ≡ script_lines bytes → Follows d first bytes spans 0 Beginning first
 all_follow d first bytes spans e r after are = subst (λ (ls : List (List ℕ)). AreLines d 1 Beginning first ls r after) e are
-
-pieces_more : (bytes : List ℕ) (spans : List Span) (i : ℕ) (s : Span) (line : List ℕ) → i < length spans → line ≡ slice_range bytes (slice_index_or spans i s).from (slice_index_or spans i s).to → pieces bytes (drop i spans) ≡ line ∷ pieces bytes (drop (i + 1) spans)
-pieces_more bytes spans i s line lt l = rw (drop_more spans i s lt, l) refl
 
 -- the same, where there is a line here
 abbrev FollowsLine : Domain → Table → List ℕ → List Span → ℕ → Place → Table → List ℕ → Type 0

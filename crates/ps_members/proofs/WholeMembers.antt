@@ -1,8 +1,8 @@
 -- A member that is read is whole.
 use Rattle.std.proofs.Common.{◌≡◌, ℕ, suc, ◌+◌, ◌<◌, ◌≤◌, nat_lt, ◌==◌, Bool, true, false, if◌then◌else◌, List, [], ◌∷◌, ◌++◌, length, All, Option, None, Some, Result, Ok, Err, refl, sym, subst, arith}
-use Rattle.std.proofs.lemmas.Bool.Decides.{nat_tests}
 use Rattle.std.proofs.lemmas.List.{length-append}
 use Rattle.std.proofs.lemmas.List.Elements.{All-nil, All-cons, All-append}
+use Rattle.std.proofs.lemmas.Bool.{ltb-true}
 use Rattle.ps_world.specs.Knowledge.{action_of}
 use Rattle.ps_world.specs.Names.{Table}
 use Rattle.ps_world.specs.declared.actions.ActionDef.{ActionDef}
@@ -55,18 +55,15 @@ checked false r why h = tt
 ready_whole : (n : ℕ) (name action : Name) (arity : ℕ) (places : List (Option Name)) → LeadsWhole (ready n name action arity places)
 ready_whole n name action arity places = checked (length places == arity) _ (Arity n) (λ e. refl)
 
-one_more : {X : Type 0} (xs : List X) (x : X) → length (xs ++ x ∷ []) ≡ length xs + 1
+pub one_more : {X : Type 0} (xs : List X) (x : X) → length (xs ++ x ∷ []) ≡ length xs + 1
 one_more xs x = length-append xs (x ∷ [])
-
-below : (a b : ℕ) → nat_lt a b ≡ true → a < b
-below a b e = grind (arith, nat_tests)
 
 jobs_whole : (p : Performer) (units : List Task) → All IsWholeJob p.jobs → is_finished units ≡ true → length units ≤ most_units → All IsWholeJob (p.jobs ++ units ∷ [])
 jobs_whole p units jobs e few = All-append IsWholeJob p.jobs (units ∷ []) jobs (All-cons IsWholeJob units [] (e, few) (All-nil IsWholeJob))
 
 next_whole : (n : ℕ) (p : Performer) (units : List Task) → IsWholeSoFar (Working p units) → LeadsWhole (next_job n p units)
 next_whole n p units so =
-    checked (is_finished units) _ (NoFinish n) (λ e. checked (nat_lt (length (p.jobs ++ units ∷ [])) most_jobs) _ (Limit n) (λ f. (below _ most_jobs f, jobs_whole p units so.1 e so.2, omega arith)))
+    checked (is_finished units) _ (NoFinish n) (λ e. checked (nat_lt (length (p.jobs ++ units ∷ [])) most_jobs) _ (Limit n) (λ f. (ltb-true _ most_jobs f, jobs_whole p units so.1 e so.2, omega arith)))
 
 last_whole : (n : ℕ) (p : Performer) (units : List Task) → IsWholeSoFar (Working p units) → LeadsWhole (last_job n p units)
 last_whole n p units so =
@@ -76,11 +73,11 @@ last_whole n p units so =
 
 unit_whole : (n : ℕ) (p : Performer) (units : List Task) (u : Task) → IsWholeSoFar (Working p units) → LeadsWhole (with_unit n p units u)
 unit_whole n p units u so =
-    checked (nat_lt (length units) most_units) _ (Limit n) (λ e. let more = one_more units u in let few = below (length units) most_units e in (so.0, so.1, omega (arith, more, few)))
+    checked (nat_lt (length units) most_units) _ (Limit n) (λ e. let more = one_more units u in let few = ltb-true (length units) most_units e in (so.0, so.1, omega (arith, more, few)))
 
 item_whole : (n : ℕ) (o : Observer) (when : Option Cond) (e : Change) → LeadsWhole (with_item n o when e)
 item_whole n o when e =
-    checked (nat_lt (length o.units) most_units) _ (Limit n) (λ f. let more = one_more o.units (when, e) in let few = below (length o.units) most_units f in omega (arith, more, few))
+    checked (nat_lt (length o.units) most_units) _ (Limit n) (λ f. let more = one_more o.units (when, e) in let few = ltb-true (length o.units) most_units f in omega (arith, more, few))
 
 edit_whole : (n : ℕ) (o : Observer) (when : Option Cond) (u : Task) → LeadsWhole (with_edit n o when u)
 edit_whole n o when (unit.Edit e) = item_whole n o when e

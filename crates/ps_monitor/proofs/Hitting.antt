@@ -2,26 +2,28 @@
 use Rattle.std.proofs.Common.{◌≡◌, ◌<◌, ℕ, Bool, true, false, not, ◌||◌, List, [], ◌∷◌, All, Option, Some, None, refl, ap, sym, ◌∙◌}
 use Rattle.std.specs.List.{list_any}
 use Rattle.std.proofs.lemmas.List.Elements.{All-nil, All-cons}
+use Rattle.std.proofs.lemmas.Bool.{or_right, false_from_ne_true, or_parts, or_from}
 use Rattle.ps_world.specs.Trees.{CondTree, cond_trees}
 use Rattle.ps_world.specs.declared.domains.Domain.{Domain}
 use Rattle.ps_world.specs.declared.known.Knowledge.{Knowledge}
 use Rattle.ps_action.specs.Arcs.{meet, same_thing}
 use Rattle.ps_action.specs.Touching.{read_by_list}
 use Rattle.ps_action.specs.declared.touched.Touched.{Touched}
+use Rattle.ps_action.proofs.ArcTables.{true_false}
 use Rattle.ps_eval.specs.Laws.{Agree}
 use Rattle.ps_eval.proofs.Reading.{truth_reads_what_is_named}
 use Rattle.ps_users.specs.Users.{Users, uses}
-use Rattle.ps_users.proofs.Things.{all_so, if_not, or_parts, thing_itself, thing_same, true_false}
+use Rattle.ps_users.proofs.Things.{all_so, thing_itself, thing_same}
 use Rattle.ps_monitor.specs.Hits.{HeldBefore, is_hit}
 use Rattle.ps_monitor.specs.Indexed.{IsIndexed, is_read, watch_at}
 use Rattle.ps_monitor.specs.Naming.{NamesChange, has, is_named}
 use Rattle.ps_monitor.specs.Watched.{is_false}
-use Rattle.ps_monitor.proofs.Naming.{or_false, unnamed_conds}
+use Rattle.ps_monitor.proofs.Naming.{unnamed_conds}
 
 -- ---- what isn't in a list
 
 apart : (s t : Touched) → same_thing s t ≡ false → same_thing t s ≡ false
-apart s t e = if_not (same_thing t s) (λ h. true_false (same_thing s t) (ap (same_thing s) (thing_same t s h) ∙ thing_itself s) e)
+apart s t e = false_from_ne_true (same_thing t s) (λ h. true_false (same_thing s t) (ap (same_thing s) (thing_same t s h) ∙ thing_itself s) e)
 
 split : (t : Touched) (xs ys : List Touched) → meet xs (t ∷ ys) ≡ false → (list_any (same_thing t) xs ≡ false) × (meet xs ys ≡ false)
 split t [] ys e = (refl, refl)
@@ -29,7 +31,7 @@ split t (x ∷ xs) ys e =
     let parts = or_parts (same_thing x t || list_any (same_thing x) ys) (meet xs (t ∷ ys)) e in
     let here = or_parts (same_thing x t) (list_any (same_thing x) ys) parts.0 in
     let rest = split t xs ys parts.1 in
-    (or_false (same_thing t x) (list_any (same_thing t) xs) (apart x t here.0) rest.0, or_false (list_any (same_thing x) ys) (meet xs ys) here.1 rest.1)
+    (or_from (same_thing t x) (list_any (same_thing t) xs) (apart x t here.0) rest.0, or_from (list_any (same_thing x) ys) (meet xs ys) here.1 rest.1)
 
 -- no read thing is in the list
 all_absent : (xs ys : List Touched) → meet xs ys ≡ false → All (λ t. has xs t ≡ false) ys
@@ -52,17 +54,13 @@ pub unhit : (d : Domain) (now : Knowledge) (watches : ℕ → Option (List CondT
     → is_hit changed (watches act) ≡ false → is_false d now (watches act) ≡ false
 unhit d now watches changed act low h e =
     let same = unhit_same d changed h.before now (watches act) h.named e in
-    if_not (is_false d now (watches act)) (λ broken. true_false (is_false d now (watches act)) broken (same ∙ h.held act low e broken))
+    false_from_ne_true (is_false d now (watches act)) (λ broken. true_false (is_false d now (watches act)) broken (same ∙ h.held act low e broken))
 
 -- ---- what is found
 
-later : (a b : Bool) → b ≡ true → (a || b) ≡ true
-later true b e = refl
-later false b e = e
-
 found_at : (used rest read others : Bool) → (read ≡ true → used ≡ true) → (others ≡ true → rest ≡ true) → (read || others) ≡ true → (used || rest) ≡ true
 found_at used rest true others here there e = rw (here refl) refl
-found_at used rest false others here there e = later used rest (there e)
+found_at used rest false others here there e = or_right used rest (there e)
 
 found_by : (users : Users) (act : ℕ) (changed reads : List Touched) → ((t : Touched) → list_any (same_thing t) reads ≡ true → uses users t act ≡ true)
     → meet changed reads ≡ true → list_any (λ t. uses users t act) changed ≡ true

@@ -1,6 +1,7 @@
 -- What conditions read goes unnamed where no such thing is in a list: the arguments of each fact and term are read themselves.
-use Rattle.std.proofs.Common.{◌≡◌, Bool, false, ◌||◌, List, [], ◌∷◌, All, map, refl}
+use Rattle.std.proofs.Common.{◌≡◌, false, List, [], ◌∷◌, All, map, refl}
 use Rattle.std.proofs.lemmas.List.Elements.{All-append, All-cons, All-head, All-nil, All-tail}
+use Rattle.std.proofs.lemmas.Bool.{or_from}
 use Rattle.ps_world.specs.Trees.{ExprTree, number, value_of, negated, operated, CondTree, CondTrees, all_of, no, holds, same, compares, is_a, none, more}
 use Rattle.ps_world.specs.Knowledge.{ground, name_of}
 use Rattle.ps_world.specs.declared.facts.Fact.{Fact as GroundFact}
@@ -10,9 +11,6 @@ use Rattle.ps_action.specs.declared.touched.Touched.{Touched}
 use Rattle.ps_action.specs.declared.touched.Touched.TheVariants.{Fact, Value, Instance}
 use Rattle.ps_users.proofs.Things.{in_front, in_rest}
 use Rattle.ps_monitor.specs.Naming.{has, has_name, is_named}
-
-pub or_false : (a b : Bool) → a ≡ false → b ≡ false → (a || b) ≡ false
-or_false a b e f = rw e f
 
 module _ (changed : List Touched) where
   abbrev pub Absent : Touched → Type 0
@@ -24,7 +22,7 @@ module _ (changed : List Touched) where
   no_names : (ns : List Name) → All Absent (map Instance ns) → has_name changed ns ≡ false
   no_names [] h = refl
   no_names (n ∷ ns) h =
-      or_false (has changed (Instance n)) (has_name changed ns) (All-head Absent (Instance n) (map Instance ns) h) (no_names ns (All-tail Absent (Instance n) (map Instance ns) h))
+      or_from (has changed (Instance n)) (has_name changed ns) (All-head Absent (Instance n) (map Instance ns) h) (no_names ns (All-tail Absent (Instance n) (map Instance ns) h))
 
   unnamed_names : (ns : List Name) → All Absent (map Instance ns) → All Unnamed (map Instance ns)
   unnamed_names [] h = All-nil Unnamed
@@ -35,14 +33,14 @@ module _ (changed : List Touched) where
   unnamed_fact f h =
       let rest = All-tail Absent (Fact f) (map Instance f.args) h in
       All-cons Unnamed (Fact f) (map Instance f.args)
-      (or_false (has changed (Fact f)) (has_name changed f.args) (All-head Absent (Fact f) (map Instance f.args) h) (no_names f.args rest))
+      (or_from (has changed (Fact f)) (has_name changed f.args) (All-head Absent (Fact f) (map Instance f.args) h) (no_names f.args rest))
       (unnamed_names f.args rest)
 
   unnamed_term : (f : GroundFact) → All Absent (Value f ∷ map Instance f.args) → All Unnamed (Value f ∷ map Instance f.args)
   unnamed_term f h =
       let rest = All-tail Absent (Value f) (map Instance f.args) h in
       All-cons Unnamed (Value f) (map Instance f.args)
-      (or_false (has changed (Value f)) (has_name changed f.args) (All-head Absent (Value f) (map Instance f.args) h) (no_names f.args rest))
+      (or_from (has changed (Value f)) (has_name changed f.args) (All-head Absent (Value f) (map Instance f.args) h) (no_names f.args rest))
       (unnamed_names f.args rest)
 
   unnamed_expr : (x : ExprTree) → All Absent (read_by_expr x) → All Unnamed (read_by_expr x)

@@ -1,5 +1,5 @@
 -- The words of lists of typed names mean them.
-use Rattle.std.proofs.Common.{◌≡◌, ◌≤◌, ◌<◌, ℕ, suc, All, Bool, true, false, List, [], ◌∷◌, ◌++◌, length, filter, get_or, None, Ok, refl, ap, subst, ◌∙◌, append_assoc, append-nil, arith}
+use Rattle.std.proofs.Common.{◌≡◌, ◌≤◌, ◌<◌, ℕ, suc, All, Bool, true, false, List, [], ◌∷◌, ◌++◌, length, get_or, None, Ok, refl, ap, subst, ◌∙◌, append_assoc, append-nil, arith}
 use Rattle.std.specs.Bool.{if◌then◌else◌}
 use Rattle.std.specs.List.{list_any}
 use Rattle.std.proofs.lemmas.Bool.{lt-leb, or_from}
@@ -11,6 +11,7 @@ use Rattle.ps_world.specs.Knowledge.{is_type}
 use Rattle.ps_world.specs.declared.names.Name.{Name}
 use Rattle.ps_world.specs.declared.domains.Param.{Param}
 use Rattle.ps_world.specs.declared.domains.Domain.{Domain}
+use Rattle.ps_world.proofs.Elements.{filter_few}
 use Rattle.ps_shape.specs.Marks.{is}
 use Rattle.ps_shape.specs.declared.marks.Mark.TheVariants as mark
 use Rattle.ps_forms.specs.Nested.{Nesteds, word, none, more}
@@ -62,13 +63,6 @@ pub params_listed : (names : Table) (ps : List Param) (ts : Nesteds) → ArePara
 params_listed names _ _ no_params = none_listed
 params_listed names _ _ (more_params p ps l m k ts w e v rest) =
     more_listed p ps l m k ts (rw w.mark refl) w.name e v.name (params_listed names ps ts rest)
-
--- no more count than there are
-filter_few : {T : Type 0} (test : T → Bool) (xs : List T) → length (filter test xs) ≤ length xs
-filter_few test [] = omega arith
-filter_few test (x ∷ xs) =
-    let rest = filter_few test xs in
-    elim (test x) as (λ b. length (if b then x ∷ filter test xs else filter test xs) ≤ suc (length xs)) [ true ↦ omega (arith, rest) | false ↦ omega (arith, rest) ]
 
 counted_few : (listing : Listing) (p : Param) (before : List Param) → counted listing p before ≤ length before
 counted_few listing p before =

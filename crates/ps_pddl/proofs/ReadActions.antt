@@ -33,10 +33,11 @@ use Rattle.ps_pddl.proofs.Fits.{FitsAction, FitsCond, FitsEffect, fits_number}
 use Rattle.ps_pddl.proofs.ReadConditions.{ArePartsHere, IsTreeHere, condition_form_here, expr_fits_more}
 use Rattle.ps_pddl.proofs.ReadEffects.{AreChangesHere, IsEffectHere, effect_form_here}
 use Rattle.ps_pddl.proofs.ReadLists.{AreParamsHere, params_here}
-use Rattle.ps_pddl.proofs.ReadMarks.{marks_apart, no_has, yes_has}
+use Rattle.ps_pddl.proofs.ReadMarks.{no_has, yes_has}
 use Rattle.ps_pddl.proofs.ReadNames.{AllTold, AreTold}
 use Rattle.ps_pddl.proofs.ReadValues.{IsValueHere, value_here}
 use Rattle.ps_pddl.proofs.Sound.{Sound, Fits, also_sound, then_sound, unless_sound}
+use Rattle.ps_pddl.proofs.MeanMarks.{isnt-by}
 
 -- ---- what follows a keyword
 
@@ -173,15 +174,15 @@ module _ (after : Table) (first : 0 < length after) (d : Domain) where
       let two = more (word p) three in
       let ts = more (word n) two in
       let params_at : place.after mark.Parameters ts ≡ three =
-      after_no mark.Parameters (word n) two (marks_apart is_name mark.Parameters n.mark name refl) ∙ after_yes mark.Parameters (word p) three (ap (is mark.Parameters) parameters) in
+      after_no mark.Parameters (word n) two (isnt-by is_name mark.Parameters n.mark name refl) ∙ after_yes mark.Parameters (word p) three (ap (is mark.Parameters) parameters) in
       let time_at : place.after mark.DurationKey ts ≡ more x rest =
-      after_no mark.DurationKey (word n) two (marks_apart is_name mark.DurationKey n.mark name refl) ∙ after_no mark.DurationKey (word p) three (ap (is mark.DurationKey) parameters)
+      after_no mark.DurationKey (word n) two (isnt-by is_name mark.DurationKey n.mark name refl) ∙ after_no mark.DurationKey (word p) three (ap (is mark.DurationKey) parameters)
       ∙ after_yes mark.DurationKey (word k) (more x rest) (ap (is mark.DurationKey) key) in
       let condition_at : place.after mark.ConditionKey ts ≡ place.after mark.ConditionKey rest =
-      after_no mark.ConditionKey (word n) two (marks_apart is_name mark.ConditionKey n.mark name refl) ∙ after_no mark.ConditionKey (word p) three (ap (is mark.ConditionKey) parameters)
+      after_no mark.ConditionKey (word n) two (isnt-by is_name mark.ConditionKey n.mark name refl) ∙ after_no mark.ConditionKey (word p) three (ap (is mark.ConditionKey) parameters)
       ∙ after_no mark.ConditionKey (word k) (more x rest) (ap (is mark.ConditionKey) key) ∙ after_no mark.ConditionKey x rest (ap (is mark.ConditionKey) (duration_closed room x time)) in
       let effect_at : place.after mark.EffectKey ts ≡ place.after mark.EffectKey rest =
-      after_no mark.EffectKey (word n) two (marks_apart is_name mark.EffectKey n.mark name refl) ∙ after_no mark.EffectKey (word p) three (ap (is mark.EffectKey) parameters)
+      after_no mark.EffectKey (word n) two (isnt-by is_name mark.EffectKey n.mark name refl) ∙ after_no mark.EffectKey (word p) three (ap (is mark.EffectKey) parameters)
       ∙ after_no mark.EffectKey (word k) (more x rest) (ap (is mark.EffectKey) key) ∙ after_no mark.EffectKey x rest (ap (is mark.EffectKey) (duration_closed room x time)) in
       let end_told : AreTold after rest = h.1.1.1.1.1 in
       unless_sound (All IsActionHere) (nat_le 256 (length before)) (list_any (λ action. same_name n.name action.name) before) (Limit n.at cap.Actions) (Twice n.at n.name)

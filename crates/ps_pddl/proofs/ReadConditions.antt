@@ -34,10 +34,11 @@ use Rattle.ps_world.specs.declared.actions.Conditions.{Conditions}
 use Rattle.ps_pddl.specs.declared.refusals.DomainRefusal.TheVariants.{Kind}
 use Rattle.ps_pddl.proofs.CanonicalForms.{name_mark}
 use Rattle.ps_pddl.proofs.Fits.{FitsExpr, fits_number, fits_value, fits_negation, fits_operation, FitsCond, fits_all, fits_not, fits_fact, fits_same, fits_comparison, FitConds, fit_none, fit_more}
-use Rattle.ps_pddl.proofs.ReadMarks.{fact-is_name, fact_no_rel, marks_apart, no_sound, relation_there, yes_sound}
+use Rattle.ps_pddl.proofs.ReadMarks.{fact-is_name, fact_no_rel, no_sound, relation_there, yes_sound}
 use Rattle.ps_pddl.proofs.ReadNames.{IsTold, AllTold, AreTold}
 use Rattle.ps_pddl.proofs.ReadValues.{IsHeadHere, IsTermHere, IsTypedHere, IsValueHere, fact_here, resolved_here, value_here}
 use Rattle.ps_pddl.proofs.Sound.{Sound, also_sound, then_sound, either_sound}
+use Rattle.ps_pddl.proofs.MeanMarks.{isnt-by}
 
 -- ---- more levels
 
@@ -181,9 +182,9 @@ module _ (after : Table) (first : 0 < length after) (d : Domain) (ps : List Para
         (then_sound (IsCondHere room) (IsCondHere (suc room)) (condition d ps c) (λ x. Ok (cond.Not (cond_tree x))) (condition_here room c one h.1.0)
         (λ x k. (k.0, fits_not room (cond_tree x) k.1)))
     condition_here _ _ (grammar.a_fact room l ts m r) h =
-        other_form (IsCondHere (suc room)) l ts (marks_apart is_fact_name mark.And l.mark m refl) (marks_apart is_fact_name mark.Not l.mark m refl) (plain_here room l ts m h.0 h.1)
+        other_form (IsCondHere (suc room)) l ts (isnt-by is_fact_name mark.And l.mark m refl) (isnt-by is_fact_name mark.Not l.mark m refl) (plain_here room l ts m h.0 h.1)
     condition_here _ _ (grammar.comparison room l x y m v w) h =
-        other_form (IsCondHere (suc room)) l (more x (more y none)) (marks_apart is_relation mark.And l.mark m refl) (marks_apart is_relation mark.Not l.mark m refl)
+        other_form (IsCondHere (suc room)) l (more x (more y none)) (isnt-by is_relation mark.And l.mark m refl) (isnt-by is_relation mark.Not l.mark m refl)
         (related_here room (rel_of l.mark) x y (meant.stated reads (words d ps) l (more x (more y none))) (relation_there l.mark m) v w h.1.0 h.1.1.0)
 
     conditions_here : (room : ℕ) (ts : Nesteds) (before : List CondTree) → AreConditions room ts → AreTold after ts → AreCondsHere room before → Sound (AreCondsHere room) (meant.conditions reads (words d ps) ts before)

@@ -27,10 +27,11 @@ use Rattle.ps_world.specs.declared.actions.Effects.{Effects}
 use Rattle.ps_pddl.proofs.CanonicalForms.{name_mark}
 use Rattle.ps_pddl.proofs.Fits.{FitsEffect, fits_addition, fits_deletion, fits_change}
 use Rattle.ps_pddl.proofs.ReadConditions.{expr_fits_more}
-use Rattle.ps_pddl.proofs.ReadMarks.{change_there, marks_apart, no_sound, predicate-is_name, predicate_no_change, yes_sound}
+use Rattle.ps_pddl.proofs.ReadMarks.{change_there, no_sound, predicate-is_name, yes_sound}
 use Rattle.ps_pddl.proofs.ReadNames.{IsTold, AllTold, AreTold}
 use Rattle.ps_pddl.proofs.ReadValues.{IsHeadHere, IsValueHere, fact_here, value_here, value_of_here}
 use Rattle.ps_pddl.proofs.Sound.{Sound, then_sound}
+use Rattle.ps_pddl.proofs.MeanMarks.{isnt-by, change_of-predicate}
 
 -- ---- more levels
 
@@ -86,7 +87,7 @@ module _ (after : Table) (first : 0 < length after) (d : Domain) (ps : List Para
   plain_here room l none before le m h k all = added_here room l none before le m h k all
   plain_here room l (more a none) before le m h k all = added_here room l (more a none) before le m h k all
   plain_here room l (more a (more x ts)) before le m h k all =
-      unchanged_here (effect.change_of l.mark) a x before (effect.added d ps l (more a (more x ts)) before) (predicate_no_change l.mark m) (added_here room l (more a (more x ts)) before le m h k all)
+      unchanged_here (effect.change_of l.mark) a x before (effect.added d ps l (more a (more x ts)) before) (change_of-predicate l.mark m) (added_here room l (more a (more x ts)) before le m h k all)
 
   -- a head with this mark, what follows it, and what it means
   module _ (l : Lexeme) (ts : Nesteds) (before : List Effect) where
@@ -108,10 +109,10 @@ module _ (after : Table) (first : 0 < length after) (d : Domain) (ps : List Para
     effect_here : (room : ℕ) (t : Nested) (before : List Effect) → IsEffect room t → room ≤ most → AllTold after t → AreEffectsHere before → Sound AreEffectsHere (effect.effect d ps t before)
     effect_here _ _ before (grammar.all_effects room l ts m es) le h all = and_form l ts before m (effects_here room ts before es (omega (arith, le)) h.1 all)
     effect_here _ _ before (grammar.addition room l ts m r) le h all =
-        other_form l ts before (marks_apart is_predicate_name mark.And l.mark m refl) (marks_apart is_predicate_name mark.Not l.mark m refl) (plain_here room l ts before le m h.0 h.1 all)
+        other_form l ts before (isnt-by is_predicate_name mark.And l.mark m refl) (isnt-by is_predicate_name mark.Not l.mark m refl) (plain_here room l ts before le m h.0 h.1 all)
     effect_here _ _ before (grammar.deletion room l a m one) le h all = not_form l (more a none) before m (deleted_here room a before le one h.1.0 all)
     effect_here _ _ before (grammar.change room l a x m one v) le h all =
-        other_form l (more a (more x none)) before (marks_apart is_change mark.And l.mark m refl) (marks_apart is_change mark.Not l.mark m refl)
+        other_form l (more a (more x none)) before (isnt-by is_change mark.And l.mark m refl) (isnt-by is_change mark.Not l.mark m refl)
         (changed_or_here room (effect.change_of l.mark) a x before (effect.added d ps l (more a (more x none)) before) (change_there l.mark m) le one v h.1.0 h.1.1.0 all)
 
     effects_here : (room : ℕ) (ts : Nesteds) (before : List Effect) → AreEffects room ts → room ≤ most → AreTold after ts → AreEffectsHere before → Sound AreEffectsHere (effect.effects d ps ts before)

@@ -27,11 +27,12 @@ use Rattle.ps_pddl.specs.declared.meaning.lists.Listing.TheVariants.{Params, Typ
 use Rattle.ps_pddl.specs.declared.refusals.Cap.{Cap}
 use Rattle.ps_pddl.specs.declared.refusals.DomainRefusal.TheVariants.{Limit, Twice, Unknown}
 use Rattle.ps_pddl.proofs.Fits.{FitParams, FitsPredicate, IsVariableName}
-use Rattle.ps_pddl.proofs.ReadMarks.{marks_apart, no_sound, predicate-is_name, yes_sound}
+use Rattle.ps_pddl.proofs.ReadMarks.{no_sound, predicate-is_name, yes_sound}
 use Rattle.ps_pddl.proofs.ReadNames.{IsTold, AllTold, AreTold}
 use Rattle.ps_pddl.proofs.ReadValues.{word_below}
 use Rattle.ps_pddl.proofs.Sound.{Sound, also_sound, either_sound, then_sound, unless_sound}
 use Rattle.ps_pddl.proofs.SoundLists.{Adds, name_adds}
+use Rattle.ps_pddl.proofs.MeanMarks.{isnt-by}
 
 -- a mark that is a variable
 variable_mark : (m : Mark) → is_variable m ≡ true → m ≡ mark.Variable
@@ -67,7 +68,7 @@ module _ (after : Table) (first : 0 < length after) where
     module _ (fits : Mark → Bool) (no_minus : fits mark.Minus ≡ false) (told : (l : Lexeme) → IsTold after l → fits l.mark ≡ true → Q l.name) where
       one_name : (l : Lexeme) (ts : Nesteds) (before : List Param) → fits l.mark ≡ true → IsTold after l → AreTold after ts → ((all : List Param) → All IsParamHere all → Sound (All IsParamHere) (listed d listing ts all)) → All IsParamHere before → Sound (All IsParamHere) (listed d listing (more (word l) ts) before)
       one_name l ts before m h k ih all =
-          no_sound (All IsParamHere) (is mark.Minus l.mark) (listed_type d listing ts before) (with_name listing l (kind_ahead ts) before >>= λ x. listed d listing ts x) (marks_apart fits mark.Minus l.mark m no_minus)
+          no_sound (All IsParamHere) (is mark.Minus l.mark) (listed_type d listing ts before) (with_name listing l (kind_ahead ts) before >>= λ x. listed d listing ts x) (isnt-by fits mark.Minus l.mark m no_minus)
           (then_sound (All IsParamHere) (All IsParamHere) (with_name listing l (kind_ahead ts) before) (λ x. listed d listing ts x) (name_here l (kind_ahead ts) before (told l h m) (kind_below ts k) all) (λ x p. ih x p))
 
       mutual

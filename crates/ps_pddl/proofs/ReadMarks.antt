@@ -1,9 +1,6 @@
 -- Tests of marks, and which way a test goes.
-use Rattle.std.proofs.Common.{◌≡◌, Bool, true, false, None, refl, ap, inl, inr}
+use Rattle.std.proofs.Common.{◌≡◌, Bool, true, false, None, refl}
 use Rattle.std.specs.Bool.{if◌then◌else◌}
-use Rattle.std.proofs.lemmas.Bool.{cases_Bool}
-use denote.Enum.Bare.{same_true}
-use Rattle.ps_shape.specs.contracts.marks.Mark.{the_type}
 use Rattle.ps_shape.specs.Marks.{is, is_change, is_fact_name, is_name, is_predicate_name}
 use Rattle.ps_shape.specs.declared.marks.Mark.{Mark}
 use Rattle.ps_shape.specs.declared.marks.Mark.TheVariants as mark
@@ -29,18 +26,6 @@ yes_sound P b x y e h = yes_has (Sound P) b x y e h
 
 pub no_sound : {A : Type 0} (P : A → Type 0) (b : Bool) (x y : Read A) → b ≡ false → Sound P y → Sound P (if b then x else y)
 no_sound P b x y e h = no_has (Sound P) b x y e h
-
--- ---- marks apart
-
--- a mark that has what another hasn't is not that
-pub marks_apart : (P : Mark → Bool) (wanted m : Mark) → P m ≡ true → P wanted ≡ false → is wanted m ≡ false
-marks_apart P wanted m h k =
-    elim (cases_Bool (is wanted m)) [
-      | inl e ↦
-          let same : P m ≡ P wanted = ap P (same_true the_type tt m wanted e) in
-          absurd (cc)
-      | inr e ↦ e
-    ]
 
 -- ---- heads
 
@@ -69,15 +54,6 @@ relation_there mark.Equal r e = cc
 relation_there mark.GreaterEqual r e = cc
 relation_there mark.Greater r e = cc
 relation_there m r e = cc
-
--- the head of an addition is no change
-pub predicate_no_change : (m : Mark) → is_predicate_name m ≡ true → change_of m ≡ None
-predicate_no_change mark.Assign e = absurd (cc)
-predicate_no_change mark.Increase e = absurd (cc)
-predicate_no_change mark.Decrease e = absurd (cc)
-predicate_no_change mark.ScaleUp e = absurd (cc)
-predicate_no_change mark.ScaleDown e = absurd (cc)
-predicate_no_change m e = refl
 
 -- a change has its operation
 pub change_there : (m : Mark) → is_change m ≡ true → change_of m ≡ None → ⊥

@@ -1,5 +1,5 @@
 -- The words of a text, with the names of the table after them.
-use Rattle.std.proofs.Common.{◌≡◌, ℕ, ◌<◌, Bool, true, false, not, Option, Some, None, is_none, List, [], ◌∷◌, ◌++◌, codes, drop, length, slice_range, slice_get, refl, sym, ap, ◌∙◌, subst}
+use Rattle.std.proofs.Common.{◌≡◌, ℕ, ◌<◌, Bool, true, false, not, Some, List, [], ◌∷◌, ◌++◌, codes, drop, length, slice_range, refl, sym, ap, ◌∙◌, subst}
 use Rattle.std.specs.Bool.{if◌then◌else◌}
 use Rattle.std.specs.List.{All}
 use Rattle.std.proofs.lemmas.Bool.{and_parts, eqb-true}
@@ -8,13 +8,14 @@ use Rattle.std.proofs.lemmas.Option.{get_or_from_slice_get, slice_get_within}
 use Rattle.ps_world.specs.Lines.{same_text}
 use Rattle.ps_world.specs.Names.{Table, object, name_text}
 use Rattle.ps_world.specs.Numbers.{IsCount}
+use Rattle.ps_world.proofs.Optionals.{is_none-none}
 use Rattle.ps_text.specs.Names.{folded, interned, name_fault, place_of, AreNames}
 use Rattle.ps_text.specs.Tokens.{class_of, is_marked}
 use Rattle.ps_text.specs.declared.lexing.Class.{Class}
 use Rattle.ps_text.specs.declared.lexing.Class.TheVariants as class
 use Rattle.ps_text.specs.declared.lexing.Token.{Token}
 use Rattle.ps_text.proofs.Folds.{folded-folded, IsNameText-folded}
-use Rattle.ps_text.proofs.Tables.{place_of-interned, place_of-within, AreNames-interned}
+use Rattle.ps_text.proofs.Tables.{AreNames-interned, placed}
 use Rattle.ps_shape.specs.Marks.{is_name}
 use Rattle.ps_shape.specs.declared.marks.Mark.{Mark}
 use Rattle.ps_shape.specs.declared.marks.Mark.TheVariants as mark
@@ -61,18 +62,14 @@ abbrev mutual
 
 -- ---- the tables
 
-is_none-same : {X : Type 0} (o : Option X) → is_none o ≡ true → o ≡ None
-is_none-same None h = refl
-is_none-same (Some x) h = absurd (cc)
-
 -- a table of names has a first
 pub first_below : (table : Table) → AreNames table → 0 < length table
 first_below table names = slice_get_within table 0 (codes "object") names.first
 
 -- putting a word's name into a table of names leaves it one
-named_names : (t : Table) (c : Class) (w : List ℕ) → class_of w ≡ Some c → AreNames t → AreNames (named t (name_within c w))
-named_names t class.Name w e n = AreNames-interned t (folded w) n (IsNameText-folded w (is_none-same (name_fault w) (is_name-class w e)))
-named_names t class.Variable w e n = AreNames-interned t (folded (drop 1 w)) n (IsNameText-folded (drop 1 w) (is_none-same (name_fault (drop 1 w)) (is_name-variable w e)))
+pub named_names : (t : Table) (c : Class) (w : List ℕ) → class_of w ≡ Some c → AreNames t → AreNames (named t (name_within c w))
+named_names t class.Name w e n = AreNames-interned t (folded w) n (IsNameText-folded w (is_none-none (name_fault w) (is_name-class w e)))
+named_names t class.Variable w e n = AreNames-interned t (folded (drop 1 w)) n (IsNameText-folded (drop 1 w) (is_none-none (name_fault (drop 1 w)) (is_name-variable w e)))
 named_names t class.LeftParen w e n = n
 named_names t class.RightParen w e n = n
 named_names t class.Sign w e n = n
@@ -86,7 +83,7 @@ tables_named bytes t (token ∷ tokens) h n =
     let own = All-head (IsTokenOf bytes) token tokens h in
     tables_named bytes (table_after bytes t token) tokens (All-tail (IsTokenOf bytes) token tokens h) (named_names t token.class (slice_range bytes token.from token.to) own.class n)
 
-tables_kept : (bytes : List ℕ) (t : Table) (tokens : List Token) → Keeps t (lexemes_of bytes t tokens).1
+pub tables_kept : (bytes : List ℕ) (t : Table) (tokens : List Token) → Keeps t (lexemes_of bytes t tokens).1
 tables_kept bytes t [] = λ n lt. refl
 tables_kept bytes t (token ∷ tokens) =
     kept_along t (table_after bytes t token) (lexemes_of bytes (table_after bytes t token) tokens).1 (kept_named t (name_within token.class (slice_range bytes token.from token.to))) (tables_kept bytes (table_after bytes t token) tokens)
@@ -110,12 +107,8 @@ nameless final m w at names other = record {
   counted = number_counted w;
 }
 
--- a text that is put into a table is there later, at its place
-put : (t final : Table) (name : List ℕ) → Keeps (interned t name) final → slice_get final (place_of t name) ≡ Some name
-put t final name keeps = keeps (place_of t name) (place_of-within t name) ∙ place_of-interned t name
-
 put_text : (t final : Table) (name : List ℕ) → Keeps (interned t name) final → name_text final (record { 0 = place_of t name }) ≡ name
-put_text t final name keeps = get_or_from_slice_get final (place_of t name) name [] (put t final name keeps)
+put_text t final name keeps = get_or_from_slice_get final (place_of t name) name [] (placed t final name keeps)
 
 no_variable : (w : List ℕ) → mark_of class.Name w ≡ mark.Variable → ⊥
 no_variable w e =
@@ -138,7 +131,7 @@ told_word : (t final : Table) (c : Class) (w : List ℕ) (at : ℕ) → class_of
 told_word t final class.Name w at e names keeps =
     let here = put_text t final (folded w) keeps in
     record {
-      below = slice_get_within final (place_of t (folded w)) (folded w) (put t final (folded w) keeps);
+      below = slice_get_within final (place_of t (folded w)) (folded w) (placed t final (folded w) keeps);
       named = λ m. ap (λ x. mark_in fixed_names mark.Name x) (sym (ap folded here ∙ folded-folded w));
       variable = λ m. absurd (no_variable w m);
       counted = number_counted w;
@@ -146,7 +139,7 @@ told_word t final class.Name w at e names keeps =
 told_word t final class.Variable w at e names keeps =
     let name = folded (drop 1 w) in
     record {
-      below = slice_get_within final (place_of t name) name (put t final name keeps);
+      below = slice_get_within final (place_of t name) name (placed t final name keeps);
       named = λ m. absurd (no_name (same_text (folded w) (codes "?duration")) m);
       variable = λ m. ap (λ x. if same_text x (codes "?duration") then mark.Duration else mark.Variable) (marked_folds w (name_text final (record { 0 = place_of t name })) (is_marked-class w e) (put_text t final name keeps)) ∙ m;
       counted = number_counted w;

@@ -9,6 +9,8 @@ use Rattle.ps_world.specs.Knowledge.{is_type}
 use Rattle.ps_world.specs.declared.names.Name.{Name}
 use Rattle.ps_world.specs.declared.domains.Param.{Param}
 use Rattle.ps_world.specs.declared.domains.Domain.{Domain}
+use Rattle.ps_world.proofs.Truths.{or_more}
+use Rattle.ps_domain.proofs.Listed.{later_passes}
 use Rattle.ps_shape.specs.Marks.{is}
 use Rattle.ps_shape.specs.declared.marks.Mark.TheVariants as mark
 use Rattle.ps_pddl.specs.Lists.{counts, kept, kind_ahead, listed, listed_type, with_name}
@@ -64,20 +66,12 @@ module _ (d : Domain) where
 
 -- ---- those that count have all names but `object`
 
-or_first : (b x y : Bool) → (b || x) ≡ true → (x ≡ true → y ≡ true) → (b || y) ≡ true
-or_first true x y e h = refl
-or_first false x y e h = h e
-
-or_second : (b x : Bool) → b ≡ false → (b || x) ≡ true → x ≡ true
-or_second true x f e = absurd (cc)
-or_second false x f e = e
-
 one_kept : (n : Name) (p : Param) (ps : List Param) (b : Bool) → counts Types p ≡ b → same_name n object ≡ false → (same_name n p.name || has_name ps n) ≡ true → (has_name ps n ≡ true → has_name (kept Types ps) n ≡ true) → has_name (if b then p ∷ kept Types ps else kept Types ps) n ≡ true
-one_kept n p ps true c o e h = or_first (same_name n p.name) (has_name ps n) (has_name (kept Types ps) n) e h
+one_kept n p ps true c o e h = or_more (same_name n p.name) (has_name ps n) (has_name (kept Types ps) n) e h
 one_kept n p ps false c o e h =
     let both = and_parts (same_name p.name object) (same_name p.kind object) (not-false (same_name p.name object && same_name p.kind object) c) in
     let is_object = eqb-true p.name.0 object.0 both.0 in
-    h (or_second (same_name n p.name) (has_name ps n) (ne_eqb n.0 p.name.0 (λ q. eqb-false n.0 object.0 o (q ∙ is_object))) e)
+    h (later_passes (same_name n p.name) (has_name ps n) (ne_eqb n.0 p.name.0 (λ q. eqb-false n.0 object.0 o (q ∙ is_object))) e)
 
 kept_has : (n : Name) (ps : List Param) → same_name n object ≡ false → has_name ps n ≡ true → has_name (kept Types ps) n ≡ true
 kept_has n [] o e = e

@@ -1,5 +1,5 @@
 -- The words of a domain's canonical text have classes.
-use Rattle.std.proofs.Common.{◌≡◌, ℕ, ℤ, suc, pos, negsuc, ◌+◌, ◌/◌, ◌%◌, ◌^◌, ◌<◌, ◌≤◌, ◌==◌, Bool, true, false, not, cond, if◌then◌else◌, Option, Some, None, is_ok, is_none, position, List, [], ◌∷◌, ◌++◌, length, map, codes, decimal, is_some, IsSome, All, refl, sym, ap, ◌∙◌, subst, arith}
+use Rattle.std.proofs.Common.{◌≡◌, ℕ, ℤ, suc, pos, negsuc, ◌+◌, ◌/◌, ◌%◌, ◌^◌, ◌<◌, ◌≤◌, ◌==◌, Bool, true, false, not, cond, if◌then◌else◌, Option, Some, None, is_ok, is_none, position, List, [], ◌∷◌, ◌++◌, length, map, codes, decimal, is_some, IsSome, All, refl, sym, ap, subst, arith}
 use Rattle.std.proofs.lemmas.Bool.{and_left, or_from}
 use Rattle.std.proofs.lemmas.Bool.Decides.{nat_tests}
 use Rattle.std.proofs.lemmas.Fmt.{decimal_by_steps}
@@ -35,7 +35,8 @@ use Rattle.ps_text.specs.Names.{fault_at, is_letter, is_name, is_name_byte, name
 use Rattle.ps_text.specs.Tokens.{begins_digit, begins_number, class_of, is_marked, is_sign, is_sign_byte}
 use Rattle.ps_text.specs.declared.lexing.Class.{Class}
 use Rattle.ps_text.specs.declared.lexing.Class.TheVariants as class
-use Rattle.ps_text.proofs.Printed.{number_of-printed}
+use Rattle.ps_text.proofs.Printed.{number_of-printed, no_minus, is_digit}
+use Rattle.ps_forms.proofs.ClassNumbers.{first_number, minus_class}
 use Rattle.ps_print.specs.CanonicalWords.{grouped, typed_words, param_words, decl_words, term_words, lifted_words, expr_words, cond_words, conds_words, effect_words, timed_words, at_start, over_all, at_end, conditions_words, effects_words, action_words, section_words, domain_words, IsNameOf, IsParamOf, IsDeclOf, IsTermOf, IsLiftedOf, IsExprOf, IsCondOf, AreCondsOf, IsEffectOf, IsActionOf, IsDomainOf}
 use Rattle.ps_pddl.proofs.CanonicalForms.{param_name}
 
@@ -55,9 +56,6 @@ first_class left right sign variable keyword begins numeric continuous name =
 
 name_last : (o c s v k b n t m : Bool) → o ≡ false → c ≡ false → s ≡ false → v ≡ false → k ≡ false → b ≡ false → t ≡ false → m ≡ true → first_class o c s v k b n t m ≡ Some class.Name
 name_last o c s v k b n t m p q r x y z e f = rw (p, q, r, x, y, z, e, f)
-
-number_sixth : (o c s v k b n t m : Bool) → o ≡ false → c ≡ false → s ≡ false → v ≡ false → k ≡ false → b ≡ true → n ≡ true → first_class o c s v k b n t m ≡ Some class.Number
-number_sixth o c s v k b n t m p q r x y z e = rw (p, q, r, x, y, z, e)
 
 -- a byte with which no sign begins, and none of the other classes that come first
 record IsPlainByte (b : ℕ) : Type 0 where
@@ -102,9 +100,6 @@ no_minus-letter b h = grind (arith, nat_tests)
 no_digit-letter : (b : ℕ) → is_letter b ≡ true → is_ascii_digit b ≡ false
 no_digit-letter b h = grind (arith, nat_tests)
 
-no_minus-digit : (b : ℕ) → is_ascii_digit b ≡ true → (b == 45) ≡ false
-no_minus-digit b h = grind (arith, nat_tests)
-
 no_sign : (b : ℕ) (bs : List ℕ) → IsPlainByte b → is_sign (b ∷ bs) ≡ false
 no_sign b [] p = p.sign
 no_sign b (c ∷ cs) p = or_from _ _ (and_left (b == 60) _ p.less) (and_left (b == 62) _ p.greater)
@@ -133,37 +128,30 @@ class_of-variable (b ∷ bs) h = chosen (is_name (b ∷ bs)) (Some class.Variabl
 
 -- ---- the class of a number
 
-digit_first : (d : ℕ) → d < 10 → is_ascii_digit (48 + d) ≡ true
-digit_first d h = grind (arith, nat_tests)
-
 begins_digit-append : (ds rest : List ℕ) → begins_digit ds ≡ true → begins_digit (ds ++ rest) ≡ true
 begins_digit-append [] rest h = absurd (cc)
 begins_digit-append (d ∷ ds) rest h = h
 
 begins_digit-decimal : (n : ℕ) → n < 2 ^ 64 → begins_digit (decimal n) ≡ true
-begins_digit-decimal = decimal_by_steps (λ n ds. begins_digit ds ≡ true) digit_first (λ n ds h e. begins_digit-append ds ((48 + n % 10) ∷ []) e)
+begins_digit-decimal = decimal_by_steps (λ n ds. begins_digit ds ≡ true) is_digit (λ n ds h e. begins_digit-append ds ((48 + n % 10) ∷ []) e)
 
 begins_digit-magnitude : (n : ℕ) → n ≤ 10 ^ 15 → begins_digit (magnitude_text n) ≡ true
 begins_digit-magnitude n h = begins_digit-append (decimal (n / 1000)) (decimals_text n) (begins_digit-decimal (n / 1000) (omega arith))
 
 begins_number-digit : (w : List ℕ) → begins_digit w ≡ true → begins_number w ≡ true
 begins_number-digit [] h = absurd (cc)
-begins_number-digit (b ∷ bs) h = rw (no_minus-digit b h) h
+begins_number-digit (b ∷ bs) h = rw (no_minus b h) h
 
 class_of-digit : (w : List ℕ) → begins_digit w ≡ true → is_ok (number_of w) ≡ true → class_of w ≡ Some class.Number
 class_of-digit [] h ok = absurd (cc)
 class_of-digit (b ∷ bs) h ok =
     let p = digit_plain b h in
-    number_sixth (same_text (b ∷ bs) (codes "(")) (same_text (b ∷ bs) (codes ")")) (is_sign (b ∷ bs)) (is_marked 63 (b ∷ bs)) (is_marked 58 (b ∷ bs)) (begins_number (b ∷ bs)) (is_ok (number_of (b ∷ bs))) (same_text (b ∷ bs) (codes "#t")) (is_name (b ∷ bs))
+    first_number (same_text (b ∷ bs) (codes "(")) (same_text (b ∷ bs) (codes ")")) (is_sign (b ∷ bs)) (is_marked 63 (b ∷ bs)) (is_marked 58 (b ∷ bs)) (begins_number (b ∷ bs)) (is_ok (number_of (b ∷ bs))) (same_text (b ∷ bs) (codes "#t")) (is_name (b ∷ bs))
     (and_left (b == 40) _ p.open_paren) (and_left (b == 41) _ p.close_paren) (no_sign b bs p) (and_left (b == 63) _ p.variable) (and_left (b == 58) _ p.keyword) (begins_number-digit (b ∷ bs) h) ok
-
-class_of-minus : (w : List ℕ) → begins_digit w ≡ true → is_ok (number_of (45 ∷ w)) ≡ true → class_of (45 ∷ w) ≡ Some class.Number
-class_of-minus [] h ok = absurd (cc)
-class_of-minus (b ∷ bs) h ok = chosen (begins_digit (b ∷ bs)) _ _ h ∙ chosen (is_ok (number_of (45 ∷ b ∷ bs))) (Some class.Number) None ok
 
 pub class_of-number : (z : ℤ) → IsCount z → class_of (number_text z) ≡ Some class.Number
 class_of-number (pos n) h = class_of-digit (magnitude_text n) (begins_digit-magnitude n h) (ap is_ok (number_of-printed (pos n) h))
-class_of-number (negsuc n) h = class_of-minus (magnitude_text (suc n)) (begins_digit-magnitude (suc n) h) (ap is_ok (number_of-printed (negsuc n) h))
+class_of-number (negsuc n) h = minus_class (magnitude_text (suc n)) (begins_digit-magnitude (suc n) h) (ap is_ok (number_of-printed (negsuc n) h))
 
 -- ---- the words of a domain's parts
 
@@ -171,23 +159,23 @@ class_of-number (negsuc n) h = class_of-minus (magnitude_text (suc n)) (begins_d
 pub record Classed (ws : List (List ℕ)) : Type 0 where
   pub all : All (λ w. IsSome (class_of w)) ws
 
-classed_none : Classed []
+pub classed_none : Classed []
 classed_none = record { all = All-nil (λ w. IsSome (class_of w)) }
 
-classed_more : (w : List ℕ) {ws : List (List ℕ)} → IsSome (class_of w) → Classed ws → Classed (w ∷ ws)
+pub classed_more : (w : List ℕ) {ws : List (List ℕ)} → IsSome (class_of w) → Classed ws → Classed (w ∷ ws)
 classed_more w {ws} some rest = record { all = All-cons (λ w. IsSome (class_of w)) w ws some rest.all }
 
-classed_parts : {ws us : List (List ℕ)} → Classed ws → Classed us → Classed (ws ++ us)
+pub classed_parts : {ws us : List (List ℕ)} → Classed ws → Classed us → Classed (ws ++ us)
 classed_parts {ws} {us} first second = record { all = All-append (λ w. IsSome (class_of w)) ws us first.all second.all }
 
-classed_group : {ws : List (List ℕ)} → Classed ws → Classed (grouped ws)
+pub classed_group : {ws : List (List ℕ)} → Classed ws → Classed (grouped ws)
 classed_group h = classed_more (codes "(") refl (classed_parts h (classed_more (codes ")") refl classed_none))
 
-classed_each : {X : Type 0} (P : X → Type 0) (f : X → List (List ℕ)) → ((x : X) → P x → Classed (f x)) → (xs : List X) → All P xs → Classed (flat_map f xs)
+pub classed_each : {X : Type 0} (P : X → Type 0) (f : X → List (List ℕ)) → ((x : X) → P x → Classed (f x)) → (xs : List X) → All P xs → Classed (flat_map f xs)
 classed_each P f each [] h = classed_none
 classed_each P f each (x ∷ xs) h = classed_parts (each x (All-head P x xs h)) (classed_each P f each xs (All-tail P x xs h))
 
-some_class : (o : Option Class) (c : Class) → o ≡ Some c → IsSome o
+pub some_class : (o : Option Class) (c : Class) → o ≡ Some c → IsSome o
 some_class o c e = ap is_some e
 
 classed_op : (o : Op) → IsSome (class_of (op_text o))

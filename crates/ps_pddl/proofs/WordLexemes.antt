@@ -1,11 +1,13 @@
 -- What the words of a text are, each by itself, where their table keeps the names of another.
-use Rattle.std.proofs.Common.{◌≡◌, ℕ, ◌<◌, true, Option, Some, None, is_none, List, [], ◌∷◌, map, drop, length, get_or, slice_get, slice_range, refl, sym, ap, ◌∙◌, subst}
+use Rattle.std.proofs.Common.{◌≡◌, ℕ, ◌<◌, true, Option, Some, List, [], ◌∷◌, map, length, get_or, slice_get, slice_range, refl, sym, ap, ◌∙◌, subst}
 use Rattle.std.proofs.lemmas.List.Folds.{list_any_at}
 use Rattle.std.proofs.lemmas.Option.{slice_get_within, slice_get-get_or, get_or_from_slice_get}
 use Rattle.std.specs.List.{list_any}
 use Rattle.ps_world.specs.Lines.{same_text}
 use Rattle.ps_world.specs.Names.{Table, name_text}
 use Rattle.ps_world.specs.declared.names.Name.{Name}
+use Rattle.ps_world.proofs.Optionals.{is_none-none}
+use Rattle.ps_world.proofs.SameTexts.{same_text-itself}
 use Rattle.ps_text.specs.Names.{folded, interned, is_name, name_fault, place_of, AreNames}
 use Rattle.ps_text.specs.Tokens.{class_of, span_of, AreTokens}
 use Rattle.ps_text.specs.Words.{pieces, words}
@@ -13,13 +15,13 @@ use Rattle.ps_text.specs.declared.lexing.Class.{Class}
 use Rattle.ps_text.specs.declared.lexing.Class.TheVariants as class
 use Rattle.ps_text.specs.declared.lexing.Token.{Token}
 use Rattle.ps_text.proofs.Folds.{IsNameText-folded}
-use Rattle.ps_text.proofs.Tables.{AreNames-interned, interned-there, place_of-interned, place_of-within, same_text-refl}
+use Rattle.ps_text.proofs.Tables.{AreNames-interned, interned-there, place_of-interned, place_of-within}
 use Rattle.ps_text.specs.Names.{Keeps}
-use Rattle.ps_forms.specs.Lexemes.{lexeme_of, lexemes_of, mark_of, name_within, named, number_or_zero, numbered, table_after}
+use Rattle.ps_forms.specs.Lexemes.{lexeme_of, lexemes_of, mark_of, name_within, number_or_zero, numbered, table_after}
 use Rattle.ps_forms.specs.declared.lexemes.Lexeme.{Lexeme}
 use Rattle.ps_text.proofs.Kept.{kept_along}
 use Rattle.ps_forms.proofs.Kept.{kept_named}
-use Rattle.ps_forms.proofs.TokenNames.{is_name-class, is_name-variable}
+use Rattle.ps_pddl.proofs.ReadNames.{named_names}
 
 -- what a word is, wherever it stands: its mark, its number, and its name if that is one of these names
 pub record IsLexemeOf (names : Table) (w : List ℕ) (l : Lexeme) : Type 0 where
@@ -39,7 +41,7 @@ place_of-at : (t : Table) → AreNames t → (i : ℕ) (text : List ℕ) → sli
 place_of-at t good i text e =
     let inside : i < length t = slice_get_within t i text e in
     let here : get_or t i [] ≡ text = get_or_from_slice_get t i text [] e in
-    let there : list_any (same_text text) t ≡ true = list_any_at (same_text text) t i [] inside (rw here (same_text-refl text)) in
+    let there : list_any (same_text text) t ≡ true = list_any_at (same_text text) t i [] inside (rw here (same_text-itself text)) in
     let kept : interned t text ≡ t = interned-there t text there in
     let within : place_of t text < length t = subst (λ u. place_of t text < length u) kept (place_of-within t text) in
     let found : slice_get t (place_of t text) ≡ Some text = subst (λ u. slice_get u (place_of t text) ≡ Some text) kept (place_of-interned t text) in
@@ -51,23 +53,8 @@ numbered-kept names t good keeps n h =
     let name : ℕ → Name = λ k. record { 0 = k } in
     ap name (place_of-at t good n.0 (name_text names n) (keeps n.0 h ∙ slice_get-get_or names n.0 [] h))
 
-no_fault : {X : Type 0} (o : Option X) → is_none o ≡ true → o ≡ None
-no_fault None h = refl
-no_fault (Some x) h = absurd (cc)
-
-AreNames-name : (t : Table) (w : List ℕ) → is_name w ≡ true → AreNames t → AreNames (interned t (folded w))
-AreNames-name t w h good = AreNames-interned t (folded w) good (IsNameText-folded w (no_fault (name_fault w) h))
-
--- a table of names with a word's name is one
-AreNames-word : (t : Table) (c : Class) (w : List ℕ) → class_of w ≡ Some c → AreNames t → AreNames (named t (name_within c w))
-AreNames-word t class.Name w e good = AreNames-name t w (is_name-class w e) good
-AreNames-word t class.Variable w e good = AreNames-name t (drop 1 w) (is_name-variable w e) good
-AreNames-word t class.LeftParen w e good = good
-AreNames-word t class.RightParen w e good = good
-AreNames-word t class.Sign w e good = good
-AreNames-word t class.Keyword w e good = good
-AreNames-word t class.Number w e good = good
-AreNames-word t class.Continuous w e good = good
+pub AreNames-name : (t : Table) (w : List ℕ) → is_name w ≡ true → AreNames t → AreNames (interned t (folded w))
+AreNames-name t w h good = AreNames-interned t (folded w) good (IsNameText-folded w (is_none-none (name_fault w) h))
 
 -- ---- the words of tokens
 
@@ -92,7 +79,7 @@ module _ (names : Table) (bytes : List ℕ) where
       let first : class_of w ≡ Some x.class = cc in
       let others : map class_of (pieces bytes (map span_of tokens)) ≡ map (λ y. Some y.class) tokens = cc in
       let after = table_after bytes t x in
-      let still : AreNames after = AreNames-word t x.class w first good in
+      let still : AreNames after = named_names t x.class w first good in
       let kept : Keeps names after = kept_along names t after keeps (kept_named t (name_within x.class w)) in
       more_words w (pieces bytes (map span_of tokens)) (lexeme_of bytes t x) (lexemes_of bytes after tokens).0 (IsLexemeOf-token t good keeps x first) (are_lexemes_from after still kept tokens others)
 

@@ -17,7 +17,7 @@ within p q r x y z w h k e = rw (h, k, e)
 past : {A : Type 0} (p q r : Bool) (x y z w : A) → p ≡ false → q ≡ true → r ≡ false → cond p x (cond q (cond r y z) w) ≡ z
 past p q r x y z w h k e = rw (h, k, e)
 
-outside : {A : Type 0} (p q : Bool) (x y w : A) → p ≡ false → q ≡ false → cond p x (cond q y w) ≡ w
+pub outside : {A : Type 0} (p q : Bool) (x y w : A) → p ≡ false → q ≡ false → cond p x (cond q y w) ≡ w
 outside p q x y w h k = rw (h, k)
 
 -- what a line is to the first fault, after so many steps

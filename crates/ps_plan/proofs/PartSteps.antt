@@ -8,21 +8,18 @@ use Rattle.ps_text.specs.Words.{is_blank, pieces}
 use Rattle.ps_text.specs.declared.spans.Span.{Span}
 use Rattle.ps_text.proofs.Pieces.{Marked, first-yes, first-no}
 use Rattle.ps_plan.specs.PlanText.{goes_on, is_mark, is_word_byte, parts_of}
+use Rattle.ps_plan.proofs.Limits.{outside}
 
 abbrev pub is_other : ℕ → Bool
 is_other b = not (is_word_byte b)
 
 -- ---- the steps of the parts of a line that begins with a byte
 
--- the answer of two tests, one after another
-last_of : {A : Type 0} (p q : Bool) (x y z : A) → p ≡ false → q ≡ false → cond p x (cond q y z) ≡ z
-last_of p q x y z h k = rw (h, k)
-
 second_of : {A : Type 0} (p q : Bool) (x y z : A) → p ≡ false → q ≡ true → cond p x (cond q y z) ≡ y
 second_of p q x y z h k = rw (h, k)
 
 pub parts-alone : (b : ℕ) (bs : List ℕ) → is_blank b ≡ false → (is_word_byte b && goes_on bs) ≡ false → parts_of (b ∷ bs) ≡ (b ∷ []) ∷ parts_of bs
-parts-alone b bs = last_of (is_blank b) (is_word_byte b && goes_on bs) (parts_of bs) (lengthened b (parts_of bs)) ((b ∷ []) ∷ parts_of bs)
+parts-alone b bs = outside (is_blank b) (is_word_byte b && goes_on bs) (parts_of bs) (lengthened b (parts_of bs)) ((b ∷ []) ∷ parts_of bs)
 
 pub parts-longer : (b : ℕ) (bs : List ℕ) → is_blank b ≡ false → (is_word_byte b && goes_on bs) ≡ true → parts_of (b ∷ bs) ≡ lengthened b (parts_of bs)
 parts-longer b bs = second_of (is_blank b) (is_word_byte b && goes_on bs) (parts_of bs) (lengthened b (parts_of bs)) ((b ∷ []) ∷ parts_of bs)

@@ -9,9 +9,10 @@ use Rattle.ps_world.specs.Lines.{same_text}
 use Rattle.ps_world.specs.Names.{Table, name_text}
 use Rattle.ps_world.specs.Tables.{IsOf}
 use Rattle.ps_world.specs.declared.names.Name.{Name}
+use Rattle.ps_world.proofs.SameTexts.{same_text-itself}
 use Rattle.ps_action.specs.declared.acts.PlanStep.{PlanStep}
 use Rattle.ps_text.specs.Names.{AreNames, folded, interned, is_name, place_of}
-use Rattle.ps_text.proofs.Tables.{interned-there, place_of-interned, same_text-refl}
+use Rattle.ps_text.proofs.Tables.{interned-there, place_of-interned}
 use Rattle.ps_plan.specs.PlanText.{IsStepOf, Said, args_of, named_all, step_of, table_after}
 use Rattle.ps_plan.proofs.PrintedLines.{said_with}
 use Rattle.ps_plan.proofs.PrintedParts.{IsWordName, is_word-name}
@@ -38,7 +39,7 @@ module _ (table : Table) (h : AreNames table) where
     lower-printed = (h.texts n.0 [] within).lower_case
 
     there : list_any (same_text text) table ≡ true
-    there = list_any_at (same_text text) table n.0 [] within (same_text-refl text)
+    there = list_any_at (same_text text) table n.0 [] within (same_text-itself text)
 
     interned-printed : interned table (folded text) ≡ table
     interned-printed = ap (interned table) lower-printed ∙ interned-there table text there

@@ -1,5 +1,5 @@
 -- The parts of a printed line.
-use Rattle.std.proofs.Common.{◌≡◌, ℕ, suc, ◌+◌, ◌/◌, ◌%◌, ◌<◌, ◌≤◌, ◌^◌, ◌==◌, Bool, true, false, not, cond, nat_lt, Option, Some, None, pos, negsuc, position, List, [], ◌∷◌, ◌++◌, map, length, codes, refl, ap, ◌∙◌, arith, append_assoc, inl, inr}
+use Rattle.std.proofs.Common.{◌≡◌, ℕ, suc, ◌+◌, ◌/◌, ◌%◌, ◌<◌, ◌≤◌, ◌^◌, ◌==◌, Bool, true, false, not, cond, Some, None, pos, negsuc, position, List, [], ◌∷◌, ◌++◌, map, length, codes, refl, ap, ◌∙◌, arith, append_assoc, inl, inr}
 use Rattle.std.proofs.lemmas.Bool.{and_from, and_parts, and_right, cases_Bool}
 use Rattle.std.proofs.lemmas.Bool.Decides.{nat_tests}
 use Rattle.std.proofs.lemmas.Fmt.{decimal_by_steps}
@@ -14,8 +14,9 @@ use Rattle.ps_world.specs.Texts.{args_text}
 use Rattle.ps_world.specs.declared.names.Name.{Name}
 use Rattle.ps_world.proofs.OneLine.{is_line-append}
 use Rattle.ps_action.specs.declared.acts.PlanStep.{PlanStep}
-use Rattle.ps_text.specs.Names.{is_letter, is_name_byte, bad_place, fault_at, name_fault}
+use Rattle.ps_text.specs.Names.{is_letter, is_name_byte, bad_place, name_fault}
 use Rattle.ps_text.proofs.Pieces.{first-yes, first-no}
+use Rattle.ps_text.proofs.NameRuns.{no_position-by, no_bad_place}
 use Rattle.ps_plan.specs.PlanText.{goes_on, is_word_byte, parts_of}
 use Rattle.ps_plan.proofs.PartSteps.{parts-alone, parts-longer, word_parts}
 
@@ -81,14 +82,6 @@ list_all-no_other (b ∷ bs) h =
       | inl other ↦ absurd (omega (arith, first-yes is_other b bs other))
       | inr fits ↦ and_from (is_word_byte b) (list_all is_word_byte bs) (is_word_byte-no_other b (is_name_byte b) refl fits) (list_all-no_other bs (omega (arith, first-no is_other b bs fits)))
     ]
-
-no_position-by : (n k : ℕ) (e : Bool) → nat_lt k n ≡ e → cond e (Some k) None ≡ None → n ≤ k
-no_position-by n k true e h = absurd (cc)
-no_position-by n k false e h = grind (arith, nat_tests)
-
-no_bad_place : (at : Option ℕ) (n : ℕ) → fault_at at n ≡ None → at ≡ None
-no_bad_place None n h = refl
-no_bad_place (Some at) n h = absurd (cc)
 
 list_all-begun : (bs : List ℕ) (e : Bool) → cond e (position is_other bs) (Some 0) ≡ None → list_all is_word_byte bs ≡ true
 list_all-begun bs true h = list_all-no_other bs (no_position-by (length bs) (position_or_len is_other bs) _ refl h)

@@ -1,6 +1,6 @@
 -- A printed plan is read as itself.
 use Rattle.std.proofs.Common.{◌≡◌, ℕ, suc, ◌+◌, ◌/◌, ◌%◌, ◌^◌, ◌<◌, ◌≤◌, ◌==◌, Bool, true, false, not, ℤ, pos, negsuc, ◌≤ℤ◌, int_lt, Some, None, is_some, if◌then◌else◌, List, [], ◌∷◌, ◌++◌, map, filter_map, length, get_or, insert, All, refl, sym, ap, ◌∙◌, arith, append_assoc}
-use Rattle.std.proofs.lemmas.Bool.{and_from, and_parts, not-true, lt-ltb}
+use Rattle.std.proofs.lemmas.Bool.{and_from, not-true, lt-ltb}
 use Rattle.std.proofs.lemmas.Bool.Decides.{nat_tests}
 use Rattle.std.proofs.lemmas.Fmt.{decimal_by_steps, decimal_nonempty}
 use Rattle.std.proofs.lemmas.Int.{ints}
@@ -13,6 +13,7 @@ use Rattle.std.specs.List.{cons_option, list_all, position_or_len}
 use Rattle.ps_world.specs.Lines.{is_line, lines_of}
 use Rattle.ps_world.specs.Names.{Table, name_text}
 use Rattle.ps_world.specs.Numbers.{IsCount, number_text}
+use Rattle.ps_world.proofs.LinesOf.{lines_of-line}
 use Rattle.ps_action.specs.declared.acts.PlanStep.{PlanStep}
 use Rattle.ps_text.specs.Names.{AreNames}
 use Rattle.ps_text.proofs.Digits.{list_all-get_or}
@@ -25,12 +26,6 @@ use Rattle.ps_plan.proofs.PrintedNames.{names-step, said_step, step_of-printed, 
 use Rattle.ps_plan.proofs.PrintedParts.{is_line-step, is_word-number, line_text, parts-line, printed_parts}
 
 -- ---- the lines of the text
-
-lines_of-line : (line rest : List ℕ) → is_line line ≡ true → lines_of (line ++ 10 ∷ rest) ≡ line ∷ lines_of rest
-lines_of-line [] rest h = refl
-lines_of-line (b ∷ bs) rest h =
-    let parts = and_parts (not (b == 10)) (is_line bs) h in
-    rw (not-true (b == 10) parts.0, lines_of-line bs rest parts.1) refl
 
 step_text-is : (table : Table) (step : PlanStep) (rest : List ℕ) → step_text table step ++ rest ≡ line_text table step ++ 10 ∷ rest
 step_text-is table step rest = simp append_assoc

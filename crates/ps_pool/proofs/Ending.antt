@@ -5,13 +5,11 @@ use Rattle.ps_machine.specs.declared.inputs.Input.{Input}
 use Rattle.ps_machine.specs.declared.journal.Entry.{Entry}
 use Rattle.ps_rules.specs.Runs.{is_running}
 use Rattle.ps_rules.specs.Choices.{act_turn, actors, after_turn, ordered, Says, with_block}
+use Rattle.ps_orders.proofs.Moments.{le_or}
 use Rattle.ps_pool.specs.Ordered.{OneEnd}
 
 one_or_less : (m n : ℕ) → m ≤ suc n → (m ≡ suc n) ⊎ (m ≤ n)
 one_or_less m n l = grind arith
-
-one_way : (m n : ℕ) → (m ≤ n) ⊎ (n ≤ m)
-one_way m n = grind arith
 
 -- a turn does nothing where no run is open
 closed-turn : (says : Says) (i : Input) (n : ℕ) (es : List Entry) → is_running es ≡ false → after_turn says i n es ≡ es
@@ -31,7 +29,7 @@ closed-turns says i es m (suc n) l closed =
 
 pub one_end : OneEnd
 one_end says i es new other a b =
-    elim (one_way a.turns b.turns) [
+    elim (le_or a.turns b.turns) [
       | inl l ↦ a.all ∙ sym (closed-turns says i es a.turns b.turns l (ap is_running (sym a.all) ∙ a.over)) ∙ sym b.all
       | inr l ↦ a.all ∙ closed-turns says i es b.turns a.turns l (ap is_running (sym b.all) ∙ b.over) ∙ sym b.all
     ]

@@ -1,10 +1,9 @@
 -- What is forced: cancels, and none by the end of a run.
-use Rattle.std.proofs.Common.{◌≡◌, ℕ, ◌&&◌, ◌||◌, Bool, true, false, not, List, [], ◌∷◌, ◌++◌, filter, length, map, if◌then◌else◌, IsTrue, refl, arith, ap, sym, ◌∙◌, subst, append-nil}
+use Rattle.std.proofs.Common.{◌≡◌, ℕ, ◌||◌, Bool, true, false, not, List, [], ◌∷◌, ◌++◌, length, map, if◌then◌else◌, IsTrue, arith, ap, sym, ◌∙◌, subst, append-nil}
 use Rattle.std.specs.List.{AllByRecursion, list_all}
 use Rattle.std.specs.Option.{unwrap_or}
-use Rattle.std.proofs.lemmas.Bool.{ltb-true, true≢false}
-use Rattle.ps_action.specs.declared.states.ActState.{ActState}
-use Rattle.ps_action.specs.declared.states.ActState.TheVariants.{Waiting, Active, Done, Failed, Cancelled}
+use Rattle.std.proofs.lemmas.Bool.{ltb-true, true≢false, and_parts}
+use Rattle.ps_action.specs.declared.states.ActState.TheVariants.{Waiting}
 use Rattle.ps_machine.specs.declared.inputs.Input.{Input}
 use Rattle.ps_machine.specs.declared.journal.CancelWhy.{CancelWhy}
 use Rattle.ps_machine.specs.declared.journal.CancelWhy.TheVariants as cancel
@@ -13,12 +12,13 @@ use Rattle.ps_machine.specs.declared.journal.Event.{Event}
 use Rattle.ps_machine.specs.declared.journal.Event.TheVariants as event
 use Rattle.ps_machine.specs.declared.journal.Entry.{Entry}
 use Rattle.ps_rules.specs.Runs.{is_active, plan, says_state, state}
-use Rattle.ps_rules.specs.Settled.{is_settled, may_go_on, places, verdict}
+use Rattle.ps_rules.specs.Settled.{is_settled, places, verdict}
 use Rattle.ps_rules.specs.Legal.{ending, is_legal, is_outcome}
 use Rattle.ps_rules.specs.History.{any_of, broken, cancels, forced, forced_after, is_fail, IsHistory, sound}
 use Rattle.ps_rules.proofs.Going.{placed}
-use Rattle.ps_rules.proofs.Kept.{both, fits-legal}
+use Rattle.ps_rules.proofs.Kept.{fits-legal}
 use Rattle.ps_rules.proofs.Pushed.{read-push}
+use Rattle.ps_rules.proofs.Between.{active-so, unforced}
 use Rattle.ps_ends.proofs.Lists.{all_in, in_range}
 use Rattle.ps_ends.proofs.Picking.{by_test}
 
@@ -40,43 +40,20 @@ module _ (P : Entry → Type 0) (hand : ℕ) (each : (why : CancelWhy) (act : �
 
 -- ---- the end of a run forces none
 
-active-so : (s : ActState) → is_active s ≡ true → s ≡ Active
-active-so Active h = refl
-active-so Waiting h = absurd (cc)
-active-so Done h = absurd (cc)
-active-so Failed h = absurd (cc)
-active-so Cancelled h = absurd (cc)
-
-filter-none : (test : ℕ → Bool) → ((n : ℕ) → test n ≡ false) → (ns : List ℕ) → filter test ns ≡ []
-filter-none test none [] = refl
-filter-none test none (n ∷ ns) = rw (none n) (filter-none test none ns)
-
-either-way : (b : Bool) (es : List Entry) → (if b then es else es) ≡ es
-either-way true es = refl
-either-way false es = refl
-
--- an event after which no act is active forces nothing
-unforced : (i : Input) (es : List Entry) (e : Entry) → ((act : ℕ) → is_active (state act (es ++ e ∷ [])) ≡ false) → forced i es e ≡ []
-unforced i es e none =
-    let after : List Entry = es ++ e ∷ [] in
-    let broken = filter-none (λ act. is_active (state act after) && not (may_go_on i after act)) (λ act. rw (none act) refl) (places after) in
-    let sound = filter-none (λ act. is_active (state act after) && may_go_on i after act) (λ act. rw (none act) refl) (places after) in
-    rw (broken, sound) (either-way _ [])
-
 -- in a settled run no act is active
 settled-still : (i : Input) (es : List Entry) → IsHistory i es → is_settled i es ≡ true → (act : ℕ) → is_active (state act es) ≡ false
 settled-still i es h settled act =
     by_test (is_active (state act es))
     (λ t.
     let l = ltb-true act (length (plan es)) (placed i es h act (active-so (state act es) t)) in
-    let none = all_in (λ a. not (is_active (state a es))) (places es) (both (list_all (λ a. not (is_active (state a es))) (places es)) _ settled).0 act
+    let none = all_in (λ a. not (is_active (state a es))) (places es) (and_parts (list_all (λ a. not (is_active (state a es))) (places es)) _ settled).0 act
     (in_range act 0 (length (plan es)) (omega arith) (omega (arith, l))) in
     absurd (true≢false (sym none ∙ ap not t)))
     (λ t. t)
 
 pub over-forces-nothing : (i : Input) (es : List Entry) (e : Entry) (how : Outcome) → IsHistory i es → IsTrue (is_legal i es e.what) → e.what ≡ event.Over how → forced i es e ≡ []
 over-forces-nothing i es e how h legal is =
-    let settled = (both (is_settled i es) (is_outcome how (ending i es (verdict i es))) (fits-legal i es (event.Over how) (subst (λ f. IsTrue (is_legal i es f)) is legal))).0 in
+    let settled = (and_parts (is_settled i es) (is_outcome how (ending i es (verdict i es))) (fits-legal i es (event.Over how) (subst (λ f. IsTrue (is_legal i es f)) is legal))).0 in
     unforced i es e (λ act.
     ap is_active (read-push (λ s f. unwrap_or (says_state act f) s) Waiting es e ∙ ap (λ f. unwrap_or (says_state act f) (state act es)) is)
     ∙ settled-still i es h settled act)

@@ -3,8 +3,8 @@ use Rattle.std.proofs.Common.{◌≡◌, ℕ, ◌+◌, ◌==◌, true, false, Op
 use Rattle.std.specs.Prelude.{IfOk}
 use Rattle.std.proofs.Math.Seq.{take-append_seam}
 use Rattle.std.proofs.lemmas.List.{length-append}
-use Rattle.std.proofs.lemmas.Bool.{true≢false}
-use Rattle.std.proofs.lemmas.Bool.Decides.{nat_tests}
+use Rattle.std.proofs.lemmas.Bool.{true≢false, eq-eqb, eqb-true}
+use Rattle.ps_world.proofs.Optionals.{none_not_some, some_same}
 use Rattle.ps_action.specs.declared.answers.Answer.{Answer}
 use Rattle.ps_machine.specs.declared.inputs.Input.{Input}
 use Rattle.ps_machine.specs.declared.journal.Event.{Event}
@@ -15,7 +15,7 @@ use Rattle.ps_rules.specs.Choices.{wants_plan}
 use Rattle.ps_rules.specs.Known.{know}
 use Rattle.ps_rules.specs.Runs.{is_running}
 use Rattle.ps_ends.specs.Working.{unit_due}
-use Rattle.ps_ends.proofs.Picking.{by_test, not_some, some_eq}
+use Rattle.ps_ends.proofs.Picking.{by_test}
 use Rattle.ps_rows.specs.Same.{same_unit}
 use Rattle.ps_rows.proofs.Units.{same_unit-is, same_unit-itself}
 use Rattle.ps_board.specs.Board.{IsOut, number_of, recording, tick_answer, ticking, with_done}
@@ -76,26 +76,20 @@ answer-by (Err e) b new hand a did left = nothing-by hand b.entries new.entries 
 
 -- ---- grants
 
-same_number : (m n : ℕ) → (m == n) ≡ true → m ≡ n
-same_number m n t = grind (arith, nat_tests)
-
-same_number-itself : (m n : ℕ) → m ≡ n → (m == n) ≡ true
-same_number-itself m n e = grind (arith, nat_tests)
-
 -- a grant is out or it isn't
 out-or-not : (b : Shown) (g : Grant) → IsOut b g ⊎ (IsOut b g → ⊥)
 out-or-not b g = by_both (granted b.grants (number_of b g)) (unit_due b.input g.r g.by b.entries) refl refl
   where
     by_both : (r : Option ℕ) (u : Option Task) → granted b.grants (number_of b g) ≡ r → unit_due b.input g.r g.by b.entries ≡ u → IsOut b g ⊎ (IsOut b g → ⊥)
-    by_both None u er eu = inr (λ out. not_some g.r (sym er ∙ out.request))
-    by_both (Some r) None er eu = inr (λ out. not_some g.unit (sym eu ∙ out.unit))
+    by_both None u er eu = inr (λ out. none_not_some g.r (sym er ∙ out.request))
+    by_both (Some r) None er eu = inr (λ out. none_not_some g.unit (sym eu ∙ out.unit))
     by_both (Some r) (Some u) er eu =
         by_test (r == g.r)
         (λ same.
         by_test (same_unit u g.unit)
-        (λ one. inl (record { request = er ∙ ap Some (same_number r g.r same); unit = eu ∙ ap Some (same_unit-is u g.unit one) }))
-        (λ other. inr (λ out. true≢false (sym (subst (λ v. same_unit u v ≡ true) (some_eq u g.unit (sym eu ∙ out.unit)) (same_unit-itself u)) ∙ other))))
-        (λ apart. inr (λ out. true≢false (sym (same_number-itself r g.r (some_eq r g.r (sym er ∙ out.request))) ∙ apart)))
+        (λ one. inl (record { request = er ∙ ap Some (eqb-true r g.r same); unit = eu ∙ ap Some (same_unit-is u g.unit one) }))
+        (λ other. inr (λ out. true≢false (sym (subst (λ v. same_unit u v ≡ true) (some_same u g.unit (sym eu ∙ out.unit)) (same_unit-itself u)) ∙ other))))
+        (λ apart. inr (λ out. true≢false (sym (eq-eqb r g.r (some_same r g.r (sym er ∙ out.request))) ∙ apart)))
 
 handed-by : (b new : Shown) (hand : ℕ) (g : Grant) → (IsOut b g → new.entries ≡ with_done b hand (recording b g)) → ((IsOut b g → ⊥) → new ≡ b) → GoesOnBy hand b.entries new.entries
 handed-by b new hand g did left =

@@ -4,17 +4,13 @@ use Rattle.std.specs.List.{AllByRecursion}
 use Rattle.std.specs.Option.{option_map_or, option_or, option_to_list}
 use Rattle.ps_world.specs.Knowledge.{edited}
 use Rattle.ps_world.specs.declared.names.Name.{Name}
-use Rattle.ps_world.specs.declared.edits.Edit.{Edit}
 use Rattle.ps_action.specs.declared.answers.Answer.{Answer}
 use Rattle.ps_action.specs.declared.answers.Answer.TheVariants as answer
 use Rattle.ps_machine.specs.declared.inputs.Input.{Input}
-use Rattle.ps_machine.specs.declared.members.Unit.{Unit as Task}
 use Rattle.ps_machine.specs.declared.members.Unit.TheVariants as unit
-use Rattle.ps_machine.specs.declared.journal.By.{By}
 use Rattle.ps_machine.specs.declared.journal.By.TheVariants as by
 use Rattle.ps_machine.specs.declared.journal.FailWhy.TheVariants as fail
 use Rattle.ps_machine.specs.declared.journal.PassWhy.TheVariants as pass
-use Rattle.ps_machine.specs.declared.journal.Refusal.{Refusal}
 use Rattle.ps_machine.specs.declared.journal.Event.{Event}
 use Rattle.ps_machine.specs.declared.journal.Event.TheVariants as event
 use Rattle.ps_machine.specs.declared.journal.Entry.{Entry}
@@ -26,8 +22,9 @@ use Rattle.ps_rules.specs.Members.{next_seen}
 use Rattle.ps_rules.specs.Settled.{places, verdict}
 use Rattle.ps_rules.specs.Legal.{is_legal}
 use Rattle.ps_rules.specs.History.{forced}
-use Rattle.ps_rules.specs.Choices.{act_turn, Actor, actors, all_requests, answers, beginnings, confirms, edit_event, ends, leaves, open_requests, ordered, outcome_of, overs, performed, planned, puts_up, rejects, Says, starts, stops, ticked, turn, unit_event, wants_plan, with_block, work_of}
+use Rattle.ps_rules.specs.Choices.{act_turn, Actor, actors, all_requests, answers, beginnings, confirms, edit_event, ends, leaves, open_requests, ordered, overs, performed, planned, puts_up, rejects, Says, starts, stops, ticked, turn, unit_event, wants_plan, with_block, work_of}
 use Rattle.ps_rules.specs.Choices.Actor.{performs, observes, ticks}
+use Rattle.ps_rules.proofs.Choosing.{own-outcome, unit-own}
 use Rattle.ps_ends.proofs.Picking.{by_test}
 use Rattle.ps_pool.specs.Courses.{GrowsInRun}
 use Rattle.ps_pool.proofs.Forcing.{each-forced}
@@ -70,17 +67,6 @@ mapped-own f h None = tt
 mapped-own f h (Some x) = h x
 
 -- ---- members
-
-edit-own : (whose : By) (edit : Edit) (why : Option Refusal) → answers_line (event.Edit whose edit) ≡ false → ((w : Refusal) → answers_line (event.Refused whose w) ≡ false)
-    → answers_line (outcome_of whose edit why) ≡ false
-edit-own whose edit None one other = one
-edit-own whose edit (Some w) one other = other w
-
-unit-own : (i : Input) (es : List Entry) (r : ℕ) (p : Name) (u : Task) → answers_line (unit_event i es r p u) ≡ false
-unit-own i es r p unit.Work = refl
-unit-own i es r p (unit.Feedback percent text) = refl
-unit-own i es r p (unit.Edit edit) = edit-own (by.Performer r p) edit (edit_refusal (edited i.domain (know i es) edit)) refl (λ w. refl)
-unit-own i es r p (unit.Finish ok) = refl
 
 performed-own : (i : Input) (p : Name) (es : List Entry) → IsOwn (performed i p es)
 performed-own i p es =
@@ -127,7 +113,7 @@ actor-own says i es (performs p) =
     or-own (performed i p es) (option_map (λ w. unit_event i es w.0 p w.1) (work_of i p es)) (performed-own i p es)
     (mapped-own (λ w. unit_event i es w.0 p w.1) (λ w. unit-own i es w.0 p w.1) (work_of i p es))
 actor-own says i es (observes o) =
-    mapped-own (edit_event i es (by.Observer o)) (λ edit. edit-own (by.Observer o) edit (edit_refusal (edited i.domain (know i es) edit)) refl (λ w. refl)) (next_seen i o es)
+    mapped-own (edit_event i es (by.Observer o)) (λ edit. own-outcome (by.Observer o) edit (edit_refusal (edited i.domain (know i es) edit)) refl (λ w. refl)) (next_seen i o es)
 actor-own says i es ticks =
     or-own (ticked i es) (if wants_plan i es then planned (says i.domain (know i es) i.budget) else None) (ticked-own i es)
     (asked-own (wants_plan i es) (says i.domain (know i es) i.budget))

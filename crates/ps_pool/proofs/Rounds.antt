@@ -1,5 +1,5 @@
 -- What a round of turns comes to.
-use Rattle.std.proofs.Common.{◌≡◌, ℕ, suc, ◌+◌, ◌<◌, true, false, Some, None, option_and_then, if◌then◌else◌, List, length, map, slice_get, OnErr, Result, Ok, Err, refl, add-one, ap, sym, subst, ◌∙◌}
+use Rattle.std.proofs.Common.{◌≡◌, ℕ, suc, ◌+◌, ◌<◌, true, false, Some, None, option_and_then, if◌then◌else◌, List, length, map, slice_get, refl, add-one, ap, sym, subst, ◌∙◌}
 use Rattle.std.specs.Option.{option_map_or}
 use Rattle.std.proofs.lemmas.Option.{slice_get_within}
 use Rattle.std.proofs.Math.Nat.{zero-mod}
@@ -114,10 +114,6 @@ pub reached-in-run : (says : Says) (i : Input) (es new : List Entry) → Reaches
 reached-in-run says i es new r = subst (GrowsInRun es) (sym r.all) (grown says i es r.turns)
 
 -- ---- turns that don't go on
-
-pub error-so : {A E P : Type 0} (r : Result A E) → P → OnErr r P
-error-so (Ok a) p = tt
-error-so (Err e) p = p
 
 pub stops-at : (says : Says) (i : Input) (k l : ℕ) (old mid new : List Entry) → LeadsTo says i k old l mid → new ≡ mid → StopsFrom says i k old new
 stops-at says i k l old mid new leads same es t = let u = leads es t in record { turns = u.turns; all = same ∙ u.all }

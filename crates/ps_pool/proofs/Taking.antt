@@ -3,6 +3,7 @@ use Rattle.std.proofs.Common.{◌≡◌, ℕ, zero, suc, ◌<◌, ◌&&◌, not,
 use Rattle.std.specs.Option.{option_map_or}
 use Rattle.std.proofs.lemmas.List.{length-map}
 use Rattle.ps_world.specs.declared.names.Name.{Name}
+use Rattle.ps_world.proofs.Optionals.{none_not_some}
 use Rattle.ps_machine.specs.declared.inputs.Input.{Input}
 use Rattle.ps_machine.specs.declared.members.Unit.{Unit as Task}
 use Rattle.ps_machine.specs.declared.journal.Event.{Event}
@@ -11,7 +12,6 @@ use Rattle.ps_rules.specs.Runs.{is_running}
 use Rattle.ps_rules.specs.Members.{performers}
 use Rattle.ps_rules.specs.Choices.{performed, performer_turn, with_block, work_of}
 use Rattle.ps_ends.specs.Working.{recorded}
-use Rattle.ps_ends.proofs.Picking.{not_some}
 use Rattle.ps_board.specs.Board.{grants_after, grants_without, handing, IsAtRest, IsOut, is_free, number_of, performing, performing_answer, recording, with_done}
 use Rattle.ps_board.specs.Grants.{grant_for, granted, granted_after, performer_names, turn_of}
 use Rattle.ps_board.specs.declared.board.Shown.{Shown}
@@ -56,10 +56,10 @@ cleared (g ∷ gs) (suc p) x h (suc q) = cleared gs p x (λ r. h (suc r)) q
 
 -- the one grant that is out is where it was put
 out-at : (gs : List (Option ℕ)) (p k : ℕ) (x : Option ℕ) (r : ℕ) → ((q : ℕ) → slice_index_or gs q None ≡ None) → slice_index_or (slice_set gs p x) k None ≡ Some r → k ≡ p
-out-at [] p k x r h e = not_some r e
+out-at [] p k x r h e = none_not_some r e
 out-at (g ∷ gs) zero zero x r h e = refl
-out-at (g ∷ gs) zero (suc k) x r h e = not_some r (sym (h (suc k)) ∙ e)
-out-at (g ∷ gs) (suc p) zero x r h e = not_some r (sym (h zero) ∙ e)
+out-at (g ∷ gs) zero (suc k) x r h e = none_not_some r (sym (h (suc k)) ∙ e)
+out-at (g ∷ gs) (suc p) zero x r h e = none_not_some r (sym (h zero) ∙ e)
 out-at (g ∷ gs) (suc p) (suc k) x r h e = ap (λ (n : ℕ). suc n) (out-at gs p k x r (λ q. h (suc q)) e)
 
 -- ---- a performer's turn

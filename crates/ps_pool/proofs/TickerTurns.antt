@@ -2,6 +2,7 @@
 use Rattle.std.proofs.Common.{◌≡◌, ℕ, suc, ◌&&◌, not, Bool, true, false, Option, Some, None, if◌then◌else◌, List, length, refl, ap, sym, ◌∙◌}
 use Rattle.std.specs.Option.{option_map_or, option_or}
 use Rattle.std.proofs.lemmas.Bool.{true≢false}
+use Rattle.ps_world.proofs.Optionals.{none_not_some, some_same}
 use Rattle.ps_machine.specs.declared.inputs.Input.{Input}
 use Rattle.ps_machine.specs.declared.journal.Outcome.{Outcome}
 use Rattle.ps_machine.specs.declared.journal.Event.{Event}
@@ -10,7 +11,7 @@ use Rattle.ps_machine.specs.declared.journal.Entry.{Entry}
 use Rattle.ps_rules.specs.Runs.{has_run, is_running}
 use Rattle.ps_rules.specs.Known.{know}
 use Rattle.ps_rules.specs.Choices.{after_turn, planned, Says, ticked, ticker_turn, wants_plan, with_block}
-use Rattle.ps_ends.proofs.Picking.{by_test, not_some, some_eq}
+use Rattle.ps_ends.proofs.Picking.{by_test}
 use Rattle.ps_ledger.specs.Ends.{last_outcome, outcome_of}
 use Rattle.ps_board.specs.Board.{tick_answer, ticking, with_done}
 use Rattle.ps_board.specs.Ticks.{closed_answer, done_answer, snapshot_of, ticked_answer}
@@ -77,11 +78,11 @@ module _ (i : Input) (es : List Entry) (s : Snapshot) (wanted : IsWanted i es s)
   pub wanted-asks : wants_plan i es ≡ true
   wanted-asks =
       by_test (wants_plan i es) (λ t. t)
-      (λ t. not_some s (sym (ap (λ b. if b then Some (record { at = length es; problem = know i es }) else None) t) ∙ wanted))
+      (λ t. none_not_some s (sym (ap (λ b. if b then Some (record { at = length es; problem = know i es }) else None) t) ∙ wanted))
 
   pub wanted-is : record { at = length es; problem = know i es } ≡ s
   wanted-is =
-      some_eq (record { at = length es; problem = know i es }) s
+      some_same (record { at = length es; problem = know i es }) s
       (sym (ap (λ b. if b then Some (record { at = length es; problem = know i es }) else None) wanted-asks) ∙ wanted)
 
 -- ---- its turn

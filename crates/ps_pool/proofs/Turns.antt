@@ -5,6 +5,8 @@ use Rattle.std.specs.Option.{option_map_or}
 use Rattle.std.proofs.lemmas.List.{length-append, length-map}
 use Rattle.std.proofs.lemmas.Option.{slice_get-map}
 use Rattle.std.proofs.Math.Nat.{mod-add-mod, mod-eq_of_lt, mod_self}
+use Rattle.ps_world.proofs.Elements.{get_last}
+use Rattle.ps_world.proofs.Optionals.{some_same}
 use Rattle.ps_machine.specs.declared.inputs.Input.{Input}
 use Rattle.ps_machine.specs.declared.journal.Entry.{Entry}
 use Rattle.ps_machine.specs.declared.members.Member.{Member}
@@ -14,7 +16,6 @@ use Rattle.ps_machine.specs.declared.members.Performer.{Performer}
 use Rattle.ps_rules.specs.Members.{as_observer, as_performer, observers, performers}
 use Rattle.ps_rules.specs.Choices.{actor_of, actors, after_turn, Says, turn, with_block}
 use Rattle.ps_rules.specs.Choices.Actor.{ticks}
-use Rattle.ps_ends.proofs.Picking.{some_eq}
 
 -- ---- how many of some kind stand before a place of a list
 
@@ -38,19 +39,19 @@ module _ {A B : Type 0} (f : A → Option B) where
   -- an item that gives something is one more
   pub before-one : (xs : List A) (k : ℕ) (x : A) (y : B) → slice_get xs k ≡ Some x → f x ≡ Some y → before xs (suc k) ≡ suc (before xs k)
   before-one [] k x y at is = absurd (cc)
-  before-one (z ∷ xs) zero x y at is = ap (λ o. length (cons_option o [])) (ap f (some_eq z x at) ∙ is)
+  before-one (z ∷ xs) zero x y at is = ap (λ o. length (cons_option o [])) (ap f (some_same z x at) ∙ is)
   before-one (z ∷ xs) (suc k) x y at is = one-more (f z) (filter_map f (take (suc k) xs)) (filter_map f (take k xs)) (before-one xs k x y at is)
 
   -- one that gives nothing isn't
   pub before-none : (xs : List A) (k : ℕ) (x : A) → slice_get xs k ≡ Some x → f x ≡ None → before xs (suc k) ≡ before xs k
   before-none [] k x at is = absurd (cc)
-  before-none (z ∷ xs) zero x at is = ap (λ o. length (cons_option o [])) (ap f (some_eq z x at) ∙ is)
+  before-none (z ∷ xs) zero x at is = ap (λ o. length (cons_option o [])) (ap f (some_same z x at) ∙ is)
   before-none (z ∷ xs) (suc k) x at is = as-many (f z) (filter_map f (take (suc k) xs)) (filter_map f (take k xs)) (before-none xs k x at is)
 
   -- what an item gives stands behind what those before it give
   pub given-at : (xs : List A) (k : ℕ) (x : A) (y : B) → slice_get xs k ≡ Some x → f x ≡ Some y → slice_get (filter_map f xs) (before xs k) ≡ Some y
   given-at [] k x y at is = absurd (cc)
-  given-at (z ∷ xs) zero x y at is = ap (λ o. slice_get (cons_option o (filter_map f xs)) 0) (ap f (some_eq z x at) ∙ is)
+  given-at (z ∷ xs) zero x y at is = ap (λ o. slice_get (cons_option o (filter_map f xs)) 0) (ap f (some_same z x at) ∙ is)
   given-at (z ∷ xs) (suc k) x y at is = past-first (f z) (filter_map f xs) (filter_map f (take k xs)) y (given-at xs k x y at is)
 
 -- the number of the performer at a place among the members, in the order of the performers
@@ -75,10 +76,6 @@ observer-at i k o at =
 
 -- ---- the turns of a round
 
-last-of : {A : Type 0} (xs : List A) (x : A) → slice_get (xs ++ x ∷ []) (length xs) ≡ Some x
-last-of [] x = refl
-last-of (y ∷ ys) x = last-of ys x
-
 in-front : {A : Type 0} (xs : List A) (y : A) (k : ℕ) (x : A) → slice_get xs k ≡ Some x → slice_get (xs ++ y ∷ []) k ≡ Some x
 in-front [] y k x at = absurd (cc)
 in-front (z ∷ xs) y zero x at = at
@@ -96,7 +93,7 @@ pub ticker-turn : (says : Says) (i : Input) (turns : ℕ) (es : List Entry) → 
     → after_turn says i turns es ≡ option_map_or (with_block i 1 es) (turn says i es (Some ticks)) es
 ticker-turn says i turns es here =
     ap (λ a. option_map_or (with_block i 1 es) (turn says i es a) es)
-    (ap (slice_get (actors i)) (here ∙ sym (length-map i.members actor_of)) ∙ last-of (map actor_of i.members) ticks)
+    (ap (slice_get (actors i)) (here ∙ sym (length-map i.members actor_of)) ∙ get_last (map actor_of i.members) ticks)
 
 -- as many take turns as there are members, and the ticker
 pub many-actors : (i : Input) → length (actors i) ≡ length i.members + 1

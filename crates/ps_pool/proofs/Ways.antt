@@ -2,7 +2,7 @@
 use Rattle.std.proofs.Common.{◌≡◌, Bool, true, false, not, List, [], ◌∷◌, ◌++◌, IsTrue, refl, ap, sym, ◌∙◌, subst, append_assoc, append-nil, inl, inr, ◌⊎◌}
 use Rattle.std.specs.List.{AllByRecursion}
 use Rattle.std.specs.Option.{unwrap_or}
-use Rattle.std.proofs.lemmas.Bool.{true≢false}
+use Rattle.std.proofs.lemmas.Bool.{true≢false, and_parts}
 use Rattle.ps_machine.specs.declared.inputs.Input.{Input}
 use Rattle.ps_machine.specs.declared.journal.Outcome.{Outcome}
 use Rattle.ps_machine.specs.declared.journal.Event.{Event}
@@ -15,7 +15,6 @@ use Rattle.ps_rules.specs.History.{forced, IsHistory}
 use Rattle.ps_rules.specs.History.IsHistory.{nothing, block}
 use Rattle.ps_rules.specs.Laws.{is_cancel}
 use Rattle.ps_rules.specs.Prefixes.{Leads}
-use Rattle.ps_rules.proofs.Kept.{both}
 use Rattle.ps_rules.proofs.Prefixes.{history-leads, lead-next, lead-owed}
 use Rattle.ps_rules.proofs.Pushed.{read-push}
 use Rattle.ps_ends.proofs.Picking.{clash}
@@ -90,7 +89,7 @@ over-cancels e h c = true≢false (sym h)
 
 -- an event is legal where no run is open only if it answers a line
 closed-answers : (i : Input) (es : List Entry) (e : Event) → is_running es ≡ false → IsTrue (is_legal i es e) → answers_line e ≡ true
-closed-answers i es e closed legal = by_flag (answers_line e) (ap (λ b. same_flag (answers_line e) (not b)) (sym closed) ∙ (both (same_flag (answers_line e) (not (is_running es))) (fits i es e) legal).0)
+closed-answers i es e closed legal = by_flag (answers_line e) (ap (λ b. same_flag (answers_line e) (not b)) (sym closed) ∙ (and_parts (same_flag (answers_line e) (not (is_running es))) (fits i es e) legal).0)
   where
     by_flag : (b : Bool) → same_flag b true ≡ true → b ≡ true
     by_flag true h = refl

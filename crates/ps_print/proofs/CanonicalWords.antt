@@ -1,5 +1,5 @@
 -- The canonical text of a domain writes its words.
-use Rattle.std.proofs.Common.{◌≡◌, ℕ, suc, ◌+◌, ◌/◌, ◌%◌, ◌<◌, ◌≤◌, ◌^◌, Bool, true, false, not, cond, nat_lt, Option, Some, None, pos, negsuc, position, List, [], ◌∷◌, ◌++◌, map, length, codes, slice_index_or, refl, sym, ap, ◌∙◌, arith, append_assoc, inl, inr}
+use Rattle.std.proofs.Common.{◌≡◌, ℕ, suc, ◌+◌, ◌/◌, ◌%◌, ◌<◌, ◌≤◌, ◌^◌, Bool, true, false, not, cond, Some, None, pos, negsuc, position, List, [], ◌∷◌, ◌++◌, map, length, codes, slice_index_or, refl, sym, ap, ◌∙◌, arith, append_assoc, inl, inr}
 use Rattle.std.proofs.lemmas.Bool.{and_from, cases_Bool}
 use Rattle.std.proofs.lemmas.Bool.Decides.{nat_tests}
 use Rattle.std.proofs.lemmas.Fmt.{decimal_by_steps}
@@ -29,9 +29,10 @@ use Rattle.ps_world.specs.declared.actions.ActionDef.{ActionDef}
 use Rattle.ps_world.specs.declared.domains.Param.{Param}
 use Rattle.ps_world.specs.declared.domains.Decl.{Decl}
 use Rattle.ps_world.specs.declared.domains.Domain.{Domain}
-use Rattle.ps_text.specs.Names.{is_letter, is_name_byte, bad_place, fault_at, name_fault, AreNames}
+use Rattle.ps_text.specs.Names.{is_letter, is_name_byte, bad_place, name_fault, AreNames}
 use Rattle.ps_text.specs.Words.{is_run_byte}
 use Rattle.ps_text.proofs.Pieces.{first-yes, first-no}
+use Rattle.ps_text.proofs.NameRuns.{no_position-by, no_bad_place}
 use Rattle.ps_print.specs.CanonicalWords as canonical
 use Rattle.ps_print.specs.CanonicalWords.{IsNameOf, IsParamOf, IsDeclOf, IsTermOf, IsLiftedOf, IsExprOf, IsCondOf, AreCondsOf, IsEffectOf, IsActionOf, IsDomainOf}
 use Rattle.ps_print.specs.Laws.{CanonicalWords}
@@ -42,15 +43,15 @@ use Rattle.ps_print.proofs.Writing.{Writes, Whole, Later, Ending, whole_whole, w
 abbrev is_other : ℕ → Bool
 is_other c = not (is_name_byte c)
 
-is_run_byte-name : (b : ℕ) → is_name_byte b ≡ true → is_run_byte b ≡ true
+pub is_run_byte-name : (b : ℕ) → is_name_byte b ≡ true → is_run_byte b ≡ true
 is_run_byte-name b h = grind (arith, nat_tests)
 
-is_run_byte-no_other : (b : ℕ) (e : Bool) → is_name_byte b ≡ e → not e ≡ false → is_run_byte b ≡ true
+pub is_run_byte-no_other : (b : ℕ) (e : Bool) → is_name_byte b ≡ e → not e ≡ false → is_run_byte b ≡ true
 is_run_byte-no_other b true e h = is_run_byte-name b e
 is_run_byte-no_other b false e h = absurd (cc)
 
 -- where no byte is other than a name byte, each is a byte of a longer word
-list_all-no_other : (bs : List ℕ) → length bs ≤ position_or_len is_other bs → list_all is_run_byte bs ≡ true
+pub list_all-no_other : (bs : List ℕ) → length bs ≤ position_or_len is_other bs → list_all is_run_byte bs ≡ true
 list_all-no_other [] h = refl
 list_all-no_other (b ∷ bs) h =
     elim (cases_Bool (is_other b)) [
@@ -58,58 +59,50 @@ list_all-no_other (b ∷ bs) h =
       | inr fits ↦ and_from (is_run_byte b) (list_all is_run_byte bs) (is_run_byte-no_other b (is_name_byte b) refl fits) (list_all-no_other bs (omega (arith, first-no is_other b bs fits)))
     ]
 
-no_position-by : (n k : ℕ) (e : Bool) → nat_lt k n ≡ e → cond e (Some k) None ≡ None → n ≤ k
-no_position-by n k true e h = absurd (cc)
-no_position-by n k false e h = grind (arith, nat_tests)
-
-no_bad_place : (at : Option ℕ) (n : ℕ) → fault_at at n ≡ None → at ≡ None
-no_bad_place None n h = refl
-no_bad_place (Some at) n h = absurd (cc)
-
-list_all-begun : (bs : List ℕ) (e : Bool) → cond e (position is_other bs) (Some 0) ≡ None → list_all is_run_byte bs ≡ true
+pub list_all-begun : (bs : List ℕ) (e : Bool) → cond e (position is_other bs) (Some 0) ≡ None → list_all is_run_byte bs ≡ true
 list_all-begun bs true h = list_all-no_other bs (no_position-by (length bs) (position_or_len is_other bs) _ refl h)
 list_all-begun bs false h = absurd (cc)
 
 -- the text of a name is one word
-is_run-name : (name : List ℕ) → name_fault name ≡ None → is_run name ≡ true
+pub is_run-name : (name : List ℕ) → name_fault name ≡ None → is_run name ≡ true
 is_run-name [] h = absurd (cc)
 is_run-name (b ∷ bs) h = list_all-begun (b ∷ bs) (is_letter b) (no_bad_place (bad_place (b ∷ bs)) (length (b ∷ bs)) h)
 
 -- ---- numbers
 
-is_run_byte-digit : (d : ℕ) → d < 10 → is_run_byte (48 + d) ≡ true
+pub is_run_byte-digit : (d : ℕ) → d < 10 → is_run_byte (48 + d) ≡ true
 is_run_byte-digit d h = grind (arith, nat_tests)
 
-one_digit : (d : ℕ) → d < 10 → list_all is_run_byte ((48 + d) ∷ []) ≡ true
+pub one_digit : (d : ℕ) → d < 10 → list_all is_run_byte ((48 + d) ∷ []) ≡ true
 one_digit d h = and_from (is_run_byte (48 + d)) true (is_run_byte-digit d h) refl
 
-list_all-decimal : (n : ℕ) → n < 2 ^ 64 → list_all is_run_byte (decimal n) ≡ true
+pub list_all-decimal : (n : ℕ) → n < 2 ^ 64 → list_all is_run_byte (decimal n) ≡ true
 list_all-decimal =
     decimal_by_steps (λ n ds. list_all is_run_byte ds ≡ true) one_digit
     (λ n ds h all. list_all-append is_run_byte ds ((48 + n % 10) ∷ []) ∙ and_from (list_all is_run_byte ds) (list_all is_run_byte ((48 + n % 10) ∷ [])) all (one_digit (n % 10) (omega arith)))
 
-is_run-decimals : (n : ℕ) → is_run (decimals_text n) ≡ true
+pub is_run-decimals : (n : ℕ) → is_run (decimals_text n) ≡ true
 is_run-decimals n =
     let third = one_digit (n % 10) (omega arith) in
     let second = and_from (is_run_byte (48 + n / 10 % 10)) _ (is_run_byte-digit (n / 10 % 10) (omega arith)) third in
     and_from (is_run_byte (48 + n / 100 % 10)) _ (is_run_byte-digit (n / 100 % 10) (omega arith)) second
 
-is_run-magnitude : (n : ℕ) → n ≤ 10 ^ 15 → is_run (magnitude_text n) ≡ true
+pub is_run-magnitude : (n : ℕ) → n ≤ 10 ^ 15 → is_run (magnitude_text n) ≡ true
 is_run-magnitude n h = is_run-append (decimal (n / 1000)) (decimals_text n) (list_all-decimal (n / 1000) (omega arith)) (is_run-decimals n)
 
-is_run-number : (z : _) → IsCount z → is_run (number_text z) ≡ true
+pub is_run-number : (z : _) → IsCount z → is_run (number_text z) ≡ true
 is_run-number (pos n) h = is_run-magnitude n h
 is_run-number (negsuc n) h = list_all-is_run (magnitude_text (suc n)) (is_run-magnitude (suc n) h)
 
 -- ---- signs and fixed words
 
-op_word : (op : Op) → Writes (text.op_text op) (text.op_text op ∷ [])
+pub op_word : (op : Op) → Writes (text.op_text op) (text.op_text op ∷ [])
 op_word Add = one_word (codes "+") refl
 op_word Sub = one_word (codes "-") refl
 op_word Mul = one_word (codes "*") refl
 op_word Div = one_word (codes "/") refl
 
-rel_word : (rel : Rel) → Writes (text.rel_text rel) (text.rel_text rel ∷ [])
+pub rel_word : (rel : Rel) → Writes (text.rel_text rel) (text.rel_text rel ∷ [])
 rel_word Lt = one_word (codes "<") refl
 rel_word Le = one_word (codes "<=") refl
 rel_word Eq = one_word (codes "=") refl
@@ -126,16 +119,16 @@ num_op_word numeric.ScaleDown = one_word (codes "scale-down") refl
 minus : Whole (codes "- ") (codes "-" ∷ [])
 minus = record { whole = λ rest. refl }
 
-open_minus : Whole (codes "(- ") (codes "(" ∷ codes "-" ∷ [])
+pub open_minus : Whole (codes "(- ") (codes "(" ∷ codes "-" ∷ [])
 open_minus = record { whole = λ rest. refl }
 
-open_same : Whole (codes "(= ") (codes "(" ∷ codes "=" ∷ [])
+pub open_same : Whole (codes "(= ") (codes "(" ∷ codes "=" ∷ [])
 open_same = record { whole = λ rest. refl }
 
-open_not : Whole (codes "(not ") (codes "(" ∷ codes "not" ∷ [])
+pub open_not : Whole (codes "(not ") (codes "(" ∷ codes "not" ∷ [])
 open_not = record { whole = λ rest. refl }
 
-open_and : Writes (codes "(and") (codes "(" ∷ codes "and" ∷ [])
+pub open_and : Writes (codes "(and") (codes "(" ∷ codes "and" ∷ [])
 open_and = whole_writes open_paren (one_word (codes "and") refl)
 
 at : Whole (codes "at ") (codes "at" ∷ [])

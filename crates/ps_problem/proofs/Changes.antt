@@ -5,7 +5,7 @@ use Rattle.std.specs.Cmp.{first_so, second_so}
 use Rattle.std.specs.Map.{lookup}
 use Rattle.std.specs.Ordering.{eq_by_cmp}
 use Rattle.std.specs.BTreeMap.{insert_entry}
-use Rattle.std.proofs.lemmas.Bool.{not_from_false}
+use Rattle.std.proofs.lemmas.Bool.{not_from_false, not-true}
 use Rattle.std.proofs.lemmas.Cmp.{eq_by_cmp_equiv}
 use Rattle.std.proofs.lemmas.List.Kept.{IsStrictlySortedBy-filter}
 use Rattle.std.proofs.lemmas.Map.Entries.{lookup-filter-keys}
@@ -32,10 +32,6 @@ use Rattle.ps_action.proofs.Contained.{fact_same, fact_in_filter}
 
 -- ---- tests
 
-pub not_so : (b : Bool) → not b ≡ true → b ≡ false
-not_so true e = cc
-not_so false e = refl
-
 unchanged : {A : Type 0} → A ↔ A
 unchanged = (λ a. a, λ a. a)
 
@@ -47,7 +43,7 @@ fact_itself : (f g : Fact) → f ≡ g → same_fact f g ≡ true
 fact_itself f g e = subst (λ x. same_fact f x ≡ true) e ((eq_by_cmp_equiv facts_total).refl f)
 
 pub fact_apart : (f g : Fact) → not (same_fact f g) ≡ true → g ≢ f
-fact_apart f g h e = let yes = fact_itself f g (sym e) in let no = not_so (same_fact f g) h in cc
+fact_apart f g h e = let yes = fact_itself f g (sym e) in let no = not-true (same_fact f g) h in cc
 
 differs : {A : Type 0} (b : Bool) → (b ≡ true → A) → (A → ⊥) → not b ≡ true
 differs true h n = absurd (n (h refl))
@@ -57,7 +53,7 @@ fact_differs : (f g : Fact) → g ≢ f → not (same_fact f g) ≡ true
 fact_differs f g n = differs (same_fact f g) (λ e. sym (fact_same f g e)) n
 
 name_apart : (m n : Name) → not (same_name m n) ≡ true → n ≢ m
-name_apart m n h e = let yes = same_name-refl m n (sym e) in let no = not_so (same_name m n) h in cc
+name_apart m n h e = let yes = same_name-refl m n (sym e) in let no = not-true (same_name m n) h in cc
 
 name_differs : (m n : Name) → n ≢ m → not (same_name m n) ≡ true
 name_differs m n h = differs (same_name m n) (λ e. sym (same_name-is m n e)) h
@@ -136,9 +132,9 @@ placed_changes old at kind new (inr (f, few, e)) =
 left_out_changes : (old : Knowledge) (n : Name) → Changes old (RemoveInstance n) (without n old)
 left_out_changes old n = (
   record {
-    facts = λ f. with_second (fact_in_filter (λ g. not (is_among n g.args)) old.facts f) (not_so (is_among n f.args)) (not_from_false (is_among n f.args));
+    facts = λ f. with_second (fact_in_filter (λ g. not (is_among n g.args)) old.facts f) (not-true (is_among n f.args)) (not_from_false (is_among n f.args));
     kinds = λ m t. with_second (kind_in_filter (λ i. not (same_name n i)) old.instances m t) (name_apart n m) (name_differs n m);
-    values = λ f x. with_second (value_in_filter (λ g. not (is_among n g.args)) old.values f x) (not_so (is_among n f.args)) (not_from_false (is_among n f.args));
+    values = λ f x. with_second (value_in_filter (λ g. not (is_among n g.args)) old.values f x) (not-true (is_among n f.args)) (not_from_false (is_among n f.args));
     goal = refl;
   },
   λ s. record {

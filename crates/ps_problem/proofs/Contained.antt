@@ -10,11 +10,12 @@ use Rattle.std.specs.Set.{remove_key}
 use Rattle.std.proofs.lemmas.Cmp.{eq_by_cmp_equiv}
 use Rattle.std.proofs.lemmas.Map.Lookups.{CmpEqualImpliesEq}
 use Rattle.std.proofs.lemmas.Map.Views.{list_any-from_Contains, Contains-from_any, tells_apart}
+use Rattle.std.proofs.lemmas.Bool.{or_right}
 use Rattle.ps_world.specs.Knowledge.{same_fact}
 use Rattle.ps_world.specs.declared.facts.Fact.{Fact}
 use Rattle.ps_action.proofs.Facts.{facts_total, exact_facts}
 use Rattle.ps_action.proofs.Keys.{any-insert_key}
-use Rattle.ps_action.proofs.Contained.{contains_cases, contains_first, contains_later, or_cases, or_second}
+use Rattle.ps_action.proofs.Contained.{contains_cases, contains_first, contains_later, or_cases}
 
 module _ {K : Type 0} {R : K → K → Ordering} (o : IsTotalOrder R) (exact : CmpEqualImpliesEq R) where
   -- after one more key: the keys from before, and that one
@@ -27,7 +28,7 @@ module _ {K : Type 0} {R : K → K → Ordering} (o : IsTotalOrder R) (exact : C
           | inr e ↦ inl (Contains-from_any (tells_apart exact) x xs e)
         ],
         λ w. Contains-from_any (tells_apart exact) x _ (after ∙ elim w [
-          | inl c ↦ or_second _ _ (list_any-from_Contains laws x xs c)
+          | inl c ↦ or_right _ _ (list_any-from_Contains laws x xs c)
           | inr e ↦ rw (e, laws.refl more) refl
         ]),
       )
@@ -66,7 +67,7 @@ list_any-push p [] x e = elim (or_cases (p x) false e) [ inl h ↦ inr h | inr h
 list_any-push p (y ∷ ys) x e =
     elim (or_cases (p y) (list_any p (ys ++ x ∷ [])) e) [
       | inl h ↦ inl (rw h refl)
-      | inr h ↦ elim (list_any-push p ys x h) [ inl r ↦ inl (or_second (p y) (list_any p ys) r) | inr r ↦ inr r ]
+      | inr h ↦ elim (list_any-push p ys x h) [ inl r ↦ inl (or_right (p y) (list_any p ys) r) | inr r ↦ inr r ]
     ]
 
 pub is_known-Contains : (f : Fact) (fs : List Fact) → (list_any (same_fact f) fs ≡ true) ↔ Contains fs f

@@ -17,6 +17,7 @@ use Rattle.std.proofs.lemmas.Bool.Decides.{nat_tests}
 use Rattle.std.proofs.lemmas.Cmp.{on_total, then_total, eq_by_cmp_equiv}
 use Rattle.std.proofs.lemmas.Map.Lookups.{CmpEqualImpliesEq, exact_pairs}
 use Rattle.std.proofs.lemmas.Map.Views.{All-insert_key, All-remove_key, list_any-from_Contains, Contains-from_any, tells_apart}
+use Rattle.std.proofs.lemmas.Bool.{not-true, or_right}
 use Rattle.ps_world.specs.Names.{name_cmp, same_name}
 use Rattle.ps_world.specs.Facts.{fact_cmp}
 use Rattle.ps_world.specs.Knowledge.{is_among, same_fact}
@@ -27,8 +28,7 @@ use Rattle.ps_problem.specs.declared.problem.namings.Naming.{Naming}
 use Rattle.ps_problem.specs.Namings.{naming_cmp, IsNaming, Covers, AreNamed, lowest_fact}
 use Rattle.ps_action.proofs.Facts.{names_total, facts_total, exact_names, exact_facts, same_name-is, same_name-refl}
 use Rattle.ps_action.proofs.Contained.{fact_same, fact_in_filter}
-use Rattle.ps_problem.proofs.Changes.{not_so, fact_apart}
-use Rattle.ps_action.proofs.Contained.{or_second}
+use Rattle.ps_problem.proofs.Changes.{fact_apart}
 use Rattle.ps_problem.proofs.Contained.{contains-insert_key, contains-remove_key, filter-filter, filter-all, list_any-push}
 
 pub namings_total : IsTotalOrder naming_cmp
@@ -106,7 +106,7 @@ spared : (n : Name) (f g : Fact) (b : Bool) → same_fact f g ≡ b → is_among
 spared n f g true s e p =
     let same : f ≡ g = fact_same f g s in
     let named : is_among n g.args ≡ true = subst (λ (h : Fact). is_among n h.args ≡ true) same e in
-    let no = not_so (is_among n g.args) p in
+    let no = not-true (is_among n g.args) p in
     absurd (cc)
 spared n f g false s e p = refl
 
@@ -176,7 +176,7 @@ named_by_more facts old namings named kept sound = record {
 among_at : (ns : List Name) (i : ℕ) (d : Name) → i < length ns → is_among (get_or ns i d) ns ≡ true
 among_at [] i d h = absurd (omega arith)
 among_at (n ∷ ns) zero d h = rw (same_name-refl n n refl) refl
-among_at (n ∷ ns) (suc i) d h = or_second (same_name (get_or ns i d) n) (is_among (get_or ns i d) ns) (among_at ns i d (omega arith))
+among_at (n ∷ ns) (suc i) d h = or_right (same_name (get_or ns i d) n) (is_among (get_or ns i d) ns) (among_at ns i d (omega arith))
 
 -- a name of the arguments is an argument
 pub argument_at : (f : Fact) (ns : List Name) (i : ℕ) (d : Name) → ns ≡ f.args → i < length ns → is_among (get_or ns i d) f.args ≡ true

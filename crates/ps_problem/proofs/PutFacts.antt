@@ -29,7 +29,7 @@ known f fs = list_any (same_fact f) fs
 
 -- ---- one more
 
-or_swap : (a b c : Bool) → ((a || b) || c) ≡ (b || (a || c))
+pub or_swap : (a b c : Bool) → ((a || b) || c) ≡ (b || (a || c))
 or_swap true true c = refl
 or_swap true false c = refl
 or_swap false b c = refl
@@ -45,7 +45,7 @@ known_more f g keys listed e =
 known-filter : (f : Fact) (p : Fact → Bool) (xs : List Fact) → known f (filter p xs) ≡ (known f xs && p f)
 known-filter f p xs = is_member-filter (eq_by_cmp_equiv facts_total) p f (λ g e. ap p (fact_same f g e)) xs
 
-facts_same : (xs ys : List Fact) → IsStrictlySortedBy fact_cmp xs → IsStrictlySortedBy fact_cmp ys → ((f : Fact) → known f xs ≡ known f ys) → xs ≡ ys
+pub facts_same : (xs ys : List Fact) → IsStrictlySortedBy fact_cmp xs → IsStrictlySortedBy fact_cmp ys → ((f : Fact) → known f xs ≡ known f ys) → xs ≡ ys
 facts_same xs ys s t h = btree_set_from_contains facts_total (record { keys = xs }) (record { keys = ys }) s t h exact_facts
 
 known-inserted : (f : Fact) (old xs : List Fact) → known f (fold (insert_key fact_cmp) old xs) ≡ (known f old || known f xs)

@@ -112,7 +112,7 @@ still_some f vs (r ∷ rs) e =
 
 -- ---- values put back
 
-apart_from : (f g x : Fact) → same_fact f g ≡ false → same_fact g x ≡ true → same_fact f x ≡ false
+pub apart_from : (f g x : Fact) → same_fact f g ≡ false → same_fact g x ≡ true → same_fact f x ≡ false
 apart_from f g x n p = subst (λ y. same_fact f y ≡ false) (fact_same g x p) n
 
 elsewhere_at : (f : Fact) (n : Num) (v : Fact × Num) (vs rest : List (Fact × Num)) (b : Bool) → (b ≡ true → same_fact f v.0 ≡ false) → worth f rest ≡ worth f vs → worth f (cond b ((v.0, n) ∷ vs) (v ∷ rest)) ≡ worth f (v ∷ vs)

@@ -1,5 +1,5 @@
 -- What is known suits the domain when a session opens, and after each edit.
-use Rattle.std.proofs.Common.{◌≡◌, ◌⊎◌, ◌≤◌, Bool, true, false, not, cond, if◌then◌else◌, List, [], ◌∷◌, Option, Some, None, Ok, IfSome, filter, find, inl, inr, refl, ap, sym, ◌∙◌, subst, length, arith}
+use Rattle.std.proofs.Common.{◌≡◌, ◌⊎◌, ◌≤◌, Bool, true, false, not, cond, if◌then◌else◌, List, [], ◌∷◌, Option, Some, None, Ok, IfSome, find, inl, inr, refl, ap, sym, ◌∙◌, subst, length, arith}
 use Rattle.std.specs.List.{Contains}
 use Rattle.std.specs.List.Sorted.{IsStrictlySortedBy}
 use Rattle.std.proofs.lemmas.List.Elements.{All-contains}
@@ -16,6 +16,7 @@ use Rattle.ps_world.specs.declared.known.Knowledge.{Knowledge}
 use Rattle.ps_world.specs.declared.edits.Edit.{Edit}
 use Rattle.ps_world.specs.declared.edits.Edit.TheVariants.{AddInstance, RemoveInstance, AddFact, RemoveFact, SetValue, RemoveValue, SetGoal, RemoveGoal}
 use Rattle.ps_world.specs.declared.edits.EditRefusal.TheVariants.{NoPredicate, NoFunction}
+use Rattle.ps_world.proofs.Elements.{filter_few}
 use Rattle.ps_problem.specs.Changes.{Rises, IsChange}
 use Rattle.ps_problem.specs.WellKnown.{Suits, IsWellKnown, HasConstants, EditsKeepWellKnown}
 use Rattle.ps_action.proofs.Facts.{same_name-refl}
@@ -91,14 +92,6 @@ added d old new n t a change rises w =
 
 -- ---- an instance that is removed
 
-length-filter-le : {X : Type 0} (p : X → Bool) (xs : List X) → length (filter p xs) ≤ length xs
-length-filter-le p [] = omega arith
-length-filter-le p (x ∷ xs) =
-    elim (p x) as (λ b. length (cond b (x ∷ filter p xs) (filter p xs)) ≤ length (x ∷ xs)) [
-      | true ↦ omega (arith, length-filter-le p xs)
-      | false ↦ omega (arith, length-filter-le p xs)
-    ]
-
 passes_at : (p : Param → Bool) (x : Param) (cs : List Param) (c : Param) (b : Bool) → p x ≡ b → (find p cs ≡ None → Contains cs c → p c ≡ false) → cond b (Some x) (find p cs) ≡ None → (x ≡ c) ⊎ Contains cs c → p c ≡ false
 passes_at p x cs c true s later e h = absurd (cc)
 passes_at p x cs c false s later e (inl same) = ap p (sym same) ∙ s
@@ -125,7 +118,7 @@ module _ (d : Domain) (old new : Knowledge) (n : Name) (a : Accepted d old (Remo
   removed : Rises new → IsWellKnown d new
   removed rises = record {
     rises = rises;
-    few = omega (arith, w.few, ap (λ (k : Knowledge). length k.instances) a.1, length-filter-le (λ (i : Name × Name). not (same_name n i.0)) old.instances);
+    few = omega (arith, w.few, ap (λ (k : Knowledge). length k.instances) a.1, filter_few (λ (i : Name × Name). not (same_name n i.0)) old.instances);
     types = λ m t e. w.types m t ((change.kinds m t).0 e).0;
     constants = λ c h. still c.name c.kind (inl (none_passes (λ p. same_name n p.name) d.constants c a.0 h)) (w.constants c h);
     facts = λ f c. let was = (change.facts f).0 c in suits_stay d old new n ⊥ still (predicate_of d f.head) f.args (inl was.1) (w.facts f was.0);

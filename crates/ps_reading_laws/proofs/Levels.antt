@@ -1,8 +1,7 @@
 -- The level at a place of a domain's text is the number of parentheses open there, and one more within a timed form that stands alone.
 use Rattle.std.proofs.Common.{◌≡◌, ◌⊎◌, ℕ, zero, suc, ◌+◌, ◌-◌, ◌==◌, Bool, true, false, not, ◌&&◌, if◌then◌else◌, List, [], ◌∷◌, ◌++◌, Option, Some, refl, sym, ◌∙◌, ap, subst, inl, inr, arith, append_assoc, ◌≤◌}
 use Rattle.std.specs.List.{list_all}
-use Rattle.std.proofs.lemmas.Bool.{and_parts}
-use Rattle.std.proofs.lemmas.Bool.Decides.{nat_tests}
+use Rattle.std.proofs.lemmas.Bool.{and_parts, not-true, eqb-true}
 use Rattle.ps_shape.specs.Marks.{is}
 use Rattle.ps_shape.specs.Rules.{step}
 use Rattle.ps_shape.specs.Shape.{next_wanted, text_start, wanted}
@@ -14,6 +13,7 @@ use Rattle.ps_shape.specs.declared.symbols.Symbol.TheVariants.{InCondition, InEf
 use Rattle.ps_shape.specs.declared.symbols.ConditionPart.TheVariants.{Form, FormHead}
 use Rattle.ps_shape.specs.declared.symbols.EffectPart.TheVariants as effect
 use Rattle.ps_shape.specs.declared.symbols.ListPart.TheVariants.{Keywords}
+use Rattle.ps_shape.proofs.Levels.{level_more}
 use Rattle.ps_reading_laws.specs.Laws.{LevelsAreParentheses}
 use Rattle.ps_reading_laws.specs.Levels.{closes_own, is_time, is_timed_key, open_after, opened, opened_by}
 use Rattle.ps_reading_laws.proofs.Cases.{mark_is}
@@ -25,18 +25,11 @@ use Rattle.ps_reading_laws.proofs.Ways.Leads.{no_mark, one_mark}
 
 -- ---- levels
 
-same_number : (a b : ℕ) → (a == b) ≡ true → a ≡ b
-same_number a b e = grind (arith, nat_tests)
-
-pub level_more : (a b : List Symbol) → level (a ++ b) ≡ level a + level b
-level_more [] b = omega arith
-level_more (s ∷ a) b = omega (arith, level_more a b)
-
 -- so many are open after a mark that moves the level so
 pub opens_so : (m : Mark) (before after rest : ℕ) → moves m before after ≡ true → after + rest ≡ opened_by (before + rest) m
-opens_so Open before after rest e = omega (arith, same_number after (before + 1) e)
-opens_so Close before after rest e = omega (arith, same_number before (after + 1) e)
-opens_so _ before after rest e = omega (arith, same_number before after e)
+opens_so Open before after rest e = omega (arith, eqb-true after (before + 1) e)
+opens_so Close before after rest e = omega (arith, eqb-true before (after + 1) e)
+opens_so _ before after rest e = omega (arith, eqb-true before after e)
 
 outer_more : (a b : List Symbol) → list_all is_outer a ≡ true → list_all is_outer b ≡ true → list_all is_outer (a ++ b) ≡ true
 outer_more [] b p q = q
@@ -101,7 +94,7 @@ opened_form : (s : Symbol) (st new : List Symbol) → is_form s ≡ true → lis
 opened_form s st [] own all e = absurd (cc)
 opened_form s st (h ∷ []) own all e =
     let parts = and_parts (is_form_head h) (weight h == 1) e in
-    after_parenthesis h st _ parts.0 all (omega (arith, form_weight s own, same_number (weight h) 1 parts.1))
+    after_parenthesis h st _ parts.0 all (omega (arith, form_weight s own, eqb-true (weight h) 1 parts.1))
 opened_form s st (h ∷ k ∷ new) own all e = absurd (cc)
 
 form_agrees : (s : Symbol) (st : List Symbol) (m : Mark) (new : List Symbol) → is_form s ≡ true → list_all is_outer st ≡ true → step s m ≡ Some new → Agrees (next_phase keyed m) (new ++ st) (opened_by (level (s ∷ st)) m)
@@ -131,16 +124,12 @@ time_opens n At e = refl
 time_opens n Over e = refl
 time_opens n _ e = absurd (cc)
 
-not_key : (b : Bool) → not b ≡ true → b ≡ false
-not_key true e = absurd (cc)
-not_key false e = refl
-
 -- a timed form that stands alone wants two symbols and its end
 timed_agrees : (new st : List Symbol) (n : ℕ) → are_timed new ≡ true → list_all is_outer st ≡ true → 1 + level st ≡ n → Agrees (within 0) (new ++ st) n
 timed_agrees (a ∷ c ∷ InEffect effect.FormEnd ∷ []) st n e all level =
     let parts = and_parts (is_inner a && is_inner c) (weight a + weight c == 0) e in
     let both = and_parts (is_inner a) (is_inner c) parts.0 in
-    in_form (a ∷ c ∷ []) st 0 n (rw (both.0, both.1) refl) all (omega (arith, same_number (weight a + weight c) 0 parts.1)) (omega (arith, level))
+    in_form (a ∷ c ∷ []) st 0 n (rw (both.0, both.1) refl) all (omega (arith, eqb-true (weight a + weight c) 0 parts.1)) (omega (arith, level))
 timed_agrees _ st n e all level = absurd (cc)
 
 headed_agrees : (m : Mark) (b : Bool) (new st : List Symbol) → is_time m ≡ b → (if b then are_timed new else moves m 1 (level new) && (not (is_timed_key m) && list_all is_outer new)) ≡ true → list_all is_outer st ≡ true → Agrees (if b then within 0 else from_outside m) (new ++ st) (opened_by (1 + level st) m)
@@ -148,7 +137,7 @@ headed_agrees m true new st t e all = timed_agrees new st _ e all (sym (time_ope
 headed_agrees m false new st t e all =
     let parts = and_parts (moves m 1 (level new)) (not (is_timed_key m) && list_all is_outer new) e in
     let more = and_parts (not (is_timed_key m)) (list_all is_outer new) parts.1 in
-    let other : is_timed_key m ≡ false = not_key (is_timed_key m) more.0 in
+    let other : is_timed_key m ≡ false = not-true (is_timed_key m) more.0 in
     rw other (out_of_forms (new ++ st) _ (outer_more new st more.1 all) (level_more new st ∙ opens_so m 1 (level new) (level st) parts.0))
 
 from_headed : (s : Symbol) (st : List Symbol) (m : Mark) (new : List Symbol) → is_form_head s ≡ true → list_all is_outer st ≡ true → step s m ≡ Some new → Agrees (next_phase headed m) (new ++ st) (opened_by (level (s ∷ st)) m)
@@ -167,7 +156,7 @@ owns (suc n) _ h = refl
 -- a mark that moves the level so closes no other parenthesis
 closes_so : (m : Mark) (before after rest : ℕ) → moves m before after ≡ true → closes_own (before + rest) m ≡ true
 closes_so m before after rest e =
-    owns (before + rest) m (λ c. let here : moves Close before after ≡ true = subst (λ (x : Mark). moves x before after ≡ true) c e in omega (arith, same_number before (after + 1) here))
+    owns (before + rest) m (λ c. let here : moves Close before after ≡ true = subst (λ (x : Mark). moves x before after ≡ true) c e in omega (arith, eqb-true before (after + 1) here))
 
 opened_add : (d k : ℕ) (m : Mark) → closes_own d m ≡ true → opened_by d m + k ≡ opened_by (d + k) m
 opened_add d k Open e = omega arith

@@ -1,19 +1,21 @@
 -- In a line of a form a parenthesis opens a level too many exactly where as many stand open as levels may.
-use Rattle.std.proofs.Common.{◌≡◌, ◌⊎◌, ℕ, ◌≤◌, Bool, true, false, ◌&&◌, List, [], ◌∷◌, ◌++◌, Option, None, Some, take, refl, ◌∙◌, subst, inl, inr, arith}
+use Rattle.std.proofs.Common.{◌≡◌, ◌⊎◌, ℕ, ◌≤◌, Bool, true, ◌&&◌, List, [], ◌∷◌, ◌++◌, Option, None, Some, take, refl, ◌∙◌, subst, inl, inr, arith}
 use Rattle.std.specs.List.{list_all}
 use Rattle.std.proofs.lemmas.Bool.{and_parts}
 use Rattle.ps_shape.specs.Marks.{is}
-use Rattle.ps_shape.specs.Rules.{step, where_it_is}
+use Rattle.ps_shape.specs.Rules.{step}
 use Rattle.ps_shape.specs.Shape.{deepest, next_wanted, wanted_from}
 use Rattle.ps_shape.specs.Symbols.{level, weight}
 use Rattle.ps_shape.specs.declared.marks.Mark.{Mark}
 use Rattle.ps_shape.specs.declared.marks.Mark.TheVariants.{Open}
 use Rattle.ps_shape.specs.declared.symbols.Symbol.{Symbol}
 use Rattle.ps_shape.specs.declared.symbols.Symbol.TheVariants.{The, AnyName}
+use Rattle.ps_shape.proofs.Levels.{level_more}
 use Rattle.ps_forms.proofs.Balance.{each_mark}
 use Rattle.ps_script.specs.Forms as script
 use Rattle.ps_script.specs.declared.forms.Form.{Form as ScriptForm}
 use Rattle.ps_script.specs.declared.forms.Form.TheVariants.{SetFunction}
+use Rattle.ps_script.proofs.Balance.{where_some}
 use Rattle.ps_members.specs.Forms as member
 use Rattle.ps_members.specs.declared.forms.Form.{Form as MemberForm}
 use Rattle.ps_members.specs.declared.forms.Form.TheVariants.{Edit}
@@ -21,7 +23,7 @@ use Rattle.ps_reading_laws.specs.Laws.{LineDepthsAreParentheses, MemberDepthsAre
 use Rattle.ps_reading_laws.specs.Levels.{CountsParentheses, open_after, opened, opened_by}
 use Rattle.ps_reading_laws.proofs.Cases.{mark_is}
 use Rattle.ps_reading_laws.proofs.LevelSymbols.{inner_fits, inner_step, is_inner, is_none, moves}
-use Rattle.ps_reading_laws.proofs.Levels.{inner_more, level_more, none_of, opens_so}
+use Rattle.ps_reading_laws.proofs.Levels.{inner_more, none_of, opens_so}
 use Rattle.ps_reading_laws.proofs.Ways.{Leads, first_leads, front_leads}
 use Rattle.ps_reading_laws.proofs.Ways.Leads.{no_mark, one_mark}
 
@@ -43,10 +45,6 @@ going s st m new all e =
     let fits : inner_fits (Some new) m (weight s) ≡ true = subst (λ (o : Option (List Symbol)). inner_fits o m (weight s) ≡ true) e (inner_step s m own.0) in
     let parts = and_parts (moves m (weight s) (level new)) (list_all is_inner new) fits in
     goes_on (new ++ st) _ (inner_more new st parts.1 own.1) (level_more new st ∙ opens_so m (weight s) (level new) (level st) parts.0)
-
-where_some : (b : Bool) (new : List Symbol) → where_it_is b [] ≡ Some new → (b ≡ true) × (new ≡ [])
-where_some true new e = (refl, cc)
-where_some false new e = absurd (cc)
 
 opening : (rest : List Symbol) (m : Mark) (new : List Symbol) → list_all is_inner rest ≡ true → level rest ≡ 1 → step (The Open) m ≡ Some new → Agrees (new ++ rest) (opened_by 0 m)
 opening rest m new all one e =

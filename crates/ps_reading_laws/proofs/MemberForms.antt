@@ -21,9 +21,10 @@ use Rattle.ps_script.specs.Goals.{fact_of, first_condition}
 use Rattle.ps_script.specs.Lines.{marks_of}
 use Rattle.ps_script.specs.declared.forms.Form.{Form as ScriptForm}
 use Rattle.ps_script.specs.declared.forms.Form.TheVariants as edit
-use Rattle.ps_script.proofs.Balance.{balanced, balanced_line as balanced_script}
+use Rattle.ps_script.proofs.Balance.{balanced}
+use Rattle.ps_members.proofs.FormLines.{balanced_line}
 use Rattle.ps_script.proofs.LineReads.{marks_same}
-use Rattle.ps_members.specs.Forms.{begun, edit_form, form_at, form_of, is_allowed, is_edit, may_edit, own_forms, start_of}
+use Rattle.ps_members.specs.Forms.{begun, is_allowed, is_edit, may_edit, start_of}
 use Rattle.ps_members.specs.Lines.{Says, is_plain}
 use Rattle.ps_members.specs.declared.forms.Form.{Form}
 use Rattle.ps_members.specs.declared.forms.Form.TheVariants as form
@@ -60,10 +61,6 @@ allowed_may : (at : Place) (o : Option Form) → MayEdit o → MayEdit (option_a
 allowed_may at None h = tt
 allowed_may at (Some f) h = elim (is_allowed at f) as (λ b. MayEdit (if b then Some f else None)) [ true ↦ h | false ↦ tt ]
 
-pub form_may : (at : Place) (ws : List (List ℕ)) (f : Form) → form_at at ws ≡ Some f → may_edit f ≡ true
-form_may at ws f e =
-    subst MayEdit e (allowed_may at (form_of ws) (or_may (begun own_forms ws) (edit_form ws) (begun_may own_forms ws refl) (edit_may (script.form_of ws))))
-
 -- ---- what a line says
 
 -- an edit is one
@@ -97,10 +94,6 @@ says form.Args ts plain may = absurd (cc)
 says form.Feedback ts plain may = absurd (cc)
 
 -- ---- parentheses
-
-balanced_line : (f : Form) (ms : List Mark) → Derives (start_of f) ms → is_balanced 0 ms ≡ true
-balanced_line (form.Edit f) ms derived = balanced_script f ms derived
-balanced_line f ms derived = balanced (start_of f) ms derived refl
 
 -- the words of a line that fits its form are balanced
 pub balanced_words : (table : Table) (bytes : List ℕ) (f : Form) (tokens : List Token) → Derives (start_of f) (marks_of bytes tokens) → is_balanced 0 (marks (lexemes_of bytes table tokens).0) ≡ true

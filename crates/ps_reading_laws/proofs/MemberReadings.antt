@@ -32,11 +32,12 @@ use Rattle.ps_members.specs.declared.places.Said.{Said}
 use Rattle.ps_members.specs.declared.places.Said.TheVariants.{Args, Unit as Does}
 use Rattle.ps_members.specs.declared.refusals.ScriptRefusal.{ScriptRefusal}
 use Rattle.ps_members.specs.declared.refusals.ScriptRefusal.TheVariants.{Line}
+use Rattle.ps_members.proofs.FormEdits.{form_edits}
 use Rattle.ps_reading_laws.specs.Laws.{EveryMemberIsRead}
 use Rattle.ps_reading_laws.proofs.Cases.{answered, found}
 use Rattle.ps_reading_laws.proofs.Judging.{judged}
 use Rattle.ps_reading_laws.proofs.Lexing.{lexed}
-use Rattle.ps_reading_laws.proofs.MemberForms.{balanced_words, form_may, says}
+use Rattle.ps_reading_laws.proofs.MemberForms.{balanced_words, says}
 use Rattle.ps_reading_laws.proofs.Nesting.{spelt}
 
 -- ---- a line of a form
@@ -92,7 +93,7 @@ module _ (at : Place) (table : Table) (bytes : List ℕ) where
   worded_line tokens are =
       elim (found (form_at at (words (worded bytes)))) [
         | inl f ↦
-            let line = formed_line table bytes tokens f.0 (form_may at (words (worded bytes)) f.0 f.1) in
+            let line = formed_line table bytes tokens f.0 (form_edits at (words (worded bytes)) f.0 f.1) in
             (line.0, line.1, with_form tokens f.0 line.0 line.1 are f.1 line.2)
         | inr none ↦ (Err cause.Command, table, without_form tokens are none)
       ]

@@ -13,8 +13,8 @@ use Rattle.ps_world.specs.declared.actions.ActionDef.{ActionDef}
 use Rattle.ps_world.specs.declared.domains.Param.{Param}
 use Rattle.ps_world.specs.declared.domains.Decl.{Decl}
 use Rattle.ps_world.specs.declared.domains.Domain.{Domain}
+use Rattle.ps_world.proofs.SameTexts.{same_text-is}
 use Rattle.ps_text.specs.Names.{AreNames, folded}
-use Rattle.ps_text.proofs.Tables.{same_text-same}
 use Rattle.ps_print.specs.CanonicalWords.{IsActionOf, IsCondOf, IsDeclOf, IsDomainOf, IsNameOf, IsParamOf}
 use Rattle.ps_pddl.specs.WellFormed.{IsAction, IsEffect, IsWellFormed}
 use Rattle.ps_pddl.proofs.Fits.{FitParams, FitsAction, FitsCond, FitsDomain, FitsEffect, FitsPredicate, IsVariableName}
@@ -36,7 +36,7 @@ not_duration : (text : List ℕ) → folded text ≡ text → (text ≡ codes "d
 not_duration text lower other =
     elim (cases_Bool (same_text (folded (codes "?" ++ text)) (codes "?duration"))) [
       | inl e ↦
-          let whole = same_text-same (folded (codes "?" ++ text)) (codes "?duration") e in
+          let whole = same_text-is (folded (codes "?" ++ text)) (codes "?duration") e in
           let rest : folded text ≡ codes "duration" = cc in
           absurd (other (sym lower ∙ rest))
       | inr e ↦ e

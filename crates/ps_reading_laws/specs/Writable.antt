@@ -1,5 +1,5 @@
 -- The domains that can be written with a table of names.
-use Rattle.std.specs.Prelude.{◌≡◌, ℕ, suc, ◌+◌, ◌≤◌, max, true, List, codes, length, All}
+use Rattle.std.specs.Prelude.{◌≡◌, ℕ, suc, ◌+◌, ◌≤◌, max, true, List, [], codes, length, All}
 use Rattle.ps_world.specs.Names.{Table, name_text}
 use Rattle.ps_world.specs.Trees.{CondTree, CondTrees}
 use Rattle.ps_world.specs.Leaves.{Leaves, AllIn, AllInEach}

@@ -3,7 +3,7 @@ use Rattle.std.proofs.Common.{◌≡◌, ℕ, zero, suc, ◌+◌, ◌≤◌, ◌
 use Rattle.std.specs.List.{AllByRecursion, range_with_len}
 use Rattle.std.specs.Option.{unwrap_or}
 use Rattle.std.specs.Cmp.{unsigned_Decides}
-use Rattle.std.proofs.lemmas.Bool.{eqb-true, true≢false}
+use Rattle.std.proofs.lemmas.Bool.{eqb-true, true≢false, not-true, ltb-true, and_parts}
 use Rattle.std.proofs.lemmas.List.{at_drop_all, drop_more, length-drop}
 use Rattle.std.proofs.lemmas.Bool.Decides.{nat_tests}
 use Rattle.ps_machine.specs.declared.inputs.Input.{Input}
@@ -14,17 +14,17 @@ use Rattle.ps_machine.specs.declared.journal.Event.{Event}
 use Rattle.ps_machine.specs.declared.journal.Event.TheVariants as event
 use Rattle.ps_rules.specs.History.{any_of, broken, cancels, forced_after, is_fail, IsHistory, IsWhole, sound}
 use Rattle.ps_rules.specs.Lines.{answered, due_lines}
-use Rattle.ps_rules.proofs.Kept.{both}
 use Rattle.ps_rules.specs.Prefixes.{is_due, IsPrefix}
 use Rattle.ps_rules.specs.Runs.{is_running, plan, says_plan}
 use Rattle.ps_rules.specs.Settled.{places}
+use Rattle.ps_rules.proofs.Longest.{is_due-is}
 use Rattle.ps_rows.specs.Present.{Stands}
 use Rattle.ps_rows.specs.Table.{TakesCancelOf}
 use Rattle.ps_rows.specs.declared.present.Present.{Present}
 use Rattle.ps_rows.proofs.Awaiting.{plan-push}
 use Rattle.ps_replay.specs.Course.{AreInPlan, cancelled_act, due_then, is_cancel_in, is_over, may_come, Reaches, still_due}
 use Rattle.ps_replay.specs.declared.course.Course.{Course}
-use Rattle.ps_replay.proofs.Leading.{comes-on, done-history, history-done, is_due-is}
+use Rattle.ps_replay.proofs.Leading.{comes-on, done-history, history-done}
 
 -- ---- forced cancels are of acts of the plan
 
@@ -122,16 +122,9 @@ module _ (i : Input) (es : List Entry) (e c : Entry) (forced : List Entry) (met 
 
 -- ---- the end
 
-below-is : (a n : ℕ) → nat_lt a n ≡ true → a < n
-below-is a n h = grind (arith, nat_tests, h)
-
 -- the act of the cancel that comes is there
 pub act-below : (n a : ℕ) (e : Event) → is_cancel_in n e ≡ true → a ≡ cancelled_act e → a < n
-act-below n a e h is = below-is a n (ap (λ k. nat_lt k n) is ∙ act-there n e h)
-
-not-false : (b : Bool) → not b ≡ true → b ≡ false
-not-false true h = sym h
-not-false false h = refl
+act-below n a e h is = ltb-true a n (ap (λ k. nat_lt k n) is ∙ act-there n e h)
 
 both-true : (a b c : Bool) → a ≡ true → b ≡ true → c ≡ false → (a && (b && not c)) ≡ true
 both-true a b c e f g = rw (e, f, g) refl
@@ -147,15 +140,15 @@ whole-iff i es c r b m o e em eo =
     let lines : Bool = answered es == length (due_lines i.lines) in
     let is : b ≡ (met && (lines && not (is_running es))) = e ∙ ap (λ x. x && o) em ∙ ap (λ x. met && x) eo in (
       λ h.
-          let parts = both met (lines && not (is_running es)) (sym is ∙ h) in
-          let two = both lines (not (is_running es)) parts.1 in
+          let parts = and_parts met (lines && not (is_running es)) (sym is ∙ h) in
+          let two = and_parts lines (not (is_running es)) parts.1 in
           let all : c.met ≡ length c.forced.items = eqb-true c.met (length c.forced.items) parts.0 in
           let past : length c.forced.items ≤ c.met = omega (arith, all) in
           let none : still_due c ≡ [] = at_drop_all (λ x. x) c.forced.items c.met past in (
             done-history i es (still_due c) r.prefix none,
             record {
               lines = eqb-true (answered es) (length (due_lines i.lines)) two.0;
-              closed = not-false (is_running es) two.1;
+              closed = not-true (is_running es) two.1;
             },
           ),
       λ w.

@@ -1,56 +1,22 @@
 -- Entries that are a prefix of a history, and one more.
-use Rattle.std.proofs.Common.{◌≡◌, ℕ, zero, suc, ◌+◌, ◌≤◌, ◌<◌, ◌==◌, ◌&&◌, nat_lt, Bool, true, false, IsTrue, if◌then◌else◌, List, [], ◌∷◌, ◌++◌, drop, get_or, length, take, refl, ap, sym, ◌∙◌, subst, append_assoc, append-nil, arith}
+use Rattle.std.proofs.Common.{◌≡◌, ℕ, zero, suc, ◌+◌, ◌≤◌, ◌<◌, ◌&&◌, nat_lt, Bool, true, false, IsTrue, if◌then◌else◌, List, [], ◌∷◌, ◌++◌, drop, get_or, length, take, refl, ap, sym, ◌∙◌, subst, arith}
 use Rattle.std.proofs.Math.Seq.{take-length}
 use Rattle.std.proofs.lemmas.List.{at_drop_all, drop_more, length-take-le, take_more}
-use Rattle.std.proofs.lemmas.Bool.{eqb-true, true≢false}
+use Rattle.std.proofs.lemmas.Bool.{true≢false, and_parts}
 use Rattle.ps_machine.specs.declared.inputs.Input.{Input}
-use Rattle.ps_machine.specs.declared.journal.CancelWhy.{CancelWhy}
 use Rattle.ps_machine.specs.declared.journal.CancelWhy.TheVariants as cancel
 use Rattle.ps_machine.specs.declared.journal.Entry.{Entry}
-use Rattle.ps_machine.specs.declared.journal.Event.{Event}
 use Rattle.ps_machine.specs.declared.journal.Event.TheVariants as event
 use Rattle.ps_rules.specs.History.{forced, IsHistory, IsWhole}
 use Rattle.ps_rules.specs.Legal.{has_hand, is_legal}
-use Rattle.ps_rules.specs.Prefixes.{good_length, is_due, IsPrefix, Leads, same_cancel, same_why}
+use Rattle.ps_rules.specs.Prefixes.{good_length, IsPrefix, Leads}
 use Rattle.ps_rules.specs.Prefixes.Leads.{here, owed, next}
-use Rattle.ps_rules.proofs.Kept.{both}
-use Rattle.ps_rules.proofs.Longest.{good_length_is_longest}
-use Rattle.ps_rules.proofs.Prefixes.{histories_lead, lead-next, lead-owed}
+use Rattle.ps_rules.proofs.Longest.{good_length_is_longest, is_due-is}
+use Rattle.ps_rules.proofs.Prefixes.{histories_lead, lead-next, lead-owed, leads-on}
 use Rattle.ps_replay.specs.Course.{due_then, may_come, Reaches}
 use Rattle.ps_replay.specs.declared.course.Course.{Course}
 
--- ---- the cancel that is due
-
-same_why-is : (x y : CancelWhy) → same_why x y ≡ true → x ≡ y
-same_why-is cancel.OverAll cancel.OverAll h = refl
-same_why-is cancel.Stop cancel.Stop h = refl
-same_why-is x y h = absurd (cc)
-
-same_cancel-is : (e f : Event) → same_cancel e f ≡ true → e ≡ f
-same_cancel-is (event.Cancel act why) (event.Cancel other reason) h =
-    let parts = both (act == other) (same_why why reason) h in
-    let place = eqb-true act other parts.0 in
-    let cause = same_why-is why reason parts.1 in
-    λ i. event.Cancel (place i) (cause i)
-same_cancel-is e f h = absurd (cc)
-
--- an entry that is the cancel that is due is equal to it
-pub is_due-is : (c e : Entry) → is_due c e ≡ true → c ≡ e
-is_due-is c e h =
-    let parts = both (c.hand == e.hand) (same_cancel c.what e.what) h in
-    let hand = eqb-true c.hand e.hand parts.0 in
-    let what = same_cancel-is c.what e.what parts.1 in
-    λ i. record { hand = hand i; what = what i }
-
 -- ---- one stretch after another
-
-leads-on : (i : Input) (before due es mid fs last : List Entry) → Leads i before due es mid → Leads i (before ++ es) mid fs last → Leads i before due (es ++ fs) last
-leads-on i _ _ _ _ fs last (here before due) g = subst (λ t. Leads i t due fs last) (append-nil before) g
-leads-on i _ _ _ mid fs last (owed before due es _ c h) g =
-    owed before due (es ++ fs) last c (leads-on i (before ++ c ∷ []) due es mid fs last h (subst (λ t. Leads i t mid fs last) (sym (append_assoc before (c ∷ []) es)) g))
-leads-on i _ _ _ mid fs last (next before es _ e legal hand h) g =
-    next before (es ++ fs) last e legal hand
-    (leads-on i (before ++ e ∷ []) (forced i before e) es mid fs last h (subst (λ t. Leads i t mid fs last) (sym (append_assoc before (e ∷ []) es)) g))
 
 -- an entry that may come leads on
 pub comes-on : (i : Input) (es due : List Entry) (e : Entry) → IsPrefix i es due → may_come i es due e ≡ true → IsPrefix i (es ++ e ∷ []) (due_then i es due e)
@@ -58,7 +24,7 @@ comes-on i es (c ∷ due) e l h =
     let same : c ≡ e = is_due-is c e h in
     leads-on i [] [] es (c ∷ due) (e ∷ []) due l (subst (λ x. Leads i es (c ∷ due) (x ∷ []) due) same (owed es due [] due c (here (es ++ c ∷ []) due)))
 comes-on i es [] e l h =
-    let parts = both (is_legal i es e.what) (has_hand e.what e.hand) h in
+    let parts = and_parts (is_legal i es e.what) (has_hand e.what e.hand) h in
     leads-on i [] [] es [] (e ∷ []) (forced i es e) l (next es [] (forced i es e) e parts.0 parts.1 (here (es ++ e ∷ []) (forced i es e)))
 
 -- what is due after entries is determined

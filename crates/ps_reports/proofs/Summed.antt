@@ -5,8 +5,11 @@ use Rattle.std.specs.List.{AllPairs, list_any, range_with_len, sum_by}
 use Rattle.std.specs.Option.{option_map_or}
 use Rattle.std.proofs.lemmas.Bool.Decides.{eqb_tells, Decides-ltb}
 use Rattle.std.proofs.lemmas.List.Sums.{sum_by-cons}
+use Rattle.std.proofs.lemmas.Bool.{false_from_ne_true}
 use Rattle.ps_world.specs.Names.{same_name}
 use Rattle.ps_world.specs.declared.names.Name.{Name}
+use Rattle.ps_world.proofs.SameTexts.{name_itself}
+use Rattle.ps_action.proofs.Facts.{same_name-is}
 use Rattle.ps_machine.specs.declared.inputs.Input.{Input}
 use Rattle.ps_machine.specs.declared.members.Member.{Member}
 use Rattle.ps_machine.specs.declared.members.Member.TheVariants as member
@@ -21,10 +24,8 @@ use Rattle.ps_rules.specs.History.IsHistory.{nothing, block}
 use Rattle.ps_rules.specs.Laws.{speaks_of}
 use Rattle.ps_rules.specs.Members.{as_performer, performers}
 use Rattle.ps_rules.specs.Sound.{IsSound, member_name}
-use Rattle.ps_rules.proofs.Kept.{name_eq}
 use Rattle.ps_rules.proofs.Pushed.{read-block}
-use Rattle.ps_rules.proofs.SameThings.{same_name-itself}
-use Rattle.ps_rules.proofs.Speaking.{legal_events_speak}
+use Rattle.ps_rules.proofs.Speaking.{legal_events_speak, fewer}
 use Rattle.ps_reports.specs.Audit.{all_recorded, is_performer, is_recorded}
 use Rattle.ps_reports.specs.Laws.{AllAreSummed, recorded_of, sum_recorded}
 use Rattle.ps_reports.specs.Stints.{recorded, unit_by}
@@ -52,10 +53,6 @@ one b = if b then 1 else 0
 rise : (b : Bool) (n : ℕ) → (if b then n + 1 else n) ≡ n + one b
 rise true n = refl
 rise false n = omega arith
-
-not-so : (b : Bool) → (b ≡ true → ⊥) → b ≡ false
-not-so true deny = absurd (deny refl)
-not-so false deny = refl
 
 -- ---- one event, over requests
 
@@ -98,7 +95,7 @@ none-else p q [] same apart = refl
 none-else p q (member.Performer m ∷ ms) same apart =
     let other : same_name p m.name ≡ false = apart 0 (member.Performer m) (omega arith) in
     let here : same_name m.name q ≡ false =
-    not-so (same_name m.name q) (λ is. true-is-false (sym (same_name-itself p) ∙ ap (same_name p) (same ∙ sym (name_eq m.name q is)) ∙ other)) in
+    false_from_ne_true (same_name m.name q) (λ is. true-is-false (sym (name_itself p) ∙ ap (same_name p) (same ∙ sym (same_name-is m.name q is)) ∙ other)) in
     ap (λ b. b || list_any (is_performer q) ms) here ∙ none-else p q ms same (λ k d less. apart (suc k) d (omega arith))
   where
     true-is-false : true ≡ false → ⊥
@@ -112,7 +109,7 @@ over-performers q (member.Performer p ∷ ms) differ =
     let c = sum_by-cons (λ (p : Performer). one (same_name p.name q)) p (filter_map as_performer ms) in
     let rest = over-performers q ms (λ i j d less there. differ (suc i) (suc j) d (omega arith) (omega arith)) in
     c ∙ ap (λ n. one (same_name p.name q) + n) rest ∙ joined (same_name p.name q) (list_any (is_performer q) ms)
-    (λ is. none-else p.name q ms (name_eq p.name q is) (λ k d less. differ 0 (suc k) d (omega arith) (omega arith)))
+    (λ is. none-else p.name q ms (same_name-is p.name q is) (λ k d less. differ 0 (suc k) d (omega arith) (omega arith)))
   where
     joined : (a b : Bool) → (a ≡ true → b ≡ false) → one a + one b ≡ one (a || b)
     joined true b deny = ap (λ y. 1 + one y) (deny refl)
@@ -160,10 +157,6 @@ event-sum n i e differ below =
     ∙ over-all n i.members (unit_by e) differ below
 
 -- ---- a history
-
-fewer : (b : Bool) (n r : ℕ) → (if b then n + 1 else n) ≤ r → n ≤ r
-fewer true n r le = omega arith
-fewer false n r le = le
 
 summed : (i : Input) (es : List Entry) → NamesDiffer i.members → IsHistory i es → (n : ℕ) → requests es ≤ n → all_recorded i es ≡ sum_recorded i es n
 summed i _ differ nothing n le = sym (zeros (λ (p : Performer). recorded_of [] n p.name) (performers i) (λ p. zeros (λ r. recorded [] r p.name) (range_with_len 0 n) (λ r. refl)))

@@ -1,5 +1,5 @@
 -- Stints as they are kept are those that the journal tells.
-use Rattle.std.proofs.Common.{◌≡◌, ◌≢◌, ◌⊎◌, ℕ, suc, ◌+◌, ◌-◌, ◌^◌, ◌<◌, ◌≤◌, ◌==◌, ◌&&◌, ◌||◌, Bool, true, false, List, [], ◌∷◌, ◌++◌, length, take, get_or, refl, ap, sym, ◌∙◌, subst, ⊎_elim, arith}
+use Rattle.std.proofs.Common.{◌≡◌, ◌≢◌, ◌⊎◌, ℕ, ◌+◌, ◌-◌, ◌^◌, ◌<◌, ◌==◌, ◌&&◌, ◌||◌, Bool, true, false, List, [], ◌∷◌, ◌++◌, length, take, get_or, refl, ap, sym, ◌∙◌, subst, ⊎_elim, arith}
 use Rattle.std.specs.Prelude.{nat_eq, cond, if◌then◌else◌, is_some, Option, Some, None}
 use Rattle.std.specs.HashMap.{get}
 use Rattle.std.specs.Option.{option_map_or, unwrap_or}
@@ -7,6 +7,7 @@ use Rattle.std.proofs.lemmas.Bool.Decides.{eqb_tells}
 use Rattle.std.proofs.lemmas.List.{length-take-le, take_more}
 use Rattle.ps_world.specs.Names.{same_name}
 use Rattle.ps_world.specs.declared.names.Name.{Name}
+use Rattle.ps_world.proofs.Truths.{or_false}
 use Rattle.ps_machine.specs.declared.journal.By.TheVariants as by
 use Rattle.ps_machine.specs.declared.journal.Event.{Event}
 use Rattle.ps_machine.specs.declared.journal.Event.TheVariants as event
@@ -14,6 +15,7 @@ use Rattle.ps_machine.specs.declared.journal.Entry.{Entry}
 use Rattle.ps_rules.specs.Reading.{has_been, read, times}
 use Rattle.ps_rules.specs.Auctions.{begins, begins_by, has_begun, is_begin, is_unit, units_done}
 use Rattle.ps_rules.proofs.Pushed.{read-push}
+use Rattle.ps_ledger.proofs.LegalEvents.{times-most}
 use Rattle.ps_reports.specs.Laws.{TurnsAreBegun}
 use Rattle.ps_reports.specs.Stints.{HasCounts, TakesEvent, TellsStints, is_stopped, no_stint, stint, stint_at, turn_on, turns, with_event, with_turn, work_by}
 use Rattle.ps_reports.specs.declared.stints.Stint.{Stint}
@@ -48,17 +50,6 @@ tells-more h x old new tells takes =
     }
 
 -- ---- counts fit
-
-step-most : (b : Bool) (n m : ℕ) → (if b then n + 1 else n) + m ≤ n + suc m
-step-most true n m = omega arith
-step-most false n m = omega arith
-
-times-most : (test : Event → Bool) (n : ℕ) (es : List Entry) → read (λ n e. if test e then n + 1 else n) n es ≤ n + length es
-times-most test n [] = omega arith
-times-most test n (x ∷ es) =
-    let more = times-most test (if test x.what then n + 1 else n) es in
-    let step = step-most (test x.what) n (length es) in
-    omega (arith, more, step)
 
 pub counts-left : (h : List Entry) (l : Stints) → TellsStints h l → length h < 2 ^ 64 - 1 → HasCounts l
 counts-left h l tells short = record {
@@ -106,10 +97,6 @@ no-beginning : (p : Name) (e : Event) → is-mine p (work_by e) ≡ false → be
 no-beginning p (event.Begin s q) h = h
 no-beginning p e h = refl
 
-or-false : (b : Bool) → (b || false) ≡ b
-or-false true = refl
-or-false false = refl
-
 and-false : (b : Bool) → (b && false) ≡ false
 and-false true = refl
 and-false false = refl
@@ -119,7 +106,7 @@ same-stint : (r : ℕ) (p : Name) (n : ℕ) (e : Event) (s : Stint) → is-told 
 same-stint r p n e s h =
     let turn : (if is_begin r p e then Some (n + 1) else s.turn) ≡ s.turn = ap (λ b. if b then Some (n + 1) else s.turn) (no-begin r p e h) in
     let units : (if is_unit r p e then s.units + 1 else s.units) ≡ s.units = ap (λ b. if b then s.units + 1 else s.units) (no-unit r p e h) in
-    let stopped : (s.stopped || is_stopped r p e) ≡ s.stopped = ap (λ b. s.stopped || b) (no-stop r p e h) ∙ or-false s.stopped in
+    let stopped : (s.stopped || is_stopped r p e) ≡ s.stopped = ap (λ b. s.stopped || b) (no-stop r p e h) ∙ or_false s.stopped in
     λ i. record { turn = turn i; units = units i; stopped = stopped i }
 
 -- an event that tells of nobody's work, or of another's, changes nothing

@@ -44,7 +44,7 @@ and-not : (a b : Bool) → b ≡ false → false ≡ (a && b)
 and-not true b e = sym e
 and-not false b e = refl
 
-and-so : (a b : Bool) → b ≡ true → a ≡ (a && b)
+pub and-so : (a b : Bool) → b ≡ true → a ≡ (a && b)
 and-so true b e = sym e
 and-so false b e = refl
 

@@ -1,6 +1,5 @@
 -- The lines that are due are the first ones.
-use Rattle.std.proofs.Common.{◌≡◌, ℕ, zero, suc, ◌<◌, ◌≤◌, All, IfSome, Some, List, [], ◌∷◌, length, slice_get, refl, ap, ◌∙◌, arith}
-use Rattle.std.proofs.lemmas.List.Elements.{All-head, All-tail}
+use Rattle.std.proofs.Common.{◌≡◌, ℕ, zero, suc, ◌<◌, ◌≤◌, Some, List, [], ◌∷◌, length, slice_get, refl, ap, ◌∙◌, arith}
 use Rattle.ps_machine.specs.declared.inputs.Command.TheVariants as command
 use Rattle.ps_machine.specs.declared.inputs.Line.{Line}
 use Rattle.ps_machine.specs.declared.inputs.Line.TheVariants.{Good, Bad}
@@ -23,9 +22,3 @@ due-first (Good (command.RunAction act) ∷ lines) = one-more (Good (command.Run
 due-first (Good (command.RunPlan plan) ∷ lines) = one-more (Good (command.RunPlan plan)) (due_lines lines) lines (due-first lines)
 due-first (Good command.Quit ∷ lines) = one-more (Good command.Quit) [] lines (λ n lt. absurd (omega (arith, lt)))
 due-first (Bad cause ∷ lines) = one-more (Bad cause) (due_lines lines) lines (due-first lines)
-
--- what all have has the one at a place
-pub place-has : {A : Type 0} (P : A → Type 0) (xs : List A) (n : ℕ) → All P xs → IfSome (slice_get xs n) P
-place-has P [] n h = tt
-place-has P (x ∷ xs) zero h = All-head P x xs h
-place-has P (x ∷ xs) (suc n) h = place-has P xs n (All-tail P x xs h)

@@ -5,6 +5,7 @@ use Rattle.ps_world.specs.declared.domains.Domain.{Domain}
 use Rattle.ps_world.specs.declared.edits.Edit.{Edit}
 use Rattle.ps_world.specs.declared.edits.EditRefusal.{EditRefusal}
 use Rattle.ps_world.specs.declared.known.Knowledge.{Knowledge}
+use Rattle.ps_world.proofs.Truths.{and_assoc}
 use Rattle.ps_machine.specs.declared.inputs.Input.{Input}
 use Rattle.ps_machine.specs.declared.journal.By.{By}
 use Rattle.ps_machine.specs.declared.journal.By.TheVariants.{Terminal, Performer, Observer}
@@ -29,12 +30,8 @@ and-not a b e = rw e refl
 and-so : (a b : Bool) → a ≡ true → b ≡ (a && b)
 and-so a b e = rw e refl
 
-assoc : (a b c : Bool) → ((a && b) && c) ≡ (a && (b && c))
-assoc true b c = refl
-assoc false b c = refl
-
 fits-edit : (i : Input) (es : List Entry) (by : By) (edit : Edit) → (is_asked i es by edit && is_ok (edited i.domain (know i es) edit)) ≡ fits i es (event.Edit by edit)
-fits-edit i es (Terminal n) edit = assoc (n == answered es + 1) (is_edit edit (line_edit (next_line i es))) (is_ok (edited i.domain (know i es) edit))
+fits-edit i es (Terminal n) edit = and_assoc (n == answered es + 1) (is_edit edit (line_edit (next_line i es))) (is_ok (edited i.domain (know i es) edit))
 fits-edit i es (Performer r p) edit = refl
 fits-edit i es (Observer o) edit = refl
 

@@ -5,8 +5,8 @@ use Rattle.std.proofs.lemmas.List.{map-append}
 use Rattle.ps_machine.specs.declared.journal.CancelWhy.{CancelWhy}
 use Rattle.ps_machine.specs.declared.journal.Entry.{Entry}
 use Rattle.ps_rules.specs.History.{any_of, cancels}
+use Rattle.ps_arcs.proofs.Ranges.{filter-range_more}
 use Rattle.ps_rows.specs.Forced.{cancels_if, has_some}
-use Rattle.ps_rows.proofs.Places.{picked-more}
 
 one-if : (hand act : ℕ) (why : CancelWhy) (b : Bool) → map (cancels hand why) (cond b (act ∷ []) []) ≡ cancels_if hand why b act
 one-if hand act why true = refl
@@ -18,7 +18,7 @@ pub gathered-more : (p : ℕ → Bool) (hand act : ℕ) (why : CancelWhy)
 gathered-more p hand act why =
     ap (λ more. map (cancels hand why) (filter p (range_with_len 0 act)) ++ more) (sym (one-if hand act why (p act)))
     ∙ sym (map-append (cancels hand why) (filter p (range_with_len 0 act)) (cond (p act) (act ∷ []) []))
-    ∙ ap (map (cancels hand why)) (sym (picked-more p act (p act) refl))
+    ∙ ap (map (cancels hand why)) (sym (filter-range_more p act (p act) refl))
 
 -- there is a cancel exactly where there is an act
 pub some-of : (hand : ℕ) (why : CancelWhy) (acts : List ℕ) → has_some (map (cancels hand why) acts) ≡ any_of acts

@@ -1,5 +1,5 @@
 -- Tests over the places of a plan.
-use Rattle.std.proofs.Common.{◌≡◌, ℕ, suc, zero, ◌+◌, ◌<◌, ◌≤◌, ◌&&◌, ◌||◌, not, Bool, true, false, cond, List, [], ◌∷◌, ◌++◌, filter, length, map, take, get_or, refl, ap, sym, ◌∙◌, arith}
+use Rattle.std.proofs.Common.{◌≡◌, ℕ, suc, zero, ◌+◌, ◌<◌, ◌≤◌, ◌&&◌, ◌||◌, not, Bool, true, false, List, [], ◌∷◌, length, map, take, get_or, refl, ap, sym, ◌∙◌, arith}
 use Rattle.ps_action.specs.declared.states.ActState.{ActState}
 use Rattle.ps_action.specs.declared.states.ActState.TheVariants.{Waiting}
 use Rattle.ps_machine.specs.declared.journal.Entry.{Entry}
@@ -9,24 +9,9 @@ use Rattle.ps_ledger.specs.declared.acts.Acts.{Acts}
 use Rattle.ps_ledger.specs.Acts.{TellsActs}
 use Rattle.std.proofs.Math.Seq.{take-length}
 use Rattle.std.specs.List.{list_all, list_any, range_with_len}
-use Rattle.std.proofs.lemmas.List.Elements.{filter-append}
 use Rattle.std.proofs.lemmas.List.Folds.{list_all-append, list_all_at, list_all_more, list_any-append, list_any_at, list_any_more}
 use Rattle.std.proofs.lemmas.List.FromFn.{get_or-range_with_len, length-range_with_len}
-
-range_from_more : (a n : ℕ) → range_with_len a (suc n) ≡ range_with_len a n ++ (a + n) ∷ []
-range_from_more a zero =
-    let e : a ≡ a + 0 = omega arith in
-    ap (λ (x : ℕ). x ∷ []) e
-range_from_more a (suc n) =
-    let e : a + 1 + n ≡ a + suc n = omega arith in
-    ap (λ (l : List ℕ). a ∷ l) (range_from_more (a + 1) n ∙ ap (λ (x : ℕ). range_with_len (a + 1) n ++ x ∷ []) e)
-
--- the first so many places, and one more
-pub range_more : (n : ℕ) → range_with_len 0 (n + 1) ≡ range_with_len 0 n ++ n ∷ []
-range_more n =
-    let one : n + 1 ≡ suc n = omega arith in
-    let same : 0 + n ≡ n = omega arith in
-    ap (range_with_len 0) one ∙ range_from_more 0 n ∙ ap (λ (x : ℕ). range_with_len 0 n ++ x ∷ []) same
+use Rattle.ps_arcs.proofs.Ranges.{range_more}
 
 nor-so : (a b : Bool) → a ≡ false → b ≡ false → (a || (b || false)) ≡ false
 nor-so a b e f = rw (e, f) refl
@@ -60,12 +45,6 @@ pub fails-below : (p : ℕ → Bool) (n k : ℕ) → k < n → p k ≡ false →
 fails-below p n k h e =
     let lt : k < length (range_with_len 0 n) = omega (arith, h, length-range_with_len 0 n) in
     list_all_at p (range_with_len 0 n) k 0 lt (at-place p n k h false e)
-
--- what is picked of the first so many places, and of one more
-pub picked-more : (p : ℕ → Bool) (n : ℕ) (b : Bool) → p n ≡ b → filter p (range_with_len 0 (n + 1)) ≡ filter p (range_with_len 0 n) ++ cond b (n ∷ []) []
-picked-more p n b e =
-    ap (filter p) (range_more n) ∙ filter-append p (range_with_len 0 n) (n ∷ [])
-    ∙ ap (λ (c : Bool). filter p (range_with_len 0 n) ++ cond c (n ∷ []) []) e
 
 -- ---- a list at its places
 

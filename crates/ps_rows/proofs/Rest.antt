@@ -3,9 +3,7 @@ use Rattle.std.proofs.Common.{◌≡◌, ℕ, ◌+◌, ◌<◌, ◌&&◌, ◌||�
 use Rattle.std.specs.List.{cons_option, list_all, list_any}
 use Rattle.std.specs.Option.{option_map_or}
 use Rattle.std.proofs.lemmas.List.{drop_more}
-
-or-true : (a b : Bool) → a ≡ true → (a || b) ≡ true
-or-true a b e = rw e refl
+use Rattle.std.proofs.lemmas.Bool.{or_left, and_left}
 
 or-false : (a b : Bool) → a ≡ false → (a || b) ≡ b
 or-false a b e = rw e refl
@@ -13,22 +11,19 @@ or-false a b e = rw e refl
 pub and-true : (a b : Bool) → a ≡ true → (a && b) ≡ b
 and-true a b e = rw e refl
 
-and-false : (a b : Bool) → a ≡ false → (a && b) ≡ false
-and-false a b e = rw e refl
-
 module _ {X : Type 0} (p : X → Bool) (xs : List X) (k : ℕ) (x : X) (h : k < length xs) where
   -- the next one passes, or doesn't
   pub all-on : p (get_or xs k x) ≡ true → list_all p (drop k xs) ≡ list_all p (drop (k + 1) xs)
   all-on e = ap (list_all p) (drop_more xs k x h) ∙ and-true (p (get_or xs k x)) (list_all p (drop (k + 1) xs)) e
 
   pub all-off : p (get_or xs k x) ≡ false → list_all p (drop k xs) ≡ false
-  all-off e = ap (list_all p) (drop_more xs k x h) ∙ and-false (p (get_or xs k x)) (list_all p (drop (k + 1) xs)) e
+  all-off e = ap (list_all p) (drop_more xs k x h) ∙ and_left (p (get_or xs k x)) (list_all p (drop (k + 1) xs)) e
 
   pub any-on : p (get_or xs k x) ≡ false → list_any p (drop k xs) ≡ list_any p (drop (k + 1) xs)
   any-on e = ap (list_any p) (drop_more xs k x h) ∙ or-false (p (get_or xs k x)) (list_any p (drop (k + 1) xs)) e
 
   pub any-off : p (get_or xs k x) ≡ true → list_any p (drop k xs) ≡ true
-  any-off e = ap (list_any p) (drop_more xs k x h) ∙ or-true (p (get_or xs k x)) (list_any p (drop (k + 1) xs)) e
+  any-off e = ap (list_any p) (drop_more xs k x h) ∙ or_left (p (get_or xs k x)) (list_any p (drop (k + 1) xs)) e
 
 -- ---- what is picked of a list
 
@@ -38,7 +33,7 @@ pick-all-on p (Some y) ys e = and-true (p y) (list_all p ys) e
 
 pick-all-off : {A : Type 0} (p : A → Bool) (o : Option A) (ys : List A) → option_map_or p o true ≡ false → list_all p (cons_option o ys) ≡ false
 pick-all-off p None ys e = absurd (cc)
-pick-all-off p (Some y) ys e = and-false (p y) (list_all p ys) e
+pick-all-off p (Some y) ys e = and_left (p y) (list_all p ys) e
 
 pick-any-on : {A : Type 0} (p : A → Bool) (o : Option A) (ys : List A) → option_map_or p o false ≡ false → list_any p (cons_option o ys) ≡ list_any p ys
 pick-any-on p None ys e = refl
@@ -46,7 +41,7 @@ pick-any-on p (Some y) ys e = or-false (p y) (list_any p ys) e
 
 pick-any-off : {A : Type 0} (p : A → Bool) (o : Option A) (ys : List A) → option_map_or p o false ≡ true → list_any p (cons_option o ys) ≡ true
 pick-any-off p None ys e = absurd (cc)
-pick-any-off p (Some y) ys e = or-true (p y) (list_any p ys) e
+pick-any-off p (Some y) ys e = or_left (p y) (list_any p ys) e
 
 module _ {X A : Type 0} (f : X → Option A) (p : A → Bool) (xs : List X) (k : ℕ) (x : X) (h : k < length xs) where
   next-pick : filter_map f (drop k xs) ≡ cons_option (f (get_or xs k x)) (filter_map f (drop (k + 1) xs))

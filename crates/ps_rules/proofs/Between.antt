@@ -2,7 +2,7 @@
 use Rattle.std.proofs.Common.{◌≡◌, ℕ, zero, suc, ◌+◌, ◌<◌, ◌≤◌, ◌==◌, ◌&&◌, ◌||◌, Bool, true, false, not, List, [], ◌∷◌, ◌++◌, IsTrue, if◌then◌else◌, filter, length, refl, arith, ap, sym, ◌∙◌}
 use Rattle.std.specs.List.{list_all, range_with_len}
 use Rattle.std.specs.Option.{unwrap_or}
-use Rattle.std.proofs.lemmas.Bool.{eqb-true, ltb-true, true≢false}
+use Rattle.std.proofs.lemmas.Bool.{eqb-true, ltb-true, true≢false, and_parts}
 use Rattle.std.proofs.lemmas.Bool.Decides.{nat_tests}
 use Rattle.ps_action.specs.declared.states.ActState.{ActState}
 use Rattle.ps_action.specs.declared.states.ActState.TheVariants.{Waiting, Active, Done, Failed, Cancelled}
@@ -21,12 +21,12 @@ use Rattle.ps_rules.specs.History.{forced}
 use Rattle.ps_rules.specs.History.IsHistory.{nothing, block}
 use Rattle.ps_rules.specs.Laws.{LinesForceNothing, NoneIsActiveBetweenRuns}
 use Rattle.ps_rules.proofs.Pushed.{read-block, read-push}
-use Rattle.ps_rules.proofs.Kept.{both, fits-legal}
+use Rattle.ps_rules.proofs.Kept.{fits-legal}
 use Rattle.ps_rules.proofs.Going.{IsPlaced, not_active, placed, still-block}
 
 -- ---- states and ranges
 
-active-so : (s : ActState) → is_active s ≡ true → s ≡ Active
+pub active-so : (s : ActState) → is_active s ≡ true → s ≡ Active
 active-so Active h = refl
 active-so Waiting h = absurd (cc)
 active-so Done h = absurd (cc)
@@ -45,7 +45,7 @@ inactive-where Cancelled h = refl
 at-range : (test : ℕ → Bool) (act start n : ℕ) → start ≤ act → act < start + n → list_all test (range_with_len start n) ≡ true → test act ≡ true
 at-range test act start zero low high h = absurd (omega (arith, low, high))
 at-range test act start (suc n) low high h =
-    let parts = both (test start) (list_all test (range_with_len (start + 1) n)) h in
+    let parts = and_parts (test start) (list_all test (range_with_len (start + 1) n)) h in
     let cases : (b : Bool) → (act == start) ≡ b → test act ≡ true =
     λ b. elim b as (λ b. (act == start) ≡ b → test act ≡ true) [
       | true ↦ λ same. ap test (eqb-true act start same) ∙ parts.0
@@ -65,7 +65,7 @@ quiet-over i act es placed settled active =
     let rest : Bool =
     list_all (λ p. not (is_engaged p.name es)) (performers i)
     && (any_harmed es || (list_all (λ a. is_done (state a es)) (places es) || is_blocked i es)) in
-    let all = (both (list_all (λ a. not (is_active (state a es))) (places es)) rest settled).0 in
+    let all = (and_parts (list_all (λ a. not (is_active (state a es))) (places es)) rest settled).0 in
     let within : act < length (plan es) = ltb-true act (length (plan es)) (placed active) in
     let none = at-range (λ a. not (is_active (state a es))) act 0 (length (plan es)) (omega arith) (omega (arith, within)) all in
     true≢false (sym none ∙ ap (λ s. not (is_active s)) active)
@@ -74,7 +74,7 @@ quiet-step : (i : Input) (act : ℕ) (es : List Entry) (e : Event) → IsPlaced 
     → IsTrue (is_legal i es e) → unwrap_or (says_open e) (is_running es) ≡ false → unwrap_or (says_state act e) (state act es) ≡ Active → ⊥
 quiet-step i act es (event.Run for acts) p h legal closed active = true≢false closed
 quiet-step i act es (event.Over how) p h legal closed active =
-    let settled = (both (is_settled i es) (is_outcome how (ending i es (verdict i es))) (fits-legal i es (event.Over how) legal)).0 in
+    let settled = (and_parts (is_settled i es) (is_outcome how (ending i es (verdict i es))) (fits-legal i es (event.Over how) legal)).0 in
     quiet-over i act es p settled active
 quiet-step i act es (event.Edit (by.Terminal n) edit) p h legal closed active = not_active (state act es) (h closed) active
 quiet-step i act es (event.Refused (by.Terminal n) why) p h legal closed active = not_active (state act es) (h closed) active
@@ -93,16 +93,16 @@ none_is_active_between_runs i _ (block es e h legal hand) closed act =
 
 -- ---- no cancels
 
-filter-none : (test : ℕ → Bool) → ((n : ℕ) → test n ≡ false) → (ns : List ℕ) → filter test ns ≡ []
+pub filter-none : (test : ℕ → Bool) → ((n : ℕ) → test n ≡ false) → (ns : List ℕ) → filter test ns ≡ []
 filter-none test none [] = refl
 filter-none test none (n ∷ ns) = rw (none n) (filter-none test none ns)
 
-either-way : (b : Bool) (es : List Entry) → (if b then es else es) ≡ es
+pub either-way : (b : Bool) (es : List Entry) → (if b then es else es) ≡ es
 either-way true es = refl
 either-way false es = refl
 
 -- where the event leaves no act active, it forces no cancels
-unforced : (i : Input) (es : List Entry) (e : Entry) → ((act : ℕ) → is_active (state act (es ++ e ∷ [])) ≡ false) → forced i es e ≡ []
+pub unforced : (i : Input) (es : List Entry) (e : Entry) → ((act : ℕ) → is_active (state act (es ++ e ∷ [])) ≡ false) → forced i es e ≡ []
 unforced i es e none =
     let after : List Entry = es ++ e ∷ [] in
     let broken = filter-none (λ act. is_active (state act after) && not (may_go_on i after act)) (λ act. rw (none act) refl) (places after) in

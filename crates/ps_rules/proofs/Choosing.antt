@@ -27,6 +27,9 @@ use Rattle.ps_machine.specs.declared.journal.Event.{Event}
 use Rattle.ps_machine.specs.declared.journal.Event.TheVariants as event
 use Rattle.ps_machine.specs.declared.journal.Entry.{Entry}
 use Rattle.std.specs.List.{cons_option, range_with_len}
+use Rattle.std.proofs.lemmas.Bool.{and_from, and_parts}
+use Rattle.ps_world.proofs.Optionals.{is_none-none, some_same}
+use Rattle.ps_world.proofs.SameTexts.{same_text-itself}
 use Rattle.ps_rules.specs.Auctions.{requests}
 use Rattle.ps_rules.specs.Runs.{is_running}
 use Rattle.ps_rules.specs.Known.{know}
@@ -37,13 +40,9 @@ use Rattle.ps_rules.specs.Legal.{ending, fits, is_as_long, is_cause, is_edit, is
 use Rattle.ps_rules.specs.Choices.{Actor, Says, act_turn, edit_event, head_of, outcome_of, performed, performer_turn, planned, ticked, ticker_turn, turn, unit_event, unit_on, wants_plan, work_of}
 use Rattle.ps_rules.specs.Choices.Actor.{performs, observes, ticks}
 use Rattle.ps_rules.specs.Laws.{IsSolver, TurnsAreLegal}
-use Rattle.ps_rules.proofs.Kept.{both}
 use Rattle.ps_rules.proofs.SameThings.{same_cause-decides, same_edit-itself, same_outcome-decides}
 
 -- ---- options and lists
-
-some-one : {A : Type 0} (x y : A) → Some x ≡ Some y → x ≡ y
-some-one x y e = cc
 
 -- what is found passes the test
 found-passes : {A : Type 0} (p : A → Bool) (xs : List A) (x : A) → find p xs ≡ Some x → p x ≡ true
@@ -51,23 +50,12 @@ found-passes p [] x e = absurd (cc)
 found-passes p (y ∷ ys) x e =
     let cases : (b : Bool) → p y ≡ b → (if b then Some y else find p ys) ≡ Some x → p x ≡ true =
     λ b. elim b as (λ b. p y ≡ b → (if b then Some y else find p ys) ≡ Some x → p x ≡ true) [
-      | true ↦ λ passed found. ap p (sym (some-one y x found)) ∙ passed
+      | true ↦ λ passed found. ap p (sym (some_same y x found)) ∙ passed
       | false ↦ λ failed found. found-passes p ys x found
     ] in
     cases (p y) refl e
 
-both-so : (x y : Bool) → x ≡ true → y ≡ true → (x && y) ≡ true
-both-so x y e f = rw (e, f) refl
-
-is_none-so : {A : Type 0} (o : Option A) → is_none o ≡ true → o ≡ None
-is_none-so None h = refl
-is_none-so (Some x) h = absurd (cc)
-
-same_text-itself : (bytes : List ℕ) → same_text bytes bytes ≡ true
-same_text-itself [] = refl
-same_text-itself (b ∷ bs) = both-so (b == b) (same_text bs bs) ((unsigned_Decides b b).1 refl) (same_text-itself bs)
-
-same_flag-itself : (b : Bool) → same_flag b b ≡ true
+pub same_flag-itself : (b : Bool) → same_flag b b ≡ true
 same_flag-itself true = refl
 same_flag-itself false = refl
 
@@ -83,55 +71,55 @@ legal-between i es e closed own fit = rw (closed, own, fit) refl
 
 -- ---- units
 
-own-outcome : (whose : By) (edit : Edit) (why : Option Refusal) → answers_line (event.Edit whose edit) ≡ false → ((w : Refusal) → answers_line (event.Refused whose w) ≡ false)
+pub own-outcome : (whose : By) (edit : Edit) (why : Option Refusal) → answers_line (event.Edit whose edit) ≡ false → ((w : Refusal) → answers_line (event.Refused whose w) ≡ false)
     → answers_line (outcome_of whose edit why) ≡ false
 own-outcome whose edit None one other = one
 own-outcome whose edit (Some w) one other = other w
 
 -- a performer's next edit, accepted or refused
-performer-edit : (i : Input) (es : List Entry) (r : ℕ) (p : Name) (edit : Edit) → next_edit i r p es ≡ Some edit
+pub performer-edit : (i : Input) (es : List Entry) (r : ℕ) (p : Name) (edit : Edit) → next_edit i r p es ≡ Some edit
     → (o : Result Knowledge EditRefusal) → edited i.domain (know i es) edit ≡ o → fits i es (outcome_of (by.Performer r p) edit (edit_refusal o)) ≡ true
 performer-edit i es r p edit next (Ok new) given =
-    both-so (is_edit edit (next_edit i r p es)) (is_ok (edited i.domain (know i es) edit)) (ap (is_edit edit) next ∙ same_edit-itself edit) (ap is_ok given)
+    and_from (is_edit edit (next_edit i r p es)) (is_ok (edited i.domain (know i es) edit)) (ap (is_edit edit) next ∙ same_edit-itself edit) (ap is_ok given)
 performer-edit i es r p edit next (Err why) given =
     ap (λ said. is_cause (refusal.Edit why) (option_and_then (λ x. edit_refusal (edited i.domain (know i es) x)) said)) next
     ∙ ap (λ o. is_cause (refusal.Edit why) (edit_refusal o)) given
     ∙ (same_cause-decides (refusal.Edit why) (refusal.Edit why)).1 refl
 
 -- an observer's next edit, accepted or refused
-observer-edit : (i : Input) (es : List Entry) (o : Name) (edit : Edit) → next_seen i o es ≡ Some edit
+pub observer-edit : (i : Input) (es : List Entry) (o : Name) (edit : Edit) → next_seen i o es ≡ Some edit
     → (r : Result Knowledge EditRefusal) → edited i.domain (know i es) edit ≡ r → fits i es (outcome_of (by.Observer o) edit (edit_refusal r)) ≡ true
 observer-edit i es o edit next (Ok new) given =
-    both-so (is_edit edit (next_seen i o es)) (is_ok (edited i.domain (know i es) edit)) (ap (is_edit edit) next ∙ same_edit-itself edit) (ap is_ok given)
+    and_from (is_edit edit (next_seen i o es)) (is_ok (edited i.domain (know i es) edit)) (ap (is_edit edit) next ∙ same_edit-itself edit) (ap is_ok given)
 observer-edit i es o edit next (Err why) given =
     ap (λ said. is_cause (refusal.Edit why) (option_and_then (λ x. edit_refusal (edited i.domain (know i es) x)) said)) next
     ∙ ap (λ r. is_cause (refusal.Edit why) (edit_refusal r)) given
     ∙ (same_cause-decides (refusal.Edit why) (refusal.Edit why)).1 refl
 
 -- what records the next unit fits
-unit-fits : (i : Input) (es : List Entry) (r : ℕ) (p : Name) (u : Task) → next_unit i r p es ≡ Some u → fits i es (unit_event i es r p u) ≡ true
+pub unit-fits : (i : Input) (es : List Entry) (r : ℕ) (p : Name) (u : Task) → next_unit i r p es ≡ Some u → fits i es (unit_event i es r p u) ≡ true
 unit-fits i es r p unit.Work next = ap is_work next
 unit-fits i es r p (unit.Feedback percent text) next =
     ap (is_feedback percent text) next
-    ∙ both-so (percent == percent) (same_text text text) ((unsigned_Decides percent percent).1 refl) (same_text-itself text)
+    ∙ and_from (percent == percent) (same_text text text) ((unsigned_Decides percent percent).1 refl) (same_text-itself text)
 unit-fits i es r p (unit.Edit edit) next = performer-edit i es r p edit (ap (option_and_then as_edit) next) (edited i.domain (know i es) edit) refl
 unit-fits i es r p (unit.Finish ok) next = ap (is_finish ok) next ∙ same_flag-itself ok
 
-unit-own : (i : Input) (es : List Entry) (r : ℕ) (p : Name) (u : Task) → answers_line (unit_event i es r p u) ≡ false
+pub unit-own : (i : Input) (es : List Entry) (r : ℕ) (p : Name) (u : Task) → answers_line (unit_event i es r p u) ≡ false
 unit-own i es r p unit.Work = refl
 unit-own i es r p (unit.Feedback percent text) = refl
 unit-own i es r p (unit.Edit edit) = own-outcome (by.Performer r p) edit (edit_refusal (edited i.domain (know i es) edit)) refl (λ w. refl)
 unit-own i es r p (unit.Finish ok) = refl
 
 -- the request that a performer works on is one on which that unit is its next
-worked-on : (i : Input) (p : Name) (es : List Entry) (rs : List ℕ) (w : ℕ × Task) → head_of (filter_map (unit_on i p es) rs) ≡ Some w → next_unit i w.0 p es ≡ Some w.1
+pub worked-on : (i : Input) (p : Name) (es : List Entry) (rs : List ℕ) (w : ℕ × Task) → head_of (filter_map (unit_on i p es) rs) ≡ Some w → next_unit i w.0 p es ≡ Some w.1
 worked-on i p es [] w e = absurd (cc)
 worked-on i p es (r ∷ rs) w e =
     let cases : (o : Option Task) → next_unit i r p es ≡ o → head_of (cons_option (option_map (λ u. (r, u)) o) (filter_map (unit_on i p es) rs)) ≡ Some w → next_unit i w.0 p es ≡ Some w.1 =
     λ o. elim o as (λ o. next_unit i r p es ≡ o → head_of (cons_option (option_map (λ u. (r, u)) o) (filter_map (unit_on i p es) rs)) ≡ Some w → next_unit i w.0 p es ≡ Some w.1) [
       | None ↦ λ next found. worked-on i p es rs w found
       | Some u ↦ λ next found.
-          let same : (r, u) ≡ w = some-one (r, u) w found in
+          let same : (r, u) ≡ w = some_same (r, u) w found in
           subst (λ x. next_unit i x.0 p es ≡ Some x.1) same next
     ] in
     cases (next_unit i r p es) refl e
@@ -140,7 +128,7 @@ work-legal : (i : Input) (p : Name) (es : List Entry) (o : Option (ℕ × Task))
     → option_map (λ w. unit_event i es w.0 p w.1) o ≡ Some e → IsTrue (is_legal i es e)
 work-legal i p es None e worked live made = absurd (cc)
 work-legal i p es (Some w) e worked live made =
-    let same : unit_event i es w.0 p w.1 ≡ e = some-one (unit_event i es w.0 p w.1) e made in
+    let same : unit_event i es w.0 p w.1 ≡ e = some_same (unit_event i es w.0 p w.1) e made in
     let next = worked-on i p es (range_with_len 0 (requests es)) w worked in
     subst (λ x. IsTrue (is_legal i es x)) same
     (legal-live i es (unit_event i es w.0 p w.1) live (unit-own i es w.0 p w.1) (unit-fits i es w.0 p w.1 next))
@@ -159,7 +147,7 @@ observer-legal : (i : Input) (o : Name) (es : List Entry) (e : Event) → is_run
 observer-legal i o es e live None next made = absurd (cc)
 observer-legal i o es e live (Some edit) next made =
     let own = own-outcome (by.Observer o) edit (edit_refusal (edited i.domain (know i es) edit)) refl (λ w. refl) in
-    subst (λ x. IsTrue (is_legal i es x)) (some-one (edit_event i es (by.Observer o) edit) e made)
+    subst (λ x. IsTrue (is_legal i es x)) (some_same (edit_event i es (by.Observer o) edit) e made)
     (legal-live i es (edit_event i es (by.Observer o) edit) live own (observer-edit i es o edit next (edited i.domain (know i es) edit) refl))
 
 -- ---- the solver's answer
@@ -173,33 +161,33 @@ long-so acts answer.TooMany h = absurd h
 -- a solver's plan is a good one, as short as that of the answer that is due
 pub plan-so : (d : Domain) (k : Knowledge) (budget : ℕ) (acts : List Act) → Fits d k budget (answer.Plan acts) → is_plan d budget k acts ≡ true
 plan-so d k budget acts h =
-    both-so (is_ok (judged d k acts)) (is_as_long acts (answered_by d k budget)) h.0.goes_well (long-so acts (answered_by d k budget) h.1)
+    and_from (is_ok (judged d k acts)) (is_as_long acts (answered_by d k budget)) h.0.goes_well (long-so acts (answered_by d k budget) h.1)
 
 -- an end that rests on the answer that is due
 ended-so : (i : Input) (es : List Entry) (a : Answer) (how : Outcome) → given_up a ≡ Some how → answered_by i.domain (know i es) i.budget ≡ a → wants_plan i es ≡ true
     → IsTrue (is_legal i es (event.Over how))
 ended-so i es a how given due wants =
-    let live = both (is_running es) (is_settled i es && is_none (verdict i es)) wants in
-    let settled = both (is_settled i es) (is_none (verdict i es)) live.1 in
-    let asked = is_none-so (verdict i es) settled.1 in
+    let live = and_parts (is_running es) (is_settled i es && is_none (verdict i es)) wants in
+    let settled = and_parts (is_settled i es) (is_none (verdict i es)) live.1 in
+    let asked = is_none-none (verdict i es) settled.1 in
     let end : ending i es (verdict i es) ≡ Some how = ap (ending i es) asked ∙ ap given_up due ∙ given in
     legal-live i es (event.Over how) live.0 refl
-    (both-so (is_settled i es) (is_outcome how (ending i es (verdict i es))) settled.0 (ap (is_outcome how) end ∙ (same_outcome-decides how how).1 refl))
+    (and_from (is_settled i es) (is_outcome how (ending i es (verdict i es))) settled.0 (ap (is_outcome how) end ∙ (same_outcome-decides how how).1 refl))
 
 planned-legal : (i : Input) (es : List Entry) (e : Event) (a : Answer) → Fits i.domain (know i es) i.budget a → wants_plan i es ≡ true → planned a ≡ Some e
     → IsTrue (is_legal i es e)
 planned-legal i es e (answer.Plan acts) h wants made =
-    let live = both (is_running es) (is_settled i es && is_none (verdict i es)) wants in
-    let settled = both (is_settled i es) (is_none (verdict i es)) live.1 in
-    let fit = both-so (is_settled i es) (is_none (verdict i es) && is_plan i.domain i.budget (know i es) acts) settled.0
-    (both-so (is_none (verdict i es)) (is_plan i.domain i.budget (know i es) acts) settled.1 (plan-so i.domain (know i es) i.budget acts h)) in
-    subst (λ x. IsTrue (is_legal i es x)) (some-one (event.Replan acts) e made) (legal-live i es (event.Replan acts) live.0 refl fit)
+    let live = and_parts (is_running es) (is_settled i es && is_none (verdict i es)) wants in
+    let settled = and_parts (is_settled i es) (is_none (verdict i es)) live.1 in
+    let fit = and_from (is_settled i es) (is_none (verdict i es) && is_plan i.domain i.budget (know i es) acts) settled.0
+    (and_from (is_none (verdict i es)) (is_plan i.domain i.budget (know i es) acts) settled.1 (plan-so i.domain (know i es) i.budget acts h)) in
+    subst (λ x. IsTrue (is_legal i es x)) (some_same (event.Replan acts) e made) (legal-live i es (event.Replan acts) live.0 refl fit)
 planned-legal i es e answer.NoPlan h wants made =
-    subst (λ x. IsTrue (is_legal i es x)) (some-one (event.Over outcome.NoPlan) e made) (ended-so i es answer.NoPlan outcome.NoPlan refl h wants)
+    subst (λ x. IsTrue (is_legal i es x)) (some_same (event.Over outcome.NoPlan) e made) (ended-so i es answer.NoPlan outcome.NoPlan refl h wants)
 planned-legal i es e (answer.Spent depth) h wants made =
-    subst (λ x. IsTrue (is_legal i es x)) (some-one (event.Over (outcome.Spent depth)) e made) (ended-so i es (answer.Spent depth) (outcome.Spent depth) refl h wants)
+    subst (λ x. IsTrue (is_legal i es x)) (some_same (event.Over (outcome.Spent depth)) e made) (ended-so i es (answer.Spent depth) (outcome.Spent depth) refl h wants)
 planned-legal i es e answer.TooMany h wants made =
-    subst (λ x. IsTrue (is_legal i es x)) (some-one (event.Over outcome.TooMany) e made) (ended-so i es answer.TooMany outcome.TooMany refl h wants)
+    subst (λ x. IsTrue (is_legal i es x)) (some_same (event.Over outcome.TooMany) e made) (ended-so i es answer.TooMany outcome.TooMany refl h wants)
 
 asked-legal : (says : Says) (i : Input) (es : List Entry) (e : Event) → IsSolver says → (b : Bool) → wants_plan i es ≡ b
     → (if b then planned (says i.domain (know i es) i.budget) else None) ≡ Some e → IsTrue (is_legal i es e)

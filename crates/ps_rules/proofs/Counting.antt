@@ -1,8 +1,9 @@
 -- Requests count up, and acts start once a plan.
-use Rattle.std.proofs.Common.{◌≡◌, ℕ, zero, suc, ◌+◌, ◌≤◌, ◌==◌, ◌&&◌, Bool, true, false, not, List, [], ◌∷◌, ◌++◌, IsTrue, if◌then◌else◌, refl, arith, ap, sym, ◌∙◌}
+use Rattle.std.proofs.Common.{◌≡◌, ℕ, suc, ◌+◌, ◌≤◌, ◌==◌, ◌&&◌, Bool, true, false, not, List, [], ◌∷◌, ◌++◌, IsTrue, if◌then◌else◌, refl, arith, ap, sym, ◌∙◌}
 use Rattle.std.specs.List.{range_with_len}
 use Rattle.std.specs.Option.{unwrap_or}
-use Rattle.std.proofs.lemmas.Bool.{eqb-true, true≢false}
+use Rattle.std.proofs.lemmas.Bool.{eqb-true, true≢false, and_parts}
+use Rattle.ps_world.proofs.Counting.{range_from_more}
 use Rattle.ps_machine.specs.declared.inputs.Input.{Input}
 use Rattle.ps_action.specs.declared.states.ActState.{ActState}
 use Rattle.ps_action.specs.declared.states.ActState.TheVariants.{Waiting, Active, Done, Failed, Cancelled}
@@ -18,23 +19,17 @@ use Rattle.ps_rules.specs.Laws.{ActsStartOnce, is_cancel, is_start, makes_plan, 
 use Rattle.ps_rules.specs.History.IsHistory.{nothing, block}
 use Rattle.ps_rules.proofs.Pushed.{read-block, read-push}
 use Rattle.ps_rules.proofs.Going.{by-entry}
-use Rattle.ps_rules.proofs.Kept.{both, fits-legal}
+use Rattle.ps_rules.proofs.Kept.{fits-legal}
 
 -- ---- requests
-
-range-more : (a n : ℕ) → range_with_len a (suc n) ≡ range_with_len a n ++ (a + n) ∷ []
-range-more a zero = let e : a ≡ a + 0 = omega arith in ap (λ x. x ∷ []) e
-range-more a (suc n) =
-    let e : a + 1 + n ≡ a + suc n = omega arith in
-    ap (λ xs. a ∷ xs) (range-more (a + 1) n ∙ ap (λ x. range_with_len (a + 1) n ++ x ∷ []) e)
 
 counted-step : (i : Input) (es : List Entry) (e : Event) → all_said says_number es ≡ range_with_len 0 (requests es) → fits i es e ≡ true
     → with_last (all_said says_number es) (says_number e) ≡ range_with_len 0 (if is_request e then requests es + 1 else requests es)
 counted-step i es (event.Request r act) h f =
-    let same : r ≡ requests es = eqb-true r (requests es) (both (r == requests es) (is_act_active es act && may_be_put_up i es act (request_of act es)) f).0 in
+    let same : r ≡ requests es = eqb-true r (requests es) (and_parts (r == requests es) (is_act_active es act && may_be_put_up i es act (request_of act es)) f).0 in
     let e : 0 + requests es ≡ r = omega (arith, same) in
     let more : suc (requests es) ≡ requests es + 1 = omega arith in
-    ap (λ xs. xs ++ r ∷ []) h ∙ ap (λ x. range_with_len 0 (requests es) ++ x ∷ []) (sym e) ∙ sym (range-more 0 (requests es)) ∙ ap (range_with_len 0) more
+    ap (λ xs. xs ++ r ∷ []) h ∙ ap (λ x. range_with_len 0 (requests es) ++ x ∷ []) (sym e) ∙ sym (range_from_more 0 (requests es)) ∙ ap (range_with_len 0) more
 counted-step i es e h f = h
 
 pub requests_count_up : RequestsCountUp
@@ -62,9 +57,9 @@ once-step : (i : Input) (act n : ℕ) (es : List Entry) (e : Event) → Once (st
 once-step i act n es (event.Run for new) h f = (λ w. refl, omega arith)
 once-step i act n es (event.Replan new) h f = (λ w. refl, omega arith)
 once-step i act n es (event.Start j) h f =
-    let parts = both (is_place es j) (is_ready i es j && (is_startable i es j && not (any_harmed es))) (fits-legal i es (event.Start j) (f refl)) in
-    let ready = (both (is_ready i es j) (is_startable i es j && not (any_harmed es)) parts.1).0 in
-    begun (act == j) (state act es) n h (λ same. ap (λ t. is_waiting (state t es)) (eqb-true act j same) ∙ (both (is_waiting (state j es)) _ ready).0)
+    let parts = and_parts (is_place es j) (is_ready i es j && (is_startable i es j && not (any_harmed es))) (fits-legal i es (event.Start j) (f refl)) in
+    let ready = (and_parts (is_ready i es j) (is_startable i es j && not (any_harmed es)) parts.1).0 in
+    begun (act == j) (state act es) n h (λ same. ap (λ t. is_waiting (state t es)) (eqb-true act j same) ∙ (and_parts (is_waiting (state j es)) _ ready).0)
 once-step i act n es (event.End j) h f = moved (act == j) (state act es) Done n h refl
 once-step i act n es (event.Fail j why) h f = moved (act == j) (state act es) Failed n h refl
 once-step i act n es (event.Cancel j why) h f = moved (act == j) (state act es) Cancelled n h refl

@@ -2,7 +2,7 @@
 use Rattle.std.proofs.Common.{◌≡◌, ℕ, zero, suc, ◌+◌, ◌<◌, ◌≤◌, ◌==◌, ◌&&◌, ◌||◌, Bool, true, false, not, List, [], ◌∷◌, ◌++◌, IsTrue, if◌then◌else◌, map, length, refl, arith, ap, sym, ◌∙◌, append_assoc, append-nil, subst, nat_lt}
 use Rattle.std.specs.List.{list_any, range_with_len}
 use Rattle.std.specs.Option.{unwrap_or}
-use Rattle.std.proofs.lemmas.Bool.{eqb-true, ltb-true, true≢false}
+use Rattle.std.proofs.lemmas.Bool.{eqb-true, ltb-true, true≢false, not-false, and_parts}
 use Rattle.std.proofs.lemmas.Bool.Decides.{nat_tests}
 use Rattle.std.proofs.lemmas.Grind.{fold-append}
 use Rattle.std.proofs.lemmas.Map.Views.{any-filter_same}
@@ -24,7 +24,7 @@ use Rattle.ps_rules.specs.Laws.{ActiveActsMayGoOn, EachIsLegal, EntriesAreLegal,
 use Rattle.ps_rules.specs.History.{any_of, broken, cancels, forced, forced_after, is_fail, IsHistory, sound}
 use Rattle.ps_rules.specs.History.IsHistory.{nothing, block}
 use Rattle.ps_rules.proofs.Pushed.{read-block, read-forced, read-push}
-use Rattle.ps_rules.proofs.Kept.{both, fits-legal}
+use Rattle.ps_rules.proofs.Kept.{fits-legal}
 
 -- ---- cancels of acts
 
@@ -64,10 +64,6 @@ among-range : (act start n : ℕ) → start ≤ act → act < start + n → amon
 among-range act start zero low high = absurd (omega (arith, low, high))
 among-range act start (suc n) low high = first_of (grind (arith, nat_tests, among-range act (start + 1) n), search (arith, nat_tests, among-range act (start + 1) n))
 
-turned : (b : Bool) → not b ≡ false → b ≡ true
-turned true h = refl
-turned false h = absurd (cc)
-
 -- an active act of the plan that isn't broken may go on
 not-broken : (i : Input) (act : ℕ) (es : List Entry) → state act es ≡ Active → among act (places es) ≡ true → among act (broken i es) ≡ false → may_go_on i es act ≡ true
 not-broken i act es active within out =
@@ -76,7 +72,7 @@ not-broken i act es active within out =
     any-filter_same (λ b. act == b) test (test act) (λ b same. ap test (sym (eqb-true act b same))) (places es) in
     let failed : (not (may_go_on i es act)) ≡ false =
     sym (ap (λ t. is_active t && not (may_go_on i es act)) active) ∙ sym (ap (λ t. test act && t) within ∙ and-true (test act)) ∙ sym told ∙ out in
-    turned (may_go_on i es act) failed
+    not-false (may_go_on i es act) failed
 
 -- ---- every active act is one of the plan
 
@@ -100,7 +96,7 @@ placed-step i act es (event.Run for new) h f now = absurd (not_active Waiting re
 placed-step i act es (event.Replan new) h f now = absurd (not_active Waiting refl now)
 placed-step i act es (event.Start j) h f now =
     started (act == j) (is_place es act) (state act es) h
-    (λ same. ap (λ t. is_place es t) (eqb-true act j same) ∙ (both (is_place es j) (is_ready i es j && (is_startable i es j && not (any_harmed es))) f).0) now
+    (λ same. ap (λ t. is_place es t) (eqb-true act j same) ∙ (and_parts (is_place es j) (is_ready i es j && (is_startable i es j && not (any_harmed es))) f).0) now
 placed-step i act es (event.End j) h f now = other (act == j) (is_place es act) (state act es) Done (not_active Done refl) h now
 placed-step i act es (event.Fail j why) h f now = other (act == j) (is_place es act) (state act es) Failed (not_active Failed refl) h now
 placed-step i act es (event.Cancel j why) h f now = other (act == j) (is_place es act) (state act es) Cancelled (not_active Cancelled refl) h now
@@ -180,9 +176,9 @@ entries_are_legal i _ (block es e h legal hand) =
 
 pub starts_are_sound : StartsAreSound
 starts_are_sound i es act h =
-    let f = both (is_place es act) (is_ready i es act && (is_startable i es act && not (any_harmed es))) (fits-legal i es (event.Start act) h) in
-    let g = both (is_ready i es act) (is_startable i es act && not (any_harmed es)) f.1 in
-    both (may_start i es act) (starts_well i es act) (both (is_startable i es act) (not (any_harmed es)) g.1).0
+    let f = and_parts (is_place es act) (is_ready i es act && (is_startable i es act && not (any_harmed es))) (fits-legal i es (event.Start act) h) in
+    let g = and_parts (is_ready i es act) (is_startable i es act && not (any_harmed es)) f.1 in
+    and_parts (may_start i es act) (starts_well i es act) (and_parts (is_startable i es act) (not (any_harmed es)) g.1).0
 
 -- what every entry keeps, a cancel or a legal one, histories keep
 go-on : (i : Input) (P : List Entry → Type 0)

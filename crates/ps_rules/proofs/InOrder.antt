@@ -2,7 +2,7 @@
 use Rattle.std.proofs.Common.{◌≡◌, ◌==◌, ℕ, zero, suc, ◌+◌, ◌%◌, Bool, true, false, ◌&&◌, not, if◌then◌else◌, nat_le, Option, Some, None, is_none, is_ok, Result, Ok, Err, List, [], ◌∷◌, ◌++◌, IsTrue, option_and_then, slice_get, fold, length, refl, ap, sym, ◌∙◌, subst, append_assoc, append-nil}
 use Rattle.std.specs.Cmp.{unsigned_Decides}
 use Rattle.std.specs.Option.{option_map_or}
-use Rattle.std.proofs.lemmas.Bool.{true≢false}
+use Rattle.std.proofs.lemmas.Bool.{true≢false, and_from, and_parts}
 use Rattle.std.proofs.lemmas.List.{length-append}
 use Rattle.ps_world.specs.Knowledge.{edited}
 use Rattle.ps_world.specs.declared.known.Knowledge.{Knowledge}
@@ -35,7 +35,6 @@ use Rattle.ps_rules.specs.History.{IsHistory}
 use Rattle.ps_rules.specs.History.IsHistory.{nothing, block}
 use Rattle.ps_rules.specs.Choices.{Actor, Says, actors, after_line, answer_event, ordered, run_by, turn, with_block, with_line}
 use Rattle.ps_rules.specs.Laws.{IsSolver, SessionsAreOrderly}
-use Rattle.ps_rules.proofs.Kept.{both}
 use Rattle.ps_rules.proofs.Pushed.{read-block}
 use Rattle.ps_rules.proofs.SameThings.{same_acts-decides, same_cause-decides, same_edit-itself, same_query-decides}
 use Rattle.ps_rules.proofs.Choosing.{legal-between, plan-so, turn-live, turns_are_legal}
@@ -51,7 +50,7 @@ answered-block i hand es e =
 abbrev Stands : Input → ℕ → List Entry → Type 0
 Stands i n es = IsHistory i es × (answered es ≡ n)
 
-unanswering : (b r : Bool) → r ≡ true → same_flag b (not r) ≡ true → b ≡ false
+pub unanswering : (b r : Bool) → r ≡ true → same_flag b (not r) ≡ true → b ≡ false
 unanswering false r live h = refl
 unanswering true true live h = absurd (cc)
 unanswering true false live h = absurd (cc)
@@ -63,7 +62,7 @@ turn-stands says i n es actor solver h (Some e) made =
     let legal = turns_are_legal says i es actor e solver made in
     let live = (turn-live says i es actor e made).0 in
     let own : answers_line e ≡ false =
-    unanswering (answers_line e) (is_running es) live (both (same_flag (answers_line e) (not (is_running es))) (fits i es e) legal).0 in
+    unanswering (answers_line e) (is_running es) live (and_parts (same_flag (answers_line e) (not (is_running es))) (fits i es e) legal).0 in
     let hand : IsTrue (has_hand e 1) = ap (λ b. if b then 1 == 0 else (nat_le 1 1 && nat_le 1 16)) own in
     (block es (record { hand = 1; what = e }) h.0 legal hand, answered-block i 1 es e ∙ ap (λ b. if b then answered es + 1 else answered es) own ∙ h.1)
 
@@ -76,23 +75,20 @@ ordered-stands says i n es solver h (suc turns) =
 
 -- ---- lines
 
-both-so : (x y : Bool) → x ≡ true → y ≡ true → (x && y) ≡ true
-both-so x y e f = rw (e, f) refl
-
 accepted-edit : (o : Result Knowledge EditRefusal) → edit_refusal o ≡ None → is_ok o ≡ true
 accepted-edit (Ok k) h = refl
 accepted-edit (Err r) h = absurd (cc)
 
-accepted-act : (o : Result GroundAction GroundRefusal) → ground_refusal o ≡ None → is_ok o ≡ true
+pub accepted-act : (o : Result GroundAction GroundRefusal) → ground_refusal o ≡ None → is_ok o ≡ true
 accepted-act (Ok g) h = refl
 accepted-act (Err r) h = absurd (cc)
 
-accepted-plan : (o : Result Knowledge PlanRefusal) → plan_refusal o ≡ None → is_ok o ≡ true
+pub accepted-plan : (o : Result Knowledge PlanRefusal) → plan_refusal o ≡ None → is_ok o ≡ true
 accepted-plan (Ok k) h = refl
 accepted-plan (Err r) h = absurd (cc)
 
 -- where nothing refuses, there is a goal, and no other cause
-goal-so : (k : Knowledge) (why : Option Refusal) → with_goal k why ≡ None → why ≡ None
+pub goal-so : (k : Knowledge) (why : Option Refusal) → with_goal k why ≡ None → why ≡ None
 goal-so k why h =
     let cases : (b : Bool) → (if b then Some refusal.NoGoal else why) ≡ None → why ≡ None =
     λ b. elim b as (λ b. (if b then Some refusal.NoGoal else why) ≡ None → why ≡ None) [
@@ -101,10 +97,10 @@ goal-so k why h =
     ] in
     cases (is_none k.goal) h
 
-some-none : {A : Type 0} (x : A) → Some x ≡ None → ⊥
+pub some-none : {A : Type 0} (x : A) → Some x ≡ None → ⊥
 some-none x e = cc
 
-number-itself : (n : ℕ) → (n == n) ≡ true
+pub number-itself : (n : ℕ) → (n == n) ≡ true
 number-itself n = (unsigned_Decides n n).1 refl
 
 -- a line is answered by an event that is legal and answers a line
@@ -134,19 +130,19 @@ answered-line says i es line solver closed next (Some why) given =
     let e = event.Refused (Terminal (answered es + 1)) why in
     let cause : is_cause why (option_and_then (refusal_of i es) (next_line i es)) ≡ true =
     ap (λ l. is_cause why (option_and_then (refusal_of i es) l)) next ∙ ap (is_cause why) given ∙ (same_cause-decides why why).1 refl in
-    let fit = both-so (answered es + 1 == answered es + 1) (is_cause why (option_and_then (refusal_of i es) (next_line i es))) (number-itself (answered es + 1)) cause in
+    let fit = and_from (answered es + 1 == answered es + 1) (is_cause why (option_and_then (refusal_of i es) (next_line i es))) (number-itself (answered es + 1)) cause in
     record { event = e; made = refl; legal = legal-between i es e closed refl fit; own = refl }
 answered-line says i es (Good (command.Edit edit)) solver closed next None given =
     let e = event.Edit (Terminal (answered es + 1)) edit in
     let o = edited i.domain (know i es) edit in
     let said : is_edit edit (line_edit (next_line i es)) ≡ true = ap (λ l. is_edit edit (line_edit l)) next ∙ same_edit-itself edit in
-    let fit = both-so (answered es + 1 == answered es + 1) (is_edit edit (line_edit (next_line i es)) && is_ok o) (number-itself (answered es + 1))
-    (both-so (is_edit edit (line_edit (next_line i es))) (is_ok o) said (accepted-edit o given)) in
+    let fit = and_from (answered es + 1 == answered es + 1) (is_edit edit (line_edit (next_line i es)) && is_ok o) (number-itself (answered es + 1))
+    (and_from (is_edit edit (line_edit (next_line i es))) (is_ok o) said (accepted-edit o given)) in
     record { event = e; made = refl; legal = legal-between i es e closed refl fit; own = refl }
 answered-line says i es (Good (command.Ask q)) solver closed next None given =
     let said : is_query q (next_line i es) ≡ true = ap (is_query q) next ∙ (same_query-decides q q).1 refl in
     let fine : is_accepted i es (next_line i es) ≡ true = ap (is_accepted i es) next ∙ ap is_none given in
-    let fit = both-so (is_query q (next_line i es)) (is_accepted i es (next_line i es)) said fine in
+    let fit = and_from (is_query q (next_line i es)) (is_accepted i es (next_line i es)) said fine in
     record { event = event.Ask q; made = refl; legal = legal-between i es (event.Ask q) closed refl fit; own = refl }
 answered-line says i es (Good command.Run) solver closed next None given =
     answered-goal says i es closed next (goal-so (know i es) _ given) (says i.domain (know i es) i.budget) refl (solver i.domain (know i es) i.budget)
@@ -155,7 +151,7 @@ answered-line says i es (Good (command.RunAction act)) solver closed next None g
     let o = ground_act i.domain (know i es).instances act in
     let fit : fits i es e ≡ true =
     ap (opens_with i es run.Action (act ∷ [])) next
-    ∙ both-so (same_acts (act ∷ []) (act ∷ [])) (is_ok o) ((same_acts-decides (act ∷ []) (act ∷ [])).1 refl) (accepted-act o given) in
+    ∙ and_from (same_acts (act ∷ []) (act ∷ [])) (is_ok o) ((same_acts-decides (act ∷ []) (act ∷ [])).1 refl) (accepted-act o given) in
     record { event = e; made = refl; legal = legal-between i es e closed refl fit; own = refl }
 answered-line says i es (Good (command.RunPlan (Ok steps))) solver closed next None given =
     let acts = acts_of steps in
@@ -163,7 +159,7 @@ answered-line says i es (Good (command.RunPlan (Ok steps))) solver closed next N
     let o = judged i.domain (know i es) acts in
     let fit : fits i es e ≡ true =
     ap (opens_with i es run.Plan acts) next
-    ∙ both-so (same_acts acts acts) (is_ok o) ((same_acts-decides acts acts).1 refl) (accepted-plan o (goal-so (know i es) (plan_refusal o) given)) in
+    ∙ and_from (same_acts acts acts) (is_ok o) ((same_acts-decides acts acts).1 refl) (accepted-plan o (goal-so (know i es) (plan_refusal o) given)) in
     record { event = e; made = refl; legal = legal-between i es e closed refl fit; own = refl }
 answered-line says i es (Good (command.RunPlan (Err why))) solver closed next None given =
     absurd (some-none (refusal.PlanText why) (goal-so (know i es) (Some (refusal.PlanText why)) given))
@@ -186,7 +182,7 @@ line-stands says i n es line solver closed next h =
 -- ---- sessions
 
 -- the item that stands after a stretch
-get-seam : {A : Type 0} (xs : List A) (y : A) (ys : List A) → slice_get (xs ++ y ∷ ys) (length xs) ≡ Some y
+pub get-seam : {A : Type 0} (xs : List A) (y : A) (ys : List A) → slice_get (xs ++ y ∷ ys) (length xs) ≡ Some y
 get-seam [] y ys = refl
 get-seam (x ∷ xs) y ys = get-seam xs y ys
 

@@ -5,9 +5,10 @@ use Rattle.std.specs.List.{AllByRecursion}
 use Rattle.ps_world.specs.Knowledge.{edited}
 use Rattle.ps_machine.specs.declared.members.Unit.{Unit as Task}
 use Rattle.ps_machine.specs.declared.journal.By.TheVariants as by
-use Rattle.std.proofs.lemmas.Bool.{eqb-true, true≢false}
+use Rattle.std.proofs.lemmas.Bool.{eqb-true, true≢false, and_parts}
 use Rattle.ps_world.specs.Names.{same_name}
 use Rattle.ps_world.specs.declared.names.Name.{Name}
+use Rattle.ps_action.proofs.Facts.{same_name-is}
 use Rattle.ps_machine.specs.declared.inputs.Input.{Input}
 use Rattle.ps_machine.specs.declared.journal.Event.{Event}
 use Rattle.ps_machine.specs.declared.journal.Event.TheVariants as event
@@ -24,13 +25,9 @@ use Rattle.ps_rules.specs.History.{forced, IsHistory}
 use Rattle.ps_rules.specs.History.IsHistory.{nothing, block}
 use Rattle.ps_rules.proofs.Pushed.{read-block}
 
-pub both : (x y : Bool) → (x && y) ≡ true → (x ≡ true) × (y ≡ true)
-both true y h = (refl, h)
-both false y h = absurd (cc)
-
 -- a legal event fits
 pub fits-legal : (i : Input) (es : List Entry) (e : Event) → IsTrue (is_legal i es e) → fits i es e ≡ true
-fits-legal i es e h = (both (same_flag (answers_line e) (not (is_running es))) (fits i es e) h).1
+fits-legal i es e h = (and_parts (same_flag (answers_line e) (not (is_running es))) (fits i es e) h).1
 
 -- ---- the first offer wins
 
@@ -47,12 +44,9 @@ once-none now [] os h none = refl
 once-none now (p ∷ []) os h none = absurd (cc)
 once-none now (p ∷ q ∷ ps) os h none = absurd h
 
-pub name_eq : (p q : Name) → same_name p q ≡ true → p ≡ q
-name_eq p q h = ap (λ n. record { 0 = n }) (eqb-true p.0 q.0 h)
-
 first-named : (p : Name) (os : List Name) → option_map_or (same_name p) (first_offer os) false ≡ true → first_offer os ≡ Some p
 first-named p [] h = absurd (cc)
-first-named p (q ∷ os) h = ap Some (sym (name_eq p q h))
+first-named p (q ∷ os) h = ap Some (sym (same_name-is p q h))
 
 abbrev Once : ℕ → List Entry → Type 0
 Once r es = IsOnce (all_confirmed r es) (confirmed r es) (offers r es)
@@ -78,8 +72,8 @@ offer-step false p now cs os h = h
 
 once-step : (i : Input) (r : ℕ) (es : List Entry) (e : Event) → Once r es → fits i es e ≡ true → OnceAfter r es e
 once-step i r es (event.Confirm s p) h f =
-    let parts = both (is_open s es) (option_map_or (same_name p) (first_offer (offers s es)) false) f in
-    let fine = both (is_none (confirmed s es)) (not (is_unserved s es)) ((both (is_for_active s es) (is_none (confirmed s es) && not (is_unserved s es)) parts.0).1) in
+    let parts = and_parts (is_open s es) (option_map_or (same_name p) (first_offer (offers s es)) false) f in
+    let fine = and_parts (is_none (confirmed s es)) (not (is_unserved s es)) ((and_parts (is_for_active s es) (is_none (confirmed s es) && not (is_unserved s es)) parts.0).1) in
     confirm-step (r == s) p (confirmed r es) (all_confirmed r es) (offers r es) h
     (λ same. ap (λ t. is_none (confirmed t es)) (eqb-true r s same) ∙ fine.0)
     (λ same. ap (λ t. first_offer (offers t es)) (eqb-true r s same) ∙ first-named p (offers s es) parts.1)
@@ -122,7 +116,7 @@ all-last now true q (p ∷ ps) h same = (h.0, all-last now true q ps h.1 same)
 work-begun : (b : Bool) (p q : Name) (now : Option Name) (w : Bool) → (b ≡ true → now ≡ Some q) → (w ≡ true → now ≡ Some p) → unwrap_or (only_if (b && same_name p q) true) w ≡ true → now ≡ Some p
 work-begun b p q now w same old h =
     let cases : (t : Bool) → (b && same_name p q) ≡ t → unwrap_or (only_if t true) w ≡ true → now ≡ Some p = λ t. elim t as (λ t. (b && same_name p q) ≡ t → unwrap_or (only_if t true) w ≡ true → now ≡ Some p) [
-      | true ↦ λ e _. same (both b (same_name p q) e).0 ∙ ap Some (sym (name_eq p q (both b (same_name p q) e).1))
+      | true ↦ λ e _. same (and_parts b (same_name p q) e).0 ∙ ap Some (sym (same_name-is p q (and_parts b (same_name p q) e).1))
       | false ↦ λ e g. old g
     ] in
     cases (b && same_name p q) refl h
@@ -138,7 +132,7 @@ works-where test none false c x h = absurd (true≢false (sym h ∙ none))
 
 pub confirmed_by : (p : Name) (now : Option Name) → option_map_or (same_name p) now false ≡ true → now ≡ Some p
 confirmed_by p None h = absurd (cc)
-confirmed_by p (Some q) h = ap Some (sym (name_eq p q h))
+confirmed_by p (Some q) h = ap Some (sym (same_name-is p q h))
 
 abbrev WorkingAt : ℕ → List Entry → Type 0
 WorkingAt r es = Working (confirmed r es) (workers r es) (λ p. is_working r p es)
@@ -156,14 +150,14 @@ unit-step r s p i es h test none passed same =
 
 working-step : (i : Input) (r : ℕ) (es : List Entry) (e : Event) → WorkingAt r es → fits i es e ≡ true → WorkingAfter r es e
 working-step i r es (event.Confirm s q) h f =
-    let parts = both (is_open s es) (option_map_or (same_name q) (first_offer (offers s es)) false) f in
-    let fine = both (is_none (confirmed s es)) (not (is_unserved s es)) ((both (is_for_active s es) (is_none (confirmed s es) && not (is_unserved s es)) parts.0).1) in
+    let parts = and_parts (is_open s es) (option_map_or (same_name q) (first_offer (offers s es)) false) f in
+    let fine = and_parts (is_none (confirmed s es)) (not (is_unserved s es)) ((and_parts (is_for_active s es) (is_none (confirmed s es) && not (is_unserved s es)) parts.0).1) in
     working-confirm (r == s) q (confirmed r es) (workers r es) (λ p. is_working r p es) h (λ same. ap (λ t. is_none (confirmed t es)) (eqb-true r s same) ∙ fine.0)
 working-step i r es (event.Begin s q) h f =
-    let mine : (r == s) ≡ true → confirmed r es ≡ Some q = λ same. ap (λ t. confirmed t es) (eqb-true r s same) ∙ confirmed_by q (confirmed s es) (both (is_confirmed s q es) (not (has_begun s q es) && is_for_active s es) f).0 in
+    let mine : (r == s) ≡ true → confirmed r es ≡ Some q = λ same. ap (λ t. confirmed t es) (eqb-true r s same) ∙ confirmed_by q (confirmed s es) (and_parts (is_confirmed s q es) (not (has_begun s q es) && is_for_active s es) f).0 in
     (λ p. work-begun (r == s) p q (confirmed r es) (is_working r p es) mine (h.0 p), all-last (confirmed r es) (r == s) q (workers r es) h.1 mine)
 working-step i r es (event.Edit (by.Performer s q) edit) h f =
-    let passed = both (is_edit edit (next_edit i s q es)) (is_ok (edited i.domain (know i es) edit)) f in
+    let passed = and_parts (is_edit edit (next_edit i s q es)) (is_ok (edited i.domain (know i es) edit)) f in
     (h.0, all-last (confirmed r es) (r == s) q (workers r es) h.1 (unit-step r s q i es h (λ u. is_edit edit (option_and_then as_edit u)) refl passed.0))
 working-step i r es (event.Refused (by.Performer s q) why) h f = (
   h.0,

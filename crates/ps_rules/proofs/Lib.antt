@@ -2,6 +2,7 @@ pub mod Between
 pub mod Cart
 pub mod Choosing
 pub mod Counting
+pub mod Failing
 pub mod Going
 pub mod InOrder
 pub mod JournalTexts

@@ -2,7 +2,7 @@
 use Rattle.std.proofs.Common.{◌≡◌, ℕ, zero, suc, ◌+◌, ◌≤◌, ◌==◌, ◌&&◌, ◌||◌, Bool, true, false, if◌then◌else◌, List, [], ◌∷◌, ◌++◌, length, map, take, refl, arith, ap, sym, ◌∙◌, subst}
 use Rattle.std.specs.Cmp.{unsigned_Decides}
 use Rattle.std.specs.List.{AllByRecursion}
-use Rattle.std.proofs.lemmas.Bool.{eqb-true, true≢false}
+use Rattle.std.proofs.lemmas.Bool.{eqb-true, true≢false, and_from, and_parts}
 use Rattle.ps_machine.specs.declared.inputs.Input.{Input}
 use Rattle.ps_machine.specs.declared.journal.CancelWhy.{CancelWhy}
 use Rattle.ps_machine.specs.declared.journal.CancelWhy.TheVariants as cancel
@@ -14,12 +14,11 @@ use Rattle.ps_rules.specs.History.{any_of, broken, cancels, forced, is_fail, sou
 use Rattle.ps_rules.specs.Laws.{is_cancel}
 use Rattle.ps_rules.specs.Prefixes.{GoodLengthIsLongest, Leads, good_length, is_due, same_cancel, same_why}
 use Rattle.ps_rules.specs.Prefixes.Leads.{here, owed, next}
-use Rattle.ps_rules.proofs.Kept.{both}
 use Rattle.ps_rules.proofs.Prefixes.{lead-next, lead-owed}
 
 -- ---- cancels
 
-same_why-is : (x y : CancelWhy) → same_why x y ≡ true → x ≡ y
+pub same_why-is : (x y : CancelWhy) → same_why x y ≡ true → x ≡ y
 same_why-is cancel.OverAll cancel.OverAll h = refl
 same_why-is cancel.Stop cancel.Stop h = refl
 same_why-is x y h = absurd (cc)
@@ -28,31 +27,28 @@ same_why-itself : (x : CancelWhy) → same_why x x ≡ true
 same_why-itself cancel.OverAll = refl
 same_why-itself cancel.Stop = refl
 
-same_cancel-is : (e f : Event) → same_cancel e f ≡ true → e ≡ f
+pub same_cancel-is : (e f : Event) → same_cancel e f ≡ true → e ≡ f
 same_cancel-is (event.Cancel act why) (event.Cancel other reason) h =
-    let parts = both (act == other) (same_why why reason) h in
+    let parts = and_parts (act == other) (same_why why reason) h in
     let place = eqb-true act other parts.0 in
     let cause = same_why-is why reason parts.1 in
     λ i. event.Cancel (place i) (cause i)
 same_cancel-is e f h = absurd (cc)
 
-both-so : (x y : Bool) → x ≡ true → y ≡ true → (x && y) ≡ true
-both-so x y e f = rw (e, f) refl
-
 same_cancel-itself : (e : Event) → is_cancel e ≡ true → same_cancel e e ≡ true
-same_cancel-itself (event.Cancel act why) h = both-so (act == act) (same_why why why) ((unsigned_Decides act act).1 refl) (same_why-itself why)
+same_cancel-itself (event.Cancel act why) h = and_from (act == act) (same_why why why) ((unsigned_Decides act act).1 refl) (same_why-itself why)
 same_cancel-itself e h = absurd (true≢false (sym h))
 
-is_due-is : (c e : Entry) → is_due c e ≡ true → c ≡ e
+pub is_due-is : (c e : Entry) → is_due c e ≡ true → c ≡ e
 is_due-is c e h =
-    let parts = both (c.hand == e.hand) (same_cancel c.what e.what) h in
+    let parts = and_parts (c.hand == e.hand) (same_cancel c.what e.what) h in
     let hand = eqb-true c.hand e.hand parts.0 in
     let what = same_cancel-is c.what e.what parts.1 in
     λ i. record { hand = hand i; what = what i }
 
 is_due-itself : (c : Entry) → is_cancel c.what ≡ true → is_due c c ≡ true
 is_due-itself c h =
-    both-so (c.hand == c.hand) (same_cancel c.what c.what) ((unsigned_Decides c.hand c.hand).1 refl) (same_cancel-itself c.what h)
+    and_from (c.hand == c.hand) (same_cancel c.what c.what) ((unsigned_Decides c.hand c.hand).1 refl) (same_cancel-itself c.what h)
 
 -- what is due are cancels
 abbrev AreCancels : List Entry → Type 0
@@ -62,7 +58,7 @@ cancels-are : (hand : ℕ) (why : CancelWhy) (acts : List ℕ) → AreCancels (m
 cancels-are hand why [] = tt
 cancels-are hand why (act ∷ more) = (refl, cancels-are hand why more)
 
-stops-are : (hand : ℕ) (b : Bool) (acts : List ℕ) → AreCancels (if b then map (cancels hand cancel.Stop) acts else [])
+pub stops-are : (hand : ℕ) (b : Bool) (acts : List ℕ) → AreCancels (if b then map (cancels hand cancel.Stop) acts else [])
 stops-are hand true acts = cancels-are hand cancel.Stop acts
 stops-are hand false acts = tt
 
@@ -111,7 +107,7 @@ owed-step i before due es c e n good cancelled ih false due_now = (
 next-step : (i : Input) (before es : List Entry) (e : Entry) (n good : ℕ) → IsLongest i (before ++ e ∷ []) (forced i before e) es n good
     → (b : Bool) → (is_legal i before e.what && has_hand e.what e.hand) ≡ b → IsLongest i before [] (e ∷ es) (suc n) (if b then good + 1 else 0)
 next-step i before es e n good ih true fine =
-    let parts = both (is_legal i before e.what) (has_hand e.what e.hand) fine in (
+    let parts = and_parts (is_legal i before e.what) (has_hand e.what e.hand) fine in (
       λ few.
           let on = ih.0 (omega (arith, few)) in
           (on.0, next before (take n es) on.0 e parts.0 parts.1 on.1),
@@ -124,7 +120,7 @@ next-step i before es e n good ih false fine = (
   λ few. absurd (omega (arith, few)),
   λ on.
       let l = lead-next i before (take n es) on.0 e on.1 in
-      absurd (true≢false (sym (both-so (is_legal i before e.what) (has_hand e.what e.hand) l.0 l.1) ∙ fine)),
+      absurd (true≢false (sym (and_from (is_legal i before e.what) (has_hand e.what e.hand) l.0 l.1) ∙ fine)),
 )
 
 longest : (i : Input) (before due es : List Entry) (n : ℕ) → AreCancels due → n ≤ length es → IsLongest i before due es n (good_length i before due es)

@@ -1,10 +1,10 @@
 -- The notes in the histories of a sound input are in form, and so their entries are read back.
 use Rattle.std.proofs.Common.{◌≡◌, ◌==◌, ℕ, zero, suc, ◌&&◌, Bool, true, false, Option, Some, None, IfSome, List, [], ◌∷◌, IsTrue, All, if◌then◌else◌, find, slice_get, option_and_then, refl, arith, ap, ◌∙◌}
-use Rattle.std.specs.Cmp.{unsigned_Decides}
 use Rattle.std.proofs.lemmas.List.Elements.{All-head, All-push, All-tail}
-use Rattle.std.proofs.lemmas.Slice.Eq.{slice_eq-Decides}
+use Rattle.std.proofs.lemmas.Bool.{and_parts}
 use Rattle.ps_world.specs.Lines.{same_text}
 use Rattle.ps_world.specs.declared.names.Name.{Name}
+use Rattle.ps_world.proofs.SameTexts.{same_text-is}
 use Rattle.ps_machine.specs.Tables.{is_note}
 use Rattle.ps_machine.specs.declared.inputs.Input.{Input}
 use Rattle.ps_machine.specs.declared.members.Unit.{Unit as Task}
@@ -18,7 +18,7 @@ use Rattle.ps_rules.specs.Members.{job, next_unit, performer_of, performers, uni
 use Rattle.ps_rules.specs.Legal.{is_feedback, is_legal}
 use Rattle.ps_rules.specs.Sound.{IsSound, IsSoundJob, IsSoundPerformer, IsSoundUnit}
 use Rattle.ps_rules.specs.Laws.{HistoriesAreReadBack, is_cancel}
-use Rattle.ps_rules.proofs.Kept.{both, fits-legal}
+use Rattle.ps_rules.proofs.Kept.{fits-legal}
 use Rattle.ps_rules.proofs.Going.{by-entry}
 use Rattle.ps_rules.proofs.ReadBack.{AreEntriesIn-noted}
 
@@ -34,13 +34,13 @@ found-has P test (x ∷ xs) h =
     ]
 
 -- and of the one at a place
-got-has : {A : Type 0} (P : A → Type 0) (xs : List A) (n : ℕ) → All P xs → IfSome (slice_get xs n) P
+pub got-has : {A : Type 0} (P : A → Type 0) (xs : List A) (n : ℕ) → All P xs → IfSome (slice_get xs n) P
 got-has P [] n h = tt
 got-has P (x ∷ xs) zero h = All-head P x xs h
 got-has P (x ∷ xs) (suc n) h = got-has P xs n (All-tail P x xs h)
 
 -- what holds of whatever comes of a value holds of what comes of it where there is one
-then-has : {A B : Type 0} (P : A → Type 0) (Q : B → Type 0) (f : A → Option B) → ((x : A) → P x → IfSome (f x) Q) → (o : Option A) → IfSome o P
+pub then-has : {A B : Type 0} (P : A → Type 0) (Q : B → Type 0) (f : A → Option B) → ((x : A) → P x → IfSome (f x) Q) → (o : Option A) → IfSome o P
     → IfSome (option_and_then f o) Q
 then-has P Q f step None h = tt
 then-has P Q f step (Some x) h = step x h
@@ -61,13 +61,10 @@ next-sound i r p es sound =
       | false ↦ tt
     ]
 
-same_text-is : (a b : List ℕ) → same_text a b ≡ true → a ≡ b
-same_text-is a b h = (slice_eq-Decides unsigned_Decides a b (same_text a b) refl).0 h
-
 -- feedback that is a sound unit has a note in form
 note-fits : (percent : ℕ) (text : List ℕ) (u : Option Task) → IfSome u IsSoundUnit → is_feedback percent text u ≡ true → IsTrue (is_note text)
 note-fits percent text (Some (unit.Feedback p t)) h f =
-    ap is_note (same_text-is text t (both (percent == p) (same_text text t) f).1) ∙ h.1
+    ap is_note (same_text-is text t (and_parts (percent == p) (same_text text t) f).1) ∙ h.1
 note-fits percent text None h f = absurd (cc)
 note-fits percent text (Some unit.Work) h f = absurd (cc)
 note-fits percent text (Some (unit.Edit edit)) h f = absurd (cc)

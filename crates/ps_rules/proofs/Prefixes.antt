@@ -15,7 +15,7 @@ all-owed i before [] = here before []
 all-owed i before (c ∷ due) = owed before due due [] c (all-owed i (before ++ c ∷ []) due)
 
 -- one stretch of entries after another
-leads-on : (i : Input) (before due es mid fs last : List Entry) → Leads i before due es mid → Leads i (before ++ es) mid fs last → Leads i before due (es ++ fs) last
+pub leads-on : (i : Input) (before due es mid fs last : List Entry) → Leads i before due es mid → Leads i (before ++ es) mid fs last → Leads i before due (es ++ fs) last
 leads-on i _ _ _ _ fs last (here before due) g = subst (λ t. Leads i t due fs last) (append-nil before) g
 leads-on i _ _ _ mid fs last (owed before due es _ c h) g =
     owed before due (es ++ fs) last c (leads-on i (before ++ c ∷ []) due es mid fs last h (subst (λ t. Leads i t mid fs last) (sym (append_assoc before (c ∷ []) es)) g))

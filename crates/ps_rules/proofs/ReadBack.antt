@@ -1,5 +1,5 @@
 -- The entries that stand in the text of a journal.
-use Rattle.std.proofs.Common.{◌≡◌, ℕ, ◌==◌, ◌&&◌, Bool, true, false, not, List, [], ◌∷◌, ◌++◌, codes, map, filter, fold, drop, get_or, All, if◌then◌else◌, Option, Some, None, refl, arith, ap, ◌∙◌, nat_eq, append_assoc}
+use Rattle.std.proofs.Common.{◌≡◌, ℕ, ◌==◌, Bool, true, false, not, List, [], ◌∷◌, ◌++◌, codes, map, filter, fold, drop, get_or, All, if◌then◌else◌, Option, Some, None, refl, arith, ap, ◌∙◌, nat_eq, append_assoc}
 use Rattle.std.specs.Cmp.Lexicographic.{slice_cmp}
 use Rattle.std.specs.List.{list_all, starts_with}
 use Rattle.std.specs.Ordering.{match_ordering, nat_cmp}
@@ -10,6 +10,7 @@ use Rattle.std.specs.Fmt.{decimal}
 use Rattle.std.specs.Option.{option_map_or}
 use Rattle.std.proofs.lemmas.Bool.Decides.{nat_tests}
 use Rattle.std.proofs.lemmas.List.Elements.{All-head, All-tail}
+use Rattle.std.proofs.lemmas.Bool.{not-true, and_parts}
 use Rattle.ps_world.specs.Names.{Table, name_text}
 use Rattle.ps_world.specs.Lines.{lengthened, lines_of, is_line}
 use Rattle.ps_world.specs.DomainTexts.{decl_text, action_lines}
@@ -40,17 +41,10 @@ use Rattle.ps_machine.specs.declared.journal.Event.TheVariants as event
 use Rattle.ps_machine.specs.declared.journal.Entry.{Entry}
 use Rattle.ps_world.proofs.Digits.{is_ink, is_inked, is_inked-decimal}
 use Rattle.ps_world.proofs.OneLine.{are_lines, are_lines-map, is_line-append, is_line-name, is_line-fact, is_line-value, is_line-goal, is_line-number, is_line-decimal, is_line-args, is_line-decl, are_lines-action, are_lines-domain}
+use Rattle.ps_world.proofs.LinesOf.{lines_of-line}
 use Rattle.ps_machine.proofs.EntryLines.{HasNote, is_line-noted, noted-of}
 use Rattle.ps_action.specs.Trees.{tree_text}
 use Rattle.ps_rules.specs.Laws.{EntriesAreReadBack}
-
-both : (x y : Bool) → (x && y) ≡ true → (x ≡ true) × (y ≡ true)
-both true y h = (refl, h)
-both false y h = absurd (cc)
-
-is_false : (x : Bool) → not x ≡ true → x ≡ false
-is_false true h = absurd (cc)
-is_false false h = refl
 
 -- Reply lines.
 
@@ -145,12 +139,6 @@ are_lines-replies names i es e h = refl
 
 -- Lines in a text.
 
-lines_of-line : (line rest : List ℕ) → is_line line ≡ true → lines_of (line ++ 10 ∷ rest) ≡ line ∷ lines_of rest
-lines_of-line [] rest h = refl
-lines_of-line (b ∷ bs) rest h =
-    let parts = both (not (b == 10)) (is_line bs) h in
-    rw (is_false (b == 10) parts.0, lines_of-line bs rest parts.1) refl
-
 -- the lines that are no reply
 abbrev kept : List (List ℕ) → List (List ℕ)
 kept lines = filter (λ line. not (starts_with nat_eq line reply_mark)) lines
@@ -161,14 +149,14 @@ other_way a b h = grind (arith, nat_tests)
 starts_with-inked : (ds rest : List ℕ) → is_inked ds ≡ true → starts_with nat_eq (ds ++ rest) reply_mark ≡ false
 starts_with-inked [] rest h = absurd (cc)
 starts_with-inked (b ∷ bs) rest h =
-    let ink = both (is_ink b) (list_all is_ink bs) h in
-    let no_space : (b == 32) ≡ false = is_false (b == 32) ((both (not (b == 10)) (not (b == 32)) ink.0).1) in
+    let ink = and_parts (is_ink b) (list_all is_ink bs) h in
+    let no_space : (b == 32) ≡ false = not-true (b == 32) ((and_parts (not (b == 10)) (not (b == 32)) ink.0).1) in
     rw (other_way b 32 no_space) refl
 
 kept-replies : (lines : List (List ℕ)) (rest : List ℕ) → are_lines lines ≡ true → kept (lines_of (reply_text lines ++ rest)) ≡ kept (lines_of rest)
 kept-replies [] rest h = refl
 kept-replies (l ∷ ls) rest h =
-    let parts = both (is_line l) (are_lines ls) h in
+    let parts = and_parts (is_line l) (are_lines ls) h in
     let one : reply_text (l ∷ ls) ++ rest ≡ (32 ∷ 32 ∷ l) ++ 10 ∷ (reply_text ls ++ rest) = simp append_assoc in
     ap (λ text. kept (lines_of text)) one ∙ ap kept (lines_of-line (32 ∷ 32 ∷ l) (reply_text ls ++ rest) parts.0) ∙ kept-replies ls rest parts.1
 

@@ -1,23 +1,21 @@
 -- Sameness decides equality, and for causes that of the first causes that print so.
-use Rattle.std.proofs.Common.{◌≡◌, Bool, true, ◌&&◌, List, refl, ap, sym, ◌∙◌}
+use Rattle.std.proofs.Common.{◌≡◌, Bool, true, List, refl, ap, sym, ◌∙◌}
 use Rattle.std.specs.Bool.{Decides}
-use Rattle.std.specs.Cmp.{signed_Decides, unsigned_Decides}
+use Rattle.std.specs.Cmp.{signed_Decides}
 use Rattle.std.specs.Cmp.Lexicographic.{pointwise}
 use Rattle.std.specs.Ordering.{int_eq}
 use Rattle.std.proofs.lemmas.Slice.Eq.{slice_eq-Decides}
+use Rattle.std.proofs.lemmas.Bool.{and_from, and_parts}
 use Rattle.ps_world.specs.CondViews.{cond_tree}
-use Rattle.ps_world.specs.ExprViews.{expr_tree}
 use Rattle.ps_world.specs.Knowledge.{same_fact}
 use Rattle.ps_world.specs.Names.{Table, same_name}
 use Rattle.ps_world.specs.Same.{is_same_decides}
 use Rattle.ps_world.specs.Trees.{CondTree, cond_tree_code, cond_trees, list_of, list_of-cond_trees}
 use Rattle.ps_world.specs.declared.names.Name.{Name}
-use Rattle.ps_world.specs.declared.conditions.Cond.{Cond}
-use Rattle.ps_world.specs.declared.conditions.Cond.TheVariants.{And, Not, Holds, Same, Cmp, IsA}
-use Rattle.ps_world.specs.declared.expressions.Expr.{Expr}
-use Rattle.ps_world.specs.declared.expressions.Expr.TheVariants.{Num, Fun, Neg, Bin}
 use Rattle.ps_world.specs.declared.edits.Edit.{Edit}
 use Rattle.ps_world.specs.declared.edits.Edit.TheVariants as change
+use Rattle.ps_world.proofs.SameTexts.{name_itself}
+use Rattle.ps_world.proofs.OneTree.{cond_tree_one}
 use Rattle.ps_action.specs.declared.acts.Act.{Act}
 use Rattle.ps_action.specs.declared.refusals.GroundRefusal.TheVariants as grounding
 use Rattle.ps_machine.specs.Texts.{refusal_text}
@@ -29,9 +27,9 @@ use Rattle.ps_machine.specs.declared.journal.Outcome.{Outcome}
 use Rattle.ps_machine.specs.declared.journal.Refusal.{Refusal}
 use Rattle.ps_machine.specs.declared.journal.Refusal.TheVariants as refusal
 use Rattle.ps_action.proofs.Contained.{fact_itself, fact_same}
+use Rattle.ps_action.proofs.Facts.{same_name-is}
 use Rattle.ps_rules.specs.Laws.{SamenessDecides}
 use Rattle.ps_rules.specs.Same.{first_alike, same_act, same_acts, same_cause, same_edit, same_outcome, same_query}
-use Rattle.ps_rules.proofs.Kept.{both, name_eq}
 
 -- ---- tests
 
@@ -39,63 +37,38 @@ use Rattle.ps_rules.proofs.Kept.{both, name_eq}
 decides-by : {A : Type 0} (test : A → A → Bool) → ((x : A) → test x x ≡ true) → ((x y : A) → test x y ≡ true → x ≡ y) → (x y : A) → Decides (test x y) (x ≡ y)
 decides-by test itself is x y = (is x y, λ e. ap (test x) (sym e) ∙ itself x)
 
-both-so : (x y : Bool) → x ≡ true → y ≡ true → (x && y) ≡ true
-both-so x y e f = rw (e, f) refl
-
-pub same_name-itself : (n : Name) → same_name n n ≡ true
-same_name-itself n = (unsigned_Decides n.0 n.0).1 refl
-
 pub same_name-decides : (m n : Name) → Decides (same_name m n) (m ≡ n)
-same_name-decides = decides-by same_name same_name-itself name_eq
+same_name-decides = decides-by same_name name_itself same_name-is
 
 -- ---- edits
-
-expr_tree-one : (x y : Expr) → expr_tree x ≡ expr_tree y → x ≡ y
-expr_tree-one (Num m) (Num n) e = cc
-expr_tree-one (Fun l) (Fun m) e = cc
-expr_tree-one (Neg x) (Neg y) e = cc
-expr_tree-one (Bin o a b) (Bin p c d) e = cc
-expr_tree-one x y e = absurd (cc)
 
 cond_trees-one : (cs ds : List CondTree) → cond_trees cs ≡ cond_trees ds → cs ≡ ds
 cond_trees-one cs ds e = sym (list_of-cond_trees cs) ∙ ap list_of e ∙ list_of-cond_trees ds
 
-cond_tree-one : (c d : Cond) → cond_tree c ≡ cond_tree d → c ≡ d
-cond_tree-one (And cs) (And ds) e = ap And (cond_trees-one cs ds (cc))
-cond_tree-one (Not c) (Not d) e = cc
-cond_tree-one (Holds l) (Holds m) e = cc
-cond_tree-one (Same s t) (Same u v) e = cc
-cond_tree-one (Cmp r a b) (Cmp q c d) e =
-    let left : a ≡ c = expr_tree-one a c (cc) in
-    let right : b ≡ d = expr_tree-one b d (cc) in
-    cc
-cond_tree-one (IsA t k) (IsA u l) e = cc
-cond_tree-one c d e = absurd (cc)
-
 pub same_edit-itself : (e : Edit) → same_edit e e ≡ true
-same_edit-itself (change.AddInstance n t) = both-so (same_name n n) (same_name t t) (same_name-itself n) (same_name-itself t)
-same_edit-itself (change.RemoveInstance n) = same_name-itself n
+same_edit-itself (change.AddInstance n t) = and_from (same_name n n) (same_name t t) (name_itself n) (name_itself t)
+same_edit-itself (change.RemoveInstance n) = name_itself n
 same_edit-itself (change.AddFact f) = fact_itself f
 same_edit-itself (change.RemoveFact f) = fact_itself f
-same_edit-itself (change.SetValue f x) = both-so (same_fact f f) (int_eq x x) (fact_itself f) ((signed_Decides x x).1 refl)
+same_edit-itself (change.SetValue f x) = and_from (same_fact f f) (int_eq x x) (fact_itself f) ((signed_Decides x x).1 refl)
 same_edit-itself (change.RemoveValue f) = fact_itself f
 same_edit-itself (change.SetGoal c) = (is_same_decides cond_tree_code (cond_tree c) (cond_tree c)).1 refl
 same_edit-itself change.RemoveGoal = refl
 
 same_edit-is : (e f : Edit) → same_edit e f ≡ true → e ≡ f
 same_edit-is (change.AddInstance n t) (change.AddInstance m u) h =
-    let parts = both (same_name n m) (same_name t u) h in
-    λ i. change.AddInstance (name_eq n m parts.0 i) (name_eq t u parts.1 i)
-same_edit-is (change.RemoveInstance n) (change.RemoveInstance m) h = ap change.RemoveInstance (name_eq n m h)
+    let parts = and_parts (same_name n m) (same_name t u) h in
+    λ i. change.AddInstance (same_name-is n m parts.0 i) (same_name-is t u parts.1 i)
+same_edit-is (change.RemoveInstance n) (change.RemoveInstance m) h = ap change.RemoveInstance (same_name-is n m h)
 same_edit-is (change.AddFact f) (change.AddFact g) h = ap change.AddFact (fact_same f g h)
 same_edit-is (change.RemoveFact f) (change.RemoveFact g) h = ap change.RemoveFact (fact_same f g h)
 same_edit-is (change.SetValue f x) (change.SetValue g y) h =
-    let parts = both (same_fact f g) (int_eq x y) h in
+    let parts = and_parts (same_fact f g) (int_eq x y) h in
     let value : x ≡ y = (signed_Decides x y).0 parts.1 in
     λ i. change.SetValue (fact_same f g parts.0 i) (value i)
 same_edit-is (change.RemoveValue f) (change.RemoveValue g) h = ap change.RemoveValue (fact_same f g h)
 same_edit-is (change.SetGoal c) (change.SetGoal d) h =
-    ap change.SetGoal (cond_tree-one c d ((is_same_decides cond_tree_code (cond_tree c) (cond_tree d)).0 h))
+    ap change.SetGoal (cond_tree_one c d ((is_same_decides cond_tree_code (cond_tree c) (cond_tree d)).0 h))
 same_edit-is change.RemoveGoal change.RemoveGoal h = refl
 same_edit-is e f h = absurd (cc)
 
@@ -110,11 +83,11 @@ args-decide ms ns = slice_eq-Decides same_name-decides ms ns (pointwise same_nam
 pub same_act-decides : (a b : Act) → Decides (same_act a b) (a ≡ b)
 same_act-decides =
     decides-by same_act
-    (λ a. both-so (same_name a.action a.action) (pointwise same_name a.args a.args) (same_name-itself a.action) ((args-decide a.args a.args).1 refl))
+    (λ a. and_from (same_name a.action a.action) (pointwise same_name a.args a.args) (name_itself a.action) ((args-decide a.args a.args).1 refl))
     (λ a b h.
-    let parts = both (same_name a.action b.action) (pointwise same_name a.args b.args) h in
+    let parts = and_parts (same_name a.action b.action) (pointwise same_name a.args b.args) h in
     let args : a.args ≡ b.args = (args-decide a.args b.args).0 parts.1 in
-    λ i. record { action = name_eq a.action b.action parts.0 i; args = args i })
+    λ i. record { action = same_name-is a.action b.action parts.0 i; args = args i })
 
 pub same_acts-decides : (xs ys : List Act) → Decides (same_acts xs ys) (xs ≡ ys)
 same_acts-decides xs ys = slice_eq-Decides same_act-decides xs ys (same_acts xs ys) refl

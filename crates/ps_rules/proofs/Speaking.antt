@@ -1,7 +1,7 @@
 -- Legal events speak of requests that are there.
 use Rattle.std.proofs.Common.{◌≡◌, ℕ, ◌+◌, ◌≤◌, ◌==◌, ◌&&◌, ◌||◌, nat_lt, Bool, true, false, not, Option, Some, None, is_none, is_some, is_ok, List, ◌∷◌, ◌++◌, if◌then◌else◌, refl, arith, ap, sym, subst, ◌∙◌}
 use Rattle.std.specs.Option.{unwrap_or, option_map_or, option_and_then}
-use Rattle.std.proofs.lemmas.Bool.{true≢false}
+use Rattle.std.proofs.lemmas.Bool.{true≢false, ltb-false, and_parts}
 use Rattle.std.proofs.lemmas.Bool.Decides.{nat_tests}
 use Rattle.ps_world.specs.Names.{same_name}
 use Rattle.ps_world.specs.Knowledge.{edited}
@@ -25,7 +25,7 @@ use Rattle.ps_rules.specs.History.{forced, IsHistory}
 use Rattle.ps_rules.specs.History.IsHistory.{nothing, block}
 use Rattle.ps_rules.proofs.Pushed.{read-block}
 use Rattle.std.proofs.Math.Bool.{or-false}
-use Rattle.ps_rules.proofs.Kept.{both, fits-legal, works-where}
+use Rattle.ps_rules.proofs.Kept.{fits-legal, works-where}
 use Rattle.ps_rules.specs.Laws.{LegalEventsSpeak, speaks_of}
 use Rattle.ps_rules.specs.Legal.{fits, is_act_active, is_cause, is_confirmed, is_edit, is_feedback, is_finish, is_pass, is_passed, is_work, may_be_put_up, pass_reason, was_busy}
 
@@ -40,15 +40,12 @@ pub record IsUntold (es : List Entry) (r : ℕ) : Type 0 where
 abbrev AreUntold : List Entry → Type 0
 AreUntold es = (r : ℕ) → requests es ≤ r → IsUntold es r
 
-over : (r n : ℕ) → nat_lt r n ≡ false → n ≤ r
-over r n h = grind (arith, nat_tests)
-
 -- a number of which something is told is one of a request
 told-below : (es : List Entry) (r : ℕ) → AreUntold es → (IsUntold es r → ⊥) → nat_lt r (requests es) ≡ true
 told-below es r h not_untold =
     let cases : (b : Bool) → nat_lt r (requests es) ≡ b → b ≡ true = λ b. elim b as (λ b. nat_lt r (requests es) ≡ b → b ≡ true) [
       | true ↦ λ e. refl
-      | false ↦ λ e. absurd (not_untold (h r (over r (requests es) e)))
+      | false ↦ λ e. absurd (not_untold (h r (ltb-false r (requests es) e)))
     ] in
     cases (nat_lt r (requests es)) refl
 
@@ -68,37 +65,37 @@ module _ (es : List Entry) (r : ℕ) (u : IsUntold es r) where
   no-offer p None h = absurd (cc)
   no-offer p (Some q) h =
       let late : is_none (pass_reason q r es) ≡ false = ap (λ b. is_none (if not b then Some pass.Late else (if not (matches_request q r es) then Some pass.Other else (if is_engaged q.name es then Some pass.Busy else None)))) closed in
-      true≢false (sym (both (not (has_answered r p es)) (is_none (pass_reason q r es)) h).1 ∙ late)
+      true≢false (sym (and_parts (not (has_answered r p es)) (is_none (pass_reason q r es)) h).1 ∙ late)
 
   no-pass : (p : Name) (why : PassWhy) (o : Option Performer) → option_map_or (λ performer. is_of_run r es && (not (has_answered r p es) && is_pass why (pass_reason performer r es))) o false ≡ true → ⊥
   no-pass p why None h = absurd (cc)
-  no-pass p why (Some q) h = true≢false (sym (both (is_of_run r es) (not (has_answered r p es) && is_pass why (pass_reason q r es)) h).0 ∙ u.run)
+  no-pass p why (Some q) h = true≢false (sym (and_parts (is_of_run r es) (not (has_answered r p es) && is_pass why (pass_reason q r es)) h).0 ∙ u.run)
 
   no-unit : (i : Input) (p : Name) (test : Option Task → Bool) → test None ≡ false → test (next_unit i r p es) ≡ true → ⊥
   no-unit i p test none h =
       true≢false (sym (works-where test none (is_working r p es) (is_for_active r es) (option_and_then (λ performer. unit_of performer r p es) (performer_of i p)) h) ∙ u.working p)
 
 speaks-step : (i : Input) (es : List Entry) (e : Event) → AreUntold es → fits i es e ≡ true → speaks_of (requests es) e ≡ true
-speaks-step i es (event.Request r act) h f = (both (r == requests es) (is_act_active es act && may_be_put_up i es act (request_of act es)) f).0
+speaks-step i es (event.Request r act) h f = (and_parts (r == requests es) (is_act_active es act && may_be_put_up i es act (request_of act es)) f).0
 speaks-step i es (event.Edit (by.Performer r p) edit) h f =
-    told-below es r h (λ u. no-unit es r u i p (λ t. is_edit edit (option_and_then as_edit t)) refl (both (is_edit edit (next_edit i r p es)) (is_ok (edited i.domain (know i es) edit)) f).0)
+    told-below es r h (λ u. no-unit es r u i p (λ t. is_edit edit (option_and_then as_edit t)) refl (and_parts (is_edit edit (next_edit i r p es)) (is_ok (edited i.domain (know i es) edit)) f).0)
 speaks-step i es (event.Refused (by.Performer r p) why) h f =
     told-below es r h (λ u. no-unit es r u i p (λ t. is_cause why (option_and_then (λ edit. edit_refusal (edited i.domain (know i es) edit)) (option_and_then as_edit t))) refl f)
 speaks-step i es (event.Offer r p) h f = told-below es r h (λ u. no-offer es r u p (performer_of i p) f)
 speaks-step i es (event.Pass r p why) h f = told-below es r h (λ u. no-pass es r u p why (performer_of i p) f)
 speaks-step i es (event.Confirm r p) h f =
-    told-below es r h (λ u. true≢false (sym (both (is_open r es) (option_map_or (same_name p) (first_offer (offers r es)) false) f).0 ∙ closed es r u))
+    told-below es r h (λ u. true≢false (sym (and_parts (is_open r es) (option_map_or (same_name p) (first_offer (offers r es)) false) f).0 ∙ closed es r u))
 speaks-step i es (event.Reject r p) h f =
-    told-below es r h (λ u. true≢false (sym (both (has_offered r p es) (not (is_rejected r p es) && (not (is_confirmed r p es) && (is_some (confirmed r es) || is_for_cancelled r es))) f).0 ∙ u.offered p))
+    told-below es r h (λ u. true≢false (sym (and_parts (has_offered r p es) (not (is_rejected r p es) && (not (is_confirmed r p es) && (is_some (confirmed r es) || is_for_cancelled r es))) f).0 ∙ u.offered p))
 speaks-step i es (event.Begin r p) h f =
-    told-below es r h (λ u. true≢false (sym (both (is_confirmed r p es) (not (has_begun r p es) && is_for_active r es) f).0 ∙ nobody es r u p))
+    told-below es r h (λ u. true≢false (sym (and_parts (is_confirmed r p es) (not (has_begun r p es) && is_for_active r es) f).0 ∙ nobody es r u p))
 speaks-step i es (event.UnitWork r p) h f = told-below es r h (λ u. no-unit es r u i p is_work refl f)
 speaks-step i es (event.Feedback r p percent text) h f = told-below es r h (λ u. no-unit es r u i p (is_feedback percent text) refl f)
 speaks-step i es (event.Finish r p ok) h f = told-below es r h (λ u. no-unit es r u i p (is_finish ok) refl f)
 speaks-step i es (event.Unserved r) h f =
-    told-below es r h (λ u. true≢false (sym (both (is_open r es) _ (both (is_passed i r es) (was_busy i r es) f).0).0 ∙ closed es r u))
+    told-below es r h (λ u. true≢false (sym (and_parts (is_open r es) _ (and_parts (is_passed i r es) (was_busy i r es) f).0).0 ∙ closed es r u))
 speaks-step i es (event.Stopped r p) h f =
-    told-below es r h (λ u. true≢false (sym (both (is_confirmed r p es) (not (is_through r p es) && is_for_cancelled r es) f).0 ∙ nobody es r u p))
+    told-below es r h (λ u. true≢false (sym (and_parts (is_confirmed r p es) (not (is_through r p es) && is_for_cancelled r es) f).0 ∙ nobody es r u p))
 speaks-step i es e h f = refl
 
 -- ---- nothing is told of a request before it is there
@@ -149,7 +146,7 @@ untold-step es r (event.Stopped s q) u new sp le =
     record { act = u.act; run = u.run; confirmed = u.confirmed; offered = same-offers es r u; working = λ p. ap (λ b. unwrap_or (only_if (b && same_name p q) false) (is_working r p es)) no ∙ u.working p }
 untold-step es r e u new sp le = record { act = u.act; run = u.run; confirmed = u.confirmed; offered = same-offers es r u; working = u.working }
 
-fewer : (b : Bool) (n r : ℕ) → (if b then n + 1 else n) ≤ r → n ≤ r
+pub fewer : (b : Bool) (n r : ℕ) → (if b then n + 1 else n) ≤ r → n ≤ r
 fewer true n r h = omega (arith, h)
 fewer false n r h = h
 

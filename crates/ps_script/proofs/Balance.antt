@@ -17,7 +17,7 @@ use Rattle.ps_shape.specs.declared.symbols.Symbol.TheVariants.{The, AnyName, InG
 use Rattle.ps_shape.specs.declared.symbols.GoalPart.{GoalPart}
 use Rattle.ps_shape.specs.declared.symbols.GoalPart.TheVariants as goal
 use Rattle.ps_forms.specs.Spelling.{is_balanced}
-use Rattle.ps_forms.proofs.Balance.{each_mark, every_mark}
+use Rattle.ps_forms.proofs.Balance.{each_mark, every_mark, after_mark}
 use Rattle.ps_script.specs.Forms.{start_of}
 use Rattle.ps_script.specs.declared.forms.Form.{Form}
 use Rattle.ps_script.specs.declared.forms.Form.TheVariants.{SetInstance}
@@ -66,9 +66,6 @@ abbrev fits : Option (List Symbol) → Mark → ℕ → Bool
 fits None m before = true
 fits (Some new) m before = list_all is_shut new && moves m before (level new)
 
-same_number : (a b : ℕ) → (a == b) ≡ true → a ≡ b
-same_number a b e = grind (arith, nat_tests)
-
 -- ---- each rule
 
 all_names : (most : ℕ) → list_all (λ m. fits (goal_rule (goal.Names most) m) m 1) every_mark ≡ true
@@ -98,17 +95,6 @@ fits_step _ m shut = absurd (cc)
 
 -- ---- whole lines
 
-after_mark : (m : Mark) (before after rest : ℕ) (ms : List Mark) → moves m before after ≡ true → is_balanced (after + rest) ms ≡ true → is_balanced (before + rest) (m ∷ ms) ≡ true
-after_mark Open before after rest ms e b =
-    let one : after ≡ before + 1 = same_number after (before + 1) e in
-    let same : suc (before + rest) ≡ after + rest = omega (arith, one) in
-    ap (λ n. is_balanced n ms) same ∙ b
-after_mark Close before after rest ms e b =
-    let one : before ≡ after + 1 = same_number before (after + 1) e in
-    let same : before + rest ≡ suc (after + rest) = omega (arith, one) in
-    ap (λ n. is_balanced n (Close ∷ ms)) same ∙ b
-after_mark _ before after rest ms e b = ap (λ n. is_balanced (n + rest) ms) (same_number before after e) ∙ b
-
 paired_more : (a b : List Symbol) → list_all is_shut a ≡ true → are_paired b ≡ true → are_paired (a ++ b) ≡ true
 paired_more [] b p q = q
 paired_more (s ∷ a) b p q =
@@ -121,7 +107,7 @@ open_more (s ∷ a) b p =
     let parts = and_parts (is_shut s) (list_all is_shut a) p in
     rw (shut_is s parts.0) (omega (arith, open_more a b parts.1))
 
-where_some : (b : Bool) (new : List Symbol) → where_it_is b [] ≡ Some new → (b ≡ true) × (new ≡ [])
+pub where_some : (b : Bool) (new : List Symbol) → where_it_is b [] ≡ Some new → (b ≡ true) × (new ≡ [])
 where_some true new e = (refl, cc)
 where_some false new e = absurd (cc)
 

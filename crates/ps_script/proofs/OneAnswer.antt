@@ -67,7 +67,7 @@ formed_one table bytes tokens f _ _ _ _ (meant ls a ts c d h w p m) (meant ms o 
     let same : c ≡ g = sym m ∙ ap (command_of f) lists ∙ n in
     (ap (λ x. Line (Good x)) same, ap (λ x. x.1) both)
 
-one_form : (a b : Form) → ◌≡◌ {A = Option Form} (Some a) (Some b) → a ≡ b
+pub one_form : (a b : Form) → ◌≡◌ {A = Option Form} (Some a) (Some b) → a ≡ b
 one_form a b e = cc
 
 worded_one : (table : Table) (bytes : List ℕ) (r s : Read) (after other : Table) → Worded table bytes r after → Worded table bytes s other → (r ≡ s) × (after ≡ other)

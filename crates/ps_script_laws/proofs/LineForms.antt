@@ -21,7 +21,7 @@ use Rattle.ps_pddl.proofs.Fits.{IsVariableName}
 use Rattle.ps_pddl.proofs.NameMarks.{name_mark-is_name}
 use Rattle.ps_pddl.proofs.SpeltParts.{name_first, spelt_cond}
 use Rattle.ps_pddl.proofs.SpeltWords.{AllSpelt, all_last, is_plain, nothing_spelt, one_last, word_first}
-use Rattle.ps_script_laws.proofs.LineMarks.{TakesLine}
+use Rattle.ps_forms.proofs.TakenLines.{TakesLine}
 
 -- so many fixed words, which are names, and then lists with this property
 abbrev pub Fixed : ℕ → (Nesteds → Type 0) → Nesteds → Type 0

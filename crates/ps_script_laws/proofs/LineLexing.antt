@@ -1,41 +1,32 @@
 -- The words of a line, and the table of names after them.
-use Rattle.std.proofs.Common.{◌≡◌, ℕ, ◌<◌, true, Option, Some, None, is_none, List, [], ◌∷◌, map, drop, length, slice_range, refl, sym, ap, ◌∙◌, subst}
+use Rattle.std.proofs.Common.{◌≡◌, ℕ, ◌<◌, Option, Some, None, List, [], ◌∷◌, map, drop, length, slice_range, refl, sym, ap, ◌∙◌, subst}
 use Rattle.std.proofs.lemmas.Option.{slice_get_within, slice_get-get_or, get_or_from_slice_get}
 use Rattle.std.specs.Option.{option_and_then}
 use Rattle.ps_world.specs.Names.{Table, name_text}
 use Rattle.ps_world.specs.declared.names.Name.{Name}
-use Rattle.ps_text.specs.Names.{folded, interned, is_name, name_fault, AreNames, Keeps}
+use Rattle.ps_text.specs.Names.{AreNames, Keeps}
 use Rattle.ps_text.specs.Tokens.{class_of, span_of, AreTokens}
 use Rattle.ps_text.specs.Words.{pieces, words}
 use Rattle.ps_text.specs.declared.lexing.Class.{Class}
 use Rattle.ps_text.specs.declared.lexing.Class.TheVariants as class
 use Rattle.ps_text.specs.declared.lexing.Token.{Token}
-use Rattle.ps_text.proofs.Folds.{IsNameText-folded}
 use Rattle.ps_text.proofs.Kept.{kept_along}
-use Rattle.ps_text.proofs.Tables.{AreNames-interned}
 use Rattle.ps_forms.specs.Lexemes.{lexemes_of, name_within, named, table_after}
 use Rattle.ps_forms.specs.declared.lexemes.Lexeme.{Lexeme}
 use Rattle.ps_forms.proofs.Kept.{kept_named}
 use Rattle.ps_forms.proofs.TokenNames.{is_name-class, is_name-variable}
-use Rattle.ps_pddl.proofs.WordLexemes.{IsLexemeOf, AreLexemes}
+use Rattle.ps_pddl.proofs.WordLexemes.{IsLexemeOf, AreLexemes, AreNames-name}
 use Rattle.ps_pddl.proofs.WordLexemes.AreLexemes.{no_words, more_words}
 use Rattle.ps_script_laws.specs.Laws.{WordNamesAreKept}
 use Rattle.ps_script_laws.specs.WordNames.{with_words, word_name}
 
 -- ---- the table after words
 
-no_fault : {X : Type 0} (o : Option X) → is_none o ≡ true → o ≡ None
-no_fault None h = refl
-no_fault (Some x) h = absurd (cc)
-
-are_names_with : (t : Table) (w : List ℕ) → is_name w ≡ true → AreNames t → AreNames (interned t (folded w))
-are_names_with t w h good = AreNames-interned t (folded w) good (IsNameText-folded w (no_fault (name_fault w) h))
-
 -- a table of names with a word's name is one
 are_names_after : (t : Table) (w : List ℕ) (o : Option Class) → class_of w ≡ o → AreNames t → AreNames (named t (option_and_then (λ c. name_within c w) o))
 are_names_after t w None e good = good
-are_names_after t w (Some class.Name) e good = are_names_with t w (is_name-class w e) good
-are_names_after t w (Some class.Variable) e good = are_names_with t (drop 1 w) (is_name-variable w e) good
+are_names_after t w (Some class.Name) e good = AreNames-name t w (is_name-class w e) good
+are_names_after t w (Some class.Variable) e good = AreNames-name t (drop 1 w) (is_name-variable w e) good
 are_names_after t w (Some class.LeftParen) e good = good
 are_names_after t w (Some class.RightParen) e good = good
 are_names_after t w (Some class.Sign) e good = good

@@ -48,6 +48,7 @@ use Rattle.ps_pddl.proofs.CanonicalForms.IsCondForm.{comparison_form, fact_form}
 use Rattle.ps_pddl.proofs.CanonicalForms.IsExprForm.{a_number, a_value}
 use Rattle.ps_pddl.proofs.SpeltWords.{AllSpelt, is_plain}
 use Rattle.ps_pddl.proofs.WordLexemes.{AreLexemes, are_lexemes}
+use Rattle.ps_pddl.proofs.WordClasses.{Classed, classed_more, classed_none}
 use Rattle.ps_script_laws.specs.Laws.{ActsAreReadBack, EditsAreReadBack, IsReadAs, QueriesAreReadBack}
 use Rattle.ps_script_laws.specs.Sayable.{IsFactOf, IsGoalOf, IsShort}
 use Rattle.ps_script_laws.specs.WordNames.{with_words}
@@ -55,8 +56,8 @@ use Rattle.ps_script_laws.proofs.GoalMarks.{atom_taken, condition_taken}
 use Rattle.ps_script_laws.proofs.GoalMeanings.{fact-means, goal-means, lifted_fact}
 use Rattle.ps_script_laws.proofs.LineForms.{AreNamed, Fixed, IsOneCond, cond_spelt, fixed_first, fixed_rest, fixed_taken, named_taken, no_names_spelt, one_name_spelt, two_names_spelt}
 use Rattle.ps_script_laws.proofs.LineLexing.{after_text, lexemes_kept}
-use Rattle.ps_script_laws.proofs.LineMarks.{TakesLine, judged_line}
-use Rattle.ps_script_laws.proofs.LineWords.{Classed, classed_cond, classed_more, classed_name, classed_none, condition, fact-text, name, words-written}
+use Rattle.ps_forms.proofs.TakenLines.{TakesLine, judged_of_line}
+use Rattle.ps_script_laws.proofs.LineWords.{classed_cond, classed_name, condition, fact-text, name, words-written}
 
 -- ---- fixed words
 
@@ -132,7 +133,7 @@ module _ (names table : Table) (named : AreNames names) (known : AreNames table)
       let read = lexemes_of bytes table tokens.0 in
       let lexed : AreLexemes names ws read.0 = lexemes_kept names table keeps ws read.0 (subst (λ us. AreLexemes table us read.0) are (are_lexemes table bytes known tokens.0 tokens.1)) in
       let spelt = s.spells read.0 lexed in
-      let judged = judged_line (start_of f) spelt.0 read.0 spelt.1 (takes spelt.0 spelt.2) in
+      let judged = judged_of_line (start_of f) spelt.0 read.0 spelt.1 (takes spelt.0 spelt.2) in
       let fits : IsOfForm bytes f tokens.0 = fits_form bytes f tokens.0 (marks read.0) (marks read.0) plain tokens.1 (ap form_of are ∙ is) refl (marks_same bytes table tokens.0) judged in
       good f tokens.0 read.0 (with_words table (words bytes)) spelt.0 c fits (subst (λ after. lexemes_of bytes table tokens.0 ≡ (read.0, after)) (after_text bytes table tokens.0 tokens.1) refl) spelt.1 (means spelt.0 spelt.2)
 

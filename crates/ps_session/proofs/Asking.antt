@@ -1,7 +1,7 @@
 -- The text of one entry, which asks, or doesn't.
 use Rattle.std.proofs.Common.{◌≡◌, ℕ, ◌+◌, ◌||◌, Bool, true, false, if◌then◌else◌, Option, Some, None, is_none, List, [], ◌∷◌, ◌++◌, length, slice_get, take, refl, ap, sym, ◌∙◌, subst, append_assoc}
 use Rattle.std.specs.Option.{option_map_or}
-use Rattle.std.proofs.lemmas.Bool.{true≢false}
+use Rattle.std.proofs.lemmas.Bool.{true≢false, and_parts}
 use Rattle.ps_world.specs.Names.{Table}
 use Rattle.ps_world.specs.declared.domains.Domain.{Domain}
 use Rattle.ps_world.specs.declared.known.Knowledge.{Knowledge}
@@ -23,7 +23,7 @@ use Rattle.ps_rules.specs.Legal.{is_accepted, is_query}
 use Rattle.ps_rules.specs.Lines.{next_line}
 use Rattle.ps_rules.specs.Runs.{has_run, opens}
 use Rattle.ps_rules.proofs.Going.{entries_are_legal}
-use Rattle.ps_rules.proofs.Kept.{both, fits-legal}
+use Rattle.ps_rules.proofs.Kept.{fits-legal}
 use Rattle.ps_rules.proofs.Pushed.{read-push}
 use Rattle.ps_rules.proofs.SameThings.{same_query-decides}
 use Rattle.ps_journal.specs.Told.{IsTold}
@@ -77,7 +77,7 @@ module _ (i : Input) (es : List Entry) (k : ℕ) (e : Entry) (q : Query) (at : s
       let entry : Entry = ask e.hand q in
       let stands : IsHistory i (before ++ entry ∷ []) = subst (IsHistory i) ends-asking history in
       let legal = legal-at i [] before [] entry (entries_are_legal i (before ++ entry ∷ []) stands) refl in
-      let fit = both (is_query q (next_line i before)) (is_accepted i before (next_line i before)) (fits-legal i before (event.Ask q) legal) in
+      let fit = and_parts (is_query q (next_line i before)) (is_accepted i before (next_line i before)) (fits-legal i before (event.Ask q) legal) in
       let ran : has_run before ≡ true = accepted-tree i before (next_line i before) (subst (λ x. is_query x (next_line i before) ≡ true) tree fit.0) fit.1 in
       ap has_run ends-asking ∙ read-push (λ found f. found || opens f) false before entry ∙ ap (λ b. b || false) ran
 

@@ -1,5 +1,5 @@
 -- The journal of a session is one.
-use Rattle.std.proofs.Common.{◌≡◌, ℕ, None, ◌≤◌, ◌⊎◌, inl, inr, Bool, true, false, if◌then◌else◌, List, [], ◌∷◌, fold, refl, ap, sym, ◌∙◌, arith}
+use Rattle.std.proofs.Common.{◌≡◌, ℕ, None, ◌≤◌, inl, inr, Bool, true, false, if◌then◌else◌, List, [], ◌∷◌, fold, refl, ap, sym, ◌∙◌}
 use Rattle.std.proofs.lemmas.Bool.{true≢false}
 use Rattle.ps_action.specs.Search.{answer}
 use Rattle.ps_machine.specs.declared.inputs.Line.{Line}
@@ -9,6 +9,7 @@ use Rattle.ps_rules.specs.Choices.{after_line, ordered, Says, with_line}
 use Rattle.ps_rules.specs.History.{IsHistory}
 use Rattle.ps_rules.specs.Lines.{due_lines, next_line}
 use Rattle.ps_rules.specs.Runs.{is_running}
+use Rattle.ps_orders.proofs.Moments.{le_or}
 use Rattle.ps_pool.proofs.Ending.{closed-turns}
 use Rattle.ps_replies.specs.Plans.{GivesLeast}
 use Rattle.ps_session.specs.Laws.{OneJournal}
@@ -62,14 +63,11 @@ module _ (says : Says) (i : Input) where
   enough m n es (line ∷ lines) l closed =
       goes-on m n es line lines (is_running (after_line says i m es line)) l refl closed (λ fs shut. enough m n fs lines l shut)
 
-one_way : (m n : ℕ) → (m ≤ n) ⊎ (n ≤ m)
-one_way m n = grind arith
-
 pub one_journal : OneJournal
 one_journal i es fs j k =
     let one : IsOrdered i es = j.ordered refl in
     let other : IsOrdered i fs = k.ordered refl in
-    elim (one_way one.turns other.turns) [
+    elim (le_or one.turns other.turns) [
       | inl l ↦
           one.all
           ∙ sym (enough answer i one.turns other.turns [] (due_lines i.lines) l (ap is_running (sym one.all) ∙ j.whole.closed))

@@ -1,7 +1,7 @@
 -- What answering a line does, and the run that it opens.
-use Rattle.std.proofs.Common.{◌≡◌, ℕ, ◌+◌, ◌≤◌, Bool, true, false, not, ◌&&◌, if◌then◌else◌, Option, Some, None, is_none, IfSome, IsTrue, Ok, Err, List, [], ◌∷◌, ◌++◌, refl, ap, sym, ◌∙◌, subst, arith, append_assoc}
+use Rattle.std.proofs.Common.{◌≡◌, ℕ, ◌+◌, ◌≤◌, Bool, true, false, not, if◌then◌else◌, Option, Some, None, is_none, IfSome, IsTrue, Ok, Err, List, [], ◌∷◌, ◌++◌, refl, ap, sym, ◌∙◌, subst, arith, append_assoc}
 use Rattle.std.specs.Option.{option_map_or, unwrap_or}
-use Rattle.std.proofs.lemmas.Bool.{true≢false}
+use Rattle.std.proofs.lemmas.Bool.{true≢false, and_from}
 use Rattle.std.proofs.lemmas.Grind.{fold-append}
 use Rattle.std.proofs.lemmas.List.Elements.{All-append}
 use Rattle.ps_action.specs.declared.answers.Answer.{Answer}
@@ -189,16 +189,13 @@ abbrev asked-query : Option Event → Query → Query
 asked-query (Some (event.Ask q)) other = q
 asked-query o other = other
 
-both-so : (a b : Bool) → a ≡ true → b ≡ true → (a && b) ≡ true
-both-so a b p q = rw (p, q) refl
-
 -- what fits where a line's event asks
 fits-ask : (says : Says) (i : Input) (es : List Entry) (q : Query) (line : Line) (why : Option Refusal) → refusal_of i es line ≡ why → next_line i es ≡ Some line
     → answer_event says i es line why ≡ Some (event.Ask q) → fits i es (event.Ask q) ≡ true
 fits-ask says i es q line (Some why) given next made = absurd (cc)
 fits-ask says i es q (Good (command.Edit edit)) None given next made = absurd (cc)
 fits-ask says i es q (Good (command.Ask said)) None given next made =
-    both-so (is_query q (next_line i es)) (is_accepted i es (next_line i es))
+    and_from (is_query q (next_line i es)) (is_accepted i es (next_line i es))
     (ap (is_query q) next ∙ (same_query-decides q said).1 (sym (ap (λ o. asked-query o q) made)))
     (ap (is_accepted i es) next ∙ ap is_none given)
 fits-ask says i es q (Good command.Run) None given next made = absurd (not-asked q (says i.domain (know i es) i.budget) made)
@@ -210,7 +207,7 @@ fits-ask says i es q (Bad cause) None given next made = absurd (cc)
 
 module _ (says : Says) (i : Input) (es : List Entry) (line : Line) (h : IsHistory i es) (closed : is_running es ≡ false) (next : next_line i es ≡ Some line) where
   legal-ask : (q : Query) → line_event says i es line ≡ Some (event.Ask q) → IsTrue (is_legal i es (event.Ask q))
-  legal-ask q made = both-so (not (is_running es)) (fits i es (event.Ask q)) (ap not closed) (fits-ask says i es q line (refusal_of i es line) refl next made)
+  legal-ask q made = and_from (not (is_running es)) (fits i es (event.Ask q)) (ap not closed) (fits-ask says i es q line (refusal_of i es line) refl next made)
 
   -- of the entries that answer a line none but the last asks
   block-asks : (e : Event) (b : Bool) → is_ask e ≡ b → line_event says i es line ≡ Some e

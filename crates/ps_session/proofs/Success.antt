@@ -2,7 +2,7 @@
 use Rattle.std.proofs.Common.{◌≡◌, Bool, true, false, if◌then◌else◌, is_none, nat_le, Option, Some, None, IsTrue, List, [], ◌∷◌, ◌++◌, refl, ap, sym, ◌∙◌, subst, append_assoc, append-nil}
 use Rattle.std.specs.Bool.{Decides}
 use Rattle.std.specs.Option.{option_map_or}
-use Rattle.std.proofs.lemmas.Bool.{true≢false}
+use Rattle.std.proofs.lemmas.Bool.{true≢false, and_parts}
 use Rattle.ps_action.specs.Search.{answer as answered_by}
 use Rattle.ps_action.specs.declared.answers.Answer.{Answer}
 use Rattle.ps_action.specs.declared.answers.Answer.TheVariants as answer
@@ -19,7 +19,7 @@ use Rattle.ps_rules.specs.Legal.{ending, is_legal, is_outcome}
 use Rattle.ps_rules.specs.Runs.{kind, replans}
 use Rattle.ps_rules.specs.Settled.{any_harmed, given_up, is_blocked, is_reached, is_settled, unreached, verdict}
 use Rattle.ps_rules.proofs.Going.{entries_are_legal}
-use Rattle.ps_rules.proofs.Kept.{both, fits-legal}
+use Rattle.ps_rules.proofs.Kept.{fits-legal}
 use Rattle.ps_rules.proofs.SameThings.{same_outcome-decides}
 use Rattle.ps_session.specs.Laws.{HistoriesTellSuccess}
 use Rattle.ps_session.specs.Session.{over}
@@ -68,7 +68,7 @@ module _ (i : Input) (es : List Entry) where
 
   told : (how : Outcome) → IsTrue (is_legal i es (event.Over how)) → Decides (is_reached i es (kind es)) (how ≡ outcome.Success)
   told how legal =
-      let fit = both (is_settled i es) (is_outcome how (ending i es (verdict i es))) (fits-legal i es (event.Over how) legal) in
+      let fit = and_parts (is_settled i es) (is_outcome how (ending i es (verdict i es))) (fits-legal i es (event.Over how) legal) in
       by-goal how (is_reached i es (kind es)) (outcome-is how (ending i es (verdict i es)) fit.1)
 
 pub histories_tell_success : HistoriesTellSuccess

@@ -1,9 +1,10 @@
 -- Ground actions that are tried one after another at a row that is expanded.
-use Rattle.std.proofs.Common.{◌≡◌, ℕ, suc, ◌+◌, ◌<◌, ◌≤◌, Bool, true, false, ◌||◌, List, [], ◌∷◌, ◌++◌, Option, Some, None, option_map, drop, fold, get_or, length, refl, ap, sym, ◌∙◌, subst, add-one}
+use Rattle.std.proofs.Common.{◌≡◌, ℕ, suc, ◌+◌, ◌<◌, ◌≤◌, Bool, true, false, List, [], ◌∷◌, ◌++◌, Option, Some, None, option_map, drop, fold, get_or, length, refl, ap, sym, ◌∙◌, subst, add-one}
 use Rattle.std.specs.Prelude.{slice_get}
 use Rattle.std.specs.List.{cons_option, last_or, list_any}
 use Rattle.std.proofs.lemmas.List.{drop_all, drop_more}
 use Rattle.std.proofs.lemmas.Option.{slice_get_read}
+use Rattle.ps_world.proofs.Truths.{or_false}
 use Rattle.ps_ground.specs.Independence.{is_pruned}
 use Rattle.ps_ground.specs.Prepared.{successor}
 use Rattle.ps_ground.specs.States.{State}
@@ -37,10 +38,6 @@ pub record IsTriedTo (e : Expansion) (old now : List (Row × List ℕ)) (last : 
 
 -- ---- what one ground action leads to
 
-or_none : (b : Bool) → (b || false) ≡ b
-or_none true = refl
-or_none false = refl
-
 module _ (e : Expansion) (rs : List (Row × List ℕ)) (i : ℕ) (q : Prepared) where
   -- it leads nowhere
   pub nothing_led : led_to e q ≡ None → led_by e rs i (q ∷ []) ≡ []
@@ -52,7 +49,7 @@ module _ (e : Expansion) (rs : List (Row × List ℕ)) (i : ℕ) (q : Prepared) 
 
   pub one_good : (r : Row) → led_to e q ≡ Some (plain_state e.task.now.grounds.atoms r) → meets_goal e.task.now (plain_state e.task.now.grounds.atoms r) ≡ list_any (λ (l : Lead). meets_goal e.task.now l.state) (led_by e rs i (q ∷ []))
   one_good r is =
-      sym (or_none (meets_goal e.task.now (plain_state e.task.now.grounds.atoms r)))
+      sym (or_false (meets_goal e.task.now (plain_state e.task.now.grounds.atoms r)))
       ∙ ap (list_any (λ (l : Lead). meets_goal e.task.now l.state)) (sym (one_led r is))
 
   pub one_kept : (r : Row) → led_to e q ≡ Some (plain_state e.task.now.grounds.atoms r) → with_lead e.most (leads_of e.task.now rs) (lead_to e rs i r) ≡ kept e rs (led_by e rs i (q ∷ []))

@@ -1,5 +1,5 @@
 -- What a row that is expanded leads to, as leads and as nodes of what is searched.
-use Rattle.std.proofs.Common.{◌≡◌, ℕ, suc, ◌+◌, ◌<◌, ◌≤◌, nat_le, Bool, true, false, cond, ◌||◌, ◌⊎◌, inl, inr, List, [], ◌∷◌, ◌++◌, Option, Some, None, option_map, All, find, fold, length, map, take, refl, ap, sym, ◌∙◌, arith, append_assoc}
+use Rattle.std.proofs.Common.{◌≡◌, ℕ, suc, ◌+◌, ◌<◌, ◌≤◌, nat_le, Bool, true, false, cond, ◌||◌, inl, inr, List, [], ◌∷◌, ◌++◌, Option, Some, None, option_map, All, find, fold, length, map, take, refl, ap, sym, ◌∙◌, arith, append_assoc}
 use Rattle.std.specs.Prelude.{slice_get}
 use Rattle.std.specs.List.{cons_option, list_any}
 use Rattle.std.proofs.lemmas.Bool.Decides.{nat_tests}
@@ -10,6 +10,7 @@ use Rattle.ps_world.specs.declared.domains.Domain.{Domain}
 use Rattle.ps_world.specs.declared.facts.Fact.{Fact}
 use Rattle.ps_world.specs.declared.known.Knowledge.{Knowledge}
 use Rattle.ps_action.specs.declared.acts.Act.{Act}
+use Rattle.ps_action.proofs.Contained.{or_cases}
 use Rattle.ps_levels.specs.Levels.{Space, fresh, is_met as is_met_node}
 use Rattle.ps_levels.specs.Levels as levels
 use Rattle.ps_ground.specs.Goals.{is_good}
@@ -22,10 +23,6 @@ use Rattle.ps_solve.specs.Queue.{IsTried, Lead, acts_at, leads_from, node_of, st
 use Rattle.ps_solve.specs.Spaces.{path_of, space}
 use Rattle.ps_solve.proofs.Queues.{none_new, still_tried}
 use Rattle.ps_solve.proofs.SameStates.{state_same}
-
-or_cases : (a b : Bool) → (a || b) ≡ true → (a ≡ true) ⊎ (b ≡ true)
-or_cases true b e = inl refl
-or_cases false b e = inr e
 
 -- ---- what is kept
 

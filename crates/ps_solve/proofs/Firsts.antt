@@ -1,7 +1,11 @@
 -- The first nodes of new states: what they are, and that the other nodes lead nowhere new.
-use Rattle.std.proofs.Common.{◌≡◌, ◌+◌, Bool, true, false, cond, ◌||◌, List, [], ◌∷◌, ◌++◌, Option, Some, None, map, find, flat_map, length, refl, ap, sym, ◌∙◌, subst, inl, inr, ◌⊎◌, arith}
+use Rattle.std.proofs.Common.{◌≡◌, ◌+◌, Bool, true, false, cond, ◌||◌, List, [], ◌∷◌, ◌++◌, Option, Some, None, map, find, flat_map, length, refl, ap, sym, ◌∙◌, subst, inl, inr, arith}
 use Rattle.std.specs.List.{list_any}
 use Rattle.std.proofs.lemmas.List.{length-append}
+use Rattle.std.proofs.lemmas.Bool.{or_right, or_left}
+use Rattle.ps_world.proofs.Truths.{or_false}
+use Rattle.ps_action.proofs.Contained.{or_cases}
+use Rattle.ps_problem.proofs.PutFacts.{or_swap}
 use Rattle.ps_ground.specs.Moves.{Node}
 use Rattle.ps_solve.specs.Nodes.{firsts, is_met, met, same_state, with_state}
 use Rattle.ps_solve.proofs.SameStates.{met_more, state_itself, state_same}
@@ -15,27 +19,6 @@ states ns = map (λ n. n.state) ns
 abbrev pub AllMet : List State → List State → Type 0
 AllMet seen [] = Unit {0}
 AllMet seen (s ∷ ss) = (is_met seen s ≡ true) × AllMet seen ss
-
-pub or_cases : (a b : Bool) → (a || b) ≡ true → (a ≡ true) ⊎ (b ≡ true)
-or_cases true b e = inl refl
-or_cases false b e = inr e
-
-or_first : (a b : Bool) → a ≡ true → (a || b) ≡ true
-or_first true b e = refl
-or_first false b e = cc
-
-or_second : (a b : Bool) → b ≡ true → (a || b) ≡ true
-or_second true b e = refl
-or_second false b e = e
-
-or_swap : (a b c : Bool) → ((a || b) || c) ≡ (b || (a || c))
-or_swap true true c = refl
-or_swap true false c = refl
-or_swap false b c = refl
-
-or_false : (a : Bool) → (a || false) ≡ a
-or_false true = refl
-or_false false = refl
 
 -- ---- one list after another
 
@@ -60,10 +43,10 @@ firsts-append seen (x ∷ xs) ys =
 -- ---- what is met
 
 pub met_stays : (s t : State) (seen : List State) → is_met seen s ≡ true → is_met (with_state seen t) s ≡ true
-met_stays s t seen e = met_more s t seen ∙ or_second (same_state s t) (is_met seen s) e
+met_stays s t seen e = met_more s t seen ∙ or_right (same_state s t) (is_met seen s) e
 
 pub met_now : (t : State) (seen : List State) → is_met (with_state seen t) t ≡ true
-met_now t seen = met_more t t seen ∙ or_first (same_state t t) (is_met seen t) (state_itself t)
+met_now t seen = met_more t t seen ∙ or_left (same_state t t) (is_met seen t) (state_itself t)
 
 -- what was met is met afterwards
 pub still_met : (s : State) (seen : List State) (xs : List Node) → is_met seen s ≡ true → is_met (met seen xs) s ≡ true

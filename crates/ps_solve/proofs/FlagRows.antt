@@ -1,5 +1,5 @@
 -- The facts that flags stand for: where one is found, and what a flag that is cleared or set changes.
-use Rattle.std.proofs.Common.{◌≡◌, ℕ, zero, suc, ◌≤◌, ◌<◌, Bool, true, false, not, ◌||◌, List, [], ◌∷◌, Option, Some, None, filter, length, get_or, replicate, set, refl, ap, sym, ◌∙◌, arith, inl, inr}
+use Rattle.std.proofs.Common.{◌≡◌, ℕ, zero, suc, ◌≤◌, ◌<◌, Bool, true, false, not, List, [], ◌∷◌, Option, Some, None, filter, length, get_or, replicate, set, refl, ap, sym, ◌∙◌, arith, inl, inr}
 use Rattle.std.specs.Prelude.{slice_get}
 use Rattle.std.specs.List.{list_any}
 use Rattle.std.specs.List.Sorted.{IsStrictlySortedBy}
@@ -8,13 +8,12 @@ use Rattle.std.specs.BTreeSet.{insert_key}
 use Rattle.std.specs.Ordering.{is_eq}
 use Rattle.std.specs.declared.cmp.Ordering.{Ordering}
 use Rattle.std.specs.declared.cmp.Ordering.TheVariants.{Less, Equal, Greater}
-use Rattle.std.proofs.lemmas.Bool.{cases_lt}
-use Rattle.std.proofs.lemmas.Cmp.{eq_by_cmp_equiv}
+use Rattle.std.proofs.lemmas.Bool.{cases_lt, or_parts}
 use Rattle.std.proofs.lemmas.Option.{slice_get_past}
 use Rattle.ps_world.specs.Facts.{fact_cmp}
 use Rattle.ps_world.specs.Knowledge.{same_fact}
 use Rattle.ps_world.specs.declared.facts.Fact.{Fact}
-use Rattle.ps_ground.specs.Orders.{facts_total}
+use Rattle.ps_action.proofs.Contained.{fact_itself}
 use Rattle.ps_ground.specs.Atoms.{IsOver}
 use Rattle.ps_ground.proofs.Below.{IsBelow, above, none_filtered}
 use Rattle.ps_solve.specs.Rows.{facts_of, plain_state}
@@ -22,16 +21,13 @@ use Rattle.ps_solve.specs.declared.rows.Row.{Row}
 
 -- ---- facts and those above them
 
-itself : (f : Fact) → same_fact f f ≡ true
-itself f = (eq_by_cmp_equiv facts_total).refl f
-
 tied : (f : Fact) (r : Ordering) → fact_cmp f f ≡ r → is_eq r ≡ true → fact_cmp f f ≡ Equal
 tied f Less e t = absurd (cc)
 tied f Equal e t = e
 tied f Greater e t = absurd (cc)
 
 equal : (f : Fact) → fact_cmp f f ≡ Equal
-equal f = tied f (fact_cmp f f) refl (itself f)
+equal f = tied f (fact_cmp f f) refl (fact_itself f)
 
 other : (f g : Fact) → fact_cmp f g ≡ Less → same_fact f g ≡ false
 other f g e = ap is_eq e
@@ -69,10 +65,6 @@ below_at f g (a ∷ atoms) zero h e =
     sym (ap (fact_cmp f) same) ∙ h.0
 below_at f g (a ∷ atoms) (suc i) h e = below_at f g atoms i h.1 e
 
-or_parts : (a b : Bool) → (a || b) ≡ false → (a ≡ false) × (b ≡ false)
-or_parts true b e = absurd (cc)
-or_parts false b e = (refl, e)
-
 -- they rise as their atoms do
 pub facts_rise : (atoms : List Fact) (flags : List Bool) → IsStrictlySortedBy fact_cmp atoms → IsStrictlySortedBy fact_cmp (facts_of atoms flags)
 unfolding IsStrictlySortedBy
@@ -100,7 +92,7 @@ none_cleared f atoms flags e = sym (none_filtered (same_fact f) (facts_of atoms 
 
 has_first : (a : Fact) (atoms : List Fact) (flags : List Bool) → IsBelow a atoms → list_any (same_fact a) (facts_of (a ∷ atoms) flags) ≡ get_or flags 0 false
 has_first a atoms [] h = refl
-has_first a atoms (true ∷ flags) h = rw (itself a) refl
+has_first a atoms (true ∷ flags) h = rw (fact_itself a) refl
 has_first a atoms (false ∷ flags) h = none_same a (facts_of atoms flags) (below_facts a atoms flags h)
 
 -- a fact is known where its flag is set
@@ -116,7 +108,7 @@ has_flag f (a ∷ atoms) (suc i) (false ∷ flags) s e = has_flag f atoms i flag
 
 cleared_first : (a : Fact) (atoms : List Fact) (flags : List Bool) → IsBelow a atoms → facts_of (a ∷ atoms) (set flags 0 false) ≡ filter (λ g. not (same_fact a g)) (facts_of (a ∷ atoms) flags)
 cleared_first a atoms [] h = refl
-cleared_first a atoms (true ∷ flags) h = rw (itself a) (sym (all_stay a (facts_of atoms flags) (below_facts a atoms flags h)))
+cleared_first a atoms (true ∷ flags) h = rw (fact_itself a) (sym (all_stay a (facts_of atoms flags) (below_facts a atoms flags h)))
 cleared_first a atoms (false ∷ flags) h = sym (all_stay a (facts_of atoms flags) (below_facts a atoms flags h))
 
 -- to clear a flag is to take its fact out

@@ -8,11 +8,12 @@ use Rattle.ps_world.specs.declared.domains.Domain.{Domain}
 use Rattle.ps_world.specs.declared.known.Knowledge.{Knowledge}
 use Rattle.ps_action.specs.declared.acts.GroundAction.{GroundAction}
 use Rattle.ps_action.specs.Search.{fresh, is_there, least_plan, level, reach, same_known}
+use Rattle.ps_action.proofs.Contained.{or_cases}
 use Rattle.ps_ground.specs.States.{State, at, state_of, stepped}
 use Rattle.ps_ground.specs.Moves.{Node, grounds, move, moves}
 use Rattle.ps_solve.specs.Nodes.{firsts, is_met, levels, root, same_state, with_state}
 use Rattle.ps_solve.proofs.Courses.{courses, ends_are, good, least_is}
-use Rattle.ps_solve.proofs.Firsts.{LeadInto, NoneGood, all_lead, all_still_met, expands, found_first, is_met-met, length-met, none_found, or_cases, states}
+use Rattle.ps_solve.proofs.Firsts.{LeadInto, NoneGood, all_lead, all_still_met, expands, found_first, is_met-met, length-met, none_found, states}
 use Rattle.ps_ground.proofs.Lists.{map-filter_map}
 use Rattle.ps_solve.proofs.SameStates.{met_more, same_known-at}
 

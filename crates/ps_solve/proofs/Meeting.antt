@@ -9,6 +9,7 @@ use Rattle.std.proofs.lemmas.List.Elements.{All-append, All-cons, All-nil}
 use Rattle.std.proofs.lemmas.Option.{slice_get_within}
 use Rattle.ps_world.specs.Facts.{fact_cmp}
 use Rattle.ps_world.specs.declared.facts.Fact.{Fact}
+use Rattle.ps_world.proofs.Elements.{get_first}
 use Rattle.ps_solve.specs.Expansions.{IsExpanding, NoneGood, leads_of, meets_goal}
 use Rattle.ps_solve.specs.Nodes.{is_met}
 use Rattle.ps_solve.specs.Queue.{Lead, states, with_lead}
@@ -23,12 +24,6 @@ use Rattle.ps_solve.proofs.SameRows.{met_rows, wide_more}
 -- rows that were reached, each with how
 abbrev Rows : Type 0
 Rows = List (Row × List ℕ)
-
--- an item that is there stays where it is
-get_first : {A : Type 0} (xs ys : List A) (i : ℕ) (x : A) → slice_get xs i ≡ Some x → slice_get (xs ++ ys) i ≡ Some x
-get_first [] ys i x e = absurd (cc)
-get_first (z ∷ xs) ys zero x e = e
-get_first (z ∷ xs) ys (suc i) x e = get_first xs ys i x e
 
 -- each of these rows has a flag for each atom
 pub wide_there : (atoms : List Fact) (rows : List Row) (i : ℕ) (r : Row) → AreWide atoms rows → slice_get rows i ≡ Some r → length r.flags ≡ length atoms

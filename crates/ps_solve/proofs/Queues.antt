@@ -5,13 +5,15 @@ use Rattle.std.specs.Cmp.{first_so, second_so}
 use Rattle.std.specs.List.{cons_option, last_or}
 use Rattle.std.specs.List.Sorted.{IsStrictlySortedBy}
 use Rattle.std.specs.Option.{option_map_or}
-use Rattle.std.proofs.lemmas.Bool.{cases_lt}
+use Rattle.std.proofs.lemmas.Bool.{cases_lt, or_right, or_left, or_parts}
 use Rattle.std.proofs.lemmas.Bool.Decides.{nat_tests}
 use Rattle.std.proofs.lemmas.List.{append-nil, length-append, map-append, take-append-le}
 use Rattle.ps_world.specs.Facts.{fact_cmp}
 use Rattle.ps_world.specs.declared.domains.Domain.{Domain}
 use Rattle.ps_world.specs.declared.facts.Fact.{Fact}
 use Rattle.ps_world.specs.declared.known.Knowledge.{Knowledge}
+use Rattle.ps_world.proofs.Optionals.{some_same}
+use Rattle.ps_action.proofs.Contained.{or_cases}
 use Rattle.ps_ground.specs.Independence.{are_independent, is_pruned}
 use Rattle.ps_ground.specs.Prepared.{AreSound, IsSound, successor}
 use Rattle.ps_ground.specs.States.{State}
@@ -19,26 +21,8 @@ use Rattle.ps_ground.specs.declared.prepared.Prepared.{Prepared}
 use Rattle.ps_ground.proofs.IndependentActions.{successor-swap}
 use Rattle.ps_solve.specs.Nodes.{is_met, same_state, with_state}
 use Rattle.ps_solve.specs.Queue.{ArePruned, AreTried, IsPruned, IsQueue, IsTried, Lead, LeadsTo, leads_from, states, with_lead}
-use Rattle.ps_solve.proofs.SameStates.{met_more, state_itself, state_same}
-
-or_cases : (a b : Bool) → (a || b) ≡ true → (a ≡ true) ⊎ (b ≡ true)
-or_cases true b e = inl refl
-or_cases false b e = inr e
-
-or_first : (a b : Bool) → a ≡ true → (a || b) ≡ true
-or_first true b e = refl
-or_first false b e = absurd (cc)
-
-or_second : (a b : Bool) → b ≡ true → (a || b) ≡ true
-or_second true b e = refl
-or_second false b e = e
-
-or_parts : (a b : Bool) → (a || b) ≡ false → (a ≡ false) × (b ≡ false)
-or_parts true b e = absurd (cc)
-or_parts false b e = (refl, e)
-
-some_same : {A : Type 0} (a b : A) → Some a ≡ Some b → a ≡ b
-some_same a b e = cc
+use Rattle.ps_solve.proofs.SameStates.{met_more, state_same}
+use Rattle.ps_solve.proofs.Firsts.{met_stays, met_now}
 
 -- each of those that are sound is
 pub sound_there : (atoms : List Fact) (i : ℕ) (qs : List Prepared) (b : Prepared) → slice_get qs i ≡ Some b → AreSound atoms qs → IsSound atoms b
@@ -49,7 +33,7 @@ sound_there atoms zero (q ∷ qs) b e all =
     subst P same all.0
 sound_there atoms (suc i) (q ∷ qs) b e all = sound_there atoms i qs b e all.1
 
-below : {A : Type 0} (i : ℕ) (xs : List A) (x : A) → slice_get xs i ≡ Some x → i < length xs
+pub below : {A : Type 0} (i : ℕ) (xs : List A) (x : A) → slice_get xs i ≡ Some x → i < length xs
 below i [] x e = absurd (cc)
 below zero (y ∷ xs) x e = omega arith
 below (suc i) (y ∷ xs) x e = let rest = below i xs x e in omega (arith, rest)
@@ -71,12 +55,6 @@ long zero (y ∷ xs) rest x e = omega arith
 long (suc n) (y ∷ xs) rest x e = let more = long n xs rest x e in omega (arith, more)
 
 -- ---- states that are met
-
-met_stays : (s t : State) (seen : List State) → is_met seen s ≡ true → is_met (with_state seen t) s ≡ true
-met_stays s t seen e = met_more s t seen ∙ or_second (same_state s t) (is_met seen s) e
-
-met_now : (t : State) (seen : List State) → is_met (with_state seen t) t ≡ true
-met_now t seen = met_more t t seen ∙ or_first (same_state t t) (is_met seen t) (state_itself t)
 
 states-push : (ls : List Lead) (l : Lead) → states (ls ++ l ∷ []) ≡ with_state (states ls) l.state
 states-push ls l = map-append (λ (l : Lead). l.state) ls (l ∷ [])
@@ -140,10 +118,10 @@ module _ (good : State → Bool) (most : ℕ) where
   pub none_new : (ls : List Lead) (m : Lead) → IsTried good most ls m.state → with_lead most ls m ≡ ls
   none_new ls m tried =
       elim tried [
-        | inl here ↦ let e = or_second (nat_le most (length ls)) (is_met (states ls) m.state) here in rw e refl
+        | inl here ↦ let e = or_right (nat_le most (length ls)) (is_met (states ls) m.state) here in rw e refl
         | inr full ↦
             let f : nat_le most (length ls) ≡ true = grind (arith, nat_tests, full.0) in
-            let e = or_first (nat_le most (length ls)) (is_met (states ls) m.state) f in
+            let e = or_left (nat_le most (length ls)) (is_met (states ls) m.state) f in
             rw e refl
       ]
 

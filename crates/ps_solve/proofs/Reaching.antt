@@ -1,5 +1,5 @@
 -- Rows and the trail by which they were reached, as one list.
-use Rattle.std.proofs.Common.{◌≡◌, ℕ, zero, suc, ◌<◌, ◌≤◌, List, [], ◌∷◌, ◌++◌, Some, None, length, slice_index_or, ap, sym, ◌∙◌, arith}
+use Rattle.std.proofs.Common.{◌≡◌, ℕ, zero, suc, ◌≤◌, List, [], ◌∷◌, ◌++◌, None, length, slice_index_or, ap, sym, ◌∙◌, arith}
 use Rattle.std.specs.Prelude.{slice_get}
 use Rattle.std.specs.List.{zip}
 use Rattle.std.proofs.lemmas.List.{length-append}
@@ -12,13 +12,6 @@ use Rattle.ps_solve.proofs.Zipped.{length-zip, zip-push, zip_firsts, zip_seconds
 -- what is pushed onto a list is one more
 pub one_longer : {A : Type 0} (xs : List A) (x : A) → length (xs ++ x ∷ []) ≡ suc (length xs)
 one_longer xs x = let l = length-append xs (x ∷ []) in omega (arith, l)
-
--- an item that is there is at a place below the length
-pub is_below : {A : Type 0} (i : ℕ) (xs : List A) (x : A) → slice_get xs i ≡ Some x → i < length xs
-is_below zero [] x e = absurd (cc)
-is_below (suc i) [] x e = absurd (cc)
-is_below zero (y ∷ xs) x e = omega arith
-is_below (suc i) (y ∷ xs) x e = let rest = is_below i xs x e in omega (arith, rest)
 
 -- where none is there, the place is past the end
 pub is_past : {A : Type 0} (i : ℕ) (xs : List A) → slice_get xs i ≡ None → length xs ≤ i

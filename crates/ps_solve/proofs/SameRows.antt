@@ -1,5 +1,5 @@
 -- Rows with a flag for each atom are the same where their states are.
-use Rattle.std.proofs.Common.{◌≡◌, Bool, true, false, not, cond, ◌&&◌, ◌||◌, List, [], ◌∷◌, ◌++◌, length, map, refl, ap, sym, ◌∙◌}
+use Rattle.std.proofs.Common.{◌≡◌, true, false, cond, ◌&&◌, ◌||◌, List, [], ◌∷◌, ◌++◌, length, map, refl, ap, sym, ◌∙◌}
 use Rattle.std.specs.Cmp.{both_ways, first_so, second_so}
 use Rattle.std.specs.Cmp.Lexicographic.{pointwise}
 use Rattle.std.specs.List.{list_any}
@@ -34,11 +34,6 @@ row_told r s flags values = λ i. record { flags = flags i; values = values i }
 -- rows that are the same have as many flags
 pub wide_of_same : (r s : Row) → same_row r s ≡ true → length r.flags ≡ length s.flags
 wide_of_same r s e = ap length (same_flags r.flags s.flags (first_so (pointwise beq r.flags s.flags) (eq_by_cmp values_cmp r.values s.values) e))
-
--- what isn't new was there
-pub was_there : (b : Bool) → not b ≡ false → b ≡ true
-was_there true e = refl
-was_there false e = absurd (cc)
 
 -- a new row goes last
 pub goes_last : (r c : Row) (rows : List Row) → c.flags ≡ r.flags → c.values ≡ r.values → list_any (same_row r) rows ≡ false → insert_key same_row rows c ≡ rows ++ c ∷ []

@@ -5,6 +5,7 @@ use Rattle.std.specs.List.Sorted.{IsStrictlySortedBy}
 use Rattle.std.proofs.lemmas.List.{length-map}
 use Rattle.std.proofs.lemmas.List.Elements.{All-cons, All-head, All-nil, All-tail}
 use Rattle.ps_world.specs.Facts.{fact_cmp}
+use Rattle.ps_world.proofs.Optionals.{map_none}
 use Rattle.ps_action.specs.Plans.{most_acts}
 use Rattle.ps_action.specs.declared.acts.Act.{Act}
 use Rattle.ps_levels.specs.Levels.{Begins, answer_from, first_good, fresh}
@@ -53,10 +54,6 @@ none_good : (good : State → Bool) (ms : List Lead) → find (λ (l : Lead). go
 none_good good [] e = tt
 none_good good (m ∷ ms) e = none_at good (good m.state) m ms refl (none_good good ms) e
 
-no_lead : {A B : Type 0} (f : A → B) (o : Option A) → option_map f o ≡ None → o ≡ None
-no_lead f None e = refl
-no_lead f (Some x) e = absurd (cc)
-
 module _ (t : Task) (rs : List (Row × List ℕ)) where
   -- there are as many nodes as rows
   pub count : length (nodes_in t rs) ≡ length rs
@@ -101,7 +98,7 @@ module _ (t : Task) (rs : List (Row × List ℕ)) where
       -- and then one more is expanded
       pub stays : IsStrictlySortedBy fact_cmp t.grounds.atoms → IsStore t most i rs → AreWide t.grounds.atoms (rows_of new) → option_map (λ (m : Lead). acts_at ps m.places) (find (λ (m : Lead). meets_goal t m.state) led) ≡ None → IsStore t most (suc i) new
       stays rise store wide none =
-          let bad = none_good (meets_goal t) led (no_lead (λ (m : Lead). acts_at ps m.places) (find (λ (m : Lead). meets_goal t m.state) led) none) in
+          let bad = none_good (meets_goal t) led (map_none (λ (m : Lead). acts_at ps m.places) (find (λ (m : Lead). meets_goal t m.state) led) none) in
           let P : List Lead → Type 0 = IsQueue t.expert.now t.problem.now t.grounds.atoms ps (meets_goal t) most (suc i) in
           record {
             wide = wide;

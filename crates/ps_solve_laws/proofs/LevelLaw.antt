@@ -3,6 +3,7 @@ use Rattle.std.proofs.Common.{◌≡◌, ℕ, zero, suc, Bool, true, false, cond
 use Rattle.std.specs.List.{Contains, cons_option, list_any}
 use Rattle.std.specs.Result.{result_ok}
 use Rattle.std.proofs.lemmas.List.Elements.{Contains-append_left, Contains-append_right}
+use Rattle.std.proofs.lemmas.Bool.{or_right}
 use Rattle.ps_world.specs.declared.domains.Domain.{Domain}
 use Rattle.ps_world.specs.declared.known.Knowledge.{Knowledge}
 use Rattle.ps_action.specs.declared.acts.Act.{Act}
@@ -10,12 +11,14 @@ use Rattle.ps_action.specs.declared.acts.GroundAction.{GroundAction}
 use Rattle.ps_action.specs.Grounding.{ground_act}
 use Rattle.ps_action.specs.Plans.{step}
 use Rattle.ps_action.specs.Search.{level, possible_acts, reach, same_known}
+use Rattle.ps_action.proofs.MadeValues.{or_rest}
+use Rattle.ps_action.proofs.Contained.{or_cases}
 use Rattle.ps_domain.proofs.Members.{Contains_from_has, Has, has_from_Contains, has_image, has_in_piece, has_mapped, has_piece}
 use Rattle.ps_solve_laws.specs.Laws.{IsNext, LevelsGoOn}
 use Rattle.ps_ground.specs.States.{State, at, state_of, stepped}
 use Rattle.ps_ground.specs.Moves.{Node, grounds, move, moves}
 use Rattle.ps_solve.specs.Nodes.{firsts, is_met, met, same_state, with_state}
-use Rattle.ps_solve.proofs.Firsts.{AllMet, all_met, is_met-met, or_cases, states}
+use Rattle.ps_solve.proofs.Firsts.{AllMet, all_met, is_met-met, states}
 use Rattle.ps_solve.proofs.Levels.{level_is, nodes, reach_is, reached}
 use Rattle.ps_solve.proofs.SameStates.{met_more, same_known-at, state_itself, state_same}
 use Rattle.ps_solve.proofs.Stepping.{next, next_at}
@@ -48,11 +51,7 @@ module _ {X Y : Type 0} where
 pub any_has : {X : Type 0} (p : X → Bool) (xs : List X) (x : X) → Has xs x → p x ≡ true → list_any p xs ≡ true
 any_has p [] x a e = absurd a
 any_has p (y ∷ ys) x (inl same) e = rw (ap p same ∙ e) refl
-any_has p (y ∷ ys) x (inr a) e = or_true (p y) (list_any p ys) (any_has p ys x a e)
-  where
-    or_true : (a b : Bool) → b ≡ true → (a || b) ≡ true
-    or_true true b e = refl
-    or_true false b e = e
+any_has p (y ∷ ys) x (inr a) e = or_right (p y) (list_any p ys) (any_has p ys x a e)
 
 pub has_state : (s : State) (ns : List Node) → list_any (same_state s) (states ns) ≡ true → (x : Node) × Has ns x × (x.state ≡ s)
 has_state s [] e = absurd (cc)
@@ -65,16 +64,12 @@ has_state s (n ∷ ns) e =
 pub any_state : (x : Node) (ns : List Node) → Has ns x → list_any (same_state x.state) (states ns) ≡ true
 any_state x ns a = any_has (same_state x.state) (states ns) x.state (has_image (λ n. n.state) ns x a) (state_itself x.state)
 
-second_false : (a b : Bool) → (a || b) ≡ false → b ≡ false
-second_false true b e = absurd (cc)
-second_false false b e = e
-
 first_at : (x n : Node) (ns : List Node) (seen : List State) (b : Bool) → is_met seen n.state ≡ b → ((more : List State) → Has (firsts more ns) x → Has ns x × (is_met more x.state ≡ false)) → Has (cond b (firsts seen ns) (n ∷ firsts (with_state seen n.state) ns)) x → Has (n ∷ ns) x × (is_met seen x.state ≡ false)
 first_at x n ns seen true e rest a = let w = rest seen a in (inr w.0, w.1)
 first_at x n ns seen false e rest (inl same) = (inl same, ap (λ (m : Node). is_met seen m.state) (sym same) ∙ e)
 first_at x n ns seen false e rest (inr a) =
     let w = rest (with_state seen n.state) a in
-    (inr w.0, second_false (same_state x.state n.state) (is_met seen x.state) (sym (met_more x.state n.state seen) ∙ w.1))
+    (inr w.0, or_rest (same_state x.state n.state) (is_met seen x.state) (sym (met_more x.state n.state seen) ∙ w.1))
 
 -- a first node is one of the nodes, and its state wasn't met
 pub is_first : (x : Node) (ns : List Node) (seen : List State) → Has (firsts seen ns) x → Has ns x × (is_met seen x.state ≡ false)

@@ -1,8 +1,7 @@
 -- What the symbols of goals lead to: each stands for one word or list, or for what stands up to a parenthesis that closes.
 use Rattle.std.proofs.Common.{◌≡◌, ℕ, zero, suc, ◌==◌, Bool, true, false, ◌&&◌, List, [], ◌∷◌, Option, None, Some, refl, subst, arith}
 use Rattle.std.specs.List.{list_all}
-use Rattle.std.proofs.lemmas.Bool.{and_parts}
-use Rattle.std.proofs.lemmas.Bool.Decides.{nat_tests}
+use Rattle.std.proofs.lemmas.Bool.{and_parts, eqb-true}
 use Rattle.ps_shape.specs.Rules.{goal_rule, step}
 use Rattle.ps_shape.specs.Symbols.{level, weight}
 use Rattle.ps_shape.specs.declared.marks.Mark.{Mark}
@@ -84,9 +83,6 @@ nothing_is : (new : List Symbol) → is_nothing new ≡ true → new ≡ []
 nothing_is [] e = refl
 nothing_is (s ∷ st) e = absurd (cc)
 
-same_number : (a b : ℕ) → (a == b) ≡ true → a ≡ b
-same_number a b e = grind (arith, nat_tests)
-
 module _ (s : Symbol) (m : Mark) (new : List Symbol) (leads : step s m ≡ Some new) where
   here : (w : ℕ) → is_goal s ≡ true → weight s ≡ w → fits w m (Some new) ≡ true
   here w is e = subst (λ o. fits w m o ≡ true) leads (subst (λ n. fits n m (step s m) ≡ true) e (fits_step s m is))
@@ -94,20 +90,20 @@ module _ (s : Symbol) (m : Mark) (new : List Symbol) (leads : step s m ≡ Some 
   one_here : is_one s ≡ true → from_one m new ≡ true
   one_here e =
       let parts = and_parts (is_goal s) (weight s == 0) e in
-      here 0 parts.0 (same_number (weight s) 0 parts.1)
+      here 0 parts.0 (eqb-true (weight s) 0 parts.1)
 
   last_here : is_last s ≡ true → from_last m new ≡ true
   last_here e =
       let parts = and_parts (is_goal s) (weight s == 1) e in
-      here 1 parts.0 (same_number (weight s) 1 parts.1)
+      here 1 parts.0 (eqb-true (weight s) 1 parts.1)
 
 -- ---- levels
 
 pub one_level : (s : Symbol) → is_one s ≡ true → weight s ≡ 0
-one_level s e = same_number (weight s) 0 (and_parts (is_goal s) (weight s == 0) e).1
+one_level s e = eqb-true (weight s) 0 (and_parts (is_goal s) (weight s == 0) e).1
 
 pub last_level : (s : Symbol) → is_last s ≡ true → weight s ≡ 1
-last_level s e = same_number (weight s) 1 (and_parts (is_goal s) (weight s == 1) e).1
+last_level s e = eqb-true (weight s) 1 (and_parts (is_goal s) (weight s == 1) e).1
 
 pub closes_level : (st : List Symbol) → closes st ≡ true → level st ≡ 1
 closes_level [] e = absurd (cc)

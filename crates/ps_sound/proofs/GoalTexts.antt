@@ -1,6 +1,6 @@
 -- Words that nested lists are written with, where a goal is wanted: no list in them is too deep, and a list stands wherever a condition
 -- is looked for.
-use Rattle.std.proofs.Common.{◌≡◌, ℕ, suc, ◌+◌, ◌<◌, ◌≤◌, Bool, true, false, ◌&&◌, ◌||◌, is_some, if◌then◌else◌, List, [], ◌∷◌, ◌++◌, Some, refl, ◌∙◌, ap, subst, append_assoc, arith}
+use Rattle.std.proofs.Common.{◌≡◌, ℕ, suc, ◌+◌, ◌<◌, ◌≤◌, Bool, true, false, ◌&&◌, ◌||◌, is_some, if◌then◌else◌, List, [], ◌∷◌, ◌++◌, Some, refl, ◌∙◌, subst, arith}
 use Rattle.std.proofs.lemmas.Bool.{and_parts}
 use Rattle.std.proofs.lemmas.List.{map-append}
 use Rattle.ps_shape.specs.Marks.{is, is_goal_name, is_name}
@@ -21,6 +21,7 @@ use Rattle.ps_forms.specs.Spelling.Spells.{plain, between}
 use Rattle.ps_forms.specs.Spelling.SpellAll.{nothing, one_more}
 use Rattle.ps_forms.specs.declared.lexemes.Lexeme.{Lexeme}
 use Rattle.ps_rules.specs.Sound.{IsScriptCond}
+use Rattle.ps_forms.proofs.Taking.{group_marks, marks_more}
 use Rattle.ps_conditions.specs.Signs.{rel_of}
 use Rattle.ps_script.specs.Goals.{condition, first_condition}
 use Rattle.ps_sound.proofs.GoalMarks.{HasRoom, Runs}
@@ -99,13 +100,6 @@ open_inside s st ms e runs =
     split_open n.new st ms (omega (arith, room, last_level s e)) (last_open s n.new n.leads e) n.runs
 
 -- ---- words of lists
-
-group_marks : (left right : Lexeme) (ls : List Lexeme) (ms : List Mark) → left.mark ≡ Open → right.mark ≡ Close → marks (left ∷ (ls ++ right ∷ [])) ++ ms ≡ Open ∷ (marks ls ++ Close ∷ ms)
-group_marks left right ls ms o c =
-    ap (λ x. left.mark ∷ (x ++ ms)) (map-append (λ l. l.mark) ls (right ∷ [])) ∙ ap (λ x. left.mark ∷ x) (append_assoc (marks ls) (right.mark ∷ []) ms) ∙ ap (λ m. m ∷ (marks ls ++ right.mark ∷ ms)) o ∙ ap (λ m. Open ∷ (marks ls ++ m ∷ ms)) c
-
-marks_more : (ls ks : List Lexeme) (ms : List Mark) → marks (ls ++ ks) ++ ms ≡ marks ls ++ (marks ks ++ ms)
-marks_more ls ks ms = ap (λ x. x ++ ms) (map-append (λ l. l.mark) ls ks) ∙ append_assoc (marks ls) (marks ks) ms
 
 -- the words of a list are within the levels, and the marks after them run on
 abbrev pub Passes : ℕ → List Symbol → List Mark → Type 0

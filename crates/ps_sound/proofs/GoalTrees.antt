@@ -1,7 +1,7 @@
 -- The condition that nested lists are: no variable stands in it, and it opens no more parentheses than they do.
 use Rattle.std.proofs.Common.{◌≡◌, ℕ, suc, ◌≤◌, Bool, true, false, ◌&&◌, ◌||◌, if◌then◌else◌, is_some, Option, None, Some, List, [], ◌∷◌, map, refl, arith}
 use Rattle.std.specs.List.{list_all}
-use Rattle.std.proofs.lemmas.Bool.{and_parts}
+use Rattle.std.proofs.lemmas.Bool.{and_parts, and_from}
 use Rattle.ps_world.specs.Trees.{cond_trees}
 use Rattle.ps_world.specs.CondViews.{cond_tree}
 use Rattle.ps_world.specs.ExprViews.{expr_tree}
@@ -41,9 +41,6 @@ names_named (n ∷ ns) = names_named ns
 args_named : (l : Lexeme) (ts : Nesteds) → are_named (lifted l ts) ≡ true
 args_named l ts = names_named (args_of ts)
 
-both : (a b : Bool) → a ≡ true → b ≡ true → (a && b) ≡ true
-both a b p q = rw (p, q) refl
-
 one_of : {X : Type 0} (P : X → Type 0) (b : Bool) (x y : X) → P x → P y → P (if b then x else y)
 one_of P true x y p q = p
 one_of P false x y p q = q
@@ -59,7 +56,7 @@ neg_fine n a fine = (fine.0, omega (arith, fine.1))
 
 operated_fine : (n : ℕ) (o : Option Op) (a b other : Expr) → IsFineExpr n a → IsFineExpr n b → IsFineExpr (suc n) other → IsFineExpr (suc n) (operated certain o a b other)
 operated_fine n None a b other p q r = r
-operated_fine n (Some op) a b other p q r = (both _ _ p.0 q.0, omega (arith, p.1, q.1))
+operated_fine n (Some op) a b other p q r = (and_from _ _ p.0 q.0, omega (arith, p.1, q.1))
 
 mutual
   value_fine : (t : Nested) → IsFineExpr (rank t) (value certain line_words t)

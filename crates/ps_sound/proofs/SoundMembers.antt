@@ -1,9 +1,7 @@
 -- A member that is read is one that a session of its domain may have.
 use Rattle.std.proofs.Common.{◌≡◌, ℕ, suc, ◌+◌, ◌-◌, ◌<◌, ◌≤◌, nat_lt, ◌==◌, Bool, true, false, not, ◌&&◌, if◌then◌else◌, List, [], ◌∷◌, ◌++◌, length, All, slice_get, Option, None, Some, IfSome, IfOk, Result, Ok, Err, refl, sym, ap, subst, arith}
 use Rattle.std.specs.Option.{IsSomeAnd, option_map_or}
-use Rattle.std.proofs.lemmas.Bool.{and_parts}
-use Rattle.std.proofs.lemmas.Bool.Decides.{nat_tests}
-use Rattle.std.proofs.lemmas.List.{length-append}
+use Rattle.std.proofs.lemmas.Bool.{and_parts, eqb-true, ltb-true}
 use Rattle.std.proofs.lemmas.List.Elements.{All-nil, All-cons, All-append}
 use Rattle.ps_world.specs.Knowledge.{action_of}
 use Rattle.ps_world.specs.Names.{Table}
@@ -30,6 +28,7 @@ use Rattle.ps_members.specs.declared.places.Said.{Said}
 use Rattle.ps_members.specs.declared.places.Said.TheVariants as says
 use Rattle.ps_members.specs.declared.refusals.ScriptRefusal.{ScriptRefusal}
 use Rattle.ps_members.specs.declared.refusals.ScriptRefusal.TheVariants.{Arity, NoFinish, Limit}
+use Rattle.ps_members.proofs.WholeMembers.{one_more}
 use Rattle.ps_sound.proofs.SoundUnits.{HasRoom, IsSoundHere, IsSoundSaid, said_sound}
 use Rattle.ps_sound.specs.Sound.{IsSoundMember, MembersAreSound}
 
@@ -104,15 +103,6 @@ checked : (d : Domain) (b : Bool) (r : Result Place ScriptRefusal) (why : Script
 checked d true r why h = h refl
 checked d false r why h = tt
 
-same_number : (a b : ℕ) → (a == b) ≡ true → a ≡ b
-same_number a b e = grind (arith, nat_tests)
-
-below : (a b : ℕ) → nat_lt a b ≡ true → a < b
-below a b e = grind (arith, nat_tests)
-
-one_longer : {X : Type 0} (xs : List X) (x : X) → length (xs ++ x ∷ []) ≡ length xs + 1
-one_longer xs x = length-append xs (x ∷ [])
-
 and_one : {X : Type 0} (P : X → Type 0) (xs : List X) (x : X) → All P xs → P x → All P (xs ++ x ∷ [])
 and_one P xs x all here = All-append P xs (x ∷ []) all (All-cons P x [] here (All-nil P))
 
@@ -124,7 +114,7 @@ acting_sound d n name action (Some declared) e = subst (λ o. IsSomeAnd o (λ a.
 
 ready_sound : (d : Domain) (n : ℕ) (name action : Name) (arity : ℕ) (places : List (Option Name)) → IsSoundSoFar d (Acting name action arity) → LeadsSound d (ready n name action arity places)
 ready_sound d n name action arity places so =
-    checked d (length places == arity) _ (Arity n) (λ e. (subst (λ k. IsSomeAnd (action_of d action) (λ a. k ≡ length a.params)) (sym (same_number (length places) arity e)) so, refl))
+    checked d (length places == arity) _ (Arity n) (λ e. (subst (λ k. IsSomeAnd (action_of d action) (λ a. k ≡ length a.params)) (sym (eqb-true (length places) arity e)) so, refl))
 
 job_sound : (d : Domain) (p : Performer) (units : List Task) → IsWorking d p units → is_finished units ≡ true → IsSoundJob units
 job_sound d p units so e = record { short = so.short; ended = ended units so.last e; each = so.each }
@@ -133,7 +123,7 @@ next_sound : (d : Domain) (n : ℕ) (p : Performer) (units : List Task) → IsWo
 next_sound d n p units so =
     checked d (is_finished units) _ (NoFinish n) (λ e. checked d (nat_lt (length (p.jobs ++ units ∷ [])) most_jobs) _ (Limit n) (λ f. record {
       action = so.action;
-      few = below _ most_jobs f;
+      few = ltb-true _ most_jobs f;
       jobs = and_one IsSoundJob p.jobs units so.jobs (job_sound d p units so e);
       last = refl;
       short = omega arith;
@@ -142,7 +132,7 @@ next_sound d n p units so =
 
 last_sound : (d : Domain) (n : ℕ) (p : Performer) (units : List Task) → IsWorking d p units → LeadsSound d (last_job n p units)
 last_sound d n p units so =
-    let more = one_longer p.jobs units in
+    let more = one_more p.jobs units in
     let few = so.few in
     checked d (is_finished units) _ (NoFinish n) (λ e. record {
       action = so.action;
@@ -153,8 +143,8 @@ last_sound d n p units so =
 
 unit_sound : (d : Domain) (n : ℕ) (p : Performer) (units : List Task) (u : Task) → IsWorking d p units → is_finished units ≡ false → IsSoundUnit u → LeadsSound d (with_unit n p units u)
 unit_sound d n p units u so under sound =
-    let more = one_longer units u in
-    checked d (nat_lt (length units) most_units) _ (Limit n) (λ e. let few = below (length units) most_units e in record {
+    let more = one_more units u in
+    checked d (nat_lt (length units) most_units) _ (Limit n) (λ e. let few = ltb-true (length units) most_units e in record {
       action = so.action;
       few = so.few;
       jobs = so.jobs;
@@ -165,8 +155,8 @@ unit_sound d n p units u so under sound =
 
 item_sound : (d : Domain) (n : ℕ) (o : Observer) (when : Option Cond) (e : Change) → IsSoundObserver o → IsSoundItem (when, e) → LeadsSound d (with_item n o when e)
 item_sound d n o when e so sound =
-    let more = one_longer o.units (when, e) in
-    checked d (nat_lt (length o.units) most_units) _ (Limit n) (λ f. let few = below (length o.units) most_units f in record {
+    let more = one_more o.units (when, e) in
+    checked d (nat_lt (length o.units) most_units) _ (Limit n) (λ f. let few = ltb-true (length o.units) most_units f in record {
       short = omega (arith, more, few);
       units = and_one IsSoundItem o.units (when, e) so.units sound;
     })

@@ -2,7 +2,7 @@
 use Rattle.std.proofs.Common.{◌≡◌, ℕ, ◌+◌, ◌-◌, ◌*◌, ◌≤◌, nat_le, Bool, true, false, not, ◌&&◌, ◌||◌, if◌then◌else◌, List, [], ◌∷◌, codes, Option, None, Some, IfSome, IfOk, Result, Ok, Err, refl, sym, subst, arith}
 use Rattle.std.specs.Char.{is_ascii_digit}
 use Rattle.std.specs.Option.{option_and_then}
-use Rattle.std.proofs.lemmas.Bool.{and_parts}
+use Rattle.std.proofs.lemmas.Bool.{and_parts, not-true}
 use Rattle.std.proofs.lemmas.Bool.Decides.{nat_tests}
 use Rattle.ps_world.specs.Lines.{same_text}
 use Rattle.ps_world.specs.Names.{Table}
@@ -138,13 +138,9 @@ allowed_in at (Some g) f e =
     let c = chosen (is_allowed at g) g f e in
     subst (λ x. is_allowed at x ≡ true) c.1 c.0
 
-unfinished : (b : Bool) → not b ≡ true → b ≡ false
-unfinished true e = absurd (cc)
-unfinished false e = refl
-
 one_more : (a b c : Bool) → a ≡ false → (a || (b && not c)) ≡ true → c ≡ false
 one_more true b c n e = absurd (cc)
-one_more false b c n e = unfinished c (and_parts b (not c) e).1
+one_more false b c n e = not-true c (and_parts b (not c) e).1
 
 room_here : (at : Place) (f : Form) (s : Said) → is_allowed at f ≡ true → GoesOn f s → HasRoom at s
 room_here (Working p units) f (says.Unit u) allowed goes = one_more (is_close f) (is_unit f) (is_finished units) goes allowed

@@ -1,5 +1,5 @@
 -- Words that are a letter and then bytes of names.
-use Rattle.std.proofs.Common.{◌≡◌, ℕ, zero, suc, ◌+◌, ◌-◌, ◌<◌, ◌==◌, Bool, true, false, not, cond, nat_lt, List, ◌∷◌, length, take, drop, get_or, position, slice_range, Option, Some, None, is_none, refl, sym, ap, ◌∙◌, inl, inr, arith}
+use Rattle.std.proofs.Common.{◌≡◌, ℕ, zero, suc, ◌+◌, ◌-◌, ◌<◌, ◌≤◌, ◌==◌, Bool, true, false, not, cond, nat_lt, List, ◌∷◌, length, take, drop, get_or, position, slice_range, Option, Some, None, is_none, refl, sym, ap, ◌∙◌, inl, inr, arith}
 use Rattle.std.proofs.lemmas.List.{drop_more, get_or-take, length-take}
 use Rattle.std.proofs.lemmas.List.Sums.{fails_before_first, position_or_len_is}
 use Rattle.std.proofs.lemmas.Bool.{cases_Bool, eqb-true, false≢true, le-ltb, not-false, not_from_true, not_from_false, or_parts}
@@ -79,3 +79,13 @@ module _ (bytes : List ℕ) (at : ℕ) (in' : at < length bytes) (letter : is_le
       let cut : drop at bytes ≡ b ∷ rest = drop_more bytes at 0 in' ∙ ap (λ t. b ∷ t) (sym is_rest) in
       ap class_of (ap (λ k. take k (drop at bytes)) count ∙ ap (take (suc n)) cut)
       ∙ class_of-name (b ∷ take n rest) (name b rest n letter first short)
+
+-- ---- where no byte is bad
+
+pub no_position-by : (n k : ℕ) (e : Bool) → nat_lt k n ≡ e → cond e (Some k) None ≡ None → n ≤ k
+no_position-by n k true e h = absurd (cc)
+no_position-by n k false e h = grind (arith, nat_tests)
+
+pub no_bad_place : (at : Option ℕ) (n : ℕ) → fault_at at n ≡ None → at ≡ None
+no_bad_place None n h = refl
+no_bad_place (Some at) n h = absurd (cc)

@@ -1,6 +1,6 @@
 -- Pieces of a text, one after another, and its lines.
-use Rattle.std.proofs.Common.{◌≡◌, ℕ, zero, suc, ◌+◌, ◌-◌, ◌<◌, ◌≤◌, ◌==◌, Bool, true, false, not, List, [], ◌∷◌, ◌++◌, length, take, drop, position, slice_range, unwrap_or, Option, refl, sym, ap, ◌∙◌, inl, inr, arith, append_assoc, append-nil, one-add}
-use Rattle.std.proofs.lemmas.List.{map_push, length_push, length-drop, drop-drop, drop_all}
+use Rattle.std.proofs.Common.{◌≡◌, ℕ, zero, suc, ◌+◌, ◌-◌, ◌<◌, ◌≤◌, ◌==◌, Bool, true, false, not, List, [], ◌∷◌, ◌++◌, length, take, drop, position, slice_range, unwrap_or, Option, refl, sym, ap, ◌∙◌, inl, inr, arith, append_assoc, append-nil, one-add, slice_index_or}
+use Rattle.std.proofs.lemmas.List.{map_push, length_push, length-drop, drop-drop, drop_all, drop_more}
 use Rattle.std.proofs.lemmas.List.Elements.{All-nil, All-push}
 use Rattle.std.proofs.lemmas.List.Sums.{prefix_len-le-length}
 use Rattle.std.proofs.lemmas.Bool.{cases_Bool, cases_lt, lt-ltb, le-ltb}
@@ -112,3 +112,6 @@ lines_of-step bytes from to next h e less all =
       | inr le ↦ drop_all (from + suc n) bytes (omega arith) ∙ sym (drop_all next bytes (omega (arith, all le)))
     ] in
     rw (count, ← rest) (lines_of-first (drop from bytes) n refl some)
+
+pub pieces_more : (bytes : List ℕ) (spans : List Span) (i : ℕ) (s : Span) (line : List ℕ) → i < length spans → line ≡ slice_range bytes (slice_index_or spans i s).from (slice_index_or spans i s).to → pieces bytes (drop i spans) ≡ line ∷ pieces bytes (drop (i + 1) spans)
+pieces_more bytes spans i s line lt l = rw (drop_more spans i s lt, l) refl

@@ -88,10 +88,10 @@ digit_texts = numerals_by_value (λ ds. list_all is_ascii_digit ds ≡ true) (se
 no_point : (b : ℕ) → is_ascii_digit b ≡ true → is_point b ≡ false
 no_point b h = grind (arith, nat_tests)
 
-no_minus : (b : ℕ) → is_ascii_digit b ≡ true → (b == 45) ≡ false
+pub no_minus : (b : ℕ) → is_ascii_digit b ≡ true → (b == 45) ≡ false
 no_minus b h = grind (arith, nat_tests)
 
-is_digit : (d : ℕ) → d < 10 → is_ascii_digit (48 + d) ≡ true
+pub is_digit : (d : ℕ) → d < 10 → is_ascii_digit (48 + d) ≡ true
 is_digit d h = grind (arith, nat_tests)
 
 value-of_digit : (d : ℕ) → d < 10 → digit_value (48 + d) ≡ d
@@ -117,7 +117,7 @@ module _ (ds rest : List ℕ) (h : list_all is_ascii_digit ds ≡ true) where
 count-printed : (n : ℕ) → digits_value_after 10 (n / 1000) ((48 + n / 100 % 10) ∷ (48 + n / 10 % 10) ∷ (48 + n % 10) ∷ []) ≡ n
 count-printed n = rw (value-of_digit (n / 100 % 10) (omega arith), value-of_digit (n / 10 % 10) (omega arith), value-of_digit (n % 10) (omega arith)) (omega arith)
 
-are_digits-from : (text : List ℕ) → 0 < length text → list_all is_ascii_digit text ≡ true → are_digits text ≡ true
+pub are_digits-from : (text : List ℕ) → 0 < length text → list_all is_ascii_digit text ≡ true → are_digits text ≡ true
 are_digits-from text some h = and_from _ _ (not_from_false _ (ne_eqb (length text) 0 (λ e. omega arith))) h
 
 is_plain-from : (text : List ℕ) → are_digits (whole_part text) ≡ true → are_digits (fraction_part text) ≡ true → is_plain text ≡ true

@@ -7,18 +7,13 @@ use Rattle.std.proofs.lemmas.List.Quantifiers.{position-Some}
 use Rattle.std.proofs.lemmas.List.Sums.{position_or_len_is}
 use Rattle.std.proofs.lemmas.Option.{slice_get_within}
 use Rattle.std.proofs.lemmas.Bool.{cases_Bool, cases_lt, false≢true, or_parts}
-use Rattle.std.specs.Cmp.Lexicographic.{bytes_decides}
 use Rattle.std.specs.List.{list_any, position_or_len}
 use Rattle.ps_world.specs.Names.{Table}
 use Rattle.ps_world.specs.Lines.{same_text}
-use Rattle.ps_text.specs.Names.{folded, place_of, interned, IsNameText, AreNames}
+use Rattle.ps_world.proofs.SameTexts.{same_text-itself, same_text-is}
+use Rattle.ps_world.proofs.Elements.{get_first, get_last}
+use Rattle.ps_text.specs.Names.{folded, place_of, interned, IsNameText, AreNames, Keeps}
 use Rattle.ps_text.proofs.Folds.{position_or_len-map, position-map, list_any-map}
-
-pub same_text-refl : (text : List ℕ) → same_text text text ≡ true
-same_text-refl text = (bytes_decides text text).1 refl
-
-pub same_text-same : (a b : List ℕ) → same_text a b ≡ true → a ≡ b
-same_text-same a b = (bytes_decides a b).0
 
 -- ---- what a table is after a text is put into it
 
@@ -35,21 +30,12 @@ length-interned t text =
       | inr e ↦ rw (interned-new t text e) (omega (arith, length_push t text))
     ]
 
-slice_get-append : {X : Type 0} (xs ys : List X) (i : ℕ) (x : X) → slice_get xs i ≡ Some x → slice_get (xs ++ ys) i ≡ Some x
-slice_get-append [] ys i x h = cc
-slice_get-append (y ∷ xs) ys zero x h = h
-slice_get-append (y ∷ xs) ys (suc i) x h = slice_get-append xs ys i x h
-
-slice_get-push : {X : Type 0} (xs : List X) (x : X) → slice_get (xs ++ x ∷ []) (length xs) ≡ Some x
-slice_get-push [] x = refl
-slice_get-push (y ∷ xs) x = slice_get-push xs x
-
 -- an old text keeps its place
 pub slice_get-interned : (t : Table) (text : List ℕ) (i : ℕ) (x : List ℕ) → slice_get t i ≡ Some x → slice_get (interned t text) i ≡ Some x
 slice_get-interned t text i x h =
     elim (cases_Bool (list_any (same_text text) t)) [
       | inl e ↦ rw (interned-there t text e) h
-      | inr e ↦ rw (interned-new t text e) (slice_get-append t (text ∷ []) i x h)
+      | inr e ↦ rw (interned-new t text e) (get_first t (text ∷ []) i x h)
     ]
 
 -- a set of vectors, seen as the table of their items
@@ -76,7 +62,7 @@ place_of-there : (t : Table) (text : List ℕ) → list_any (same_text text) t �
 place_of-there [] text h = cc
 place_of-there (x ∷ t) text h =
     elim (cases_Bool (same_text text x)) [
-      | inl e ↦ rw e (ap Some (sym (same_text-same text x e)))
+      | inl e ↦ rw e (ap Some (sym (same_text-is text x e)))
       | inr e ↦ ap (slice_get (x ∷ t)) (place_of-other x t text e) ∙ place_of-there t text (rw e at h)
     ]
 
@@ -91,7 +77,7 @@ pub place_of-interned : (t : Table) (text : List ℕ) → slice_get (interned t 
 place_of-interned t text =
     elim (cases_Bool (list_any (same_text text) t)) [
       | inl e ↦ rw (interned-there t text e) (place_of-there t text e)
-      | inr e ↦ rw (interned-new t text e, place_of-new t text e) (slice_get-push t text)
+      | inr e ↦ rw (interned-new t text e, place_of-new t text e) (get_last t text)
     ]
 
 pub place_of-within : (t : Table) (text : List ℕ) → place_of t text < length (interned t text)
@@ -101,7 +87,7 @@ place_of-within t text = slice_get_within (interned t text) (place_of t text) te
 
 module _ (t : Table) (text : List ℕ) (place : ℕ) (names : AreNames t) (within : place < length t) (stands : same_text text (get_or t place []) ≡ true) where
   is : text ≡ get_or t place []
-  is = same_text-same text (get_or t place []) stands
+  is = same_text-is text (get_or t place []) stands
 
   same : folded text ≡ text
   same = subst (λ x. folded x ≡ x) (sym is) (names.texts place [] within).lower_case
@@ -109,7 +95,7 @@ module _ (t : Table) (text : List ℕ) (place : ℕ) (names : AreNames t) (withi
   before : (k : ℕ) → k < place → same_text text (get_or t k []) ≡ false
   before k h =
       elim (cases_Bool (same_text text (get_or t k []))) [
-        | inl e ↦ absurd (omega (arith, names.apart k place (omega arith) within (sym (same_text-same text (get_or t k []) e) ∙ is)))
+        | inl e ↦ absurd (omega (arith, names.apart k place (omega arith) within (sym (same_text-is text (get_or t k []) e) ∙ is)))
         | inr e ↦ e
       ]
 
@@ -146,7 +132,7 @@ module _ {V : Type 0} (items : V → List ℕ) (vs : List V) (text : List ℕ) (
 
 module _ (t : Table) (text : List ℕ) (new : list_any (same_text text) t ≡ false) where
   other : (i : ℕ) → i < length t → get_or t i [] ≡ text → ⊥
-  other i h e = false≢true (sym new ∙ list_any_at (same_text text) t i [] h (rw e (same_text-refl text)))
+  other i h e = false≢true (sym new ∙ list_any_at (same_text text) t i [] h (rw e (same_text-itself text)))
 
   abbrev more : Table
   more = t ++ text ∷ []
@@ -175,7 +161,7 @@ module _ (t : Table) (text : List ℕ) (new : list_any (same_text text) t ≡ fa
       record {
         texts = All-push IsNameText t text h.texts n;
         apart = apart-push h;
-        first = slice_get-append t (text ∷ []) 0 (codes "object") h.first;
+        first = get_first t (text ∷ []) 0 (codes "object") h.first;
       }
 
 first_taken : (t : Table) (n : ℕ) (text : List ℕ) → 0 < n → slice_get t 0 ≡ Some text → slice_get (take n t) 0 ≡ Some text
@@ -200,3 +186,9 @@ AreNames-interned t text h n =
       | inl e ↦ rw (interned-there t text e) h
       | inr e ↦ rw (interned-new t text e) (AreNames-push t text e h n)
     ]
+
+-- a text is at its place in a table that keeps the names of one that has it
+pub placed : (t u : Table) (x : List ℕ) → Keeps (interned t x) u → slice_get u (place_of t x) ≡ Some x
+placed t u x keeps =
+    let here = place_of-interned t x in
+    keeps (place_of t x) (slice_get_within (interned t x) (place_of t x) x here) ∙ here

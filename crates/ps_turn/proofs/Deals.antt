@@ -9,6 +9,7 @@ use mathlib.Core.Logic.{dite}
 use lib.ListN.{get_elem?}
 use Rattle.atomic_table.specs.Table.{opening, Splits}
 use Rattle.atomic_table.proofs.Lists.{at_set, at_longer}
+use Rattle.ps_world.proofs.Elements.{set_over, at_end_or_before, at_only}
 use Rattle.ps_machine.specs.declared.inputs.Input.{Input}
 use Rattle.ps_machine.specs.declared.journal.Entry.{Entry}
 use Rattle.ps_turn.specs.Hands.{of_hand, IsBeginning}
@@ -16,7 +17,7 @@ use Rattle.ps_turn.specs.Rule.{Founded, Known, AreKnown, AreApart, HasNote, Fits
 use Rattle.ps_turn.specs.Turns.{opener, dealer, newcomer}
 use Rattle.ps_turn.specs.declared.view.Note.{Note}
 use Rattle.ps_turn.specs.declared.view.View.{View}
-use Rattle.ps_turn.proofs.Lists.{is_beginning_of_itself, goes_on_by_more, set_over, at_end, at_end_or_before, at_only}
+use Rattle.ps_turn.proofs.Lists.{is_beginning_of_itself, goes_on_by_more, at_end}
 use Rattle.ps_turn.proofs.Keeps.{Was, was, stands_still}
 
 known_wider : (base : List Entry) (made more : ℕ) (log : List Entry) (hand : ℕ) (seen mine : List Entry) → made ≤ more → Known base made log hand seen mine → Known base more log hand seen mine

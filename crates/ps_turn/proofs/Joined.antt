@@ -7,6 +7,7 @@ use mathlib.Core.Logic.{dite}
 use lib.ListN.{get_elem?}
 use Rattle.atomic_table.specs.Table.{Joins, Final, Seen}
 use Rattle.atomic_table.proofs.Lists.{at_set, set_else}
+use Rattle.ps_world.proofs.Elements.{set_over}
 use Rattle.ps_machine.specs.declared.inputs.Input.{Input}
 use Rattle.ps_machine.specs.declared.journal.Entry.{Entry}
 use Rattle.ps_turn.specs.Hands.{GoesOnByHands}
@@ -15,7 +16,7 @@ use Rattle.ps_turn.specs.Books.{Book}
 use Rattle.ps_turn.specs.Seats.{founded_on, Tells}
 use Rattle.ps_turn.specs.Turns.{spent, noting}
 use Rattle.ps_turn.specs.declared.view.View.{View}
-use Rattle.ps_turn.proofs.Lists.{set_over, goes_on_by_more}
+use Rattle.ps_turn.proofs.Lists.{goes_on_by_more}
 
 -- a live seat after the join stood there before with the same hand, is not the one that was joined, and has no new note but the keeper's of that one's hand
 record Stayed (views : List View) (id other : ℕ) (w : View) (j : ℕ) (u : View) : Type 0 where

@@ -10,6 +10,7 @@ use lib.ListN.{get_elem?}
 use Rattle.atomic_table.specs.Table.{State, Me, step, Act, Allows, Valid, stepped, carried_after}
 use Rattle.atomic_table.specs.Table.Act.{keeps, takes, gives}
 use Rattle.atomic_table.proofs.Lists.{at_set, set_again, set_else, exchanged}
+use Rattle.ps_world.proofs.Elements.{set_over}
 use Rattle.ps_machine.specs.declared.inputs.Input.{Input}
 use Rattle.ps_machine.specs.declared.journal.Entry.{Entry}
 use Rattle.ps_turn.specs.Hands.{of_hand, IsBeginning, GoesOnBy, GoesOnByHands}
@@ -17,7 +18,7 @@ use Rattle.ps_turn.specs.Rule.{Founded, Known, AreKnown, AreApart, HasNote, Stan
 use Rattle.ps_turn.specs.Turns.{told, Begins, Takes, Gives}
 use Rattle.ps_turn.specs.declared.view.Note.{Note}
 use Rattle.ps_turn.specs.declared.view.View.{View}
-use Rattle.ps_turn.proofs.Lists.{of_hand-others, begins_still, is_beginning_of_itself, goes_on_still, set_over}
+use Rattle.ps_turn.proofs.Lists.{of_hand-others, begins_still, is_beginning_of_itself, goes_on_still}
 
 -- a view of the new list stands in the old one with the same hand and notes
 pub record Was (views : List View) (j : ℕ) (u : View) : Type 0 where

@@ -1,7 +1,7 @@
 -- Lists of entries by hand, and lists read by `get_elem?`.
-use Rattle.std.proofs.Common.{◌≡◌, ◌≢◌, ◌⊎◌, ℕ, zero, suc, slice_set, length, inl, inr, ⊎_elim, ◌<◌, ◌≤◌, List, [], ◌∷◌, ◌++◌, refl, sym, ap, ◌∙◌, arith, append_assoc}
+use Rattle.std.proofs.Common.{◌≡◌, ◌≢◌, ℕ, length, ◌<◌, ◌≤◌, List, [], ◌∷◌, ◌++◌, refl, sym, ap, ◌∙◌, arith, append_assoc}
 use Rattle.std.specs.Prelude.{◌==◌}
-use mathlib.Core.Option.{some, some-injective, some-ne-none}
+use mathlib.Core.Option.{some}
 use lib.ListN.{get_elem?}
 use Rattle.std.specs.List.{All}
 use Rattle.std.proofs.lemmas.List.Elements.{All-head, All-tail, All-append, All-weaker, filter-append}
@@ -42,25 +42,7 @@ goes_on_by_more last further base es le goes = (
   All-weaker (λ (e : Entry). (0 < e.hand) × (e.hand ≤ last)) (λ (e : Entry). (0 < e.hand) × (e.hand ≤ further)) (λ e is. (is.0, omega arith)) goes.0 goes.2,
 )
 
--- what is written over an element stands there
-pub set_over : {A : Type 0} (l : List A) (i : ℕ) (a b : A) → get_elem? l i ≡ some a → get_elem? (slice_set l i b) i ≡ some b
-set_over [] i a b e = absurd (some-ne-none a (sym e))
-set_over (x ∷ xs) zero a b e = refl
-set_over (x ∷ xs) (suc i) a b e = set_over xs i a b e
-
 -- the last element stands at the end
 pub at_end : {A : Type 0} (l : List A) (a : A) → get_elem? (l ++ a ∷ []) (length l) ≡ some a
 at_end [] a = refl
 at_end (x ∷ xs) a = at_end xs a
-
--- what stands in a list with one more element stands there already, or is the last
-pub at_end_or_before : {A : Type 0} (l : List A) (a b : A) (j : ℕ) → get_elem? (l ++ a ∷ []) j ≡ some b → (get_elem? l j ≡ some b) ⊎ ((j ≡ length l) × (a ≡ b))
-at_end_or_before [] a b zero e = inr (refl, some-injective a b e)
-at_end_or_before [] a b (suc j) e = absurd (some-ne-none b (sym e))
-at_end_or_before (x ∷ xs) a b zero e = inl e
-at_end_or_before (x ∷ xs) a b (suc j) e = ⊎_elim inl (λ t. inr (ap suc t.0, t.1)) (at_end_or_before xs a b j e)
-
--- what stands in a list of one element is that
-pub at_only : {A : Type 0} (a b : A) (j : ℕ) → get_elem? (a ∷ []) j ≡ some b → (j ≡ 0) × (a ≡ b)
-at_only a b zero e = (refl, some-injective a b e)
-at_only a b (suc j) e = absurd (some-ne-none b (sym e))

@@ -5,6 +5,7 @@ use Rattle.std.specs.List.{list_any}
 use Rattle.std.specs.Map.{lookup}
 use Rattle.std.specs.Option.{option_map_or}
 use Rattle.std.proofs.lemmas.Bool.Decides.{nat_tests}
+use Rattle.std.proofs.lemmas.Bool.{or_left}
 use Rattle.ps_action.specs.declared.touched.Touched.{Touched}
 use Rattle.ps_action.specs.contracts.touched.TouchedOrd.TheImpl.{cmp-value}
 use Rattle.ps_action.specs.Arcs.{same_thing}
@@ -32,10 +33,6 @@ grows_same old new act same = record { kept = λ t i e. same t i ∙ e; alone = 
 pub grows_not : (users : Users) (act : ℕ) → GrowsBy users act users
 grows_not users act = record { kept = λ t i e. e; alone = λ t i e. inl e }
 
-kept_at : (a b : Bool) → a ≡ true → (a || b) ≡ true
-kept_at true b e = refl
-kept_at false b e = absurd (cc)
-
 alone_at : (i act : ℕ) (a b c : Bool) → nat_eq i act ≡ b → (a || (b && c)) ≡ true → (a ≡ true) ⊎ (i ≡ act)
 alone_at i act true b c e h = inl refl
 alone_at i act false true c e h = inr (grind (arith, nat_tests, e))
@@ -43,7 +40,7 @@ alone_at i act false false c e h = absurd (cc)
 
 pub grows_entered : (old new : Users) (things : List Touched) (act : ℕ) → Enters old things act new → GrowsBy old act new
 grows_entered old new things act h = record {
-  kept = λ t i e. h t i ∙ kept_at (uses old t i) _ e;
+  kept = λ t i e. h t i ∙ or_left (uses old t i) _ e;
   alone = λ t i e. alone_at i act (uses old t i) (nat_eq i act) (list_any (same_thing t) things) refl (sym (h t i) ∙ e);
 }
 

@@ -8,13 +8,15 @@ use Rattle.std.proofs.lemmas.Bool.Decides.{nat_tests}
 use Rattle.std.proofs.lemmas.List.{take_all, take_more}
 use Rattle.std.proofs.lemmas.List.Elements.{All-cons, All-nil}
 use Rattle.std.proofs.lemmas.List.Folds.{list_any-append}
+use Rattle.std.proofs.lemmas.Bool.{or_right, false_from_ne_true}
+use Rattle.ps_world.proofs.Truths.{or_false}
 use Rattle.ps_action.specs.declared.touched.Touched.{Touched}
 use Rattle.ps_action.specs.declared.touched.Touched.TheVariants.{Fact, Value, Instance}
 use Rattle.ps_action.specs.contracts.touched.TouchedOrd.TheImpl.{cmp-value}
 use Rattle.ps_action.specs.Arcs.{same_thing}
-use Rattle.ps_action.proofs.Contained.{or_second}
+use Rattle.ps_action.proofs.ArcTables.{true_false}
 use Rattle.ps_users.specs.Users.{ArePlaces, AreWithin, Enters, Users, uses}
-use Rattle.ps_users.proofs.Things.{if_not, thing_itself, thing_same, true_false}
+use Rattle.ps_users.proofs.Things.{thing_itself, thing_same}
 
 -- ---- things in their order
 
@@ -33,7 +35,7 @@ thing_at (Instance m) (Instance n) = grind (arith, nat_tests)
 pub lookup_at : (t : Touched) (users : Users) → lookup (is_at (cmp-value.it t)) users ≡ lookup (same_thing t) users
 lookup_at t users = λ i. lookup (λ s. thing_at t s i) users
 
--- ---- one more thing that is noted
+-- ---- or_false more thing that is noted
 
 and_true : (a b : Bool) → b ≡ true → a ≡ (a && (b || false))
 and_true true b e = rw e refl
@@ -60,27 +62,23 @@ module _ (old new : Users) (thing : Touched) (act : ℕ) (places : List ℕ)
       ∙ (λ k. uses old (same k) i || and_true (nat_eq i act) (same_thing t thing) back k)
   noted_at t i false e =
       let away : same_thing t thing ≡ false =
-      if_not (same_thing t thing)
+      false_from_ne_true (same_thing t thing)
       (λ h. true_false (same_thing thing t) (ap (same_thing thing) (thing_same t thing h) ∙ thing_itself thing) e) in
       ap (λ o. option_map_or (list_any (nat_eq i)) o false) (found t false e) ∙ or_none (uses old t i) (nat_eq i act) (same_thing t thing) away
 
   pub noted : Enters old (thing ∷ []) act new
   noted t i = noted_at t i (same_thing thing t) refl
 
--- a thing that no act used has the one place
+-- a thing that no act used has the or_false place
 pub noted_first : (old mid new : Users) (thing : Touched) (act : ℕ) (places : List ℕ) → mid ≡ old → places ≡ act ∷ [] → lookup (is_at (cmp-value.it thing)) old ≡ None
     → ((t : Touched) → lookup (is_at (cmp-value.it t)) new ≡ cond (is_at (cmp-value.it thing) t) (Some places) (lookup (is_at (cmp-value.it t)) mid))
     → Enters old (thing ∷ []) act new
 noted_first old mid new thing act places same is none put =
     noted old new thing act places (λ t. put t ∙ (λ k. cond (is_at (cmp-value.it thing) t) (Some places) (lookup (is_at (cmp-value.it t)) (same k))))
-    (λ i. ap (list_any (nat_eq i)) is ∙ one (nat_eq i act)
+    (λ i. ap (list_any (nat_eq i)) is ∙ or_false (nat_eq i act)
     ∙ ap (λ b. b || nat_eq i act) (sym (ap (λ o. option_map_or (list_any (nat_eq i)) o false) (sym (lookup_at thing old) ∙ none))))
-  where
-    one : (b : Bool) → (b || false) ≡ b
-    one true = refl
-    one false = refl
 
--- a thing that acts used has one place more
+-- a thing that acts used has or_false place more
 pub noted_more : (old new : Users) (thing : Touched) (act : ℕ) (before after : List ℕ) → Some before ≡ lookup (is_at (cmp-value.it thing)) old
     → ((t : Touched) → lookup (is_at (cmp-value.it t)) new ≡ cond (is_at (cmp-value.it thing) t) (Some after) (lookup (is_at (cmp-value.it t)) old))
     → ArePlaces after (λ i. list_any (nat_eq i) before || nat_eq i act) → Enters old (thing ∷ []) act new
@@ -105,9 +103,9 @@ none_entered users act t i = nothing (uses users t i) (nat_eq i act)
 
 pub one_entered : (old mid new : Users) (things : List Touched) (k act : ℕ) (x : Touched) → k < length things → x ≡ get_or things k x
     → Enters old (take k things) act mid → Enters mid (x ∷ []) act new → Enters old (take (k + 1) things) act new
-one_entered old mid new things k act x within is before one t i =
+one_entered old mid new things k act x within is before or_false t i =
     let more : take k things ++ x ∷ [] ≡ take (k + 1) things = ap (λ y. take k things ++ y ∷ []) is ∙ sym (take_more things k x within) in
-    one t i ∙ ap (λ b. b || (nat_eq i act && (same_thing t x || false))) (before t i)
+    or_false t i ∙ ap (λ b. b || (nat_eq i act && (same_thing t x || false))) (before t i)
     ∙ or_and (uses old t i) (nat_eq i act) (list_any (same_thing t) (take k things)) (same_thing t x)
     ∙ ap (λ b. uses old t i || (nat_eq i act && b)) (sym (list_any-append (same_thing t) (take k things) (x ∷ [])) ∙ ap (list_any (same_thing t)) more)
 
@@ -120,7 +118,7 @@ each_place : (P : ℕ → Type 0) (places : List ℕ) → ((i : ℕ) → list_an
 each_place P [] so = All-nil P
 each_place P (x ∷ xs) so =
     let here : nat_eq x x ≡ true = grind (arith, nat_tests) in
-    All-cons P x xs (so x (rw here refl)) (each_place P xs (λ i e. so i (or_second (nat_eq i x) (list_any (nat_eq i) xs) e)))
+    All-cons P x xs (so x (rw here refl)) (each_place P xs (λ i e. so i (or_right (nat_eq i x) (list_any (nat_eq i) xs) e)))
 
 pub places_within : (places : List ℕ) (users : Users) (t : Touched) (n m : ℕ) → m ≡ n → ArePlaces places (uses users t) → AreWithin n users → All (λ i. i < m) places
 places_within places users t n m same are within =

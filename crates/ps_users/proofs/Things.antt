@@ -1,43 +1,21 @@
 -- Things that are the same, and what lists of things contain.
-use Rattle.std.proofs.Common.{◌≡◌, Bool, true, false, ◌||◌, List, [], ◌∷◌, ◌++◌, All, map, refl, ap, sym, ◌∙◌, inl, inr, arith}
+use Rattle.std.proofs.Common.{◌≡◌, true, false, List, [], ◌∷◌, ◌++◌, All, map, refl, ap, sym, ◌∙◌, inl, inr}
 use Rattle.std.specs.List.{Contains, list_any}
-use Rattle.std.proofs.lemmas.Bool.Decides.{nat_tests}
 use Rattle.std.proofs.lemmas.List.Elements.{All-nil, All-cons, All-head, All-tail}
-use Rattle.ps_world.specs.Names.{same_name}
-use Rattle.ps_world.specs.declared.names.Name.{Name}
-use Rattle.ps_action.proofs.Contained.{contains_cases, contains_first, contains_later, contains_none, fact_itself, fact_same, or_second}
+use Rattle.std.proofs.lemmas.Bool.{false_from_ne_true, or_right}
+use Rattle.ps_world.proofs.SameTexts.{name_itself}
+use Rattle.ps_action.proofs.Contained.{contains_cases, contains_first, contains_later, contains_none, fact_itself, fact_same}
 use Rattle.ps_action.specs.declared.touched.Touched.{Touched}
 use Rattle.ps_action.specs.declared.touched.Touched.TheVariants.{Fact, Value, Instance}
 use Rattle.ps_action.specs.Arcs.{same_thing}
-
--- ---- tests
-
-pub or_parts : (a b : Bool) → (a || b) ≡ false → (a ≡ false) × (b ≡ false)
-or_parts true b e = absurd (cc)
-or_parts false b e = (refl, e)
-
-pub true_false : (b : Bool) → b ≡ true → b ≡ false → ⊥
-true_false b e f = cc
-
--- what is not true is false
-pub if_not : (b : Bool) → (b ≡ true → ⊥) → b ≡ false
-if_not true h = absurd (h refl)
-if_not false h = refl
+use Rattle.ps_action.proofs.Facts.{same_name-is}
 
 -- ---- the same things
-
-name_same : (m n : Name) → same_name m n ≡ true → m ≡ n
-name_same m n e =
-    let same : m.0 ≡ n.0 = grind (arith, nat_tests, e) in
-    λ i. record { 0 = same i }
-
-name_itself : (n : Name) → same_name n n ≡ true
-name_itself n = grind (arith, nat_tests)
 
 pub thing_same : (s t : Touched) → same_thing s t ≡ true → s ≡ t
 thing_same (Fact f) (Fact g) e = ap Fact (fact_same f g e)
 thing_same (Value f) (Value g) e = ap Value (fact_same f g e)
-thing_same (Instance m) (Instance n) e = ap Instance (name_same m n e)
+thing_same (Instance m) (Instance n) e = ap Instance (same_name-is m n e)
 thing_same s t e = absurd (cc)
 
 pub thing_itself : (t : Touched) → same_thing t t ≡ true
@@ -55,14 +33,14 @@ among t (x ∷ xs) c =
       | inl s ↦
           let here : same_thing t x ≡ true = ap (same_thing t) s ∙ thing_itself t in
           rw here refl
-      | inr later ↦ or_second (same_thing t x) (list_any (same_thing t) xs) (among t xs later)
+      | inr later ↦ or_right (same_thing t x) (list_any (same_thing t) xs) (among t xs later)
     ]
 
 -- and what it doesn't contain isn't
 pub absent : (t : Touched) (ts : List Touched) → (¬ (Contains ts t)) → list_any (same_thing t) ts ≡ false
 absent t [] n = refl
 absent t (x ∷ xs) n =
-    let away : same_thing t x ≡ false = if_not (same_thing t x) (λ e. n (contains_first x t xs (sym (thing_same t x e)))) in
+    let away : same_thing t x ≡ false = false_from_ne_true (same_thing t x) (λ e. n (contains_first x t xs (sym (thing_same t x e)))) in
     rw away (absent t xs (λ c. n (contains_later x t xs c)))
 
 pub contains_map : {X Y : Type 0} (h : X → Y) (xs : List X) (x : X) → Contains xs x → Contains (map h xs) (h x)

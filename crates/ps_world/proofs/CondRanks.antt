@@ -4,7 +4,7 @@ use Rattle.ps_world.specs.Trees.{cond_rank, conds_rank}
 use Rattle.ps_world.specs.CondViews.{cond_tree}
 use Rattle.ps_world.specs.declared.conditions.Cond.{Cond}
 
-rank_at : (cs : List Cond) (i : ℕ) (d : Cond) → i < length cs → cond_rank (cond_tree (get_or cs i d)) ≤ conds_rank (map cond_tree cs)
+pub rank_at : (cs : List Cond) (i : ℕ) (d : Cond) → i < length cs → cond_rank (cond_tree (get_or cs i d)) ≤ conds_rank (map cond_tree cs)
 rank_at [] i d h = absurd (omega arith)
 rank_at (c ∷ cs) zero d h = omega arith
 rank_at (c ∷ cs) (suc i) d h = omega (arith, rank_at cs i d (omega arith))

@@ -1,6 +1,13 @@
 pub mod Climbs
 pub mod CondRanks
+pub mod Counting
 pub mod Digits
+pub mod Elements
+pub mod LinesOf
 pub mod OneLine
+pub mod OneTree
+pub mod Optionals
 pub mod SameConds
+pub mod SameTexts
 pub mod ShortLists
+pub mod Truths

@@ -3,12 +3,13 @@ use Rattle.std.proofs.lemmas.List.{drop_all, drop_more}
 use Rattle.ps_world.specs.CondViews.{cond_tree}
 use Rattle.ps_world.specs.Trees.{CondTree}
 use Rattle.ps_world.specs.declared.conditions.Cond.{Cond}
+use Rattle.ps_world.proofs.Truths.{and_true}
 use Rattle.ps_action.specs.Grounding.{put_cond}
 use Rattle.ps_action.specs.Truth.{all_true}
 use Rattle.ps_ground.specs.States.{at}
 use Rattle.ps_ground.specs.Prepared.{passes}
 use Rattle.ps_ground.proofs.Fixedness.{vain_at}
-use Rattle.ps_ground.proofs.Preparing.{tested_more, true_last}
+use Rattle.ps_ground.proofs.Preparing.{tested_more}
 use Rattle.ps_ground.proofs.prepared.take_all.Goals as goal
 
 pub loop-cond-preserved : goal.loop-cond-preserved
@@ -40,7 +41,7 @@ returns c =
     let gone : drop i items ≡ [] = drop_all i items (omega arith) in
     record {
       taken = λ yes d k s.
-          sym (true_last (passes d k c.args.atoms.now c.loop-cond.test s))
+          sym (and_true (passes d k c.args.atoms.now c.loop-cond.test s))
           ∙ ap (λ (l : List Cond). passes d k c.args.atoms.now c.loop-cond.test s && all_true d (at k s) (map (put_cond c.args.args.now) (map cond_tree l))) (sym gone)
           ∙ c.loop-cond.invariant d k s;
       vain = λ no. absurd (cc);

@@ -1,6 +1,6 @@
 use Rattle.std.proofs.Common.{ap, ◌∙◌}
 use Rattle.ps_board.specs.Ticks.{snapshot_of}
-use Rattle.ps_pool.proofs.Rounds.{error-so}
+use Rattle.ps_board.proofs.Ready.{on-err}
 use Rattle.ps_pool.proofs.TickerTurns.{asked-same, asked-turn, asked-wanted, is_asking, never-halted, tick-over, turn-so}
 use Rattle.ps_pool.proofs.ordered.take_tick.Goals as goal
 
@@ -35,6 +35,6 @@ returns-in_ok-replan-in-WantsPlan-clause-ok g c =
 
 pub returns-in_err-replan-in-WantsPlan-clause-err : goal.returns-in_err-replan-in-WantsPlan-clause-err
 returns-in_err-replan-in-WantsPlan-clause-err g c =
-    error-so c.from_residual-in_err-replan-in-WantsPlan.result
+    on-err c.from_residual-in_err-replan-in-WantsPlan.result
     (c.in_err-replan-in-WantsPlan.ensures.err
     ∙ asked-same c.args.board.now c.requires.rest.halted 1 c.in_ok-tick_with_room.field-0 c.in-WantsPlan.snapshot c.tick_with_room.new.board.entries c.in_ok-tick_with_room.ensures.answer c.in-WantsPlan.is c.in_ok-tick_with_room.ensures.entries)

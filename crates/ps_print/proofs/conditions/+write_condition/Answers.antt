@@ -1,6 +1,6 @@
 use Rattle.std.proofs.Common.{ap, arith}
 use Rattle.ps_world.specs.Trees.{conds_rank}
-use Rattle.ps_print.proofs.CondRanks.{rank_in}
+use Rattle.ps_world.proofs.CondRanks.{rank_in}
 use Rattle.ps_print.proofs.conditions.+write_condition.Goals as goal
 
 pub write_conditions-write_condition-requires : goal.write_conditions-write_condition-requires

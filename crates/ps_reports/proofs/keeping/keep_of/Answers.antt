@@ -1,22 +1,19 @@
-use Rattle.std.proofs.Common.{◌≡◌, ◌+◌, ◌<◌, ℕ, Bool, List, [], ◌∷◌, ◌++◌, length, take, get_or, refl, sym, ap, ◌∙◌, append_assoc}
-use Rattle.std.specs.Prelude.{Option, Some, None, filter_map}
+use Rattle.std.proofs.Common.{◌≡◌, ◌+◌, ◌<◌, ℕ, Bool, List, [], ◌∷◌, ◌++◌, length, take, get_or, sym, ap, ◌∙◌, append_assoc}
+use Rattle.std.specs.Prelude.{Option, filter_map}
 use Rattle.std.specs.Option.{option_to_list}
 use Rattle.std.specs.List.{cons_option}
 use Rattle.std.proofs.lemmas.List.{take_more}
 use Rattle.std.proofs.lemmas.List.Elements.{filter_map-append}
+use Rattle.ps_world.proofs.Optionals.{cons_option-nil}
 use Rattle.ps_hub.specs.declared.report.Report.{Report}
 use Rattle.ps_reports.specs.Audit.{told}
 use Rattle.ps_reports.specs.Stints.{stint, stint_at}
 use Rattle.ps_reports.proofs.keeping.keep_of.Goals as goal
 
-one : {B : Type 0} (o : Option B) → cons_option o [] ≡ option_to_list o
-one None = refl
-one (Some b) = refl
-
--- what is kept of one report more
+-- what is kept of cons_option-nil report more
 step : {A B : Type 0} (f : A → Option B) (xs : List A) (i : ℕ) (x : A) → i < length xs → x ≡ get_or xs i x → filter_map f (take (i + 1) xs) ≡ filter_map f (take i xs) ++ option_to_list (f x)
 step f xs i x less is =
-    ap (filter_map f) (take_more xs i x less) ∙ (filter_map-append f (take i xs) (get_or xs i x ∷ []) ∙ (ap (λ y. filter_map f (take i xs) ++ cons_option (f y) []) (sym is) ∙ ap (λ l. filter_map f (take i xs) ++ l) (one (f x))))
+    ap (filter_map f) (take_more xs i x less) ∙ (filter_map-append f (take i xs) (get_or xs i x ∷ []) ∙ (ap (λ y. filter_map f (take i xs) ++ cons_option (f y) []) (sym is) ∙ ap (λ l. filter_map f (take i xs) ++ l) (cons_option-nil (f x))))
 
 pub loop-report-preserved : goal.loop-report-preserved
 loop-report-preserved c =

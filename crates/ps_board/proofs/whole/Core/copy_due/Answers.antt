@@ -1,6 +1,6 @@
 use Rattle.std.proofs.Common.{ap, sym, ◌∙◌}
 use Rattle.std.specs.Option.{option_copied}
-use Rattle.ps_ends.proofs.Picking.{not_some}
+use Rattle.ps_world.proofs.Optionals.{none_not_some}
 use Rattle.ps_ends.proofs.Recording.{who_works_can_record}
 use Rattle.ps_board.specs.declared.whole.Core.{Core}
 use Rattle.ps_board.proofs.whole.Core.copy_due.Goals as goal
@@ -9,4 +9,4 @@ pub unreachable-requires : goal.unreachable-requires
 unreachable-requires c =
     let core : Core = c.args.self.now in
     let can = who_works_can_record core.input core.entries.items c.requires.stands.sound c.requires.stands.history c.args.r c.args.by c.requires.works in
-    not_some can.next (ap option_copied (sym c.in-None.is) ∙ c.unit_due.ensures ∙ can.due)
+    none_not_some can.next (ap option_copied (sym c.in-None.is) ∙ c.unit_due.ensures ∙ can.due)

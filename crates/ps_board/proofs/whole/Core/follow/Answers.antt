@@ -1,7 +1,7 @@
 use Rattle.std.proofs.Common.{◌≡◌, ◌&&◌, is_none, OnOk, subst, sym}
+use Rattle.std.proofs.lemmas.Bool.{and_parts}
 use Rattle.ps_rules.specs.Runs.{is_running}
 use Rattle.ps_rules.specs.Settled.{is_settled, verdict}
-use Rattle.ps_rules.proofs.Kept.{both}
 use Rattle.ps_board.specs.declared.whole.Core.{Core}
 use Rattle.ps_board.specs.Core.{with_turn}
 use Rattle.ps_board.proofs.Submitting.{follows-legal, follows-may, taken-legal}
@@ -20,7 +20,7 @@ pub put-requires-clause-by : goal.put-requires-clause-by
 put-requires-clause-by c =
     let core : Core = c.args.self.now in
     tick-hand core.input core.entries.items c.event_of-event.result c.args.hand
-    (both (is_running core.entries.items) (is_settled core.input core.entries.items && is_none (verdict core.input core.entries.items)) c.requires.asked).0
+    (and_parts (is_running core.entries.items) (is_settled core.input core.entries.items && is_none (verdict core.input core.entries.items)) c.requires.asked).0
     (follows-legal core.input core.entries.items c.args.answer c.event_of-event.result c.requires.asked c.requires.fits c.event_of-event.ensures) c.requires.hand
 
 pub returns-clause-ok : goal.returns-clause-ok

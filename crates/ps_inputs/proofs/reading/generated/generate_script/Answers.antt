@@ -1,8 +1,9 @@
 use Rattle.std.proofs.Common.{ℕ, All, refl, sym, ap, ◌∙◌, subst, arith}
 use Rattle.std.specs.Global.{Vec}
 use Rattle.ps_gen.specs.Texts.{script_lines, texts_of}
+use Rattle.ps_gen.proofs.Rows.{script_length}
 use Rattle.ps_inputs.specs.declared.reading.scripts.Script.{Script}
-use Rattle.ps_inputs.proofs.GeneratedLines.{IsCommand, held_commands, script_commands, script_length}
+use Rattle.ps_inputs.proofs.GeneratedLines.{IsCommand, held_commands, script_commands}
 use Rattle.ps_inputs.proofs.Pushed.{script_pushed}
 use Rattle.ps_inputs.proofs.reading.generated.generate_script.Goals as goal
 

@@ -1,6 +1,6 @@
 use Rattle.std.proofs.Common.{true, false, ap, sym, nat_lt, ◌∙◌}
+use Rattle.std.proofs.lemmas.Bool.{and_parts}
 use Rattle.ps_rules.specs.Auctions.{begins_by, says_engaged}
-use Rattle.ps_rules.proofs.Kept.{both}
 use Rattle.ps_ledger.specs.Members.{at_name, has_name, speaks_of_performers}
 use Rattle.ps_ledger.proofs.NamePlaces.{begun-now, engaged-now}
 use Rattle.ps_ledger.proofs.members.Performers.take.Goals as goal
@@ -33,4 +33,4 @@ pub returns-in-Begin-clause-told : goal.returns-in-Begin-clause-told
 returns-in-Begin-clause-told c =
     λ es e is t.
     begun-now es e c.args.self.now c.begin.new.self c.in-Begin.by t (λ p. ap (says_engaged p) (is ∙ c.in-Begin.is)) (λ p. ap (begins_by p) (is ∙ c.in-Begin.is)) c.begin.ensures.names c.begin.ensures.begun c.begin.ensures.engaged
-    (both (has_name c.args.self.now.names.items c.args.self.now.begun.items c.in-Begin.by) (nat_lt (at_name c.args.self.now.names.items c.args.self.now.begun.items c.in-Begin.by 0) 18446744073709551615) (ap (speaks_of_performers c.args.self.now) (sym c.in-Begin.is) ∙ c.requires)).0
+    (and_parts (has_name c.args.self.now.names.items c.args.self.now.begun.items c.in-Begin.by) (nat_lt (at_name c.args.self.now.names.items c.args.self.now.begun.items c.in-Begin.by 0) 18446744073709551615) (ap (speaks_of_performers c.args.self.now) (sym c.in-Begin.is) ∙ c.requires)).0

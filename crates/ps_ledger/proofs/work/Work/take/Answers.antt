@@ -1,6 +1,6 @@
 use Rattle.std.proofs.Common.{◌≡◌, ◌&&◌, nat_lt, length, true, refl, ap, sym, ◌∙◌}
+use Rattle.std.proofs.lemmas.Bool.{and_parts}
 use Rattle.ps_rules.specs.Auctions.{is_begin, says_confirm, says_working}
-use Rattle.ps_rules.proofs.Kept.{both}
 use Rattle.ps_ledger.specs.Work.{is_by, job_at, speaks_of_jobs, stopped_job}
 use Rattle.ps_ledger.proofs.Jobs.{begun, begun-units, confirmed-now, confirmed-units, ended, stopped-units}
 use Rattle.ps_ledger.proofs.work.Work.take.Goals as goal
@@ -20,7 +20,7 @@ returns-in-Begin-clause-units c = λ es e is t. begun-units es e c.args.self.now
 pub returns-in-Stopped-clause-work : goal.returns-in-Stopped-clause-work
 returns-in-Stopped-clause-work c = λ es e is t.
     let speaks : (nat_lt c.in-Stopped.r (length c.args.self.now.jobs.items) && is_by (job_at c.args.self.now.jobs.items c.in-Stopped.r).by c.in-Stopped.by) ≡ true = ap (speaks_of_jobs c.args.self.now.jobs.items) (sym c.in-Stopped.is) ∙ c.requires.speaks in
-    let ok = both (nat_lt c.in-Stopped.r (length c.args.self.now.jobs.items)) (is_by (job_at c.args.self.now.jobs.items c.in-Stopped.r).by c.in-Stopped.by) speaks in
+    let ok = and_parts (nat_lt c.in-Stopped.r (length c.args.self.now.jobs.items)) (is_by (job_at c.args.self.now.jobs.items c.in-Stopped.r).by c.in-Stopped.by) speaks in
     ended es e c.args.self.now c.end.new.self c.in-Stopped.r c.in-Stopped.by (stopped_job (job_at c.args.self.now.jobs.items c.in-Stopped.r)) t
     (λ k. ap (says_confirm k) (is ∙ c.in-Stopped.is)) (λ k p. ap (is_begin k p) (is ∙ c.in-Stopped.is)) (λ k p. ap (says_working k p) (is ∙ c.in-Stopped.is))
     c.end.ensures.jobs refl refl refl ok.0 ok.1

@@ -1,7 +1,8 @@
 use Rattle.std.proofs.Common.{◌≡◌, Bool, true, false, refl, sym, ◌∙◌}
+use Rattle.std.proofs.lemmas.Bool.{false_from_ne_true}
+use Rattle.ps_action.proofs.ArcTables.{true_false}
 use Rattle.ps_monitor.specs.Hits.{is_hit}
 use Rattle.ps_monitor.specs.Watched.{is_false, watched}
-use Rattle.ps_users.proofs.Things.{if_not, true_false}
 use Rattle.ps_monitor.proofs.Hitting.{unhit}
 use Rattle.ps_monitor.proofs.monitor.Monitor.judge_act.Goals as goal
 
@@ -15,7 +16,7 @@ returns-then-not-has-clause-same g c =
     let d = g.J.Judge.domain c.args.judge.now in
     let k = g.J.Judge.known c.args.judge.now in
     let over = watched c.args.self.now c.args.act in
-    let not_hit : is_hit c.args.changed.now over ≡ false = if_not (is_hit c.args.changed.now over) (λ hit. true_false _ (c.requires.candidates c.args.act c.requires.act hit) (sym c.has.ensures ∙ c.if-not-has.true)) in
+    let not_hit : is_hit c.args.changed.now over ≡ false = false_from_ne_true (is_hit c.args.changed.now over) (λ hit. true_false _ (c.requires.candidates c.args.act c.requires.act hit) (sym c.has.ensures ∙ c.if-not-has.true)) in
     sym (unhit d k (watched c.args.self.now) c.args.changed.now c.args.act c.requires.act c.requires.held not_hit)
 
 pub returns-clause-same : goal.returns-clause-same

@@ -3,7 +3,8 @@ use Rattle.std.specs.List.{slice_get}
 use Rattle.std.proofs.lemmas.Option.{slice_get_past}
 use Rattle.ps_rules.specs.Lines.{due_lines}
 use Rattle.ps_rules.specs.Sound.{IsSoundLine}
-use Rattle.ps_rows.proofs.Due.{due-first, place-has}
+use Rattle.ps_rules.proofs.Notes.{got-has}
+use Rattle.ps_rows.proofs.Due.{due-first}
 use Rattle.ps_rows.proofs.present.Present.next_line.Goals as goal
 
 pub returns-then-answered-due-clause-line : goal.returns-then-answered-due-clause-line
@@ -22,4 +23,4 @@ returns-else-answered-due-clause-line c = λ es s.
 
 pub returns-then-answered-due-clause-sound : goal.returns-then-answered-due-clause-sound
 returns-then-answered-due-clause-sound c = λ sound.
-    subst (λ o. IfSome o IsSoundLine) (sym c.line_at.ensures) (place-has IsSoundLine c.args.input.now.lines c.answered-answered.result sound.each_line)
+    subst (λ o. IfSome o IsSoundLine) (sym c.line_at.ensures) (got-has IsSoundLine c.args.input.now.lines c.answered-answered.result sound.each_line)
