@@ -7,6 +7,7 @@ pub mod Goals
 pub mod KindLists
 pub mod Namings
 pub mod Opening
+pub mod Patches
 pub mod PutFacts
 pub mod PutSuits
 pub mod PutValues

@@ -1,5 +1,5 @@
 -- What is known suits the domain after effects that suit it.
-use Rattle.std.proofs.Common.{◌≡◌, ◌⊎◌, Bool, true, false, not, ◌&&◌, ◌||◌, List, Some, filter_map, inl, inr, refl, sym, ◌∙◌, subst}
+use Rattle.std.proofs.Common.{◌≡◌, ◌⊎◌, Bool, true, false, not, ◌&&◌, ◌||◌, List, Some, filter_map, inl, inr, refl, ap, sym, ◌∙◌, subst}
 use Rattle.std.specs.List.{Contains}
 use Rattle.std.specs.Map.{keys_of}
 use Rattle.ps_world.specs.Knowledge.{value_in, predicate_of, function_of}
@@ -12,8 +12,9 @@ use Rattle.ps_action.specs.Effects.{added_by, made}
 use Rattle.ps_problem.specs.Puts.{deleted_by}
 use Rattle.ps_problem.specs.WellKnown.{Suits, IsWellKnown, PutSuits, PutsKeepWellKnown}
 use Rattle.ps_problem.proofs.Contained.{is_known-Contains}
-use Rattle.ps_problem.proofs.PutFacts.{known, sorted_made, made_known}
+use Rattle.ps_problem.proofs.PutFacts.{known, made_facts, made_known}
 use Rattle.ps_problem.proofs.PutValues.{key_of_known, unset, one_or_other}
+use Rattle.ps_action.proofs.MadeFacts.{facts_rise}
 use Rattle.ps_action.proofs.MadeValues.{values_rise}
 use Rattle.ps_problem.proofs.WellKnown.{after_growth}
 
@@ -25,9 +26,9 @@ module _ (d : Domain) (k : Knowledge) (es : List Effect) (ready : List (Fact × 
   -- a known fact was known, or it is added and suits
   fact_suits : (f : Fact) → Contains (made k es ready).facts f → Contains k.facts f ⊎ Suits d k (predicate_of d f.head) f.args
   fact_suits f c =
-      let both = made_known k.facts es w.rises.facts f in
+      let both = made_known k.facts (filter_map added_by es) (filter_map deleted_by es) w.rises.facts f in
       let there = (is_known-Contains f (made k es ready).facts).1 c in
-      elim (known_or_added (known f k.facts) (known f (filter_map added_by es)) (known f (filter_map deleted_by es)) (sym both ∙ there)) [
+      elim (known_or_added (known f k.facts) (known f (filter_map added_by es)) (known f (filter_map deleted_by es)) (sym both ∙ ap (known f) (made_facts k.facts es) ∙ there)) [
         | inl was ↦ inl ((is_known-Contains f k.facts).0 was)
         | inr new ↦ inr (s.facts f ((is_known-Contains f (filter_map added_by es)).0 new))
       ]
@@ -45,7 +46,7 @@ module _ (d : Domain) (k : Knowledge) (es : List Effect) (ready : List (Fact × 
   stays_well_known : IsWellKnown d (made k es ready)
   stays_well_known =
       after_growth d k (made k es ready) w (λ n t e. e)
-      (record { instances = w.rises.instances; facts = sorted_made k.facts es w.rises.facts; values = values_rise k.values ready w.rises.values })
+      (record { instances = w.rises.instances; facts = facts_rise es k.facts w.rises.facts; values = values_rise k.values ready w.rises.values })
       w.few w.types fact_suits value_suits w.goal
 
 pub puts_keep_well_known : PutsKeepWellKnown

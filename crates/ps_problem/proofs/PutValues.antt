@@ -1,16 +1,15 @@
--- Values after effects, or as they were before.
-use Rattle.std.proofs.Common.{◌≡◌, ◌⊎◌, ℕ, Bool, true, false, not, cond, ◌||◌, List, [], ◌∷◌, Option, Some, None, is_some, fold, map, take, get_or, zero, suc, inl, inr, refl, ap, sym, ◌∙◌, subst, All}
+-- Values after a change, or as they were before.
+use Rattle.std.proofs.Common.{◌≡◌, ◌⊎◌, ℕ, Bool, true, false, not, cond, ◌&&◌, ◌||◌, List, [], ◌∷◌, ◌++◌, Option, Some, None, is_some, filter, fold, take, zero, suc, inl, inr, refl, ap, sym, ◌∙◌, subst, All}
 use Rattle.std.specs.List.{AllByRecursion, Contains}
 use Rattle.std.specs.List.Sorted.{IsStrictlySortedBy}
 use Rattle.std.specs.Map.{lookup, keys_of, set_value}
 use Rattle.std.specs.Ordering.{ordering_reverse}
 use Rattle.std.specs.declared.cmp.Ordering.{Ordering}
 use Rattle.std.specs.declared.cmp.Ordering.TheVariants.{Less, Equal, Greater}
-use Rattle.std.proofs.lemmas.Bool.{or_parts}
+use Rattle.std.proofs.lemmas.Bool.{or_left, or_parts}
 use Rattle.std.proofs.lemmas.Cmp.{eq_by_cmp_equiv}
-use Rattle.std.proofs.Math.ListN.{get_or-map}
-use Rattle.std.proofs.lemmas.List.{length-map}
-use Rattle.std.proofs.lemmas.List.Elements.{All-contains, All-map}
+use Rattle.std.proofs.lemmas.List.Elements.{All-cons, All-head, All-nil, All-tail}
+use Rattle.std.proofs.lemmas.List.Folds.{list_any-append}
 use Rattle.std.proofs.lemmas.Map.{keys-set_value, lookup-none}
 use Rattle.std.proofs.lemmas.Map.Entries.{lookup-filter-keys, lookup_head, none_below_head}
 use Rattle.std.proofs.lemmas.Map.Keys.{sorted_head, sorted_tail}
@@ -19,14 +18,14 @@ use Rattle.ps_world.specs.Knowledge.{same_fact}
 use Rattle.ps_world.specs.declared.numbers.Num.{Num}
 use Rattle.ps_world.specs.declared.facts.Fact.{Fact}
 use Rattle.ps_action.specs.Effects.{with_value}
-use Rattle.ps_problem.specs.Puts.{held_in, put_back, with_held}
+use Rattle.ps_problem.specs.Patches.{values_after}
+use Rattle.ps_problem.specs.Puts.{dropped_in, held_in, put_back, with_held, without_term}
 use Rattle.ps_action.proofs.Facts.{facts_total, exact_facts}
-use Rattle.ps_action.proofs.Keys.{sorted-insert_key, keys-insert_entry, lookup-insert_entry}
-use Rattle.ps_action.proofs.Contained.{fact_same}
-use Rattle.ps_action.proofs.Contained.{contains_first, contains_later}
-use Rattle.ps_problem.proofs.Filters.{sorted-filter}
-use Rattle.ps_problem.proofs.PutFacts.{known}
+use Rattle.ps_action.proofs.Keys.{keys-insert_entry, lookup-insert_entry}
+use Rattle.ps_action.proofs.Contained.{fact_same, contains_first, contains_later}
 use Rattle.ps_action.proofs.MadeValues.{values_rise}
+use Rattle.ps_problem.proofs.Filters.{sorted-filter}
+use Rattle.ps_problem.proofs.PutFacts.{known, known-filter}
 
 nowhere_at : {K X : Type 0} (test : K → Bool) (x : K × X) (es : List (K × X)) (w : X) (b : Bool) → (lookup test es ≡ None → set_value test es w ≡ es) → cond b (Some x.1) (lookup test es) ≡ None → cond b ((x.0, w) ∷ es) (x ∷ set_value test es w) ≡ x ∷ es
 nowhere_at test x es w true h e = absurd (cc)
@@ -150,20 +149,20 @@ put_here f (Some n) vs h = set_here f n vs (h refl)
 -- ---- all of it taken back
 
 module _ (old : List (Fact × Num)) (f : Fact) where
-  back_step : (vs : List (Fact × Num)) (g : Fact) (rs : List (Fact × Num)) (b : Bool) → same_fact f g ≡ b → (is_some (worth f old) ≡ true → is_some (worth f vs) ≡ true) → (worth f vs ≡ worth f old) ⊎ ((b || known f (keys_of rs)) ≡ true) → (worth f (put_back vs g (worth g old)) ≡ worth f old) ⊎ ((known f (keys_of rs) ≡ true) × (worth f (put_back vs g (worth g old)) ≡ worth f vs))
+  back_step : (vs : List (Fact × Num)) (g : Fact) (rs : List Fact) (b : Bool) → same_fact f g ≡ b → (is_some (worth f old) ≡ true → is_some (worth f vs) ≡ true) → (worth f vs ≡ worth f old) ⊎ ((b || known f rs) ≡ true) → (worth f (put_back vs g (worth g old)) ≡ worth f old) ⊎ ((known f rs ≡ true) × (worth f (put_back vs g (worth g old)) ≡ worth f vs))
   back_step vs g rs true s keeps h =
       inl (subst (λ x. worth f (put_back vs x (worth x old)) ≡ worth f old) (fact_same f g s) (put_here f (worth f old) vs keeps))
   back_step vs g rs false s keeps (inl e) = inl (put_elsewhere f g (worth g old) vs s ∙ e)
   back_step vs g rs false s keeps (inr e) = inr (e, put_elsewhere f g (worth g old) vs s)
 
   -- a term that is worth what it was or is still put back is worth what it was in the end
-  all_back : (vs rs : List (Fact × Num)) → (is_some (worth f old) ≡ true → is_some (worth f vs) ≡ true) → (worth f vs ≡ worth f old) ⊎ (known f (keys_of rs) ≡ true) → worth f (fold with_held vs (held_in old rs)) ≡ worth f old
+  all_back : (vs : List (Fact × Num)) (rs : List Fact) → (is_some (worth f old) ≡ true → is_some (worth f vs) ≡ true) → (worth f vs ≡ worth f old) ⊎ (known f rs ≡ true) → worth f (fold with_held vs (held_in old rs)) ≡ worth f old
   all_back vs [] keeps (inl e) = e
   all_back vs [] keeps (inr e) = absurd (cc)
   all_back vs (r ∷ rs) keeps h =
-      elim (back_step vs r.0 rs (same_fact f r.0) refl keeps h) [
-        | inl e ↦ all_back (put_back vs r.0 (worth r.0 old)) rs (λ t. ap is_some e ∙ t) (inl e)
-        | inr w ↦ all_back (put_back vs r.0 (worth r.0 old)) rs (λ t. ap is_some w.1 ∙ keeps t) (inr w.0)
+      elim (back_step vs r rs (same_fact f r) refl keeps h) [
+        | inl e ↦ all_back (put_back vs r (worth r old)) rs (λ t. ap is_some e ∙ t) (inl e)
+        | inr w ↦ all_back (put_back vs r (worth r old)) rs (λ t. ap is_some w.1 ∙ keeps t) (inr w.0)
       ]
 
 pub one_or_other : (b : Bool) → (b ≡ false) ⊎ (b ≡ true)
@@ -176,16 +175,127 @@ known-take-keys f (suc k) [] e = refl
 known-take-keys f (suc k) (r ∷ rs) e =
     let both = or_parts (same_fact f r.0) (known f (keys_of rs)) e in rw both.0 (known-take-keys f k rs both.1)
 
+-- the terms whose values may change: those that are given one, and those that lose theirs
+abbrev pub terms_in : List (Fact × Num) → List Fact → List Fact
+terms_in ready gone = keys_of ready ++ gone
+
+given_known : (f : Fact) (ready : List (Fact × Num)) (gone : List Fact) → known f (keys_of ready) ≡ true → known f (terms_in ready gone) ≡ true
+given_known f ready gone e = list_any-append (same_fact f) (keys_of ready) gone ∙ or_left (known f (keys_of ready)) (known f gone) e
+
 -- the values that were set before memory ran out are put back
-pub values_undone : (old ready : List (Fact × Num)) (k : ℕ) → IsStrictlySortedBy fact_cmp (keys_of old) → fold with_held (fold with_value old (take k ready)) (held_in old ready) ≡ old
-values_undone old ready k sorted =
-    values_same _ old (sorted-held _ (held_in old ready) (values_rise old (take k ready) sorted)) sorted (λ f.
-    all_back old f (fold with_value old (take k ready)) ready (still_some f old (take k ready)) (
+pub values_undone : (old ready : List (Fact × Num)) (gone : List Fact) (k : ℕ) → IsStrictlySortedBy fact_cmp (keys_of old) → fold with_held (fold with_value old (take k ready)) (held_in old (terms_in ready gone)) ≡ old
+values_undone old ready gone k sorted =
+    values_same _ old (sorted-held _ (held_in old (terms_in ready gone)) (values_rise old (take k ready) sorted)) sorted (λ f.
+    all_back old f (fold with_value old (take k ready)) (terms_in ready gone) (still_some f old (take k ready)) (
     elim (one_or_other (known f (keys_of ready))) [
       | inl e ↦ inl (unset f old (take k ready) (known-take-keys f k ready e))
-      | inr e ↦ inr e
+      | inr e ↦ inr (given_known f ready gone e)
     ]
     ))
+
+-- ---- values that are given and values that are lost
+
+set_over_at : (f : Fact) (r : Fact × Num) (rs vs ws : List (Fact × Num)) (b : Bool) → same_fact f r.0 ≡ b → (b || known f (keys_of rs)) ≡ true
+    → (known f (keys_of rs) ≡ true → worth f (fold with_value (with_value vs r) rs) ≡ worth f (fold with_value (with_value ws r) rs))
+    → worth f (fold with_value (with_value vs r) rs) ≡ worth f (fold with_value (with_value ws r) rs)
+set_over_at f r rs vs ws true s e later =
+    elim (one_or_other (known f (keys_of rs))) [
+      | inl none ↦
+          unset f (with_value vs r) rs none ∙ lookup-insert_entry facts_total f r.0 r.1 vs ∙ ap (λ b. cond b (Some r.1) (worth f vs)) s
+          ∙ sym (unset f (with_value ws r) rs none ∙ lookup-insert_entry facts_total f r.0 r.1 ws ∙ ap (λ b. cond b (Some r.1) (worth f ws)) s)
+      | inr there ↦ later there
+    ]
+set_over_at f r rs vs ws false s e later = later e
+
+-- a term that is given a value is worth that, whatever it was worth
+set_over : (f : Fact) (ready vs ws : List (Fact × Num)) → known f (keys_of ready) ≡ true → worth f (fold with_value vs ready) ≡ worth f (fold with_value ws ready)
+set_over f [] vs ws e = absurd (cc)
+set_over f (r ∷ rs) vs ws e = set_over_at f r rs vs ws (same_fact f r.0) refl e (set_over f rs (with_value vs r) (with_value ws r))
+
+turned : (f g : Fact) → same_fact f g ≡ same_fact g f
+turned f g = (eq_by_cmp_equiv facts_total).symm f g
+
+congruent : (f h g : Fact) → same_fact f g ≡ true → same_fact h g ≡ same_fact h f
+congruent f h g p = ap (same_fact h) (sym (fact_same f g p))
+
+cond_not : (b : Bool) (x : Option Num) → cond (not b) x None ≡ cond b None x
+cond_not true x = refl
+cond_not false x = refl
+
+worth_without : (f g : Fact) (vs : List (Fact × Num)) → worth f (without_term vs g) ≡ cond (same_fact f g) None (worth f vs)
+worth_without f g vs =
+    lookup-filter-keys (same_fact f) (λ h. not (same_fact g h)) (not (same_fact f g)) (λ h p. ap not (congruent f g h p ∙ turned g f)) vs
+    ∙ cond_not (same_fact f g) (worth f vs)
+
+cond_or : (a b : Bool) (x : Option Num) → cond b None (cond a None x) ≡ cond (a || b) None x
+cond_or true true x = refl
+cond_or true false x = refl
+cond_or false b x = refl
+
+worth_removed : (f : Fact) (ds : List Fact) (vs : List (Fact × Num)) → worth f (fold without_term vs ds) ≡ cond (known f ds) None (worth f vs)
+worth_removed f [] vs = refl
+worth_removed f (d ∷ ds) vs =
+    worth_removed f ds (without_term vs d) ∙ ap (λ o. cond (known f ds) None o) (worth_without f d vs)
+    ∙ cond_or (same_fact f d) (known f ds) (worth f vs)
+
+sorted_removed : (ds : List Fact) (vs : List (Fact × Num)) → IsStrictlySortedBy fact_cmp (keys_of vs) → IsStrictlySortedBy fact_cmp (keys_of (fold without_term vs ds))
+sorted_removed [] vs s = s
+sorted_removed (d ∷ ds) vs s = sorted_removed ds (without_term vs d) (sorted-filter fact_cmp (λ g. not (same_fact d g)) vs s)
+
+worth_kept : (f : Fact) (gone : List Fact) (vs : List (Fact × Num)) → worth f (filter (λ v. not (known v.0 gone)) vs) ≡ cond (known f gone) None (worth f vs)
+worth_kept f gone vs =
+    lookup-filter-keys (same_fact f) (λ h. not (known h gone)) (not (known f gone)) (λ h p. ap (λ g. not (known g gone)) (sym (fact_same f h p))) vs
+    ∙ cond_not (known f gone) (worth f vs)
+
+-- where nothing is taken out, all stays
+pub filter_none : (vs : List (Fact × Num)) → filter (λ v. not (known v.0 [])) vs ≡ vs
+filter_none [] = refl
+filter_none (v ∷ vs) = ap (λ ws. v ∷ ws) (filter_none vs)
+
+module _ (old ready : List (Fact × Num)) (gone : List Fact) (sorted : IsStrictlySortedBy fact_cmp (keys_of old)) where
+  abbrev kept : List (Fact × Num)
+  kept = filter (λ v. not (known v.0 gone)) old
+
+  abbrev values_put_in : List (Fact × Num)
+  values_put_in = fold without_term (fold with_value old ready) (dropped_in ready gone)
+
+  sorted_kept : IsStrictlySortedBy fact_cmp (keys_of kept)
+  sorted_kept = sorted-filter fact_cmp (λ g. not (known g gone)) old sorted
+
+  sorted_after : IsStrictlySortedBy fact_cmp (keys_of (values_after old ready gone))
+  sorted_after = values_rise kept ready sorted_kept
+
+  dropped_known : (f : Fact) → known f (dropped_in ready gone) ≡ (known f gone && not (known f (keys_of ready)))
+  dropped_known f = known-filter f (λ g. not (known g (keys_of ready))) gone
+
+  and_off : (a b : Bool) → b ≡ true → (a && not b) ≡ false
+  and_off true b e = ap not e
+  and_off false b e = refl
+
+  and_on : (a b : Bool) → b ≡ false → (a && not b) ≡ a
+  and_on true b e = ap not e
+  and_on false b e = refl
+
+  worth_put : (f : Fact) → worth f values_put_in ≡ worth f (values_after old ready gone)
+  worth_put f =
+      worth_removed f (dropped_in ready gone) (fold with_value old ready) ∙ ap (λ b. cond b None (worth f (fold with_value old ready))) (dropped_known f)
+      ∙ elim (one_or_other (known f (keys_of ready))) [
+        | inl none ↦
+            ap (λ b. cond b None (worth f (fold with_value old ready))) (and_on (known f gone) (known f (keys_of ready)) none)
+            ∙ ap (λ o. cond (known f gone) None o) (unset f old ready none) ∙ sym (unset f kept ready none ∙ worth_kept f gone old)
+        | inr there ↦
+            ap (λ b. cond b None (worth f (fold with_value old ready))) (and_off (known f gone) (known f (keys_of ready)) there)
+            ∙ set_over f ready old kept there
+      ]
+
+  -- what is given before what is lost, without what is lost of what is given: the same values
+  pub values_put : values_put_in ≡ values_after old ready gone
+  values_put =
+      values_same values_put_in (values_after old ready gone) (sorted_removed (dropped_in ready gone) (fold with_value old ready) (values_rise old ready sorted)) sorted_after worth_put
+
+  -- a term that is neither given a value nor loses its own is worth what it was
+  untouched : (f : Fact) → known f (keys_of ready) ≡ false → known f gone ≡ false → worth f (values_after old ready gone) ≡ worth f old
+  untouched f none stays = unset f kept ready none ∙ worth_kept f gone old ∙ ap (λ b. cond b None (worth f old)) stays
 
 -- ---- whether values change
 
@@ -197,25 +307,36 @@ pub key_of_known : (f : Fact) (ready : List (Fact × Num)) → known f (keys_of 
 key_of_known f [] e = absurd (cc)
 key_of_known f (r ∷ rs) e = key_at f r rs (same_fact f r.0) refl e (key_of_known f rs)
 
-from_map : (old new ready : List (Fact × Num)) → All (λ h. worth h.0 new ≡ h.1) (held_in old ready) → All (λ r. worth r.0 new ≡ worth r.0 old) ready
-from_map old new ready all =
-    let hold : Fact × Num → Fact × Option Num = λ v. (v.0, worth v.0 old) in
-    λ k d below.
-    let there : worth (get_or (map hold ready) k (hold d)).0 new ≡ (get_or (map hold ready) k (hold d)).1 = all k (hold d) (rw (length-map ready hold) below) in
-    rw (get_or-map hold ready k d) at there
+-- a term is worth what it held
+abbrev pub Held : List (Fact × Num) → Fact × Option Num → Type 0
+Held new h = worth h.0 new ≡ h.1
+
+held_at : (old new : List (Fact × Num)) (f t : Fact) (ts : List Fact) (b : Bool) → same_fact f t ≡ b → (b || known f ts) ≡ true → worth t new ≡ worth t old → (known f ts ≡ true → worth f new ≡ worth f old) → worth f new ≡ worth f old
+held_at old new f t ts true s e here later = subst (λ g. worth g new ≡ worth g old) (sym (fact_same f t s)) here
+held_at old new f t ts false s e here later = later e
+
+-- a term of those that are held is worth what it was
+held_same : (old new : List (Fact × Num)) (f : Fact) (ts : List Fact) → known f ts ≡ true → All (Held new) (held_in old ts) → worth f new ≡ worth f old
+held_same old new f [] e all = absurd (cc)
+held_same old new f (t ∷ ts) e all =
+    held_at old new f t ts (same_fact f t) refl e (All-head (Held new) (t, worth t old) (held_in old ts) all)
+    (λ later. held_same old new f ts later (All-tail (Held new) (t, worth t old) (held_in old ts) all))
 
 -- Where each term is worth what it was, the values are the same.
-pub values_kept : (old ready : List (Fact × Num)) → IsStrictlySortedBy fact_cmp (keys_of old) → All (λ h. worth h.0 (fold with_value old ready) ≡ h.1) (held_in old ready) → fold with_value old ready ≡ old
-values_kept old ready sorted all =
-    values_same _ old (values_rise old ready sorted) sorted (λ f.
-    elim (one_or_other (known f (keys_of ready))) [
-      | inl e ↦ unset f old ready e
-      | inr e ↦
-          let w = key_of_known f ready e in
-          let same = All-contains (λ (r : Fact × Num). worth r.0 (fold with_value old ready) ≡ worth r.0 old) ready w.0 (from_map old (fold with_value old ready) ready all) w.1 in
-          subst (λ g. worth g (fold with_value old ready) ≡ worth g old) (sym w.2) same
+pub values_kept : (old ready : List (Fact × Num)) (gone : List Fact) → IsStrictlySortedBy fact_cmp (keys_of old) → All (Held (values_after old ready gone)) (held_in old (terms_in ready gone)) → values_after old ready gone ≡ old
+values_kept old ready gone sorted all =
+    values_same _ old (sorted_after old ready gone sorted) sorted (λ f.
+    elim (one_or_other (known f (terms_in ready gone))) [
+      | inl e ↦
+          let both = or_parts (known f (keys_of ready)) (known f gone) (sym (list_any-append (same_fact f) (keys_of ready) gone) ∙ e) in
+          untouched old ready gone sorted f both.0 both.1
+      | inr e ↦ held_same old (values_after old ready gone) f (terms_in ready gone) e all
     ])
 
+held_all : (old new : List (Fact × Num)) (ts : List Fact) → new ≡ old → All (Held new) (held_in old ts)
+held_all old new [] e = All-nil (Held new)
+held_all old new (t ∷ ts) e = All-cons (Held new) (t, worth t old) (held_in old ts) (ap (worth t) e) (held_all old new ts e)
+
 -- and the other way round
-pub values_held : (old ready : List (Fact × Num)) → fold with_value old ready ≡ old → All (λ h. worth h.0 (fold with_value old ready) ≡ h.1) (held_in old ready)
-values_held old ready e = All-map (λ (h : Fact × Option Num). worth h.0 (fold with_value old ready) ≡ h.1) (λ (v : Fact × Num). (v.0, worth v.0 old)) ready (λ i d l. ap (λ vs. worth (get_or ready i d).0 vs) e)
+pub values_held : (old ready : List (Fact × Num)) (gone : List Fact) → values_after old ready gone ≡ old → All (Held (values_after old ready gone)) (held_in old (terms_in ready gone))
+values_held old ready gone e = held_all old (values_after old ready gone) (terms_in ready gone) e

@@ -1,13 +1,14 @@
--- What is found before effects are made, and how it goes back where memory runs out.
-use Rattle.std.specs.Prelude.{not, ◌&&◌, Option, Some, None, List, filter, filter_map, map}
+-- What is found before a change is made, and how it goes back where memory runs out.
+use Rattle.std.specs.Prelude.{not, ◌&&◌, Option, Some, None, List, filter, map}
 use Rattle.std.specs.List.{list_any}
-use Rattle.std.specs.Map.{lookup, set_value}
+use Rattle.std.specs.Map.{keys_of, lookup, set_value}
 use Rattle.ps_world.specs.Knowledge.{ground, same_fact}
+use Rattle.ps_world.specs.Names.{same_name}
+use Rattle.ps_world.specs.declared.names.Name.{Name}
 use Rattle.ps_world.specs.declared.numbers.Num.{Num}
 use Rattle.ps_world.specs.declared.facts.Fact.{Fact}
 use Rattle.ps_world.specs.declared.actions.Effect.{Effect}
 use Rattle.ps_world.specs.declared.actions.Effect.TheVariants.{Add, Delete, Number}
-use Rattle.ps_action.specs.Effects.{added_by}
 
 -- the fact that an effect deletes, if it deletes one
 abbrev pub deleted_by : Effect → Option Fact
@@ -15,21 +16,33 @@ deleted_by (Add l) = None
 deleted_by (Delete l) = Some (ground l)
 deleted_by (Number how l x) = None
 
--- the facts that effects add, without those that are known
-abbrev pub fresh_in : List Fact → List Effect → List Fact
-fresh_in facts es = filter (λ f. not (list_any (same_fact f) facts)) (filter_map added_by es)
+-- the facts among those that come, without those that are known
+abbrev pub fresh_in : List Fact → List Fact → List Fact
+fresh_in facts adds = filter (λ f. not (list_any (same_fact f) facts)) adds
 
--- the known facts that effects delete, without those that they add
-abbrev pub lost_in : List Fact → List Effect → List Fact
-lost_in facts es = filter (λ f. list_any (same_fact f) facts && not (list_any (same_fact f) (filter_map added_by es))) (filter_map deleted_by es)
+-- the known facts among those that go, without those that come
+abbrev pub lost_in : List Fact → List Fact → List Fact → List Fact
+lost_in facts adds deletes = filter (λ f. list_any (same_fact f) facts && not (list_any (same_fact f) adds)) deletes
 
--- the terms that are given values, each with the value that it has
-abbrev pub held_in : List (Fact × Num) → List (Fact × Num) → List (Fact × Option Num)
-held_in values ready = map (λ v. (v.0, lookup (same_fact v.0) values)) ready
+-- the terms that lose their values, without those that are given one
+abbrev pub dropped_in : List (Fact × Num) → List Fact → List Fact
+dropped_in ready gone = filter (λ f. not (list_any (same_fact f) (keys_of ready))) gone
+
+-- terms, each with the value that it has
+abbrev pub held_in : List (Fact × Num) → List Fact → List (Fact × Option Num)
+held_in values terms = map (λ f. (f, lookup (same_fact f) values)) terms
+
+-- instances without this one
+abbrev pub without_instance : List (Name × Name) → Name → List (Name × Name)
+without_instance instances n = filter (λ i. not (same_name n i.0)) instances
 
 -- facts without this one
 abbrev pub without_one : List Fact → Fact → List Fact
 without_one facts f = filter (λ g. not (same_fact f g)) facts
+
+-- values without this term's
+abbrev pub without_term : List (Fact × Num) → Fact → List (Fact × Num)
+without_term values f = filter (λ v. not (same_fact f v.0)) values
 
 -- values where a term that has one has this one in its place, or none
 abbrev pub put_back : List (Fact × Num) → Fact → Option Num → List (Fact × Num)

@@ -8,6 +8,7 @@ mod facts;
 mod instances;
 mod known;
 mod namings;
+mod patches;
 mod puts;
 mod removal;
 mod values;

@@ -125,51 +125,62 @@ impl Facts {
         }
     }
 
-    /// The facts that effects add and that aren't there, in the order of the effects.
-    pub fn fresh(&self, alloc: Global, effects: &[Effect]) -> Result<Vec<Fact>, AllocError>
-        ensures fresh { IfOk result (λ v. v.items ≡ fresh_in self.now effects.now) }
+    /// The facts among those that come that aren't there, in their order.
+    pub fn fresh(&self, alloc: Global, adds: &[Fact]) -> Result<Vec<Fact>, AllocError>
+        ensures fresh { IfOk result (λ v. v.items ≡ fresh_in self.now adds.now) }
         ensures rises { OnOk result (IsStrictlySortedBy fact_cmp self.now) }
     {
         // A set says of its length that its items rise.
         let _count = self.all.len();
         let mut fresh = Vec::new(alloc);
-        for effect in effects {
-            if let Some(fact) = added(effect) {
-                if !self.contains(&fact) {
-                    fresh.push(fact)?;
-                }
+        for fact in adds {
+            if !self.contains(fact) {
+                fresh.push(*fact)?;
             }
         }
         Ok(fresh)
     }
 
-    /// The facts that are there, that effects delete and that none of them adds, in the order of the effects.
-    pub fn lost(&self, alloc: Global, effects: &[Effect]) -> Result<Vec<Fact>, AllocError>
-        ensures { IfOk result (λ v. v.items ≡ lost_in self.now effects.now) }
+    /// The facts among those that go that are there and don't come as well, in their order.
+    pub fn lost(
+        &self,
+        alloc: Global,
+        adds: &[Fact],
+        deletes: &[Fact],
+    ) -> Result<Vec<Fact>, AllocError>
+        ensures { IfOk result (λ v. v.items ≡ lost_in self.now adds.now deletes.now) }
     {
-        let come = all_added(alloc, effects)?;
-        self.lost_but(alloc, effects, &come)
+        if deletes.is_empty() {
+            return Ok(Vec::new(alloc));
+        }
+        let come = set_of(alloc, adds)?;
+        self.lost_but(alloc, deletes, &come)
     }
 
     fn lost_but(
         &self,
         alloc: Global,
-        effects: &[Effect],
-        come: &BTreeSet<Fact>,
+        deletes: &[Fact],
+        come: &Facts,
     ) -> Result<Vec<Fact>, AllocError>
         ensures { IfOk result (λ v. v.items ≡ filter
-            (λ f. list_any (same_fact f) self.now && not (list_any (same_fact f) come.now.keys))
-            (filter_map deleted_by effects.now)) }
+            (λ f. list_any (same_fact f) self.now && not (list_any (same_fact f) come.now))
+            deletes.now) }
     {
         let mut lost = Vec::new(alloc);
-        for effect in effects {
-            if let Some(fact) = deleted(effect) {
-                if self.contains(&fact) && !come.contains(&fact) {
-                    lost.push(fact)?;
-                }
+        for fact in deletes {
+            if self.is_lost(fact, come) {
+                lost.push(*fact)?;
             }
         }
         Ok(lost)
+    }
+
+    fn is_lost(&self, fact: &Fact, come: &Facts) -> bool
+        ensures { result ≡ (list_any (same_fact fact.now) self.now
+            && not (list_any (same_fact fact.now) come.now)) }
+    {
+        self.contains(fact) && !come.contains(fact)
     }
 
     /// The facts in their order. The only error is out of memory.
@@ -216,15 +227,37 @@ fn deleted(effect: &Effect) -> Option<Fact>
     }
 }
 
-/// All facts that effects add.
-fn all_added(alloc: Global, effects: &[Effect]) -> Result<BTreeSet<Fact>, AllocError>
-    ensures { IfOk result (λ s. (f : Fact) → list_any (same_fact f) s.keys
-        ≡ list_any (same_fact f) (filter_map added_by effects.now)) }
+/// The set of these facts.
+fn set_of(alloc: Global, facts: &[Fact]) -> Result<Facts, AllocError>
+    ensures { IfOk result (λ s. (f : Fact) → list_any (same_fact f) s
+        ≡ list_any (same_fact f) facts.now) }
 {
-    let mut all = BTreeSet::new(alloc);
+    let mut all = Facts::new(alloc);
+    all.insert_all(facts)?;
+    Ok(all)
+}
+
+/// The facts that effects add, in the order of the effects.
+pub fn adds_of(alloc: Global, effects: &[Effect]) -> Result<Vec<Fact>, AllocError>
+    ensures { IfOk result (λ v. v.items ≡ filter_map added_by effects.now) }
+{
+    let mut all = Vec::new(alloc);
     for effect in effects {
         if let Some(fact) = added(effect) {
-            all.insert(fact)?;
+            all.push(fact)?;
+        }
+    }
+    Ok(all)
+}
+
+/// The facts that effects delete, in the order of the effects.
+pub fn deletes_of(alloc: Global, effects: &[Effect]) -> Result<Vec<Fact>, AllocError>
+    ensures { IfOk result (λ v. v.items ≡ filter_map deleted_by effects.now) }
+{
+    let mut all = Vec::new(alloc);
+    for effect in effects {
+        if let Some(fact) = deleted(effect) {
+            all.push(fact)?;
         }
     }
     Ok(all)

@@ -1,11 +1,13 @@
 //! The instances that are known.
-ghost use Rattle.std.specs.Prelude.{◌≡◌, [], List, not, filter, map, length, slice_get, IfOk, OnOk, OnErr};
+ghost use Rattle.std.specs.Prelude.{◌≡◌, ◌↔◌, [], List, not, filter, fold, map, length, slice_get, unwrap_or, IfOk, IsTrue, OnOk, OnErr};
 ghost use Rattle.std.specs.Map.{lookup};
 ghost use Rattle.std.specs.BTreeMap.{insert_entry};
 ghost use Rattle.ps_world.specs.Names.{name_cmp, same_name};
 ghost use Rattle.ps_world.specs.Knowledge.{is_below};
 ghost use Rattle.ps_world.specs.declared.names.Name.{Name};
 ghost use Rattle.ps_problem.specs.KindLists.{AreKinds, AreAfter};
+ghost use Rattle.ps_problem.specs.Patches.{instances_after, with_instance};
+ghost use Rattle.ps_problem.specs.Puts.{without_instance};
 
 use ps_domain::Expert;
 use ps_world::Name;
@@ -93,6 +95,49 @@ impl Instances {
         let _count = self.all.len();
         self.all.remove(&name);
         write_kind(&mut self.kinds, name, None);
+    }
+
+    /// What the instances are without those that go, and then with those that come. None where nothing goes and nothing comes.
+    pub fn patched(
+        &self,
+        goes: &[Name],
+        comes: &[(Name, Name)],
+    ) -> Result<Option<Instances>, AllocError>
+        ensures { IfOk result (λ next. unwrap_or next self.now ≡ instances_after self.now goes.now comes.now) }
+    {
+        if goes.is_empty() && comes.is_empty() {
+            return Ok(None);
+        }
+        let mut next = self.copy()?;
+        next.remove_all(goes);
+        next.insert_all(comes)?;
+        Ok(Some(next))
+    }
+
+    /// Takes these instances out.
+    fn remove_all(&mut self, names: &[Name])
+        ensures { self.new ≡ fold without_instance self.old names.now }
+    {
+        for name in names {
+            self.remove(*name);
+        }
+    }
+
+    /// Gives these names their types, one after another. Where memory runs out some of the first may be there.
+    fn insert_all(&mut self, instances: &[(Name, Name)]) -> Result<(), AllocError>
+        ensures { OnOk result (self.new ≡ fold with_instance self.old instances.now) }
+    {
+        for (name, kind) in instances {
+            self.insert(*name, *kind)?;
+        }
+        Ok(())
+    }
+
+    /// Whether they are the same.
+    pub fn is_same(&self, other: &Instances) -> bool
+        ensures { IsTrue result ↔ (self.now ≡ other.now) }
+    {
+        self.all == other.all
     }
 
     /// The instance at a place, with its type. None exactly where there are no more instances than that.

@@ -1,14 +1,17 @@
 //! The values of functions that are known.
-ghost use Rattle.std.specs.Prelude.{◌≡◌, ◌≢◌, ◌↔◌, ℕ, [], false, true, not, filter, fold, take, is_some, All, IfOk, OnOk, OnErr, IsTrue};
+ghost use Rattle.std.specs.Prelude.{◌≡◌, ◌≢◌, ◌↔◌, ℕ, [], false, true, not, ◌++◌, filter, fold, take, is_some, All, IfOk, OnOk, OnErr, IsTrue};
+ghost use Rattle.std.specs.List.{list_any};
 ghost use Rattle.std.specs.Map.{lookup, keys_of, set_value};
 ghost use Rattle.std.specs.List.Sorted.{IsStrictlySortedBy};
 ghost use Rattle.std.specs.BTreeMap.{insert_entry};
 ghost use Rattle.ps_world.specs.Facts.{fact_cmp};
 ghost use Rattle.ps_world.specs.Knowledge.{is_among, same_fact};
+ghost use Rattle.ps_world.specs.declared.facts.Fact.{Fact};
 ghost use Rattle.ps_action.specs.Effects.{with_value};
 ghost use Rattle.ps_problem.specs.Namings.{AreNamed};
-ghost use Rattle.ps_problem.specs.Puts.{held_in, put_back, with_held};
+ghost use Rattle.ps_problem.specs.Puts.{dropped_in, held_in, put_back, with_held, without_term};
 
+use super::facts::Facts;
 use super::namings::{Naming, note, note_where_taken, take_naming};
 use ps_world::{Fact, Name, Num};
 use std::alloc::{AllocError, Global};
@@ -116,22 +119,53 @@ impl Values {
         Ok(())
     }
 
-    /// The terms of these values, each with the value that it has here.
+    /// The terms of these values and these terms, each with the value that it has here.
     pub fn held(
         &self,
         alloc: Global,
         ready: &[(Fact, Num)],
+        gone: &[Fact],
     ) -> Result<Vec<(Fact, Option<Num>)>, AllocError>
-        ensures held { IfOk result (λ v. v.items ≡ held_in self.now ready.now) }
+        ensures held { IfOk result (λ v. v.items ≡ held_in self.now (keys_of ready.now ++ gone.now)) }
         ensures rises { OnOk result (IsStrictlySortedBy fact_cmp (keys_of self.now)) }
     {
         // A map says of its length that its keys rise.
         let _count = self.all.len();
         let mut held = Vec::with_capacity(alloc, ready.len())?;
+        self.hold_given(&mut held, ready)?;
+        self.hold(&mut held, gone)?;
+        Ok(held)
+    }
+
+    fn hold_given(
+        &self,
+        held: &mut Vec<(Fact, Option<Num>)>,
+        ready: &[(Fact, Num)],
+    ) -> Result<(), AllocError>
+        ensures { OnOk result (held.new.items ≡ held.old.items ++ held_in self.now (keys_of ready.now)) }
+    {
         for (term, _) in ready {
             held.push((*term, self.get(term)))?;
         }
-        Ok(held)
+        Ok(())
+    }
+
+    fn hold(&self, held: &mut Vec<(Fact, Option<Num>)>, terms: &[Fact]) -> Result<(), AllocError>
+        ensures { OnOk result (held.new.items ≡ held.old.items ++ held_in self.now terms.now) }
+    {
+        for term in terms {
+            held.push((*term, self.get(term)))?;
+        }
+        Ok(())
+    }
+
+    /// Takes the values of these terms out, of those of them that have one.
+    pub fn remove_all(&mut self, terms: &[Fact])
+        ensures { self.new ≡ fold without_term self.old terms.now }
+    {
+        for term in terms {
+            self.remove(term);
+        }
     }
 
     /// Whether each of these terms has the value that it held.
@@ -186,6 +220,42 @@ impl Values {
         }
         Ok(all)
     }
+}
+
+/// The terms among those that lose their values that aren't given one as well, in their order.
+pub fn dropped(alloc: Global, ready: &[(Fact, Num)], gone: &[Fact]) -> Result<Vec<Fact>, AllocError>
+    ensures { IfOk result (λ v. v.items ≡ dropped_in ready.now gone.now) }
+{
+    if gone.is_empty() {
+        return Ok(Vec::new(alloc));
+    }
+    let given = terms_of(alloc, ready)?;
+    dropped_but(alloc, &given, gone)
+}
+
+fn dropped_but(alloc: Global, given: &Facts, gone: &[Fact]) -> Result<Vec<Fact>, AllocError>
+    ensures { IfOk result (λ v. v.items
+        ≡ filter (λ f. not (list_any (same_fact f) given.now)) gone.now) }
+{
+    let mut dropped = Vec::new(alloc);
+    for term in gone {
+        if !given.contains(term) {
+            dropped.push(*term)?;
+        }
+    }
+    Ok(dropped)
+}
+
+/// The set of the terms of these values.
+fn terms_of(alloc: Global, ready: &[(Fact, Num)]) -> Result<Facts, AllocError>
+    ensures { IfOk result (λ s. (f : Fact) → list_any (same_fact f) s
+        ≡ list_any (same_fact f) (keys_of ready.now)) }
+{
+    let mut all = Facts::new(alloc);
+    for (term, _) in ready {
+        all.insert(*term)?;
+    }
+    Ok(all)
 }
 
 /// Whether two values are the same.

@@ -11,7 +11,7 @@ whatever (Err e) p = p
 
 pub returns-in_err-insert_all-2-clause-err : goal.returns-in_err-insert_all-2-clause-err
 returns-in_err-insert_all-2-clause-err c =
-    let fresh = c.args.change.now.fresh.items in
+    let fresh = c.args.found.now.fresh.items in
     let e = c.in_err-insert_all-2.ensures.err in
     let facts : c.insert_all.new.self ≡ fold (insert_key fact_cmp) c.self.inside.facts (take (length fresh) fresh) =
     c.in_ok-insert_all.ensures.ok ∙ ap (fold (insert_key fact_cmp) c.self.inside.facts) (c.deref.ensures.value ∙ sym (take-length fresh)) in
