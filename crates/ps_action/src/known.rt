@@ -1,5 +1,5 @@
 //! What conditions, effects and edits ask of what is known and of a domain.
-ghost use Rattle.std.specs.Prelude.{◌≡◌, slice_get};
+ghost use Rattle.std.specs.Prelude.{◌≡◌};
 ghost use Rattle.std.specs.List.{list_any};
 ghost use Rattle.std.specs.Map.{lookup};
 ghost use Rattle.std.specs.Option.{option_copied};
@@ -26,10 +26,9 @@ pub trait Known {
     fn kind_of(&self, name: Name) -> Option<Name>
         ensures { result ≡ kind_of (known self.now) name };
 
-    /// The instance at a place of their list, with its type. The names of what is well known rise there. None exactly where there
-    /// are no more instances than that.
-    fn instance_at(&self, i: u32) -> Option<(Name, Name)>
-        ensures { result ≡ slice_get (known self.now).instances i };
+    /// The instances with their types, in the order of their list. The names of what is well known rise there.
+    fn instances(&self) -> &[(Name, Name)]
+        ensures { result.now ≡ (known self.now).instances };
 }
 
 /// The types of a domain, which contracts see as `types` of it.
@@ -100,8 +99,8 @@ impl Known for Knowledge {
         kind_among(self.instances.as_slice(), name)
     }
 
-    fn instance_at(&self, i: u32) -> Option<(Name, Name)> {
-        self.instances.as_slice().get(i as usize).copied()
+    fn instances(&self) -> &[(Name, Name)] {
+        self.instances.as_slice()
     }
 }
 
@@ -146,7 +145,7 @@ impl<'a> Known for Instances<'a> {
         kind_among(self.listed, name)
     }
 
-    fn instance_at(&self, i: u32) -> Option<(Name, Name)> {
-        self.listed.get(i as usize).copied()
+    fn instances(&self) -> &[(Name, Name)] {
+        self.listed
     }
 }

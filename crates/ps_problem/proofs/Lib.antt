@@ -5,6 +5,7 @@ pub mod Filters
 pub mod Gathered
 pub mod Goals
 pub mod KindLists
+pub mod NamePlaces
 pub mod Namings
 pub mod Opening
 pub mod Patches

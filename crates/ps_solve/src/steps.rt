@@ -43,8 +43,8 @@ impl<'a> Known for At<'a> {
         self.given.kind_of(name)
     }
 
-    fn instance_at(&self, i: u32) -> Option<(Name, Name)> {
-        self.given.instance_at(i)
+    fn instances(&self) -> &[(Name, Name)] {
+        Known::instances(self.given)
     }
 }
 

@@ -1,18 +1,18 @@
 //! The instances that are known.
 ghost use Rattle.std.specs.Prelude.{◌≡◌, ◌↔◌, [], List, not, filter, fold, map, length, slice_get, unwrap_or, IfOk, IsTrue, OnOk, OnErr};
-ghost use Rattle.std.specs.Map.{lookup};
+ghost use Rattle.std.specs.List.Sorted.{IsStrictlySortedBy};
+ghost use Rattle.std.specs.Map.{keys_of, lookup};
 ghost use Rattle.std.specs.BTreeMap.{insert_entry};
 ghost use Rattle.ps_world.specs.Names.{name_cmp, same_name};
 ghost use Rattle.ps_world.specs.Knowledge.{is_below};
 ghost use Rattle.ps_world.specs.declared.names.Name.{Name};
-ghost use Rattle.ps_problem.specs.KindLists.{AreKinds, AreAfter};
+ghost use Rattle.ps_problem.specs.KindLists.{AreKinds, AreAfter, IsListed, is_named, place_of};
 ghost use Rattle.ps_problem.specs.Patches.{instances_after, with_instance};
 ghost use Rattle.ps_problem.specs.Puts.{without_instance};
 
 use ps_domain::Expert;
 use ps_world::Name;
 use std::alloc::{AllocError, Global};
-use std::collections::BTreeMap;
 use std::marker::Model;
 
 /// The most names whose types stand in a list by their numbers.
@@ -21,7 +21,7 @@ const MOST_KINDS: u64 = 4_096;
 /// The instances with their types, in the order of their names. Contracts see their list.
 #[derive(Drop)]
 pub struct Instances {
-    all: BTreeMap<Name, Name>,
+    all: Vec<(Name, Name)>,
     /// The types of the names with the lowest numbers, so that an argument's type is found without a search.
     kinds: Vec<Option<Name>>,
 }
@@ -29,13 +29,13 @@ pub struct Instances {
 impl Model for Instances {
     ghost use Rattle.std.specs.Prelude.{List};
     ghost use Rattle.ps_world.specs.declared.names.Name.{Name};
-    ghost use Rattle.ps_problem.specs.KindLists.{AreKinds};
+    ghost use Rattle.ps_problem.specs.KindLists.{IsListed};
 
     ghost Value = { List (Name × Name) };
 
-    ghost view = { λ a. a.all.entries };
+    ghost view = { λ a. a.all.items };
 
-    ghost invariant = { λ a. AreKinds a.kinds.items a.all.entries };
+    ghost invariant = { λ a. IsListed a.kinds.items a.all.items };
 }
 
 impl Instances {
@@ -44,7 +44,7 @@ impl Instances {
         ensures { result ≡ [] }
     {
         Instances {
-            all: BTreeMap::new(alloc),
+            all: Vec::new(alloc),
             kinds: Vec::new(alloc),
         }
     }
@@ -72,7 +72,7 @@ impl Instances {
     {
         match self.kinds.get(name.0 as usize) {
             Some(kind) => *kind,
-            None => self.all.get(&name).copied(),
+            None => kind_of(self.all.as_slice(), name),
         }
     }
 
@@ -81,8 +81,8 @@ impl Instances {
         ensures ok { OnOk result (self.new ≡ insert_entry name_cmp self.old name kind) }
         ensures err { OnErr result (self.new ≡ self.old) }
     {
-        list_kinds(&self.all, &mut self.kinds, name)?;
-        self.all.insert(name, kind)?;
+        list_kinds(self.all.as_slice(), &mut self.kinds, name)?;
+        put_in(&mut self.all, name, kind)?;
         write_kind(&mut self.kinds, name, Some(kind));
         Ok(())
     }
@@ -91,10 +91,15 @@ impl Instances {
     pub fn remove(&mut self, name: Name)
         ensures { self.new ≡ filter (λ i. not (same_name name i.0)) self.old }
     {
-        // A map says of its length that its keys rise, so that the name stands in it once.
-        let _count = self.all.len();
-        self.all.remove(&name);
+        self.all.retain(|(there, _)| name != *there);
         write_kind(&mut self.kinds, name, None);
+    }
+
+    /// The instances with their types, in order.
+    pub fn as_slice(&self) -> &[(Name, Name)]
+        ensures { result.now ≡ self.now }
+    {
+        self.all.as_slice()
     }
 
     /// What the instances are without those that go, and then with those that come. None where nothing goes and nothing comes.
@@ -144,10 +149,7 @@ impl Instances {
     pub fn nth(&self, i: usize) -> Option<(Name, Name)>
         ensures { result ≡ slice_get self.now i }
     {
-        match self.all.iter().nth(i) {
-            Some((name, kind)) => Some((*name, *kind)),
-            None => None,
-        }
+        self.all.get(i).copied()
     }
 
     /// The instances with their types, in order. The only error is out of memory.
@@ -155,9 +157,7 @@ impl Instances {
         ensures { IfOk result (λ v. v.items ≡ self.now) }
     {
         let mut all = Vec::with_capacity(alloc, self.all.len())?;
-        for (name, kind) in &self.all {
-            all.push((*name, *kind))?;
-        }
+        all.extend_from_slice(self.all.as_slice())?;
         Ok(all)
     }
 
@@ -172,7 +172,7 @@ impl Instances {
             ≡ map (λ i. i.0) (filter (λ i. is_below expert.now i.1 kind) self.now)) }
     {
         let mut found = Vec::new(alloc);
-        for (name, there) in &self.all {
+        for (name, there) in self.all.as_slice() {
             if expert.is_subtype(*there, kind) {
                 found.push(*name)?;
             }
@@ -181,20 +181,66 @@ impl Instances {
     }
 }
 
+/// The place of a name in a list that rises: how many names are below it.
+fn place_of(all: &[(Name, Name)], name: Name) -> usize
+    requires { IsStrictlySortedBy name_cmp (keys_of all.now) }
+    ensures { result ≡ place_of name all.now }
+{
+    all.partition_point(|(there, _)| name.cmp(there).is_gt())
+}
+
+/// Whether the instance at a place has this name.
+fn is_at(all: &[(Name, Name)], at: usize, name: Name) -> bool
+    ensures { result ≡ is_named name (slice_get all.now at) }
+{
+    match all.get(at) {
+        Some((there, _)) => name == *there,
+        None => false,
+    }
+}
+
+/// The type of a name in a list that rises. None exactly where the name isn't in it.
+fn kind_of(all: &[(Name, Name)], name: Name) -> Option<Name>
+    requires { IsStrictlySortedBy name_cmp (keys_of all.now) }
+    ensures { result ≡ lookup (same_name name) all.now }
+{
+    let at = place_of(all, name);
+    if is_at(all, at, name) {
+        Some(all[at].1)
+    } else {
+        None
+    }
+}
+
+/// Gives a name this type in a list that rises. Where memory runs out nothing changes.
+fn put_in(all: &mut Vec<(Name, Name)>, name: Name, kind: Name) -> Result<(), AllocError>
+    requires { IsStrictlySortedBy name_cmp (keys_of all.old.items) }
+    ensures ok { OnOk result (all.new.items ≡ insert_entry name_cmp all.old.items name kind) }
+    ensures err { OnErr result (all.new.items ≡ all.old.items) }
+{
+    let at = place_of(all.as_slice(), name);
+    if is_at(all.as_slice(), at, name) {
+        all[at] = (name, kind);
+    } else {
+        all.insert(at, (name, kind))?;
+    }
+    Ok(())
+}
+
 /// Lists the types up to this name's, if its number is one of the lowest. Where memory runs out some may be listed.
 fn list_kinds(
-    all: &BTreeMap<Name, Name>,
+    all: &[(Name, Name)],
     kinds: &mut Vec<Option<Name>>,
     name: Name,
 ) -> Result<(), AllocError>
-    requires { AreKinds kinds.old.items all.now.entries }
-    ensures { AreKinds kinds.new.items all.now.entries }
+    requires { IsListed kinds.old.items all.now }
+    ensures { IsListed kinds.new.items all.now }
 {
     if name.0 >= MOST_KINDS {
         return Ok(());
     }
     for at in kinds.len()..name.0 as usize + 1 {
-        kinds.push(all.get(&Name(at as u64)).copied())?;
+        kinds.push(kind_of(all, Name(at as u64)))?;
     }
     Ok(())
 }

@@ -106,7 +106,7 @@ impl Known for Problem {
         Problem::kind_of(self, name)
     }
 
-    fn instance_at(&self, i: u32) -> Option<(Name, Name)> {
-        Problem::instance_at(self, i)
+    fn instances(&self) -> &[(Name, Name)] {
+        self.instances.as_slice()
     }
 }
