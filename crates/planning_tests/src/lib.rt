@@ -4,6 +4,8 @@
 #[cfg(test)]
 mod orders;
 #[cfg(test)]
+mod patching;
+#[cfg(test)]
 mod plans;
 #[cfg(test)]
 mod telling;

@@ -50,7 +50,7 @@ const PAIRS: [(&str, &str, bool); 20] = [
 ];
 
 /// What robots do in rooms.
-const ROOMS: &str = "(define (domain rooms) (:types robot room)
+pub const ROOMS: &str = "(define (domain rooms) (:types robot room)
 (:predicates (robot_at ?r - robot ?ro - room) (connected ?a ?b - room) (battery_full ?r - robot) (battery_low ?r - robot)
  (charging_point_at ?ro - room))
 (:durative-action move :parameters (?r - robot ?a ?b - room) :duration (= ?duration 5)

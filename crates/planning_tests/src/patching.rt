@@ -1,0 +1,87 @@
+//! What is known after a change: as after the effects of an act that makes it, and as before where it has nothing.
+use super::orders::ROOMS;
+use super::worlds::{World, fact_of, ground_of, world_of};
+use ps_action::GroundAction;
+use ps_eval::apply;
+use ps_problem::{Change, Problem};
+use ps_text::Names;
+use ps_world::Seq;
+use std::alloc::Global;
+use std::process::Abort;
+use std::test::Fail;
+
+const LEIA: &str = "set instance leia robot
+set instance entrance room
+set instance kitchen room
+set instance bedroom room
+set instance chargingroom room
+set predicate (robot_at leia entrance)
+set predicate (battery_low leia)
+set predicate (charging_point_at chargingroom)
+set predicate (connected entrance kitchen)
+set predicate (connected chargingroom kitchen)
+set predicate (connected kitchen bedroom)
+set goal (and (robot_at leia bedroom))";
+
+/// A change that changes nothing.
+fn no_change(alloc: Global) -> Change {
+    Change {
+        instances_in: Seq::new(alloc),
+        instances_out: Seq::new(alloc),
+        adds: Seq::new(alloc),
+        deletes: Seq::new(alloc),
+        values: Seq::new(alloc),
+        gone: Seq::new(alloc),
+        goal: None,
+    }
+}
+
+/// Leia is in the room of the charging point, and no longer at the entrance.
+fn driven(alloc: Global, names: &mut Names) -> Result<Change, Fail> {
+    let there = fact_of(alloc, names, "(robot_at leia chargingroom)")?;
+    let here = fact_of(alloc, names, "(robot_at leia entrance)")?;
+    let mut change = no_change(alloc);
+    change.adds = Seq::of(vec![in alloc; there]?);
+    change.deletes = Seq::of(vec![in alloc; here]?);
+    Ok(change)
+}
+
+fn make_effects(problem: &mut Problem, world: &World, act: &GroundAction) -> Result<(), Fail> {
+    apply(problem, &world.expert, act.effects.at_start.as_slice())?;
+    apply(problem, &world.expert, act.effects.at_end.as_slice())?;
+    Ok(())
+}
+
+/// What is known after the act that brings leia there.
+fn after_act(alloc: Global, world: &mut World) -> Result<Box<Problem>, Fail> {
+    let act = ground_of(alloc, world, "(askcharge leia entrance chargingroom)")?;
+    let mut after = Box::new(alloc, world.problem.copy()?)?;
+    make_effects(&mut after, world, &act)?;
+    Ok(after)
+}
+
+/// Whether two problems know the same, but for their goals.
+fn know_the_same(one: &Problem, other: &Problem) -> Result<bool, Fail> {
+    Ok(
+        one.instances()? == other.instances()?
+            && one.facts()? == other.facts()?
+            && one.values()? == other.values()?,
+    )
+}
+
+fn patches_so(rt: &impl Abort, alloc: Global, world: &mut World) -> Result<(), Fail> {
+    let after = after_act(alloc, world)?;
+    assert!(rt; !know_the_same(&world.problem, &after)?);
+    let change = driven(alloc, &mut world.names)?;
+    assert!(rt; world.problem.patch(&change)?);
+    assert!(rt; know_the_same(&world.problem, &after)?);
+    assert!(rt; !world.problem.patch(&no_change(alloc))?);
+    assert!(rt; know_the_same(&world.problem, &after)?);
+    Ok(())
+}
+
+#[test]
+fn patches_as_an_act_does(rt: HostRuntime) -> Result<(), Fail> {
+    let mut world = world_of(rt.alloc(), ROOMS, LEIA)?;
+    patches_so(&rt, rt.alloc(), &mut world)
+}
