@@ -5,7 +5,7 @@ ghost use Rattle.ps_action.specs.Truth.{all_true, all_true_with, compare_so, fit
 
 use crate::known::{Known, Types};
 use crate::values::value_with;
-use ps_world::{BoxedCond, Cond, Conds, Name, Num, Rel};
+use ps_world::{BoxedCond, Cond, Conds, Env, Name, Num, Rel};
 
 /// Whether two numbers compare so.
 fn related(rel: Rel, a: Num, b: Num) -> bool
@@ -45,25 +45,25 @@ fn fits<T: Types>(types: &T, kind: Option<Name>, want: Name) -> bool
 pub fn is_true<K: Known, T: Types>(known: &K, types: &T, cond: &Cond) -> bool
     ensures { result ≡ is_true (T.types types.now) (K.known known.now) (cond_tree cond.now) }
 {
-    is_true_with(known, types, &[], cond)
+    is_true_with(known, types, &Env::of(&[]), cond)
 }
 
 /// Whether each condition of a list holds. It takes no memory.
 pub fn all_true<K: Known, T: Types>(known: &K, types: &T, conds: &Conds) -> bool
     ensures { result ≡ all_true (T.types types.now) (K.known known.now) conds.now }
 {
-    all_true_with(known, types, &[], conds)
+    all_true_with(known, types, &Env::of(&[]), conds)
 }
 
 /// Whether a condition holds, where variables stand for these names.
 #[cycle(truth)]
-fn is_true_with<K: Known, T: Types>(known: &K, types: &T, env: &[Name], cond: &Cond) -> bool
+fn is_true_with<K: Known, T: Types>(known: &K, types: &T, env: &Env, cond: &Cond) -> bool
     ensures { result ≡ is_true_with (T.types types.now) (K.known known.now) env.now
         (cond_tree cond.now) }
 {
     match cond {
-        Cond::And(parts) => all_true_with(known, types, env, parts),
-        Cond::Not(inner) => !is_boxed_true_with(known, types, env, inner),
+        Cond::And(parts) => all_true_with(known, types, &*env, parts),
+        Cond::Not(inner) => !is_boxed_true_with(known, types, &*env, inner),
         Cond::Holds(lifted) => known.has(&lifted.ground_in(env)),
         Cond::Same(one, other) => one.name_in(env) == other.name_in(env),
         Cond::Cmp(rel, left, right) => {
@@ -76,24 +76,19 @@ fn is_true_with<K: Known, T: Types>(known: &K, types: &T, env: &[Name], cond: &C
 }
 
 #[cycle(truth)]
-fn is_boxed_true_with<K: Known, T: Types>(
-    known: &K,
-    types: &T,
-    env: &[Name],
-    cond: &BoxedCond,
-) -> bool
+fn is_boxed_true_with<K: Known, T: Types>(known: &K, types: &T, env: &Env, cond: &BoxedCond) -> bool
     ensures { result ≡ is_true_with (T.types types.now) (K.known known.now) env.now cond.now }
 {
-    is_true_with(known, types, env, cond.get())
+    is_true_with(known, types, &*env, cond.get())
 }
 
 /// Whether each condition of a list holds, where variables stand for these names.
 #[cycle(truth)]
-fn all_true_with<K: Known, T: Types>(known: &K, types: &T, env: &[Name], conds: &Conds) -> bool
+fn all_true_with<K: Known, T: Types>(known: &K, types: &T, env: &Env, conds: &Conds) -> bool
     ensures { result ≡ all_true_with (T.types types.now) (K.known known.now) env.now conds.now }
 {
     for cond in conds.as_slice() {
-        if !is_true_with(known, types, env, cond) {
+        if !is_true_with(known, types, &*env, cond) {
             return false;
         }
     }

@@ -5,7 +5,7 @@ ghost use Rattle.ps_action.specs.Values.{computed, in_range, product, quotient, 
 ghost use Rattle.ps_action.specs.Plans.{duration_of};
 
 use crate::known::Known;
-use ps_world::{BoxedExpr, Expr, Name, Num, Op};
+use ps_world::{BoxedExpr, Env, Expr, Num, Op};
 
 /// The number of a count of thousandths, or None exactly where it is out of range.
 pub(crate) fn in_range(milli: i128) -> Option<Num>
@@ -64,12 +64,12 @@ fn negated(number: Num) -> Num
 pub fn value_of<K: Known>(known: &K, expr: &Expr) -> Option<Num>
     ensures { result ≡ value (K.known known.now) (expr_tree expr.now) }
 {
-    value_with(known, &[], expr)
+    value_with(known, &Env::of(&[]), expr)
 }
 
 /// What an expression is worth, where variables stand for these names.
 #[cycle(value)]
-pub(crate) fn value_with<K: Known>(known: &K, env: &[Name], expr: &Expr) -> Option<Num>
+pub(crate) fn value_with<K: Known>(known: &K, env: &Env, expr: &Expr) -> Option<Num>
     ensures { result ≡ value_with (K.known known.now) env.now (expr_tree expr.now) }
 {
     match expr {
@@ -92,7 +92,7 @@ pub(crate) fn value_with<K: Known>(known: &K, env: &[Name], expr: &Expr) -> Opti
 }
 
 #[cycle(value)]
-fn boxed_value_with<K: Known>(known: &K, env: &[Name], expr: &BoxedExpr) -> Option<Num>
+fn boxed_value_with<K: Known>(known: &K, env: &Env, expr: &BoxedExpr) -> Option<Num>
     ensures { result ≡ value_with (K.known known.now) env.now expr.now }
 {
     value_with(known, env, expr.get())

@@ -2,6 +2,7 @@
 ghost use Rattle.std.specs.Prelude.{◌≡◌, ◌++◌, None, Some, false, true, filter_map, flat_map, length, map, slice_get, IfOk, MatchOption, OnOk};
 ghost use Rattle.std.specs.List.{list_any};
 ghost use Rattle.std.specs.List.Sorted.{IsStrictlySortedBy};
+ghost use Rattle.ps_world.specs.Bound.{ground_in};
 ghost use Rattle.ps_world.specs.Facts.{fact_cmp};
 ghost use Rattle.ps_world.specs.Knowledge.{same_fact};
 ghost use Rattle.ps_world.specs.declared.facts.Fact.{Fact as FactView};
@@ -13,7 +14,7 @@ ghost use Rattle.ps_ground.specs.Atoms.{adds};
 
 use ps_action::Act;
 use ps_domain::Expert;
-use ps_world::{ActionDef, Effect, Fact, Name};
+use ps_world::{ActionDef, Effect, Env, Fact, Lifted, Name};
 use std::alloc::{AllocError, Global};
 use std::marker::Model;
 
@@ -101,12 +102,19 @@ impl Atoms {
     }
 }
 
+/// The fact that a head with terms is, where variables stand for these arguments.
+pub(crate) fn ground_in(args: &[Name], lifted: &Lifted) -> Fact
+    ensures { result ≡ ground_in args.now lifted.now }
+{
+    lifted.ground_in(&Env::of(args))
+}
+
 /// The fact that an effect adds, with arguments in place of variables, if it adds one.
 fn fact_added(args: &[Name], effect: &Effect) -> Option<Fact>
     ensures { result ≡ added_by (put_effect args.now effect.now) }
 {
     match effect {
-        Effect::Add(lifted) => Some(lifted.ground_in(args)),
+        Effect::Add(lifted) => Some(ground_in(args, lifted)),
         Effect::Delete(_) => None,
         Effect::Number(..) => None,
     }

@@ -18,7 +18,7 @@ ghost use Rattle.ps_ground.specs.Atoms.{AreAtoms, IsOver, adds};
 ghost use Rattle.ps_ground.specs.States.{State, at, stepped};
 ghost use Rattle.ps_ground.specs.Thinned.{IsIdleFrom};
 
-use super::atoms::Atoms;
+use super::atoms::{Atoms, ground_in};
 use ps_domain::Expert;
 use ps_problem::Problem;
 use ps_world::{ActionDef, Cond, Conds, Effect, Fact, Lifted, MOST_ARGUMENTS, Name, Term};
@@ -150,7 +150,7 @@ fn is_vain(fixed: &Fixed, before: &[Name], args: &[Name], cond: &Cond) -> bool
             if !is_first(before.len(), lifted.terms.as_slice()) {
                 return false;
             }
-            fixed.is_tied(lifted.head) && fixed.lacks(&lifted.ground_in(args))
+            fixed.is_tied(lifted.head) && fixed.lacks(&ground_in(args, lifted))
         }
         _ => false,
     }

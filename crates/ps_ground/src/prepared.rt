@@ -20,7 +20,7 @@ ghost use Rattle.ps_ground.specs.Atoms.{AddAtoms, AreAtoms, IsOver, adds};
 ghost use Rattle.ps_ground.specs.Prepared.{AreSound, IsBare, IsBareTest, IsSound, IsSoundChange, is_number, successor_nodes, successor, passes, turned, with_at, without_at};
 ghost use Rattle.ps_ground.specs.Goals.{MeansGoal};
 
-use super::atoms::Atoms;
+use super::atoms::{Atoms, ground_in};
 use super::footprints::Footprint;
 use super::light::lighten;
 use ps_action::{Act, GroundAction, first_clash};
@@ -200,7 +200,7 @@ fn take_in(
     ensures ready { IfOk result (λ taken. taken ≡ Taken.Unready → args.now ≡ [] → ⊥) }
 {
     match cond {
-        Cond::Holds(lifted) => match atoms.place_near(near, &lifted.ground_in(args)) {
+        Cond::Holds(lifted) => match atoms.place_near(near, &ground_in(args, lifted)) {
             Some(place) => {
                 test.wanted.push(place)?;
                 Ok(Taken::Whole)
@@ -276,7 +276,7 @@ fn deleted(atoms: &Atoms, near: usize, args: &[Name], effect: &Effect) -> Option
         ≡ filter (λ f. not (deletes f (put_effect args.now effect.now))) fs }
 {
     match effect {
-        Effect::Delete(lifted) => atoms.place_near(near, &lifted.ground_in(args)),
+        Effect::Delete(lifted) => atoms.place_near(near, &ground_in(args, lifted)),
         Effect::Add(_) => None,
         Effect::Number(..) => None,
     }
@@ -311,7 +311,7 @@ fn added(atoms: &Atoms, near: usize, args: &[Name], effect: &Effect) -> Option<u
         (option_to_list (added_by (put_effect args.now effect.now))) }
 {
     match effect {
-        Effect::Add(lifted) => match atoms.place_near(near, &lifted.ground_in(args)) {
+        Effect::Add(lifted) => match atoms.place_near(near, &ground_in(args, lifted)) {
             Some(place) => Some(place),
             None => unreachable!(),
         },

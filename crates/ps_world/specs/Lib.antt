@@ -3,12 +3,15 @@ pub mod Bound
 pub mod Codes
 pub mod CondFalls
 pub mod CondViews
+pub mod EnvFalls
+pub mod Envs
 pub mod ExprFalls
 pub mod ExprViews
 pub mod DomainTexts
 pub mod Edits
 pub mod Facts
 pub mod Failures
+pub mod Found
 pub mod Knowledge
 pub mod Leaves
 pub mod Lines

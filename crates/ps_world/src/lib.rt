@@ -2,6 +2,7 @@
 #![tactic(auto)]
 
 mod actions;
+mod bound;
 mod conditions;
 mod domains;
 mod edits;
@@ -16,6 +17,7 @@ mod numbers;
 mod schemas;
 
 pub use actions::{ActionDef, Conditions, Effect, Effects, NumOp};
+pub use bound::Env;
 pub use conditions::{BoxedCond, Cond, Conds, Rel};
 pub use domains::{Decl, Domain, Param, Params};
 pub use edits::{Edit, EditRefusal};

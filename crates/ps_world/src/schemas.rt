@@ -4,6 +4,7 @@ ghost use Rattle.std.specs.Option.{SomeIff};
 ghost use Rattle.ps_world.specs.Bound.{ground_in, name_in};
 ghost use Rattle.ps_world.specs.Knowledge.{ground, name_of};
 
+use super::bound::Env;
 use super::facts::Fact;
 use super::lists::Duplicate;
 use super::names::{Args, MOST_ARGUMENTS, Name};
@@ -31,11 +32,14 @@ impl Term {
     }
 
     /// The name that the term is, where a variable stands for the name at its place, and for `object` where there is none.
-    pub fn name_in(&self, env: &[Name]) -> Name
+    pub fn name_in(&self, env: &Env) -> Name
         ensures { result ≡ name_in env.now self.now }
     {
         match self {
-            Term::Var(i) => env.get(usize::from(*i)).copied().unwrap_or(Name::OBJECT),
+            Term::Var(i) => match env.find(usize::from(*i)) {
+                Ok(name) => name,
+                Err(_) => Name::OBJECT,
+            },
             Term::Const(name) => *name,
         }
     }
@@ -146,11 +150,11 @@ impl Terms {
     pub fn names(&self) -> Args
         ensures { result ≡ map name_of self.now }
     {
-        self.names_in(&[])
+        self.names_in(&Env::of(&[]))
     }
 
     /// The names that the terms are, in order, where variables stand for these names. It takes no memory.
-    pub fn names_in(&self, env: &[Name]) -> Args
+    pub fn names_in(&self, env: &Env) -> Args
         ensures { result ≡ map (name_in env.now) self.now }
     {
         let terms = &self.terms[..self.count];
@@ -204,11 +208,11 @@ impl Lifted {
     pub fn ground(&self) -> Fact
         ensures { result ≡ ground self.now }
     {
-        self.ground_in(&[])
+        self.ground_in(&Env::of(&[]))
     }
 
     /// The fact that this is, where variables stand for these names. It takes no memory.
-    pub fn ground_in(&self, env: &[Name]) -> Fact
+    pub fn ground_in(&self, env: &Env) -> Fact
         ensures { result ≡ ground_in env.now self.now }
     {
         Fact {
