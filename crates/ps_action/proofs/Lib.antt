@@ -3,6 +3,7 @@ pub mod Contained
 pub mod Facts
 pub mod Faults
 pub mod FirstFault
+pub mod Grounded
 pub mod Keys
 pub mod Made
 pub mod MadeFacts

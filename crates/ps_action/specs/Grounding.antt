@@ -1,5 +1,5 @@
 -- Actions with arguments put in.
-use Rattle.std.specs.Prelude.{ℕ, ◌+◌, ◌==◌, if◌then◌else◌, Option, Some, None, Result, Err, List, [], ◌∷◌, ◌++◌, map, zip, filter, flat_map, fold, length, slice_get}
+use Rattle.std.specs.Prelude.{ℕ, ◌-◌, ◌==◌, if◌then◌else◌, Option, Some, None, Result, Err, List, [], ◌∷◌, ◌++◌, map, zip, filter, flat_map, fold, length, slice_get}
 use Rattle.std.specs.BTreeMap.{insert_entry}
 use Rattle.ps_world.specs.Names.{name_cmp}
 use Rattle.ps_world.specs.Trees.{ExprTree, number, value_of, negated, operated, CondTree, CondTrees, all_of, no, holds, same, compares, is_a, none, more}
@@ -25,14 +25,14 @@ use Rattle.ps_action.specs.declared.refusals.GroundRefusal.TheVariants.{NoAction
 
 -- ---- arguments in place of variables
 
--- the argument of a variable, or the variable where it has none
-abbrev pub put_var : ℕ → Option Name → Term
-put_var i (Some n) = Const n
-put_var i None = Var i
+-- the argument of a variable, or the variable where it has none, its number without those of the parameters
+abbrev pub put_var : List Name → ℕ → Option Name → Term
+put_var args i (Some n) = Const n
+put_var args i None = Var (i - length args)
 
 -- a term with arguments in place of variables
 abbrev pub put_term : List Name → Term → Term
-put_term args (Var i) = put_var i (slice_get args i)
+put_term args (Var i) = put_var args i (slice_get args i)
 put_term args (Const n) = Const n
 
 abbrev pub put_lifted : List Name → Lifted → Lifted

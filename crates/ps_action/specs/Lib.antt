@@ -1,6 +1,7 @@
 pub mod ArcTables
 pub mod Arcs
 pub mod Effects
+pub mod Grounded
 pub mod Grounding
 pub mod Laws
 pub mod Plans

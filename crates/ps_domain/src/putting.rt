@@ -9,14 +9,14 @@ use ps_world::{
 };
 use std::alloc::{AllocError, Global};
 
-/// A term with its argument in place of a variable. A variable that has no argument stays.
+/// A term with its argument in place of a variable. A variable behind the arguments is numbered without them.
 fn put_term(args: &[Name], term: Term) -> Term
     ensures { result ≡ put_term args.now term }
 {
     match term {
         Term::Var(i) => match args.get(usize::from(i)) {
             Some(name) => Term::Const(*name),
-            None => Term::Var(i),
+            None => Term::Var((usize::from(i) - args.len()) as u8),
         },
         Term::Const(name) => Term::Const(name),
     }

@@ -49,13 +49,13 @@ use Rattle.ps_ground.proofs.Settled.{both_true}
 
 -- ---- conditions
 
-put_in_by : (i : ℕ) (o : Option Name) → name_in [] (put_var i o) ≡ unwrap_or o object
-put_in_by i None = refl
-put_in_by i (Some n) = refl
+put_in_by : (args : List Name) (i : ℕ) (o : Option Name) → name_in [] (put_var args i o) ≡ unwrap_or o object
+put_in_by args i None = refl
+put_in_by args i (Some n) = refl
 
 -- a term with arguments put in is what it is where its variable stands for its argument
 put_in : (args : List Name) (t : Term) → name_in [] (put_term args t) ≡ name_in args t
-put_in args (Var i) = put_in_by i (slice_get args i) ∙ unwrap_or-slice_get args i object
+put_in args (Var i) = put_in_by args i (slice_get args i) ∙ unwrap_or-slice_get args i object
 put_in args (Const n) = refl
 
 all_put_in : (args : List Name) (ts : List Term) → map (name_in []) (map (put_term args) ts) ≡ map (name_in args) ts

@@ -1,5 +1,5 @@
 -- Conditions and effects with arguments put in.
-use Rattle.std.proofs.Common.{◌≡◌, ℕ, ◌+◌, Bool, true, false, ◌&&◌, ◌||◌, List, [], ◌∷◌, ◌++◌, Some, drop, length, map, nat_eq, refl, ap, sym, ◌∙◌, arith, eqb-true}
+use Rattle.std.proofs.Common.{◌≡◌, ℕ, ◌+◌, ◌-◌, Bool, true, false, ◌&&◌, ◌||◌, List, [], ◌∷◌, ◌++◌, Some, drop, length, map, nat_eq, refl, ap, sym, ◌∙◌, arith, eqb-true}
 use Rattle.std.specs.Prelude.{slice_get}
 use Rattle.std.specs.List.{list_all, list_any}
 use Rattle.std.specs.Option.{option_map_or}
@@ -34,7 +34,7 @@ use Rattle.ps_ground.proofs.Settled.{alike_steps, both_true}
 -- ---- no arguments
 
 no_term : (t : Term) → put_term [] t ≡ t
-no_term (Var i) = refl
+no_term (Var i) = let same : i - 0 ≡ i = omega arith in ap Var same
 no_term (Const n) = refl
 
 no_terms : (ts : List Term) → map (put_term []) ts ≡ ts

@@ -1,0 +1,70 @@
+-- A condition with arguments put in holds where the condition does, its variables standing for the arguments.
+use Rattle.std.proofs.Common.{◌≡◌, ℕ, zero, suc, ◌-◌, not, ◌&&◌, Option, Some, None, option_map, neg_ℤ, List, [], ◌∷◌, ◌++◌, map, length, slice_get, slice_index_or, refl, ap, sym, ◌∙◌, arith}
+use Rattle.ps_world.specs.Bound.{ground_in, name_in}
+use Rattle.ps_world.specs.Names.{object, same_name}
+use Rattle.ps_world.specs.Knowledge.{is_known, kind_of, value_in}
+use Rattle.ps_world.specs.Trees.{CondTree, CondTrees, ExprTree, all_of, compares, holds, is_a, more, negated, no, none, number, operated, same, value_of}
+use Rattle.ps_world.specs.declared.names.Name.{Name}
+use Rattle.ps_world.specs.declared.domains.Domain.{Domain}
+use Rattle.ps_world.specs.declared.known.Knowledge.{Knowledge}
+use Rattle.ps_world.specs.declared.schemas.Term.{Term}
+use Rattle.ps_world.specs.declared.schemas.Term.TheVariants.{Var, Const}
+use Rattle.ps_world.specs.declared.schemas.Lifted.{Lifted}
+use Rattle.ps_action.specs.Values.{computed, of_both, value_with}
+use Rattle.ps_action.specs.Truth.{are_true_with, compare_so, fits, is_true_with}
+use Rattle.ps_action.specs.Grounded.{GroundedHoldsAsWell}
+use Rattle.ps_action.specs.Grounding.{put_cond, put_conds, put_lifted, put_term, put_tree, put_var}
+
+index_front : (args e : List Name) (i : ℕ) (n : Name) → slice_get args i ≡ Some n → slice_index_or (args ++ e) i object ≡ n
+index_front [] e i n h = absurd (cc)
+index_front (a ∷ args) e zero n h = cc
+index_front (a ∷ args) e (suc i) n h = index_front args e i n h
+
+index_rest : (args e : List Name) (i : ℕ) → slice_get args i ≡ None → slice_index_or (args ++ e) i object ≡ slice_index_or e (i - length args) object
+index_rest [] e i h =
+    let same : i ≡ i - 0 = omega arith in
+    ap (λ j. slice_index_or e j object) same
+index_rest (a ∷ args) e zero h = absurd (cc)
+index_rest (a ∷ args) e (suc i) h =
+    let same : i - length args ≡ suc i - length (a ∷ args) = omega arith in
+    index_rest args e i h ∙ ap (λ j. slice_index_or e j object) same
+
+named : (args e : List Name) (i : ℕ) (o : Option Name) → slice_get args i ≡ o → name_in e (put_var args i o) ≡ slice_index_or (args ++ e) i object
+named args e i (Some n) h = sym (index_front args e i n h)
+named args e i None h = sym (index_rest args e i h)
+
+name_put : (args e : List Name) (t : Term) → name_in e (put_term args t) ≡ name_in (args ++ e) t
+name_put args e (Var i) = named args e i (slice_get args i) refl
+name_put args e (Const n) = refl
+
+names_put : (args e : List Name) (ts : List Term) → map (name_in e) (map (put_term args) ts) ≡ map (name_in (args ++ e)) ts
+names_put args e [] = refl
+names_put args e (t ∷ ts) = λ i. name_put args e t i ∷ names_put args e ts i
+
+ground_put : (args e : List Name) (l : Lifted) → ground_in e (put_lifted args l) ≡ ground_in (args ++ e) l
+ground_put args e l = λ i. record { head = l.head; args = names_put args e l.terms i }
+
+value_put : (k : Knowledge) (args e : List Name) (x : ExprTree) → value_with k e (put_tree args x) ≡ value_with k (args ++ e) x
+value_put k args e (number n) = refl
+value_put k args e (value_of l) = ap (value_in k) (ground_put args e l)
+value_put k args e (negated x) = λ i. option_map neg_ℤ (value_put k args e x i)
+value_put k args e (operated op x y) = λ i. of_both (computed op) (value_put k args e x i) (value_put k args e y i)
+
+-- ---- conditions
+
+module _ (d : Domain) (k : Knowledge) (args : List Name) where
+  mutual
+    pub holds_as_well : (e : List Name) (c : CondTree) → is_true_with d k e (put_cond args c) ≡ is_true_with d k (args ++ e) c
+    holds_as_well e (all_of cs) = all_as_well e cs
+    holds_as_well e (no c) = ap not (holds_as_well e c)
+    holds_as_well e (holds l) = ap (is_known k) (ground_put args e l)
+    holds_as_well e (same s t) = λ i. same_name (name_put args e s i) (name_put args e t i)
+    holds_as_well e (compares rel x y) = λ i. compare_so rel (value_put k args e x i) (value_put k args e y i)
+    holds_as_well e (is_a t kind) = λ i. fits d (kind_of k (name_put args e t i)) kind
+
+    all_as_well : (e : List Name) (cs : CondTrees) → are_true_with d k e (put_conds args cs) ≡ are_true_with d k (args ++ e) cs
+    all_as_well e none = refl
+    all_as_well e (more c cs) = λ i. holds_as_well e c i && all_as_well e cs i
+
+pub grounded_holds_as_well : GroundedHoldsAsWell
+grounded_holds_as_well d k args e c = holds_as_well d k args e c
