@@ -4,6 +4,7 @@ pub mod Contained
 pub mod Filters
 pub mod Gathered
 pub mod Goals
+pub mod Heads
 pub mod KindLists
 pub mod NamePlaces
 pub mod Namings

@@ -25,7 +25,7 @@ use Rattle.ps_world.specs.declared.names.Name.{Name}
 use Rattle.ps_world.specs.declared.numbers.Num.{Num}
 use Rattle.ps_world.specs.declared.facts.Fact.{Fact}
 use Rattle.ps_problem.specs.declared.problem.namings.Naming.{Naming}
-use Rattle.ps_problem.specs.Namings.{naming_cmp, IsNaming, Covers, AreNamed, lowest_fact}
+use Rattle.ps_problem.specs.Namings.{naming_cmp, IsNaming, Covers, AreNamed, lowest_of}
 use Rattle.ps_action.proofs.Facts.{names_total, facts_total, exact_names, exact_facts, same_name-is, same_name-refl}
 use Rattle.ps_action.proofs.Contained.{fact_same, fact_in_filter}
 use Rattle.ps_problem.proofs.Changes.{fact_apart}
@@ -67,19 +67,23 @@ sound_more xs more h a = All-insert_key naming_cmp more IsNaming xs a h
 least_name : (n : Name) → is_gt (name_cmp (record { 0 = 0 }) n) ≡ false
 least_name n = grind (arith, nat_tests)
 
-then_not_above : (a b : Ordering) → is_gt a ≡ false → is_gt b ≡ false → is_gt (ordering_then a b) ≡ false
+pub then_not_above : (a b : Ordering) → is_gt a ≡ false → is_gt b ≡ false → is_gt (ordering_then a b) ≡ false
 then_not_above Less b p q = refl
 then_not_above Equal b p q = q
 then_not_above Greater b p q = p
 
-least_names : (ns : List Name) → is_gt (slice_cmp name_cmp [] ns) ≡ false
+pub least_names : (ns : List Name) → is_gt (slice_cmp name_cmp [] ns) ≡ false
 least_names [] = refl
 least_names (n ∷ ns) = refl
+
+-- the fact that stands before all others
+abbrev lowest_fact : Fact
+lowest_fact = lowest_of (record { 0 = 0 })
 
 least_fact : (f : Fact) → is_gt (fact_cmp lowest_fact f) ≡ false
 least_fact f = then_not_above (name_cmp (record { 0 = 0 }) f.head) _ (least_name f.head) (least_names f.args)
 
-not_above : (r : Ordering) → is_eq r ≡ true → is_gt r ≡ false
+pub not_above : (r : Ordering) → is_eq r ≡ true → is_gt r ≡ false
 not_above Less e = refl
 not_above Equal e = refl
 not_above Greater e = absurd (cc)
@@ -88,7 +92,7 @@ not_above Greater e = absurd (cc)
 pub from_lowest : (n : Name) (f : Fact) → is_gt (naming_cmp (record { name = n; fact = lowest_fact }) (record { name = n; fact = f })) ≡ false
 from_lowest n f = then_not_above (name_cmp n n) (fact_cmp lowest_fact f) (not_above (name_cmp n n) ((eq_by_cmp_equiv names_total).refl n)) (least_fact f)
 
-squeezed_at : (a b : Name) (r s : Ordering) (u v : Ordering) → name_cmp a b ≡ u → name_cmp b a ≡ v → u ≡ ordering_reverse v → is_gt (ordering_then u r) ≡ false → is_gt (ordering_then v s) ≡ false → a ≡ b
+pub squeezed_at : (a b : Name) (r s : Ordering) (u v : Ordering) → name_cmp a b ≡ u → name_cmp b a ≡ v → u ≡ ordering_reverse v → is_gt (ordering_then u r) ≡ false → is_gt (ordering_then v s) ≡ false → a ≡ b
 squeezed_at a b r s Equal v p q e f g = exact_names a b p
 squeezed_at a b r s Greater v p q e f g = absurd (cc)
 squeezed_at a b r s Less Less p q e f g = absurd (cc)

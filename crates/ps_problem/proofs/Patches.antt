@@ -135,12 +135,3 @@ all_made k m1 m2 m3 c next told e1 e2 e3 instances goal =
     e2 ∙ (λ i. record (e1 i) { instances = unwrap_or next (e1 i).instances }) in
     e3 ∙ (λ i. record (second i) { goal = unwrap_or told (second i).goal })
     ∙ (λ i. record { instances = instances i; facts = facts_after k.facts c.adds c.deletes; values = values_after k.values c.values c.gone; goal = unwrap_or (goal i) k.goal })
-
--- what stands in its place is another where it isn't the same
-pub others_change : (k : Knowledge) (is : List (Name × Name)) (b : Bool) → (b ≡ true) ↔ (k.instances ≡ is) → (not b ≡ true) ↔ (record k { instances = is } ≢ k)
-others_change k is true h = (λ e. absurd (cc), λ n. absurd (n (λ i. record k { instances = sym (h.0 refl) i })))
-others_change k is false h = (λ e same. let t : false ≡ true = h.1 (sym (ap (λ (x : Knowledge). x.instances) same)) in cc, λ n. refl)
-
-pub another_changes : (k : Knowledge) (g : Option Cond) (b : Bool) → (b ≡ true) ↔ (k.goal ≡ g) → (not b ≡ true) ↔ (record k { goal = g } ≢ k)
-another_changes k g true h = (λ e. absurd (cc), λ n. absurd (n (λ i. record k { goal = sym (h.0 refl) i })))
-another_changes k g false h = (λ e same. let t : false ≡ true = h.1 (sym (ap (λ (x : Knowledge). x.goal) same)) in cc, λ n. refl)

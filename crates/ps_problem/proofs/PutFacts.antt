@@ -20,7 +20,7 @@ use Rattle.ps_action.specs.Effects.{deletes, added_by}
 use Rattle.ps_problem.specs.Patches.{facts_after}
 use Rattle.ps_problem.specs.Puts.{deleted_by, fresh_in, lost_in, without_one}
 use Rattle.ps_action.proofs.Facts.{facts_total, exact_facts}
-use Rattle.ps_action.proofs.Keys.{sorted-insert_key, any-insert_key}
+use Rattle.ps_action.proofs.Keys.{any-insert_key}
 use Rattle.ps_action.proofs.Contained.{fact_same}
 use Rattle.ps_action.proofs.MadeFacts.{sorted-fold}
 
@@ -72,7 +72,7 @@ sorted-removed : (old xs : List Fact) → IsStrictlySortedBy fact_cmp old → Is
 sorted-removed old [] s = s
 sorted-removed old (x ∷ xs) s = sorted-removed (without_one old x) xs (IsStrictlySortedBy-filter fact_cmp (λ g. not (same_fact x g)) old s)
 
-pub known-deleted : (f : Fact) (es : List Effect) → list_any (deletes f) es ≡ known f (filter_map deleted_by es)
+known-deleted : (f : Fact) (es : List Effect) → list_any (deletes f) es ≡ known f (filter_map deleted_by es)
 known-deleted f [] = refl
 known-deleted f (Add l ∷ es) = known-deleted f es
 known-deleted f (Delete l ∷ es) = ap (λ b. same_fact f (ground l) || b) (known-deleted f es)

@@ -21,7 +21,7 @@ use Rattle.ps_action.specs.Effects.{with_value}
 use Rattle.ps_problem.specs.Patches.{values_after}
 use Rattle.ps_problem.specs.Puts.{dropped_in, held_in, put_back, with_held, without_term}
 use Rattle.ps_action.proofs.Facts.{facts_total, exact_facts}
-use Rattle.ps_action.proofs.Keys.{keys-insert_entry, lookup-insert_entry}
+use Rattle.ps_action.proofs.Keys.{lookup-insert_entry}
 use Rattle.ps_action.proofs.Contained.{fact_same, contains_first, contains_later}
 use Rattle.ps_action.proofs.MadeValues.{values_rise}
 use Rattle.ps_problem.proofs.Filters.{sorted-filter}
@@ -176,7 +176,7 @@ known-take-keys f (suc k) (r ∷ rs) e =
     let both = or_parts (same_fact f r.0) (known f (keys_of rs)) e in rw both.0 (known-take-keys f k rs both.1)
 
 -- the terms whose values may change: those that are given one, and those that lose theirs
-abbrev pub terms_in : List (Fact × Num) → List Fact → List Fact
+abbrev terms_in : List (Fact × Num) → List Fact → List Fact
 terms_in ready gone = keys_of ready ++ gone
 
 given_known : (f : Fact) (ready : List (Fact × Num)) (gone : List Fact) → known f (keys_of ready) ≡ true → known f (terms_in ready gone) ≡ true
@@ -308,7 +308,7 @@ key_of_known f [] e = absurd (cc)
 key_of_known f (r ∷ rs) e = key_at f r rs (same_fact f r.0) refl e (key_of_known f rs)
 
 -- a term is worth what it held
-abbrev pub Held : List (Fact × Num) → Fact × Option Num → Type 0
+abbrev Held : List (Fact × Num) → Fact × Option Num → Type 0
 Held new h = worth h.0 new ≡ h.1
 
 held_at : (old new : List (Fact × Num)) (f t : Fact) (ts : List Fact) (b : Bool) → same_fact f t ≡ b → (b || known f ts) ≡ true → worth t new ≡ worth t old → (known f ts ≡ true → worth f new ≡ worth f old) → worth f new ≡ worth f old

@@ -3,7 +3,7 @@ use Rattle.std.specs.Prelude.{◌≡◌, true, List, [], All}
 use Rattle.std.specs.List.{Contains}
 use Rattle.std.specs.Ordering.{on, then_cmp}
 use Rattle.std.specs.declared.cmp.Ordering.{Ordering}
-use Rattle.ps_world.specs.Names.{name_cmp, object}
+use Rattle.ps_world.specs.Names.{name_cmp}
 use Rattle.ps_world.specs.Facts.{fact_cmp}
 use Rattle.ps_world.specs.Knowledge.{is_among}
 use Rattle.ps_world.specs.declared.names.Name.{Name}
@@ -31,6 +31,6 @@ pub record AreNamed (facts : List Fact) (namings : List Naming) : Type 0 where
   pub sound : All IsNaming namings
   pub whole : (f : Fact) → Contains facts f → Covers namings f
 
--- the fact that stands before all others
-abbrev pub lowest_fact : Fact
-lowest_fact = record { head = object; args = [] }
+-- the fact that stands before all others with a head
+abbrev pub lowest_of : Name → Fact
+lowest_of n = record { head = n; args = [] }

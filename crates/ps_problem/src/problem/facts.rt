@@ -11,7 +11,7 @@ ghost use Rattle.ps_action.specs.Effects.{added_by};
 ghost use Rattle.ps_problem.specs.Namings.{AreNamed};
 ghost use Rattle.ps_problem.specs.Puts.{deleted_by, fresh_in, lost_in, without_one};
 
-use super::namings::{Naming, note, note_where_taken, take_naming};
+use super::namings::{Naming, lowest_of, note, note_where_taken, take_naming};
 use ps_world::{Effect, Fact, Name};
 use std::alloc::{AllocError, Global};
 use std::collections::BTreeSet;
@@ -198,10 +198,12 @@ impl Facts {
         ensures { IfOk result (λ v. v.items ≡ filter (λ f. same_name head f.head) self.now) }
     {
         let mut found = Vec::new(alloc);
-        for fact in &self.all {
-            if head == fact.head {
-                found.push(*fact)?;
+        // They stand together, from the lowest of them on.
+        for fact in self.all.range(lowest_of(head)..) {
+            if head != fact.head {
+                return Ok(found);
             }
+            found.push(*fact)?;
         }
         Ok(found)
     }

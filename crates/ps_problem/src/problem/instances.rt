@@ -108,7 +108,8 @@ impl Instances {
         goes: &[Name],
         comes: &[(Name, Name)],
     ) -> Result<Option<Instances>, AllocError>
-        ensures { IfOk result (λ next. unwrap_or next self.now ≡ instances_after self.now goes.now comes.now) }
+        ensures { IfOk result (λ next. unwrap_or next self.now
+            ≡ instances_after self.now goes.now comes.now) }
     {
         if goes.is_empty() && comes.is_empty() {
             return Ok(None);

@@ -4,7 +4,7 @@ ghost use Rattle.std.specs.List.{Contains};
 ghost use Rattle.std.specs.BTreeSet.{insert_key};
 ghost use Rattle.ps_world.specs.Facts.{fact_cmp};
 ghost use Rattle.ps_world.specs.declared.facts.Fact.{Fact};
-ghost use Rattle.ps_problem.specs.Namings.{IsNaming, IsNoted, Covers, AreNamed, lowest_fact as least};
+ghost use Rattle.ps_problem.specs.Namings.{IsNaming, IsNoted, Covers, AreNamed, lowest_of as lowest};
 ghost use Rattle.ps_problem.specs.declared.problem.namings.Naming.{Naming};
 
 use ps_world::{Args, Fact, Name};
@@ -71,7 +71,7 @@ fn first_naming(namings: &BTreeSet<Naming>, name: Name) -> Option<Naming>
 {
     let lowest = Naming {
         name,
-        fact: lowest_fact(),
+        fact: lowest_of(Name(0)),
     };
     let found = *namings.range(lowest..).next()?;
     if found.name == name {
@@ -81,15 +81,12 @@ fn first_naming(namings: &BTreeSet<Naming>, name: Name) -> Option<Naming>
     }
 }
 
-/// The fact that stands before all others.
-fn lowest_fact() -> Fact
-    ensures { result ≡ least }
+/// The fact that stands before all others with this head.
+pub fn lowest_of(head: Name) -> Fact
+    ensures { result ≡ lowest head }
 {
     match Args::of(&[]) {
-        Some(args) => Fact {
-            head: Name(0),
-            args,
-        },
+        Some(args) => Fact { head, args },
         None => unreachable!(),
     }
 }

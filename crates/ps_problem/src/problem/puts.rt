@@ -71,7 +71,8 @@ impl Problem {
         gone: &[Fact],
     ) -> Result<Found, AllocError>
         ensures fresh { IfOk result (λ c. c.fresh.items ≡ fresh_in self.now.facts adds.now) }
-        ensures lost { IfOk result (λ c. c.lost.items ≡ lost_in self.now.facts adds.now deletes.now) }
+        ensures lost { IfOk result (λ c. c.lost.items
+            ≡ lost_in self.now.facts adds.now deletes.now) }
         ensures held { IfOk result (λ c. c.held.items
             ≡ held_in self.now.values (keys_of ready.now ++ gone.now)) }
         ensures dropped { IfOk result (λ c. c.dropped.items ≡ dropped_in ready.now gone.now) }

@@ -126,7 +126,8 @@ impl Values {
         ready: &[(Fact, Num)],
         gone: &[Fact],
     ) -> Result<Vec<(Fact, Option<Num>)>, AllocError>
-        ensures held { IfOk result (λ v. v.items ≡ held_in self.now (keys_of ready.now ++ gone.now)) }
+        ensures held { IfOk result (λ v. v.items
+            ≡ held_in self.now (keys_of ready.now ++ gone.now)) }
         ensures rises { OnOk result (IsStrictlySortedBy fact_cmp (keys_of self.now)) }
     {
         // A map says of its length that its keys rise.
@@ -142,7 +143,8 @@ impl Values {
         held: &mut Vec<(Fact, Option<Num>)>,
         ready: &[(Fact, Num)],
     ) -> Result<(), AllocError>
-        ensures { OnOk result (held.new.items ≡ held.old.items ++ held_in self.now (keys_of ready.now)) }
+        ensures { OnOk result (held.new.items
+            ≡ held.old.items ++ held_in self.now (keys_of ready.now)) }
     {
         for (term, _) in ready {
             held.push((*term, self.get(term)))?;

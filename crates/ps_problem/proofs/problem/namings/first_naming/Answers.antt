@@ -9,7 +9,7 @@ returns-in_err-found-clause-none c =
     rw c.from_residual.ensures (λ f h.
     let x : Naming = record { name = c.args.name; fact = f } in
     not_there c.args.namings.now.keys x
-    ((c.range.ensures.in_range tt).5 c.in_err-found.ensures.steps.0 x (from_here c.args.name c.lowest_fact.result f c.lowest_fact.ensures, tt)) h)
+    ((c.range.ensures.in_range tt).5 c.in_err-found.ensures.steps.0 x (from_here c.args.name c.lowest_of.result f c.lowest_of.ensures, tt)) h)
 
 pub returns-then-eq-clause-there : goal.returns-then-eq-clause-there
 returns-then-eq-clause-there c =
@@ -21,7 +21,7 @@ returns-else-eq-clause-none c =
     λ f h.
     let x : Naming = record { name = c.args.name; fact = f } in
     let inside = rw c.in_ok-found.ensures.steps at (c.range.ensures.in_range tt).1 in
-    let below = (c.range.ensures.in_range tt).2 x (from_here c.args.name c.lowest_fact.result f c.lowest_fact.ensures, tt) (is_found c.args.namings.now.keys x h) in
+    let below = (c.range.ensures.in_range tt).2 x (from_here c.args.name c.lowest_of.result f c.lowest_of.ensures, tt) (is_found c.args.namings.now.keys x h) in
     let upper = rw c.in_ok-found.ensures.steps at below in
-    let same : c.in_ok-found.field-0.now.name ≡ c.args.name = squeezed c.args.name c.lowest_fact.result f c.in_ok-found.field-0.now inside.0.0 upper in
+    let same : c.in_ok-found.field-0.now.name ≡ c.args.name = squeezed c.args.name c.lowest_of.result f c.in_ok-found.field-0.now inside.0.0 upper in
     not_true (c.if-eq.ensures ∙ eq-eqb c.in_ok-found.field-0.now.name.0 c.args.name.0 (ap (λ (n : Name). n.0) same))

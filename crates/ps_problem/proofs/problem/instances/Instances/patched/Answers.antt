@@ -1,4 +1,4 @@
-use Rattle.std.proofs.Common.{◌≡◌, [], ap, sym, ◌∙◌, fold}
+use Rattle.std.proofs.Common.{[], ap, sym, ◌∙◌, fold}
 use Rattle.ps_problem.specs.Patches.{instances_after, with_instance}
 use Rattle.ps_problem.proofs.Patches.{all_out, none_out, nothing_in}
 use Rattle.ps_problem.proofs.problem.instances.Instances.patched.Goals as goal
