@@ -1,5 +1,5 @@
 -- Each value, condition and effect is taken where one is wanted.
-use Rattle.std.proofs.Common.{◌≡◌, ℕ, suc, ◌+◌, List, ◌∷◌, refl, arith}
+use Rattle.std.proofs.Common.{◌≡◌, ℕ, suc, ◌+◌, List, ◌∷◌, true, refl, ap, arith}
 use Rattle.ps_shape.specs.Shape.{deepest}
 use Rattle.ps_shape.specs.Symbols.{level}
 use Rattle.ps_shape.specs.declared.marks.Mark.TheVariants as mark
@@ -8,12 +8,13 @@ use Rattle.ps_shape.specs.declared.symbols.Symbol.TheVariants.{The, InCondition,
 use Rattle.ps_shape.specs.declared.symbols.ConditionPart.TheVariants as condition
 use Rattle.ps_shape.specs.declared.symbols.EffectPart.TheVariants as effect
 use Rattle.ps_shape.specs.declared.symbols.ValuePart.TheVariants as value
+use Rattle.ps_forms.specs.Conditions.{is_relation}
+use Rattle.ps_forms.specs.Conditions.AreArguments.{no_argument, one_argument}
+use Rattle.ps_forms.specs.Conditions.AreConditionsOf.{no_condition, one_condition}
+use Rattle.ps_forms.specs.Conditions.IsAtomOf.{atom}
+use Rattle.ps_forms.specs.Conditions.IsConditionOf.{all_of, not_so, a_fact, same, comparison}
+use Rattle.ps_forms.specs.Conditions.IsValueOf.{a_number, an_argument, an_atom, negation, operation}
 use Rattle.ps_forms.specs.Grammar.{AreTerms, IsAtom, IsValue, IsCondition, AreConditions, IsTimedCondition, IsPart, AreParts, IsConditionForm, IsEffect, AreEffects, IsTimedEffect, IsChange, AreChanges, IsEffectForm}
-use Rattle.ps_forms.specs.Grammar.AreTerms.{no_term, one_term}
-use Rattle.ps_forms.specs.Grammar.IsAtom.{atom}
-use Rattle.ps_forms.specs.Grammar.IsValue.{a_number, a_term, an_atom, negation, operation}
-use Rattle.ps_forms.specs.Grammar.IsCondition.{all_of, not_so, a_fact, comparison}
-use Rattle.ps_forms.specs.Grammar.AreConditions.{no_condition, one_condition}
 use Rattle.ps_forms.specs.Grammar.IsTimedCondition.{at_moment, over_all}
 use Rattle.ps_forms.specs.Grammar.IsPart.{empty_part, all_parts, timed_part}
 use Rattle.ps_forms.specs.Grammar.AreParts.{no_part, one_part}
@@ -25,6 +26,7 @@ use Rattle.ps_forms.specs.Grammar.IsChange.{empty_change, all_changes, timed_cha
 use Rattle.ps_forms.specs.Grammar.AreChanges.{no_change, one_change}
 use Rattle.ps_forms.specs.Grammar.IsEffectForm.{empty_effect, listed_effect, lone_effect}
 use Rattle.ps_forms.specs.Nested.{Nested, Nesteds, word, group, none, more}
+use Rattle.ps_forms.specs.declared.lexemes.Lexeme.{Lexeme}
 use Rattle.ps_forms.proofs.OneWord as one
 use Rattle.ps_forms.proofs.OneWord.{no_word}
 use Rattle.ps_forms.proofs.Taking.{Takes, TakesAll}
@@ -32,15 +34,15 @@ use Rattle.ps_forms.proofs.Taking.{Takes, TakesAll}
 -- ---- terms and values
 
 terms_taken : (ts : Nesteds) → AreTerms ts → (st : List Symbol) (After : List Symbol → Type 0) → After st → TakesAll ts After (InValue value.Terms ∷ st)
-terms_taken _ no_term st After k = k
-terms_taken _ (one_term l ts is later) st After k = one.term_fits st (TakesAll ts After) l.mark is (terms_taken ts later st After k)
+terms_taken _ no_argument st After k = k
+terms_taken _ (one_argument l ts is later) st After k = one.term_fits st (TakesAll ts After) l.mark is (terms_taken ts later st After k)
 
 atom_taken : (room : ℕ) (t : Nested) → IsAtom room t → (st : List Symbol) (After : List Symbol → Type 0) → room + level st ≡ deepest → After st → Takes t After (InValue value.Atom ∷ st)
-atom_taken _ _ (atom room l ts name all) st After e k =
+atom_taken _ _ (atom room l ts name all few) st After e k =
     (omega arith, one.name_fits (InValue value.Terms ∷ st) (TakesAll ts After) l.mark name (terms_taken ts all st After k))
 
 atom_taken_as_value : (room : ℕ) (t : Nested) → IsAtom room t → (st : List Symbol) (After : List Symbol → Type 0) → room + level st ≡ deepest → After st → Takes t After (InValue value.Value ∷ st)
-atom_taken_as_value _ _ (atom room l ts name all) st After e k =
+atom_taken_as_value _ _ (atom room l ts name all few) st After e k =
     (omega arith, one.function_fits st (TakesAll ts After) l.mark name (terms_taken ts all st After k))
 
 -- a value with a parenthesis after it is the last one
@@ -50,7 +52,7 @@ taken_last (group us) st After h = (omega (arith, h.0), h.1)
 
 pub value_taken : (room : ℕ) (t : Nested) → IsValue room t → (st : List Symbol) (After : List Symbol → Type 0) → room + level st ≡ deepest → After st → Takes t After (InValue value.Value ∷ st)
 value_taken _ _ (a_number room l is) st After e k = one.at_mark st After (InValue value.Value) l.mark mark.Number is k
-value_taken _ _ (a_term room l is) st After e k = one.value_fits st After l.mark is k
+value_taken _ _ (an_argument room l values is) st After e k = one.value_fits st After l.mark is k
 value_taken _ _ (an_atom room t a) st After e k = atom_taken_as_value room t a st After e k
 value_taken _ _ (negation room l x is v) st After e k =
     (omega arith, one.at_mark st (TakesAll (more x none) After) (InValue value.Head) l.mark mark.Minus is (value_taken room x v (InValue value.ValueOrEnd ∷ st) (TakesAll none After) (omega arith) k))
@@ -67,16 +69,22 @@ taken_among : (t : Nested) (st : List Symbol) (After : List Symbol → Type 0) �
 taken_among (word l) st After h = absurd (no_word (InCondition condition.Condition) refl (InCondition condition.Conditions ∷ st) After l.mark h)
 taken_among (group ts) st After h = (omega (arith, h.0), h.1)
 
+-- two values after a relation are taken as a comparison
+comparison_taken : (room : ℕ) (l : Lexeme) (x y : Nested) → is_relation l.mark ≡ true → IsValue room x → IsValue room y → (st : List Symbol) (After : List Symbol → Type 0) → suc room + level st ≡ deepest → After st → Takes (group (more (word l) (more x (more y none)))) After (InCondition condition.Condition ∷ st)
+comparison_taken room l x y is v w st After e k =
+    (omega arith, one.relation_fits st (TakesAll (more x (more y none)) After) l.mark is (value_taken room x v (InValue value.Value ∷ The mark.Close ∷ st) (TakesAll (more y none) After) (omega arith) (value_taken room y w (The mark.Close ∷ st) (TakesAll none After) (omega arith) k)))
+
 mutual
   condition_taken : (room : ℕ) (t : Nested) → IsCondition room t → (st : List Symbol) (After : List Symbol → Type 0) → room + level st ≡ deepest → After st → Takes t After (InCondition condition.Condition ∷ st)
   condition_taken _ _ (all_of room l ts is all) st After e k =
       (omega arith, one.at_mark st (TakesAll ts After) (InCondition condition.Head) l.mark mark.And is (conditions_taken room ts all st After e k))
   condition_taken _ _ (not_so room l c is other) st After e k =
       (omega arith, one.at_mark st (TakesAll (more c none) After) (InCondition condition.Head) l.mark mark.Not is (condition_taken room c other (The mark.Close ∷ st) (TakesAll none After) (omega arith) k))
-  condition_taken _ _ (a_fact room l ts is all) st After e k =
+  condition_taken _ _ (a_fact room l ts is all few) st After e k =
       (omega arith, one.fact_fits st (TakesAll ts After) l.mark is (terms_taken ts all st After k))
-  condition_taken _ _ (comparison room l x y is v w) st After e k =
-      (omega arith, one.relation_fits st (TakesAll (more x (more y none)) After) l.mark is (value_taken room x v (InValue value.Value ∷ The mark.Close ∷ st) (TakesAll (more y none) After) (omega arith) (value_taken room y w (The mark.Close ∷ st) (TakesAll none After) (omega arith) k)))
+  condition_taken _ _ (same room l m n is first second) st After e k =
+      comparison_taken room l (word m) (word n) (ap is_relation is) (an_argument room m refl first) (an_argument room n refl second) st After e k
+  condition_taken _ _ (comparison room l x y is v w) st After e k = comparison_taken room l x y is v w st After e k
 
   conditions_taken : (room : ℕ) (ts : Nesteds) → AreConditions room ts → (st : List Symbol) (After : List Symbol → Type 0) → suc room + level st ≡ deepest → After st → TakesAll ts After (InCondition condition.Conditions ∷ st)
   conditions_taken _ _ (no_condition room) st After e k = k

@@ -9,12 +9,13 @@ use Rattle.ps_shape.specs.declared.symbols.Symbol.TheVariants.{The, InCondition,
 use Rattle.ps_shape.specs.declared.symbols.ConditionPart.TheVariants as condition
 use Rattle.ps_shape.specs.declared.symbols.EffectPart.TheVariants as effect
 use Rattle.ps_shape.specs.declared.symbols.ValuePart.TheVariants as value
-use Rattle.ps_forms.specs.Grammar.{AreTerms, IsAtom, IsValue, IsCondition, AreConditions, IsTimedCondition, IsPart, AreParts, IsConditionForm, IsEffect, AreEffects, IsTimedEffect, IsChange, AreChanges, IsEffectForm, is_operator, is_relation}
-use Rattle.ps_forms.specs.Grammar.AreTerms.{no_term, one_term}
-use Rattle.ps_forms.specs.Grammar.IsAtom.{atom}
-use Rattle.ps_forms.specs.Grammar.IsValue.{a_number, a_term, an_atom, negation, operation}
-use Rattle.ps_forms.specs.Grammar.IsCondition.{all_of, not_so, a_fact, comparison}
-use Rattle.ps_forms.specs.Grammar.AreConditions.{no_condition, one_condition}
+use Rattle.ps_forms.specs.Conditions.{is_operator, is_relation}
+use Rattle.ps_forms.specs.Conditions.AreArguments.{no_argument, one_argument}
+use Rattle.ps_forms.specs.Conditions.AreConditionsOf.{no_condition, one_condition}
+use Rattle.ps_forms.specs.Conditions.IsAtomOf.{atom}
+use Rattle.ps_forms.specs.Conditions.IsConditionOf.{all_of, not_so, a_fact, comparison}
+use Rattle.ps_forms.specs.Conditions.IsValueOf.{a_number, an_argument, an_atom, negation, operation}
+use Rattle.ps_forms.specs.Grammar.{AreTerms, IsAtom, IsValue, IsCondition, AreConditions, IsTimedCondition, IsPart, AreParts, IsConditionForm, IsEffect, AreEffects, IsTimedEffect, IsChange, AreChanges, IsEffectForm}
 use Rattle.ps_forms.specs.Grammar.IsTimedCondition.{at_moment, over_all}
 use Rattle.ps_forms.specs.Grammar.IsPart.{empty_part, all_parts, timed_part}
 use Rattle.ps_forms.specs.Grammar.AreParts.{no_part, one_part}
@@ -53,11 +54,11 @@ form_end (more (group us) ts) st After h = absurd h.1
 
 -- what is taken where terms are wanted is terms
 terms_of_taken : (ts : Nesteds) (st : List Symbol) (After : List Symbol → Type 0) → TakesAll ts After (InValue value.Terms ∷ st) → AreTerms ts × After st
-terms_of_taken none st After h = (no_term, h)
+terms_of_taken none st After h = (no_argument, h)
 terms_of_taken (more (word l) ts) st After h =
     let first = one.term_told st (TakesAll ts After) l.mark h in
     let later = terms_of_taken ts st After first.1 in
-    (one_term l ts first.0 later.0, later.1)
+    (one_argument l ts first.0 later.0, later.1)
 terms_of_taken (more (group us) ts) st After h = absurd h.1
 
 -- what is taken where an atom is wanted is one
@@ -69,7 +70,7 @@ atom_of_taken (group (more (group us) ts)) (suc room) st After e h = absurd h.1.
 atom_of_taken (group (more (word l) ts)) (suc room) st After e h =
     let name = one.name_told (InValue value.Terms ∷ st) (TakesAll ts After) l.mark h.1 in
     let later = terms_of_taken ts st After name.1 in
-    (atom room l ts name.0 later.0, later.1)
+    (atom room l ts name.0 later.0 tt, later.1)
 
 -- the last value is one with a parenthesis after it
 last_value : (t : Nested) (st : List Symbol) (After : List Symbol → Type 0) → Takes t After (InValue value.ValueOrEnd ∷ st) → Takes t After (InValue value.Value ∷ The mark.Close ∷ st)
@@ -80,7 +81,7 @@ last_value (group us) st After h = (omega (arith, h.0), h.1)
 function_of_taken : (l : Lexeme) (ts : Nesteds) (room : ℕ) (st : List Symbol) (After : List Symbol → Type 0) → is_name l.mark ≡ true → TakesAll ts After (InValue value.Terms ∷ st) → IsValue (suc room) (group (more (word l) ts)) × After st
 function_of_taken l ts room st After e h =
     let all = terms_of_taken ts st After h in
-    (an_atom (suc room) (group (more (word l) ts)) (atom room l ts e all.0), all.1)
+    (an_atom (suc room) (group (more (word l) ts)) (atom room l ts e all.0 tt), all.1)
 
 -- what is taken where a value is wanted is one
 pub value_of_taken : (t : Nested) (room : ℕ) (st : List Symbol) (After : List Symbol → Type 0) → room + level st ≡ deepest → Takes t After (InValue value.Value ∷ st) → IsValue room t × After st
@@ -88,7 +89,7 @@ value_of_taken (word l) room st After e h =
     let here = one.value_told st After l.mark h in (
       elim here.0 [
         | inl number ↦ a_number room l number
-        | inr name ↦ a_term room l name
+        | inr name ↦ an_argument room l refl name
       ],
       here.1,
     )
@@ -145,7 +146,7 @@ as_condition (group ts) st After h = (omega (arith, h.0), h.1)
 fact_of_taken : (l : Lexeme) (ts : Nesteds) (room : ℕ) (st : List Symbol) (After : List Symbol → Type 0) → is_fact_name l.mark ≡ true → TakesAll ts After (InValue value.Terms ∷ st) → IsCondition (suc room) (group (more (word l) ts)) × After st
 fact_of_taken l ts room st After e h =
     let all = terms_of_taken ts st After h in
-    (a_fact room l ts e all.0, all.1)
+    (a_fact room l ts e all.0 tt, all.1)
 
 mutual
   -- what is taken where a condition is wanted is one

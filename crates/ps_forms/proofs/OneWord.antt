@@ -18,7 +18,8 @@ use Rattle.ps_shape.specs.declared.symbols.ActionPart.TheVariants as action
 use Rattle.ps_shape.specs.declared.symbols.ConditionPart.TheVariants as condition
 use Rattle.ps_shape.specs.declared.symbols.EffectPart.TheVariants as effect
 use Rattle.ps_shape.specs.declared.symbols.ValuePart.TheVariants as value
-use Rattle.ps_forms.specs.Grammar.{is_term, is_operator, is_relation, is_moment, is_variable}
+use Rattle.ps_forms.specs.Conditions.{is_term, is_operator, is_relation}
+use Rattle.ps_forms.specs.Grammar.{is_moment, is_variable}
 use Rattle.ps_forms.proofs.Balance.{each_mark, every_mark}
 use Rattle.ps_forms.proofs.Taking.{Follows, after_word, word_step}
 

@@ -1,8 +1,7 @@
 -- What the symbols of a line take of its nested lists.
-use Rattle.std.proofs.Common.{◌≡◌, List, ◌++◌, take, sym, subst}
+use Rattle.std.proofs.Common.{◌≡◌, List, ◌++◌, sym, subst}
 use Rattle.std.proofs.lemmas.List.{map-append}
 use Rattle.ps_shape.specs.Shape.{Derives, IsShallowFrom}
-use Rattle.ps_shape.specs.Symbols.{level}
 use Rattle.ps_shape.specs.declared.marks.Mark.{Mark}
 use Rattle.ps_shape.specs.declared.symbols.Symbol.{Symbol}
 use Rattle.ps_shape.proofs.Runs.{derived_of_run, run_of_derived}

@@ -1,68 +1,37 @@
 -- The grammar of a domain's text, over nested lists. The number counts the levels of parentheses that may still be opened where the list stands.
 use Rattle.std.specs.Prelude.{◌≡◌, ℕ, suc, Bool, true, false}
-use Rattle.ps_shape.specs.Marks.{is_name, is_keyword, is_change, is_predicate_name, is_fact_name}
+use Rattle.ps_shape.specs.Marks.{is_name, is_keyword, is_change, is_predicate_name}
 use Rattle.ps_shape.specs.Symbols.{none_seen}
 use Rattle.ps_shape.specs.declared.marks.Mark.{Mark}
 use Rattle.ps_shape.specs.declared.marks.Mark.TheVariants as mark
 use Rattle.ps_shape.specs.declared.symbols.Seen.{Seen}
+use Rattle.ps_forms.specs.Conditions.{AreArguments, AreConditionsOf, IsAtomOf, IsConditionOf, IsValueOf, domains}
 use Rattle.ps_forms.specs.Nested.{Nested, Nesteds, word, group, none, more}
 use Rattle.ps_forms.specs.declared.lexemes.Lexeme.{Lexeme}
 
--- ---- terms and values
+-- ---- conditions of a domain
 
--- the mark of a term: a name or a variable
-abbrev pub is_term : Mark → Bool
-is_term mark.Variable = true
-is_term m = is_name m
-
--- TERM*
-pub data AreTerms : Nesteds → Type 0 where
-  no_term : AreTerms none
-  one_term : (l : Lexeme) (ts : Nesteds) → is_term l.mark ≡ true → AreTerms ts → AreTerms (more (word l) ts)
+-- TERM*, where a TERM is a name or a variable
+abbrev pub AreTerms : Nesteds → Type 0
+AreTerms ts = AreArguments domains ts
 
 -- (NAME TERM*)
-pub data IsAtom : ℕ → Nested → Type 0 where
-  atom : (room : ℕ) (l : Lexeme) (ts : Nesteds) → is_name l.mark ≡ true → AreTerms ts → IsAtom (suc room) (group (more (word l) ts))
+abbrev pub IsAtom : ℕ → Nested → Type 0
+IsAtom room t = IsAtomOf domains room t
 
--- the mark of an operation on two operands
-abbrev pub is_operator : Mark → Bool
-is_operator mark.Plus = true
-is_operator mark.Minus = true
-is_operator mark.Times = true
-is_operator mark.Divide = true
-is_operator m = false
+-- X, which a TERM may be too, and its meaning judges it
+abbrev pub IsValue : ℕ → Nested → Type 0
+IsValue room t = IsValueOf domains room t
 
--- X: NUMBER | (NAME TERM*) | (- X) | (OP X X); a term fits too, and its meaning judges it
-pub data IsValue : ℕ → Nested → Type 0 where
-  a_number : (room : ℕ) (l : Lexeme) → l.mark ≡ mark.Number → IsValue room (word l)
-  a_term : (room : ℕ) (l : Lexeme) → is_term l.mark ≡ true → IsValue room (word l)
-  an_atom : (room : ℕ) (t : Nested) → IsAtom room t → IsValue room t
-  negation : (room : ℕ) (l : Lexeme) (x : Nested) → l.mark ≡ mark.Minus → IsValue room x → IsValue (suc room) (group (more (word l) (more x none)))
-  operation : (room : ℕ) (l : Lexeme) (x y : Nested) → is_operator l.mark ≡ true → IsValue room x → IsValue room y → IsValue (suc room) (group (more (word l) (more x (more y none))))
+-- C, of TERMs
+abbrev pub IsCondition : ℕ → Nested → Type 0
+IsCondition room t = IsConditionOf domains room t
 
--- ---- conditions
+-- C*
+abbrev pub AreConditions : ℕ → Nesteds → Type 0
+AreConditions room ts = AreConditionsOf domains room ts
 
--- the mark of a comparison
-abbrev pub is_relation : Mark → Bool
-is_relation mark.Less = true
-is_relation mark.LessEqual = true
-is_relation mark.Equal = true
-is_relation mark.GreaterEqual = true
-is_relation mark.Greater = true
-is_relation m = false
-
-mutual
-  -- C: (and C*) | (not C) | (NAME TERM*) | (= TERM TERM) | (REL X X); a term is an X here
-  pub data IsCondition : ℕ → Nested → Type 0 where
-    all_of : (room : ℕ) (l : Lexeme) (ts : Nesteds) → l.mark ≡ mark.And → AreConditions room ts → IsCondition (suc room) (group (more (word l) ts))
-    not_so : (room : ℕ) (l : Lexeme) (c : Nested) → l.mark ≡ mark.Not → IsCondition room c → IsCondition (suc room) (group (more (word l) (more c none)))
-    a_fact : (room : ℕ) (l : Lexeme) (ts : Nesteds) → is_fact_name l.mark ≡ true → AreTerms ts → IsCondition (suc room) (group (more (word l) ts))
-    comparison : (room : ℕ) (l : Lexeme) (x y : Nested) → is_relation l.mark ≡ true → IsValue room x → IsValue room y → IsCondition (suc room) (group (more (word l) (more x (more y none))))
-
-  -- C*
-  pub data AreConditions : ℕ → Nesteds → Type 0 where
-    no_condition : (room : ℕ) → AreConditions room none
-    one_condition : (room : ℕ) (c : Nested) (cs : Nesteds) → IsCondition room c → AreConditions room cs → AreConditions room (more c cs)
+-- ---- timed conditions
 
 -- the mark of the word after `at`
 abbrev pub is_moment : Mark → Bool

@@ -1,5 +1,5 @@
 -- The words of a domain's text: the mark of each, its name by its number in a table, its number and its place.
-use Rattle.std.specs.Prelude.{◌≡◌, ℕ, ◌<◌, ◌≤◌, ℤ, Option, Some, None, List, [], ◌∷◌, if◌then◌else◌, codes, drop, length, map, slice_get, slice_range, pos}
+use Rattle.std.specs.Prelude.{◌≡◌, ℕ, ◌≤◌, ℤ, Option, Some, None, List, [], ◌∷◌, if◌then◌else◌, codes, drop, length, map, slice_range, pos}
 use Rattle.std.specs.Result.{result_unwrap_or}
 use Rattle.ps_world.specs.Lines.{same_text}
 use Rattle.ps_world.specs.Names.{Table, object}

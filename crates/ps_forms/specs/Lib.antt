@@ -1,3 +1,4 @@
+pub mod Conditions
 pub mod Grammar
 pub mod Laws
 pub mod Lexemes

@@ -8,7 +8,12 @@ use Rattle.ps_shape.specs.declared.marks.Mark.TheVariants as mark
 use Rattle.ps_shape.specs.declared.symbols.Symbol.{Symbol}
 use Rattle.ps_shape.specs.declared.symbols.Symbol.TheVariants.{The, AnyName, InGoal}
 use Rattle.ps_shape.specs.declared.symbols.GoalPart.TheVariants as goal
-use Rattle.ps_forms.specs.Grammar.{is_operator, is_relation}
+use Rattle.ps_forms.specs.Conditions.{AreArguments, AreConditionsOf, IsAtomOf, IsConditionOf, IsValueOf, goals, is_operator, is_relation}
+use Rattle.ps_forms.specs.Conditions.AreArguments.{no_argument, one_argument}
+use Rattle.ps_forms.specs.Conditions.AreConditionsOf.{no_condition, one_condition}
+use Rattle.ps_forms.specs.Conditions.IsAtomOf.{atom}
+use Rattle.ps_forms.specs.Conditions.IsConditionOf.{a_fact, all_of, comparison, not_so, same}
+use Rattle.ps_forms.specs.Conditions.IsValueOf.{a_number, an_argument, an_atom, negation, operation}
 use Rattle.ps_forms.specs.Nested.{Nested, Nesteds, word, group, none, more}
 use Rattle.ps_forms.specs.Places.{count}
 use Rattle.ps_forms.specs.declared.lexemes.Lexeme.{Lexeme}
@@ -16,32 +21,26 @@ use Rattle.ps_forms.proofs.JudgedForms.{only_close}
 use Rattle.ps_forms.proofs.OneWord as one
 use Rattle.ps_forms.proofs.OneWord.{no_word}
 use Rattle.ps_forms.proofs.Taking.{Takes, TakesAll}
-use Rattle.ps_grammar_laws.specs.Conditions.{AreArguments, AreConditionsOf, IsAtomOf, IsConditionOf, IsValueOf, goals}
-use Rattle.ps_grammar_laws.specs.Conditions.AreArguments.{no_argument, one_argument}
-use Rattle.ps_grammar_laws.specs.Conditions.AreConditionsOf.{no_condition, one_condition}
-use Rattle.ps_grammar_laws.specs.Conditions.IsAtomOf.{atom}
-use Rattle.ps_grammar_laws.specs.Conditions.IsConditionOf.{a_fact, all_of, comparison, not_so, same}
-use Rattle.ps_grammar_laws.specs.Conditions.IsValueOf.{a_number, an_argument, an_atom, negation, operation}
 use Rattle.ps_grammar_laws.proofs.GoalWords as here
 
 -- ---- names
 
 -- what is taken where so many names may stand is as many names at most
 names_of_taken : (ts : Nesteds) (most : ℕ) (st : List Symbol) (After : List Symbol → Type 0) → TakesAll ts After (InGoal (goal.Names most) ∷ st) → AreArguments goals ts × (count ts ≤ most) × After st
-names_of_taken none most st After h = (no_argument goals, omega arith, h)
+names_of_taken none most st After h = (no_argument, omega arith, h)
 names_of_taken (more (word l) ts) zero st After h = absurd (no_word (InGoal (goal.Names 0)) refl st (TakesAll ts After) l.mark h)
 names_of_taken (more (word l) ts) (suc most) st After h =
     let first = here.more_names_told st (TakesAll ts After) most l.mark h in
     let later = names_of_taken ts most st After first.1 in
     let few : count ts ≤ most = later.1 in
-    (one_argument goals l ts first.0 later.0, omega arith, later.2)
+    (one_argument l ts first.0 later.0, omega arith, later.2)
 names_of_taken (more (group us) ts) zero st After h = absurd h.1
 names_of_taken (more (group us) ts) (suc most) st After h = absurd h.1
 
 names_taken : (ts : Nesteds) (most : ℕ) → AreArguments goals ts → count ts ≤ most → (st : List Symbol) (After : List Symbol → Type 0) → After st → TakesAll ts After (InGoal (goal.Names most) ∷ st)
-names_taken _ most (no_argument _) few st After k = k
-names_taken _ zero (one_argument _ l ts is later) few st After k = absurd (omega (arith, few))
-names_taken _ (suc most) (one_argument _ l ts is later) few st After k =
+names_taken _ most no_argument few st After k = k
+names_taken _ zero (one_argument l ts is later) few st After k = absurd (omega (arith, few))
+names_taken _ (suc most) (one_argument l ts is later) few st After k =
     here.more_names_fit st (TakesAll ts After) most l.mark is (names_taken ts most later (omega (arith, few)) st After k)
 
 -- ---- facts
@@ -54,10 +53,10 @@ atom_of_taken (group (more (group us) ts)) (suc room) st After e h = absurd h.1.
 atom_of_taken (group (more (word l) ts)) (suc room) st After e h =
     let name = one.name_told (InGoal (goal.Names most_names) ∷ st) (TakesAll ts After) l.mark h.1 in
     let later = names_of_taken ts most_names st After name.1 in
-    (atom goals room l ts name.0 later.0 later.1, later.2)
+    (atom room l ts name.0 later.0 later.1, later.2)
 
 pub atom_taken : (room : ℕ) (t : Nested) → IsAtomOf goals room t → (st : List Symbol) (After : List Symbol → Type 0) → room + level st ≡ deepest → After st → Takes t After (InGoal goal.Atom ∷ st)
-atom_taken _ _ (atom _ room l ts name all few) st After e k =
+atom_taken _ _ (atom room l ts name all few) st After e k =
     (omega arith, one.name_fits (InGoal (goal.Names most_names) ∷ st) (TakesAll ts After) l.mark name (names_taken ts most_names all few st After k))
 
 -- ---- values
@@ -75,13 +74,13 @@ taken_last (group us) st After h = (omega (arith, h.0), h.1)
 function_of_taken : (l : Lexeme) (ts : Nesteds) (room : ℕ) (st : List Symbol) (After : List Symbol → Type 0) → is_name l.mark ≡ true → TakesAll ts After (InGoal (goal.Names most_names) ∷ st) → IsValueOf goals (suc room) (group (more (word l) ts)) × After st
 function_of_taken l ts room st After e h =
     let all = names_of_taken ts most_names st After h in
-    (an_atom goals (suc room) (group (more (word l) ts)) (atom goals room l ts e all.0 all.1), all.2)
+    (an_atom (suc room) (group (more (word l) ts)) (atom room l ts e all.0 all.1), all.2)
 
 -- what is taken where a value is wanted is one
 value_of_taken : (t : Nested) (room : ℕ) (st : List Symbol) (After : List Symbol → Type 0) → room + level st ≡ deepest → Takes t After (InGoal goal.Value ∷ st) → IsValueOf goals room t × After st
 value_of_taken (word l) room st After e h =
     let number = here.number_told st After l.mark h in
-    (a_number goals room l number.0, number.1)
+    (a_number room l number.0, number.1)
 value_of_taken (group ts) zero st After e h = absurd (omega (arith, h.0))
 value_of_taken (group none) (suc room) st After e h = absurd h.1
 value_of_taken (group (more (group us) ts)) (suc room) st After e h = absurd h.1.1
@@ -95,7 +94,7 @@ value_of_taken (group (more (word l) (more x none))) (suc room) st After e h =
     elim (here.value_head_told st (TakesAll (more x none) After) l.mark h.1) [
       | inl minus ↦
           let first = value_of_taken x room (InGoal goal.ValueOrEnd ∷ st) (TakesAll none After) (omega arith) minus.1 in
-          (negation goals room l x minus.0 first.0, first.1)
+          (negation room l x minus.0 first.0, first.1)
       | inr (inl two) ↦ absurd (value_of_taken x room (InGoal goal.Value ∷ The mark.Close ∷ st) (TakesAll none After) (omega arith) two.1).1
       | inr (inr name) ↦ function_of_taken l (more x none) room st After name.0 name.1
     ]
@@ -105,26 +104,26 @@ value_of_taken (group (more (word l) (more x (more y ts)))) (suc room) st After 
           let first = value_of_taken x room (InGoal goal.ValueOrEnd ∷ st) (TakesAll (more y ts) After) (omega arith) minus.1 in
           let second = value_of_taken y room (The mark.Close ∷ st) (TakesAll ts After) (omega arith) (last_value y st (TakesAll ts After) first.1) in
           let end = only_close ts st After second.1 in
-          (rw end.0 (operation goals room l x y (ap is_operator minus.0) first.0 second.0), end.1)
+          (rw end.0 (operation room l x y (ap is_operator minus.0) first.0 second.0), end.1)
       | inr (inl two) ↦
           let first = value_of_taken x room (InGoal goal.Value ∷ The mark.Close ∷ st) (TakesAll (more y ts) After) (omega arith) two.1 in
           let second = value_of_taken y room (The mark.Close ∷ st) (TakesAll ts After) (omega arith) first.1 in
           let end = only_close ts st After second.1 in
-          (rw end.0 (operation goals room l x y two.0 first.0 second.0), end.1)
+          (rw end.0 (operation room l x y two.0 first.0 second.0), end.1)
       | inr (inr name) ↦ function_of_taken l (more x (more y ts)) room st After name.0 name.1
     ]
 
 atom_taken_as_value : (room : ℕ) (t : Nested) → IsAtomOf goals room t → (st : List Symbol) (After : List Symbol → Type 0) → room + level st ≡ deepest → After st → Takes t After (InGoal goal.Value ∷ st)
-atom_taken_as_value _ _ (atom _ room l ts name all few) st After e k =
+atom_taken_as_value _ _ (atom room l ts name all few) st After e k =
     (omega arith, here.function_fits st (TakesAll ts After) l.mark name (names_taken ts most_names all few st After k))
 
 value_taken : (room : ℕ) (t : Nested) → IsValueOf goals room t → (st : List Symbol) (After : List Symbol → Type 0) → room + level st ≡ deepest → After st → Takes t After (InGoal goal.Value ∷ st)
-value_taken _ _ (a_number _ room l is) st After e k = one.at_mark st After (InGoal goal.Value) l.mark mark.Number is k
-value_taken _ _ (an_argument _ room l may is) st After e k = absurd (cc)
-value_taken _ _ (an_atom _ room t a) st After e k = atom_taken_as_value room t a st After e k
-value_taken _ _ (negation _ room l x is v) st After e k =
+value_taken _ _ (a_number room l is) st After e k = one.at_mark st After (InGoal goal.Value) l.mark mark.Number is k
+value_taken _ _ (an_argument room l may is) st After e k = absurd (cc)
+value_taken _ _ (an_atom room t a) st After e k = atom_taken_as_value room t a st After e k
+value_taken _ _ (negation room l x is v) st After e k =
     (omega arith, one.at_mark st (TakesAll (more x none) After) (InGoal goal.ValueHead) l.mark mark.Minus is (value_taken room x v (InGoal goal.ValueOrEnd ∷ st) (TakesAll none After) (omega arith) k))
-value_taken _ _ (operation _ room l x y is v w) st After e k =
+value_taken _ _ (operation room l x y is v w) st After e k =
     let last : Takes y (TakesAll none After) (InGoal goal.Value ∷ The mark.Close ∷ st) = value_taken room y w (The mark.Close ∷ st) (TakesAll none After) (omega arith) k in (
       omega arith,
       here.operator_fits st (TakesAll (more x (more y none)) After) l.mark is (value_taken room x v (InGoal goal.ValueOrEnd ∷ st) (TakesAll (more y none) After) (omega arith) (taken_last y st (TakesAll none After) last)) (value_taken room x v (InGoal goal.Value ∷ The mark.Close ∷ st) (TakesAll (more y none) After) (omega arith) last),
@@ -140,7 +139,7 @@ comparison_of_taken (more x (more y ts)) room st After e h =
     let first = value_of_taken x room (InGoal goal.Value ∷ The mark.Close ∷ st) (TakesAll (more y ts) After) (omega arith) h in
     let second = value_of_taken y room (The mark.Close ∷ st) (TakesAll ts After) (omega arith) first.1 in
     let end = only_close ts st After second.1 in
-    (λ l relation. rw end.0 (comparison goals room l x y relation first.0 second.0), end.1)
+    (λ l relation. rw end.0 (comparison room l x y relation first.0 second.0), end.1)
 
 -- one name more and a parenthesis after a name are two names that are compared
 name_of_taken : (l m : Lexeme) (ts : Nesteds) (room : ℕ) (st : List Symbol) (After : List Symbol → Type 0) → l.mark ≡ mark.Equal → is_name m.mark ≡ true → TakesAll ts After (AnyName ∷ The mark.Close ∷ st) → IsConditionOf goals (suc room) (group (more (word l) (more (word m) ts))) × After st
@@ -149,7 +148,7 @@ name_of_taken l m (more (group us) ts) room st After equal is h = absurd h.1
 name_of_taken l m (more (word n) ts) room st After equal is h =
     let name = one.name_told (The mark.Close ∷ st) (TakesAll ts After) n.mark h in
     let end = only_close ts st After name.1 in
-    (rw end.0 (same goals room l m n equal is name.0), end.1)
+    (rw end.0 (same room l m n equal is name.0), end.1)
 
 -- a number or a list where operands are wanted is the first of two values
 first_number : (m : Lexeme) (ts : Nesteds) (st : List Symbol) (After : List Symbol → Type 0) → m.mark ≡ mark.Number → TakesAll ts After (InGoal goal.Value ∷ The mark.Close ∷ st) → TakesAll (more (word m) ts) After (InGoal goal.Value ∷ InGoal goal.Value ∷ The mark.Close ∷ st)
@@ -191,7 +190,7 @@ taken_among (group ts) st After h = (omega (arith, h.0), h.1)
 fact_of_taken : (l : Lexeme) (ts : Nesteds) (room : ℕ) (st : List Symbol) (After : List Symbol → Type 0) → is_goal_name l.mark ≡ true → TakesAll ts After (InGoal (goal.Names most_names) ∷ st) → IsConditionOf goals (suc room) (group (more (word l) ts)) × After st
 fact_of_taken l ts room st After e h =
     let all = names_of_taken ts most_names st After h in
-    (a_fact goals room l ts e all.0 all.1, all.2)
+    (a_fact room l ts e all.0 all.1, all.2)
 
 mutual
   -- what is taken where a condition is wanted is one
@@ -202,7 +201,7 @@ mutual
   condition_of_taken (group (more (group us) ts)) (suc room) st After e h = absurd h.1.1
   condition_of_taken (group (more (word l) none)) (suc room) st After e h =
       elim (here.goal_head_told st (TakesAll none After) l.mark h.1) [
-        | inl (inl all) ↦ (all_of goals room l none all.0 (no_condition goals room), all.1)
+        | inl (inl all) ↦ (all_of room l none all.0 (no_condition room), all.1)
         | inl (inr denied) ↦ absurd denied.1
         | inr (inl equal) ↦ absurd equal.1
         | inr (inr (inl two)) ↦ absurd two.1
@@ -213,11 +212,11 @@ mutual
         | inl (inl all) ↦
             let first = condition_of_taken c room (InGoal goal.Conditions ∷ st) (TakesAll ts After) (omega arith) (as_condition c st (TakesAll ts After) all.1) in
             let later = conditions_of_taken ts room st After e first.1 in
-            (all_of goals room l (more c ts) all.0 (one_condition goals room c ts first.0 later.0), later.1)
+            (all_of room l (more c ts) all.0 (one_condition room c ts first.0 later.0), later.1)
         | inl (inr denied) ↦
             let first = condition_of_taken c room (The mark.Close ∷ st) (TakesAll ts After) (omega arith) denied.1 in
             let end = only_close ts st After first.1 in
-            (rw end.0 (not_so goals room l c denied.0 first.0), end.1)
+            (rw end.0 (not_so room l c denied.0 first.0), end.1)
         | inr (inl equal) ↦ equality_of_taken l (more c ts) room st After equal.0 e equal.1
         | inr (inr (inl two)) ↦
             let both = comparison_of_taken (more c ts) room st After e two.1 in
@@ -226,28 +225,28 @@ mutual
       ]
 
   conditions_of_taken : (ts : Nesteds) (room : ℕ) (st : List Symbol) (After : List Symbol → Type 0) → suc room + level st ≡ deepest → TakesAll ts After (InGoal goal.Conditions ∷ st) → AreConditionsOf goals room ts × After st
-  conditions_of_taken none room st After e h = (no_condition goals room, h)
+  conditions_of_taken none room st After e h = (no_condition room, h)
   conditions_of_taken (more c ts) room st After e h =
       let first = condition_of_taken c room (InGoal goal.Conditions ∷ st) (TakesAll ts After) (omega arith) (as_condition c st (TakesAll ts After) h) in
       let later = conditions_of_taken ts room st After e first.1 in
-      (one_condition goals room c ts first.0 later.0, later.1)
+      (one_condition room c ts first.0 later.0, later.1)
 
 mutual
   -- each condition is taken where one is wanted
   pub condition_taken : (room : ℕ) (t : Nested) → IsConditionOf goals room t → (st : List Symbol) (After : List Symbol → Type 0) → room + level st ≡ deepest → After st → Takes t After (InGoal goal.Condition ∷ st)
-  condition_taken _ _ (all_of _ room l ts is all) st After e k =
+  condition_taken _ _ (all_of room l ts is all) st After e k =
       (omega arith, one.at_mark st (TakesAll ts After) (InGoal goal.Head) l.mark mark.And is (conditions_taken room ts all st After e k))
-  condition_taken _ _ (not_so _ room l c is other) st After e k =
+  condition_taken _ _ (not_so room l c is other) st After e k =
       (omega arith, one.at_mark st (TakesAll (more c none) After) (InGoal goal.Head) l.mark mark.Not is (condition_taken room c other (The mark.Close ∷ st) (TakesAll none After) (omega arith) k))
-  condition_taken _ _ (a_fact _ room l ts is all few) st After e k =
+  condition_taken _ _ (a_fact room l ts is all few) st After e k =
       (omega arith, here.fact_fits st (TakesAll ts After) l.mark is (names_taken ts most_names all few st After k))
-  condition_taken _ _ (same _ room l m n is first second) st After e k =
+  condition_taken _ _ (same room l m n is first second) st After e k =
       (omega arith, one.at_mark st (TakesAll (more (word m) (more (word n) none)) After) (InGoal goal.Head) l.mark mark.Equal is (here.first_name_fits st (TakesAll (more (word n) none) After) m.mark first (one.name_fits (The mark.Close ∷ st) (TakesAll none After) n.mark second k)))
-  condition_taken _ _ (comparison _ room l x y is v w) st After e k =
+  condition_taken _ _ (comparison room l x y is v w) st After e k =
       let two : TakesAll (more x (more y none)) After (InGoal goal.Value ∷ InGoal goal.Value ∷ The mark.Close ∷ st) = value_taken room x v (InGoal goal.Value ∷ The mark.Close ∷ st) (TakesAll (more y none) After) (omega arith) (value_taken room y w (The mark.Close ∷ st) (TakesAll none After) (omega arith) k) in
       (omega arith, here.relation_fits st (TakesAll (more x (more y none)) After) l.mark is (operands_taken x y room v st After two) two)
 
   conditions_taken : (room : ℕ) (ts : Nesteds) → AreConditionsOf goals room ts → (st : List Symbol) (After : List Symbol → Type 0) → suc room + level st ≡ deepest → After st → TakesAll ts After (InGoal goal.Conditions ∷ st)
-  conditions_taken _ _ (no_condition _ room) st After e k = k
-  conditions_taken _ _ (one_condition _ room c cs first later) st After e k =
+  conditions_taken _ _ (no_condition room) st After e k = k
+  conditions_taken _ _ (one_condition room c cs first later) st After e k =
       taken_among c st (TakesAll cs After) (condition_taken room c first (InGoal goal.Conditions ∷ st) (TakesAll cs After) (omega arith) (conditions_taken room cs later st After e k))

@@ -8,7 +8,7 @@ use Rattle.ps_shape.specs.declared.marks.Mark.TheVariants as mark
 use Rattle.ps_shape.specs.declared.symbols.Symbol.{Symbol}
 use Rattle.ps_shape.specs.declared.symbols.Symbol.TheVariants.{The, AnyName, InGoal}
 use Rattle.ps_shape.specs.declared.symbols.GoalPart.TheVariants as goal
-use Rattle.ps_forms.specs.Grammar.{is_operator, is_relation}
+use Rattle.ps_forms.specs.Conditions.{is_operator, is_relation}
 use Rattle.ps_forms.proofs.OneWord.{Fits}
 use Rattle.ps_forms.proofs.Taking.{Follows}
 

@@ -1,4 +1,3 @@
-pub mod DomainConditions
 pub mod GoalLists
 pub mod GoalWords
 pub mod LineForms

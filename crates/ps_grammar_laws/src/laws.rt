@@ -1,12 +1,6 @@
 //! Laws of the definitions: each is the contract of a function that does nothing.
-ghost use Rattle.ps_grammar_laws.specs.Conditions.{DomainConditionsAreSo};
 ghost use Rattle.ps_grammar_laws.specs.LineForms.{GrammaticalLinesAreJudged, JudgedLinesAreGrammatical};
 ghost use Rattle.ps_grammar_laws.specs.MemberLines.{GrammaticalMemberLinesAreJudged, JudgedMemberLinesAreGrammatical};
-
-/// The conditions of a domain's grammar are those of the one grammar of conditions, as it is in a domain.
-pub fn domain_conditions_are_so()
-    ensures { DomainConditionsAreSo }
-{}
 
 /// The nested lists of a line whose words fit a form are a line of that form.
 pub fn judged_lines_are_grammatical()

@@ -25,7 +25,9 @@ use Rattle.ps_shape.specs.Marks.{is_name, is_change, is_fact_name, is_predicate_
 use Rattle.ps_shape.specs.Symbols.{none_seen}
 use Rattle.ps_shape.specs.declared.marks.Mark.TheVariants as mark
 use Rattle.ps_shape.specs.declared.symbols.Seen.{Seen}
-use Rattle.ps_forms.specs.Grammar.{is_term, is_operator, is_relation, is_variable, AreTerms, IsAtom, IsValue, IsCondition, AreConditions, AreParts, IsEffect, AreChanges, IsTypedList, ArePredicates, AreFunctions, AreSections, IsText}
+use Rattle.ps_forms.specs.Conditions.{is_term, is_operator, is_relation}
+use Rattle.ps_forms.specs.Conditions as written
+use Rattle.ps_forms.specs.Grammar.{is_variable, AreTerms, IsAtom, IsValue, IsCondition, AreConditions, AreParts, IsEffect, AreChanges, IsTypedList, ArePredicates, AreFunctions, AreSections, IsText}
 use Rattle.ps_forms.specs.Grammar as grammar
 use Rattle.ps_forms.specs.Lexemes.{fixed_names}
 use Rattle.ps_forms.specs.Nested.{Nested, Nesteds, word, more}
@@ -67,39 +69,38 @@ module _ (names : Table) where
   term_word ps (Const n) l h = ap is_term h.mark ∙ mark_in-all is_term fixed_names mark.Name (folded (name_text names n)) refl refl
 
   terms_grammatical : (ps : List Param) (ts : List Term) (us : Nesteds) → AreTermForms names ps ts us → AreTerms us
-  terms_grammatical ps _ _ no_terms = grammar.no_term
-  terms_grammatical ps _ _ (more_terms t ts l us h r) = grammar.one_term l us (term_word ps t l h) (terms_grammatical ps ts us r)
+  terms_grammatical ps _ _ no_terms = written.no_argument
+  terms_grammatical ps _ _ (more_terms t ts l us h r) = written.one_argument l us (term_word ps t l h) (terms_grammatical ps ts us r)
 
   lifted_grammatical : (ps : List Param) (room : ℕ) (f : Lifted) (t : Nested) → IsLiftedForm names ps f t → IsAtom (suc room) t
-  lifted_grammatical ps room _ _ (lifted f l us h r) = grammar.atom room l us (named_word f.head l h) (terms_grammatical ps f.terms us r)
+  lifted_grammatical ps room _ _ (lifted f l us h r) = written.atom room l us (named_word f.head l h) (terms_grammatical ps f.terms us r) tt
 
   value_grammatical : (ps : List Param) (room : ℕ) (x : ExprTree) (t : Nested) → FitsExpr room x → IsExprForm names ps x t → IsValue room t
-  value_grammatical ps _ _ _ (fits_number room n) (a_number _ l m e) = grammar.a_number room l m
-  value_grammatical ps _ _ _ (fits_value room f) (a_value _ t h) = grammar.an_atom (suc room) t (lifted_grammatical ps room f t h)
-  value_grammatical ps _ _ _ (fits_negation room x fit) (a_negation _ l t m h) = grammar.negation room l t m (value_grammatical ps room x t fit h)
+  value_grammatical ps _ _ _ (fits_number room n) (a_number _ l m e) = written.a_number room l m
+  value_grammatical ps _ _ _ (fits_value room f) (a_value _ t h) = written.an_atom (suc room) t (lifted_grammatical ps room f t h)
+  value_grammatical ps _ _ _ (fits_negation room x fit) (a_negation _ l t m h) = written.negation room l t m (value_grammatical ps room x t fit h)
   value_grammatical ps _ _ _ (fits_operation room o x y fit also) (an_operation _ _ _ l t u m h k) =
-      grammar.operation room l t u (ap is_operator m ∙ op_mark-is_operator o) (value_grammatical ps room x t fit h) (value_grammatical ps room y u also k)
+      written.operation room l t u (ap is_operator m ∙ op_mark-is_operator o) (value_grammatical ps room x t fit h) (value_grammatical ps room y u also k)
 
   -- ---- conditions
 
   -- (NAME TERM*) with such a name
   fact_grammatical : (ps : List Param) (room : ℕ) (f : Lifted) (t : Nested) → is_fact_name (name_mark names f.head) ≡ true → IsLiftedForm names ps f t → IsCondition (suc room) t
-  fact_grammatical ps room _ _ fit (lifted f l us h r) = grammar.a_fact room l us (ap is_fact_name h.mark ∙ fit) (terms_grammatical ps f.terms us r)
+  fact_grammatical ps room _ _ fit (lifted f l us h r) = written.a_fact room l us (ap is_fact_name h.mark ∙ fit) (terms_grammatical ps f.terms us r) tt
 
   mutual
     condition_grammatical : (ps : List Param) (room : ℕ) (c : CondTree) (t : Nested) → FitsCond names room c → IsCondForm names ps c t → IsCondition room t
-    condition_grammatical ps _ _ _ (fits_all room cs fit) (all_form _ l ts m h) = grammar.all_of room l ts m (conditions_grammatical ps room cs ts fit h)
-    condition_grammatical ps _ _ _ (fits_not room c fit) (not_form _ l t m h) = grammar.not_so room l t m (condition_grammatical ps room c t fit h)
+    condition_grammatical ps _ _ _ (fits_all room cs fit) (all_form _ l ts m h) = written.all_of room l ts m (conditions_grammatical ps room cs ts fit h)
+    condition_grammatical ps _ _ _ (fits_not room c fit) (not_form _ l t m h) = written.not_so room l t m (condition_grammatical ps room c t fit h)
     condition_grammatical ps _ _ _ (fits_fact room f fit) (fact_form _ t h) = fact_grammatical ps room f t fit h
-    condition_grammatical ps _ _ _ (fits_same room a b) (same_form _ _ l m n e h k) =
-        grammar.comparison room l (word m) (word n) (ap is_relation e) (grammar.a_term room m (term_word ps a m h)) (grammar.a_term room n (term_word ps b n k))
+    condition_grammatical ps _ _ _ (fits_same room a b) (same_form _ _ l m n e h k) = written.same room l m n e (term_word ps a m h) (term_word ps b n k)
     condition_grammatical ps _ _ _ (fits_comparison room r x y fit also) (comparison_form _ _ _ l t u m h k) =
-        grammar.comparison room l t u (ap is_relation m ∙ rel_mark-is_relation r) (value_grammatical ps room x t fit h) (value_grammatical ps room y u also k)
+        written.comparison room l t u (ap is_relation m ∙ rel_mark-is_relation r) (value_grammatical ps room x t fit h) (value_grammatical ps room y u also k)
 
     conditions_grammatical : (ps : List Param) (room : ℕ) (cs : CondTrees) (ts : Nesteds) → FitConds names room cs → AreCondForms names ps cs ts → AreConditions room ts
-    conditions_grammatical ps _ _ _ (fit_none room) no_forms = grammar.no_condition room
+    conditions_grammatical ps _ _ _ (fit_none room) no_forms = written.no_condition room
     conditions_grammatical ps _ _ _ (fit_more room c cs fit fits) (more_forms _ _ t ts h k) =
-        grammar.one_condition room t ts (condition_grammatical ps room c t fit h) (conditions_grammatical ps room cs ts fits k)
+        written.one_condition room t ts (condition_grammatical ps room c t fit h) (conditions_grammatical ps room cs ts fits k)
 
   parts_joined : (room : ℕ) (ts us : Nesteds) → AreParts room ts → AreParts room us → AreParts room (joined ts us)
   parts_joined _ _ us (grammar.no_part room) k = k

@@ -18,7 +18,9 @@ use Rattle.ps_world.specs.declared.conditions.Rel.TheVariants.{Lt, Le, Eq, Ge, G
 use Rattle.ps_shape.specs.Marks.{is, is_fact_name}
 use Rattle.ps_shape.specs.declared.marks.Mark.{Mark}
 use Rattle.ps_shape.specs.declared.marks.Mark.TheVariants as mark
-use Rattle.ps_forms.specs.Grammar.{is_relation, IsValue, IsCondition, AreConditions, IsTimedCondition, IsPart, AreParts, IsConditionForm}
+use Rattle.ps_forms.specs.Conditions.{is_relation}
+use Rattle.ps_forms.specs.Conditions as written
+use Rattle.ps_forms.specs.Grammar.{IsValue, IsCondition, AreConditions, IsTimedCondition, IsPart, AreParts, IsConditionForm}
 use Rattle.ps_forms.specs.Grammar as grammar
 use Rattle.ps_forms.specs.Nested.{Nested, Nesteds, word, group, none, more}
 use Rattle.ps_forms.specs.declared.lexemes.Lexeme.{Lexeme}
@@ -171,25 +173,31 @@ module _ (after : Table) (first : 0 < length after) (d : Domain) (ps : List Para
         no_sound P (is mark.And l.mark) (meant.conditions reads (words d ps) ts [] >>= λ cs. Ok (cond.And cs)) (if is mark.Not l.mark then meant.negation reads (words d ps) ts else meant.plain_condition reads (words d ps) l ts)
         m (no_sound P (is mark.Not l.mark) (meant.negation reads (words d ps) ts) (meant.plain_condition reads (words d ps) l ts) n h)
 
+  -- two values after a relation
+  compared_here : (room : ℕ) (l : Lexeme) (x y : Nested) → is_relation l.mark ≡ true → IsValue room x → IsValue room y → AllTold after (group (more (word l) (more x (more y none)))) → Sound (IsCondHere (suc room)) (condition d ps (group (more (word l) (more x (more y none)))))
+  compared_here room l x y m v w h =
+      other_form (IsCondHere (suc room)) l (more x (more y none)) (isnt-by is_relation mark.And l.mark m refl) (isnt-by is_relation mark.Not l.mark m refl)
+      (related_here room (rel_of l.mark) x y (meant.stated reads (words d ps) l (more x (more y none))) (relation_there l.mark m) v w h.1.0 h.1.1.0)
+
   mutual
     condition_here : (room : ℕ) (t : Nested) → IsCondition room t → AllTold after t → Sound (IsCondHere room) (condition d ps t)
-    condition_here _ _ (grammar.all_of room l ts m cs) h =
+    condition_here _ _ (written.all_of room l ts m cs) h =
         and_form (IsCondHere (suc room)) l ts m
         (then_sound (AreCondsHere room) (IsCondHere (suc room)) (meant.conditions reads (words d ps) ts []) (λ all. Ok (cond.And all)) (conditions_here room ts [] cs h.1 (tt, fit_none room))
         (λ all k. (k.0, fits_all room (cond_trees all) k.1)))
-    condition_here _ _ (grammar.not_so room l c m one) h =
+    condition_here _ _ (written.not_so room l c m one) h =
         not_form (IsCondHere (suc room)) l (more c none) m
         (then_sound (IsCondHere room) (IsCondHere (suc room)) (condition d ps c) (λ x. Ok (cond.Not (cond_tree x))) (condition_here room c one h.1.0)
         (λ x k. (k.0, fits_not room (cond_tree x) k.1)))
-    condition_here _ _ (grammar.a_fact room l ts m r) h =
+    condition_here _ _ (written.a_fact room l ts m r few) h =
         other_form (IsCondHere (suc room)) l ts (isnt-by is_fact_name mark.And l.mark m refl) (isnt-by is_fact_name mark.Not l.mark m refl) (plain_here room l ts m h.0 h.1)
-    condition_here _ _ (grammar.comparison room l x y m v w) h =
-        other_form (IsCondHere (suc room)) l (more x (more y none)) (isnt-by is_relation mark.And l.mark m refl) (isnt-by is_relation mark.Not l.mark m refl)
-        (related_here room (rel_of l.mark) x y (meant.stated reads (words d ps) l (more x (more y none))) (relation_there l.mark m) v w h.1.0 h.1.1.0)
+    condition_here _ _ (written.same room l m n is s t) h =
+        compared_here room l (word m) (word n) (ap is_relation is) (written.an_argument room m refl s) (written.an_argument room n refl t) h
+    condition_here _ _ (written.comparison room l x y m v w) h = compared_here room l x y m v w h
 
     conditions_here : (room : ℕ) (ts : Nesteds) (before : List CondTree) → AreConditions room ts → AreTold after ts → AreCondsHere room before → Sound (AreCondsHere room) (meant.conditions reads (words d ps) ts before)
-    conditions_here _ _ before (grammar.no_condition room) h k = k
-    conditions_here _ _ before (grammar.one_condition room c cs one r) h k =
+    conditions_here _ _ before (written.no_condition room) h k = k
+    conditions_here _ _ before (written.one_condition room c cs one r) h k =
         then_sound (IsCondHere room) (AreCondsHere room) (condition d ps c) (λ x. meant.conditions reads (words d ps) cs (before ++ cond_tree x ∷ [])) (condition_here room c one h.0)
         (λ x p. conditions_here room cs (before ++ cond_tree x ∷ []) r h.1 (conds_push before (cond_tree x) k.0 p.0, fits_push room before (cond_tree x) k.1 p.1))
 

@@ -13,6 +13,7 @@ use Rattle.ps_world.specs.declared.actions.NumOp.{NumOp}
 use Rattle.ps_shape.specs.Marks.{is, is_change, is_predicate_name}
 use Rattle.ps_shape.specs.declared.marks.Mark.{Mark}
 use Rattle.ps_shape.specs.declared.marks.Mark.TheVariants as mark
+use Rattle.ps_forms.specs.Conditions as written
 use Rattle.ps_forms.specs.Grammar.{IsAtom, IsValue, IsEffect, AreEffects, IsTimedEffect, IsChange, AreChanges, IsEffectForm}
 use Rattle.ps_forms.specs.Grammar as grammar
 use Rattle.ps_forms.specs.Nested.{Nested, Nesteds, word, group, none, more}
@@ -65,12 +66,12 @@ module _ (after : Table) (first : 0 < length after) (d : Domain) (ps : List Para
       (λ f one. All-push IsEffectHere before (effects.Add f) all (one.1, effect_fits_more after (suc room) most (effects.Add f) (fits_addition room f (head_fits l f m h one.0)) le))
 
   deleted_here : (room : ℕ) (a : Nested) (before : List Effect) → suc room ≤ most → IsAtom room a → AllTold after a → AreEffectsHere before → Sound AreEffectsHere (effect.deleted d ps a before)
-  deleted_here _ _ before le (grammar.atom room l ts m r) h all =
+  deleted_here _ _ before le (written.atom room l ts m r few) h all =
       then_sound (IsHeadHere after first d ps l) AreEffectsHere (fact d ps l ts) (λ f. Ok (before ++ effects.Delete f ∷ [])) (fact_here after first d ps l ts h.0.below h.1)
       (λ f one. All-push IsEffectHere before (effects.Delete f) all (one.1, effect_fits_more after (suc (suc room)) most (effects.Delete f) (fits_deletion room f) le))
 
   changed_here : (room : ℕ) (how : NumOp) (a x : Nested) (before : List Effect) → suc room ≤ most → IsAtom room a → IsValue room x → AllTold after a → AllTold after x → AreEffectsHere before → Sound AreEffectsHere (effect.changed d ps how a x before)
-  changed_here _ how _ x before le (grammar.atom room l ts m r) v h k all =
+  changed_here _ how _ x before le (written.atom room l ts m r few) v h k all =
       then_sound (IsHeadHere after first d ps l) AreEffectsHere (value_of d ps l ts) (λ f. value d ps x >>= λ y. Ok (before ++ effects.Number how f y ∷ [])) (value_of_here after first d ps l ts h.0.below h.1)
       (λ f one. then_sound (IsValueHere after first d ps (suc room)) AreEffectsHere (value d ps x) (λ y. Ok (before ++ effects.Number how f y ∷ [])) (value_here after first d ps (suc room) x v k)
       (λ y two. All-push IsEffectHere before (effects.Number how f y) all ((one.1, two.0), effect_fits_more after (suc (suc room)) most (effects.Number how f y) (fits_change room how f y two.1) le)))

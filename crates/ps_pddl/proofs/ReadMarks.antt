@@ -4,7 +4,7 @@ use Rattle.std.specs.Bool.{if◌then◌else◌}
 use Rattle.ps_shape.specs.Marks.{is, is_change, is_fact_name, is_name, is_predicate_name}
 use Rattle.ps_shape.specs.declared.marks.Mark.{Mark}
 use Rattle.ps_shape.specs.declared.marks.Mark.TheVariants as mark
-use Rattle.ps_forms.specs.Grammar.{is_relation}
+use Rattle.ps_forms.specs.Conditions.{is_relation}
 use Rattle.ps_conditions.specs.Signs.{rel_of}
 use Rattle.ps_pddl.specs.Effects.{change_of}
 use Rattle.ps_pddl.specs.Steps.{Read}

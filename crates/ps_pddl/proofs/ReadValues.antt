@@ -19,8 +19,8 @@ use Rattle.ps_world.specs.declared.expressions.Op.{Op}
 use Rattle.ps_shape.specs.Marks.{is}
 use Rattle.ps_shape.specs.declared.marks.Mark.{Mark}
 use Rattle.ps_shape.specs.declared.marks.Mark.TheVariants as mark
+use Rattle.ps_forms.specs.Conditions as written
 use Rattle.ps_forms.specs.Grammar.{AreTerms, IsAtom, IsValue}
-use Rattle.ps_forms.specs.Grammar as grammar
 use Rattle.ps_forms.specs.Nested.{Nested, Nesteds, word, group, none, more}
 use Rattle.ps_forms.specs.Places.{word_of, count}
 use Rattle.ps_forms.specs.declared.lexemes.Lexeme.{Lexeme}
@@ -117,24 +117,24 @@ module _ (after : Table) (first : 0 < length after) where
         (λ y two. ((one.0, two.0), fits_operation room op (expr_tree x) (expr_tree y) one.1 two.1)))
 
     atom_value_here : (room : ℕ) (l : Lexeme) (ts : Nesteds) → AreTerms ts → IsTold after l → AreTold after ts → Sound (IsValueHere (suc room)) (operation reads (words d ps) (more (word l) ts))
-    atom_value_here room l _ grammar.no_term h k = function_value_here room l none h.below tt
-    atom_value_here room l _ (grammar.one_term a _ m grammar.no_term) h k =
+    atom_value_here room l _ written.no_argument h k = function_value_here room l none h.below tt
+    atom_value_here room l _ (written.one_argument a _ m written.no_argument) h k =
         either_sound (IsValueHere (suc room)) (is mark.Minus l.mark) (plain_value d ps a >>= λ x. Ok (Neg (expr_tree x))) (function_value reads (words d ps) l (more (word a) none))
         (λ e. negated_here room (plain_value d ps a) (plain_value_here room a k.0)) (λ e. function_value_here room l (more (word a) none) h.below k)
-    atom_value_here room l _ (grammar.one_term a _ m (grammar.one_term b ts n r)) h k =
+    atom_value_here room l _ (written.one_argument a _ m (written.one_argument b ts n r)) h k =
         operated_here room (operator_of l.mark) (plain_value d ps a) (plain_value d ps b) (function_value reads (words d ps) l (more (word a) (more (word b) ts)))
         (plain_value_here room a k.0) (plain_value_here room b k.1.0) (function_value_here room l (more (word a) (more (word b) ts)) h.below k)
 
     atom_here : (room : ℕ) (t : Nested) → IsAtom room t → AllTold after t → Sound (IsValueHere room) (value d ps t)
-    atom_here _ _ (grammar.atom room l ts m r) h = atom_value_here room l ts r h.0 h.1
+    atom_here _ _ (written.atom room l ts m r few) h = atom_value_here room l ts r h.0 h.1
 
     pub value_here : (room : ℕ) (t : Nested) → IsValue room t → AllTold after t → Sound (IsValueHere room) (value d ps t)
-    value_here _ _ (grammar.a_number room l m) h = plain_value_here room l h
-    value_here _ _ (grammar.a_term room l m) h = plain_value_here room l h
-    value_here _ _ (grammar.an_atom room t a) h = atom_here room t a h
-    value_here _ _ (grammar.negation room l x m v) h =
+    value_here _ _ (written.a_number room l m) h = plain_value_here room l h
+    value_here _ _ (written.an_argument room l values m) h = plain_value_here room l h
+    value_here _ _ (written.an_atom room t a) h = atom_here room t a h
+    value_here _ _ (written.negation room l x m v) h =
         either_sound (IsValueHere (suc room)) (is mark.Minus l.mark) (value d ps x >>= λ y. Ok (Neg (expr_tree y))) (function_value reads (words d ps) l (more x none))
         (λ e. negated_here room (value d ps x) (value_here room x v h.1.0)) (λ e. function_value_here room l (more x none) h.0.below h.1)
-    value_here _ _ (grammar.operation room l x y m v w) h =
+    value_here _ _ (written.operation room l x y m v w) h =
         operated_here room (operator_of l.mark) (value d ps x) (value d ps y) (function_value reads (words d ps) l (more x (more y none)))
         (value_here room x v h.1.0) (value_here room y w h.1.1.0) (function_value_here room l (more x (more y none)) h.0.below h.1)
