@@ -208,11 +208,11 @@ module _ (s : SessionRequest) (old new : FilesView) where
         then_read (texts_in old.told s.domain s.script s.members) (λ t input. session_of input) old new new u (Ok r) h
         (λ input is. read_nothing new (for_session s input) r (f input is))
 
-    pub session_good : (l : Loaded) (w : Session) → w.names ≡ l.names → w.input ≡ l.input → w.workers ≡ s.workers → w.ordered ≡ s.ordered → Judges u s.budget s.replans (Ok l) → LoadsRequest (a_session s) old new (Ok (Ok (work.Session w)))
-    session_good l w names input workers ordered judges =
+    pub session_good : (l : Loaded) (w : Session) → w.names ≡ l.names → w.input ≡ l.input → w.workers ≡ s.workers → w.ordered ≡ s.ordered → w.reports ≡ s.reports → Judges u s.budget s.replans (Ok l) → LoadsRequest (a_session s) old new (Ok (Ok (work.Session w)))
+    session_good l w names input workers ordered reports judges =
         session_read (Ok (work.Session w))
         (λ texts is. (
-          tt,
+          reports,
           (
             subst (λ (t : Table). IsInput s.budget s.replans texts w.input t) (sym names)
                 (subst (λ (i : Input). IsInput s.budget s.replans texts i l.names) (sym input) (judges (read_file old.told s.domain) texts is).0),

@@ -159,9 +159,10 @@ IsWork (for_generation carts) (Generation g) =
     IsInput usual_budget usual_replans (generated carts) g.input g.names × (g.carts ≡ carts)
 IsWork m w = ⊥
 
--- the work is of the kind that is asked for
+-- The work is of the kind that is asked for: the reports of a session are told, and a journal is written anew, where that is asked for, and as
+-- many carts are generated.
 abbrev pub IsAsked : Request → Work → Type 0
-IsAsked (a_session s) (Session t) = Unit {0}
+IsAsked (a_session s) (Session t) = t.reports ≡ s.reports
 IsAsked (a_check file) (Check names d) = Unit {0}
 IsAsked (a_validation domain script plan) (Validation v) = Unit {0}
 IsAsked (a_replay r) (Replay w) = w.migrates ≡ r.migrates

@@ -42,6 +42,7 @@ fn load_session<'a, F: Files>(
             input,
             workers: settings.workers as u8,
             ordered: settings.ordered,
+            reports: settings.reports,
         }))),
         Err(Failure::Refused(fault)) => Ok(Err(fault)),
         Err(Failure::OutOfMemory) => Err(Failure::OutOfMemory),

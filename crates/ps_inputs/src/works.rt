@@ -16,6 +16,8 @@ pub struct Session {
     pub workers: u8,
     /// Whether one worker does all, with the members' turns in a fixed order.
     pub ordered: bool,
+    /// Whether the performers' reports are told once the journal is written.
+    pub reports: bool,
     ghost sound: { IsSound input } by { Prim.hlevel sound_prop },
     ghost some: { 1 ≤ workers },
     ghost few: { workers ≤ 16 },

@@ -24,7 +24,7 @@ word_texts words = map string_bytes words
 -- ---- what is asked for
 
 -- what a session is to do: its files, those of its members last, how many workers there are, how many states a search may reach, how often a
--- run's plan may be made anew, and whether turns are ordered
+-- run's plan may be made anew, whether turns are ordered, and whether reports are told
 pub record SessionRequest : Type 0 where
   pub domain : Text
   pub script : Text
@@ -33,6 +33,7 @@ pub record SessionRequest : Type 0 where
   pub budget : ℕ
   pub replans : ℕ
   pub ordered : Bool
+  pub reports : Bool
 
 -- what a replay is to judge, and by what: its files, those of its members last, how many states a search may reach, how often a run's
 -- plan may be made anew, and whether the journal is to be written anew where it is legal
@@ -87,6 +88,7 @@ settings_said s = record {
   budget = s.budget;
   replans = s.replans;
   ordered = s.ordered;
+  reports = s.reports;
 }
 
 -- what these settings of a replay say
@@ -168,9 +170,13 @@ has_good_value word = not (is_option word) || (not (has_equals word) || is_value
 abbrev pub has_good_values : List Text → Bool
 has_good_values words = list_all has_good_value words
 
--- an option whose value is the next word: it has no `=`, and isn't `--ordered`
+-- the options that have no value
+abbrev pub flags : List Text
+flags = codes "--ordered" ∷ codes "--reports" ∷ []
+
+-- an option whose value is the next word: it has no `=`, and isn't one that has no value
 abbrev pub awaits_value : Text → Bool
-awaits_value word = is_option word && (not (has_equals word) && not (same_text word (codes "--ordered")))
+awaits_value word = is_option word && (not (has_equals word) && not (list_any (same_text word) flags))
 
 -- one of the words is an option
 abbrev pub has_option : List Text → Bool
@@ -217,7 +223,7 @@ unfoldable pub session_app : App
 session_app = command_of (codes "session") (
     option_rule (codes "domain") true ∷ option_rule (codes "script") true
     ∷ option_rule (codes "workers") false ∷ option_rule (codes "budget") false ∷ option_rule (codes "replans") false
-    ∷ flag_rule (codes "ordered") ∷ words_rule (codes "members") ∷ [])
+    ∷ flag_rule (codes "ordered") ∷ flag_rule (codes "reports") ∷ words_rule (codes "members") ∷ [])
 
 -- check --domain F
 unfoldable pub check_app : App
@@ -323,6 +329,7 @@ session_with rows workers budget replans = a_session (record {
   budget = budget;
   replans = replans;
   ordered = is_set_in (codes "ordered") rows;
+  reports = is_set_in (codes "reports") rows;
 })
 
 -- the session that is asked for, where each number has its form and its range

@@ -27,6 +27,8 @@ pub struct Settings<'a> {
     pub replans: u32,
     /// Whether one worker does all, with the members' turns in a fixed order; usually not.
     pub ordered: bool,
+    /// Whether the reports of performers are told once the journal is written; usually not.
+    pub reports: bool,
 }
 
 /// The settings of a replay.
@@ -93,6 +95,7 @@ fn session_with<'a>(matches: &ArgMatches<'a>, members: Vec<&'a str>) -> Option<A
         budget,
         replans,
         ordered: is_set(matches, "ordered"),
+        reports: is_set(matches, "reports"),
     }))
 }
 
@@ -192,8 +195,9 @@ fn asked_in<'a>(
 /// memory, which may come of words that aren't in the grammar, too.
 ///
 /// The first word is the mode, and options follow it, each at most once, as `--name value` or `--name=value`, or as `--ordered`
-/// alone. A value isn't empty and doesn't begin with `-`. A number has 1 to 9 decimal digits. Last come the members of a session, a
-/// replay or a migration, each a file; after the first of them no option stands. The mode `gen` has no options, and one number of carts.
+/// or `--reports` alone. A value isn't empty and doesn't begin with `-`. A number has 1 to 9 decimal digits. Last come the members of a
+/// session, a replay or a migration, each a file; after the first of them no option stands. The mode `gen` has no options, and one number of
+/// carts.
 pub fn read_words<'a>(alloc: Global, words: &'a [String]) -> Result<Option<Asked<'a>>, AllocError>
     ensures asked { IfOk result (λ a. option_map said a ≡ asked_of (word_texts words.now)) }
     ensures ranges { IfOk result (λ a. IfSome (option_map said a) IsInRange) }

@@ -123,6 +123,7 @@ fn session_command<'a>(alloc: Global) -> Result<Command<'a>, AllocError>
     let command = with_option(alloc, command, "budget", false);
     let command = with_option(alloc, command, "replans", false);
     let command = with_flag(alloc, command, "ordered");
+    let command = with_flag(alloc, command, "reports");
     with_words(alloc, command, "members")
 }
 

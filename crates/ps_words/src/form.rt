@@ -1,7 +1,9 @@
 //! The form of the words after the mode, which is tested before they are parsed. The tests take no memory.
+ghost use Rattle.std.specs.List.{list_any};
 ghost use Rattle.std.specs.Prelude.{◌≡◌, false};
+ghost use Rattle.ps_world.specs.Lines.{same_text};
 ghost use Rattle.ps_words.specs.Words.{word_texts, is_option, is_value, is_bare, has_no_bare, name_of, is_named, is_repeated, has_distinct_options};
-ghost use Rattle.ps_words.specs.Words.{has_equals, has_good_value, has_good_values, awaits_value, options_stand_first, is_well_formed};
+ghost use Rattle.ps_words.specs.Words.{has_equals, has_good_value, has_good_values, flags, awaits_value, options_stand_first, is_well_formed};
 ghost use Rattle.ps_words.specs.Words.{has_option, has_named, attached};
 
 /// Whether a word begins with `-`.
@@ -121,11 +123,18 @@ fn has_good_values(words: &[String]) -> bool
     true
 }
 
+/// Whether a word is an option that has no value.
+fn is_flag(word: &str) -> bool
+    ensures { result ≡ list_any (same_text word.now) flags }
+{
+    word == "--ordered" || word == "--reports"
+}
+
 /// Whether a word is an option whose value is the next word.
 fn awaits_value(word: &str) -> bool
     ensures { result ≡ awaits_value word.now }
 {
-    is_option(word) && !has_equals(word) && word != "--ordered"
+    is_option(word) && !has_equals(word) && !is_flag(word)
 }
 
 /// Whether one of the words is an option.

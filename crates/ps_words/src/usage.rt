@@ -2,7 +2,7 @@
 
 /// The modes, each with its options, their ranges and defaults, and an example.
 pub const USAGE: &str = "\
-plansys session --domain FILE --script FILE [--workers N] [--budget N] [--replans N] [--ordered] [MEMBER ..]
+plansys session --domain FILE --script FILE [--workers N] [--budget N] [--replans N] [--ordered] [--reports] [MEMBER ..]
     Does the lines of a script over a domain, with the runs that they open, and writes the journal. A line `source FILE` stands for
     the lines of that file, on at most four levels, and `quit` ends the script. Each MEMBER is the file of a performer, which does acts
     of runs, or of an observer, which edits beside them.
@@ -10,6 +10,7 @@ plansys session --domain FILE --script FILE [--workers N] [--budget N] [--replan
     --budget N    how many states a search for a plan may reach before it gives up, from 1 to 200000; 20000 if it isn't given
     --replans N   how often a run's plan may be made anew, from 0 to 8; 3 if it isn't given
     --ordered     one worker, and members take turns in the order of the words: then the journal is a function of the input
+    --reports     after the journal, the reports of the performers to standard error, and how many units no report tells of
     plansys session --domain samples/rooms/domain.pddl --script samples/rooms/script samples/rooms/asker samples/rooms/charger samples/rooms/mover
 plansys check --domain FILE
     Reads a domain, and writes it in its canonical text.

@@ -5,7 +5,7 @@ use std::alloc::{AllocError, Global};
 use std::test::Fail;
 
 /// Command lines of sessions, and the domain, the script, the workers, the budget, how often a run may be planned anew, whether turns
-/// are ordered, and the members.
+/// are ordered, whether reports are told, and the members.
 const SESSIONS: &str = "\
 session --domain d --script s -> session d s 2 20000 3 false
 session --script=s --domain=d -> session d s 2 20000 3 false
@@ -62,6 +62,12 @@ session --domain d --script s --ordered x -> session d s 2 20000 3 true x
 session --domain d --script=s m=1 m m -> session d s 2 20000 3 false m=1 m m
 session --ordered --domain d --script s --budget 7 session --script -> none
 session --domain d --script s x --ordered -> none
+session --domain d --script s --reports -> session d s 2 20000 3 false reports
+session --reports --domain d --ordered --script s x -> session d s 2 20000 3 true reports x
+session --domain d --script s --reports x --reports -> none
+session --domain d --script s --reports --reports -> none
+session --domain d --script s --reports=true -> none
+check --domain d --reports -> none
 session --domain d --script s x --ordered y -> none
 session --domain d --script s x -y -> none
 session --domain d --script s --ordered=x y -> none
@@ -207,10 +213,14 @@ fn told_of_session(alloc: Global, settings: Settings<'_>) -> Result<String, Allo
         budget,
         replans,
         ordered,
+        reports,
     } = settings;
     let mut told = format!(in alloc;
         "session {domain} {script} {workers} {budget} {replans} {ordered}"
     )?;
+    if reports {
+        told.push_str(" reports")?;
+    }
     for member in &members {
         write!(told, " {member}")?;
     }

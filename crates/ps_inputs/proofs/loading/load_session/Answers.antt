@@ -31,7 +31,7 @@ pub returns-in-Ok : goal.returns-in-Ok
 returns-in-Ok g c =
     let s = settings_said c.args.settings.now in
     let h = subst (λ (ms : List (Bor (List ℕ))). ReadsInput s.domain s.script (map (λ m. m.now) ms) (g.F.Files.shown c.args.files.now) (g.F.Files.shown c.read_input.new.files) (Ok c.in_ok-read.read)) c.as_slice-members.ensures.value c.in_ok-read.ensures in
-    session_good s (g.F.Files.shown c.args.files.now) (g.F.Files.shown c.read_input.new.files) c.in_ok-read.read h c.in-Ok.field-0 _ refl refl refl refl (subst (Judges c.in_ok-read.read s.budget s.replans) c.in-Ok.is c.judge.ensures)
+    session_good s (g.F.Files.shown c.args.files.now) (g.F.Files.shown c.read_input.new.files) c.in_ok-read.read h c.in-Ok.field-0 _ refl refl refl refl refl (subst (Judges c.in_ok-read.read s.budget s.replans) c.in-Ok.is c.judge.ensures)
 
 pub returns-in-Err-Refused : goal.returns-in-Err-Refused
 returns-in-Err-Refused g c =
