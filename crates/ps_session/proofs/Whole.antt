@@ -17,7 +17,7 @@ use Rattle.ps_board.specs.Board.{nothing_done}
 use Rattle.ps_board.specs.declared.board.Shown.{Shown}
 use Rattle.ps_replies.specs.Plans.{GivesLeast}
 use Rattle.ps_session.specs.Lines.{Advances, IsIdle, IsWritten, PutsMore, PutsWork, text_from, WritesLine, WritesLines, WritesOn}
-use Rattle.ps_session.specs.Session.{IsSession, Runs}
+use Rattle.ps_session.specs.Session.{IsDone, IsSession, Runs, RunsTo}
 use Rattle.ps_session.specs.declared.ways.Turns.{Turns}
 use Rattle.ps_session.proofs.Advancing.{idle-first}
 use Rattle.ps_session.proofs.Journals.{journal-of}
@@ -76,13 +76,14 @@ line-of how says i names b new start old now r w line = subst (λ j. WritesLine 
 
 module _ (how : Turns) (i : Input) (names : Table) (b : Shown) (start now : SinkView) where
   pub head-cut : (why : SinkRefusal) → PutsWork (head_text (Some (settings_of i))) start now (Err why) → WritesLines how i names b start now (Err why)
-  head-cut why put = record { journal = tt; text = tt; cut = cut-head how i names start now why put; counted = work-since (Unit {0}) (Unit {0}) start start now why refl refl put.counted }
+  head-cut why put = record { input = tt; journal = tt; text = tt; cut = cut-head how i names start now why put; counted = work-since (Unit {0}) (Unit {0}) start start now why refl refl put.counted }
 
   pub line-cut : (says : Says) (why : SinkRefusal) → WritesOn how says i names b start now (Err why) → WritesLines how i names b start now (Err why)
-  line-cut says why on = record { journal = tt; text = tt; cut = on.cut; counted = work-since Bool (Unit {0}) start start now why refl refl on.counted }
+  line-cut says why on = record { input = tt; journal = tt; text = tt; cut = on.cut; counted = work-since Bool (Unit {0}) start start now why refl refl on.counted }
 
   pub lines-done : (says : Says) (more : Bool) → GivesLeast says → more ≡ false → WritesOn how says i names b start now (Ok more) → WritesLines how i names b start now (Ok tt)
   lines-done says more gives done on = record {
+    input = on.written.idle.input;
     journal = journal-of how says i b.entries gives on.written.begun on.written.history (on.more done) on.written.idle.closed;
     text = on.written.text;
     cut = tt;
@@ -91,24 +92,35 @@ module _ (how : Turns) (i : Input) (names : Table) (b : Shown) (start now : Sink
 
   -- ---- the session
 
-  pub session-cut : (why : SinkRefusal) → WritesLines how i names b start now (Err why) → Runs how i names start now (Err why)
-  session-cut why w = record { done = tt; cut = w.cut; counted = work-since (Unit {0}) ℕ start start now why refl refl w.counted }
+  pub session-cut : (why : SinkRefusal) → WritesLines how i names b start now (Err why) → RunsTo how i names start now (Err why)
+  session-cut why w = record { input = tt; done = tt; cut = w.cut; counted = work-since (Unit {0}) Shown start start now why refl refl w.counted }
 
-  pub session-done : (status : ℕ) → AreNames names → IsSound i → status ≡ status_of b.entries → WritesLines how i names b start now (Ok tt) → Runs how i names start now (Ok status)
-  session-done status table sound answer w =
-      let session : IsSession how i names (journal_text names i b.entries) status = record {
+  pub session-done : AreNames names → IsSound i → WritesLines how i names b start now (Ok tt) → RunsTo how i names start now (Ok b)
+  session-done table sound w =
+      let session : IsSession how i names (journal_text names i b.entries) (status_of b.entries) = record {
         journal = b.entries;
         entries = histories_are_read_back (Some (settings_of i)) names i b.entries (AreLines-names names table) sound w.journal.history;
         text = refl;
         is = w.journal;
-        answer = answer;
+        answer = refl;
       } in
-      record { done = (journal_text names i b.entries, w.text, session); cut = tt; counted = w.counted }
+      record { input = w.input; done = ((journal_text names i b.entries, w.text, session), refl); cut = tt; counted = w.counted }
+
+  -- the status of a session whose board is given back
+  pub run-done : (status : ℕ) → status ≡ status_of b.entries → RunsTo how i names start now (Ok b) → Runs how i names start now (Ok status)
+  run-done status answer r = record {
+    done = subst (IsDone how i names start.bytes now.bytes) (sym answer) r.done.0;
+    cut = tt;
+    counted = r.counted;
+  }
+
+pub run-cut : (how : Turns) (i : Input) (names : Table) (start now : SinkView) (why : SinkRefusal) → RunsTo how i names start now (Err why) → Runs how i names start now (Err why)
+run-cut how i names start now why r = record { done = tt; cut = r.cut; counted = work-since Shown ℕ start start now why refl refl r.counted }
 
 -- the head was written of a session of which nothing was done
 pub lines-begun : (how : Turns) (says : Says) (i : Input) (names : Table) (b : Shown) (start now : SinkView) → b ≡ nothing_done i → PutsWork (head_text (Some (settings_of i))) start now (Ok tt) → IsWritten how says i names b start now
 lines-begun how says i names b start now fresh put = written-first how says i names b start now (idle-first i b fresh) (ap (λ (s : Shown). s.entries) fresh) put
 
 -- memory ran out before anything was written
-pub unrun : (how : Turns) (i : Input) (names : Table) (s : SinkView) → Runs how i names s s (Err sink.OutOfMemory)
-unrun how i names s = record { done = tt; cut = cut-nothing how i names s; counted = refl }
+pub unrun : (how : Turns) (i : Input) (names : Table) (s : SinkView) → RunsTo how i names s s (Err sink.OutOfMemory)
+unrun how i names s = record { input = tt; done = tt; cut = cut-nothing how i names s; counted = refl }

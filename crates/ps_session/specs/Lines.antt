@@ -142,6 +142,7 @@ WritesLine how says i names old new before after r =
 
 -- Writing a session: the journal is whole, and so is its text; or its text is cut off.
 pub record WritesLines (how : Turns) (i : Input) (names : Table) (b : Shown) (start now : SinkView) (r : Result (Unit {0}) SinkRefusal) : Type 0 where
+  pub input : OnOk r (b.input ≡ i)
   pub journal : OnOk r (IsJournal how i b.entries)
   pub text : OnOk r (Appends start.bytes now.bytes (journal_text names i b.entries))
   pub cut : OnErr r (IsCut how i names start now)

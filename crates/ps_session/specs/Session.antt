@@ -21,6 +21,7 @@ use Rattle.ps_machine.specs.declared.journal.Event.TheVariants as event
 use Rattle.ps_machine.specs.declared.journal.Entry.{Entry}
 use Rattle.ps_text.specs.Outside.{AppendsPrefix, CountsWork, next, SinkView}
 use Rattle.ps_text.specs.declared.sinks.SinkRefusal.{SinkRefusal}
+use Rattle.ps_board.specs.declared.board.Shown.{Shown}
 use Rattle.ps_session.specs.declared.ways.Turns.{Turns}
 use Rattle.ps_session.specs.declared.ways.Turns.TheVariants.{InOrder, Workers}
 
@@ -87,6 +88,10 @@ pub record IsSession (how : Turns) (i : Input) (names : Table) (bytes : List ℕ
 abbrev pub IsDone : Turns → Input → Table → Option (List ℕ) → Option (List ℕ) → ℕ → Type 0
 IsDone how i names old new status = (bytes : List ℕ) × Appends old new bytes × IsSession how i names bytes status
 
+-- what a sink took is a whole session with this journal
+abbrev pub IsDoneAs : Turns → Input → Table → Option (List ℕ) → Option (List ℕ) → List Entry → Type 0
+IsDoneAs how i names old new es = (done : IsDone how i names old new (status_of es)) × (done.2.journal ≡ es)
+
 -- ---- what is broken off
 
 -- The journal of the session whose members take turns in order, so many in each run, begins with these entries.
@@ -123,5 +128,12 @@ pub record IsCut (how : Turns) (i : Input) (names : Table) (old new : SinkView) 
 -- ran out, a prefix of the text of a beginning of one.
 pub record Runs (how : Turns) (i : Input) (names : Table) (old new : SinkView) (r : Result ℕ SinkRefusal) : Type 0 where
   pub done : IfOk r (IsDone how i names old.bytes new.bytes)
+  pub cut : OnErr r (IsCut how i names old new)
+  pub counted : CountsWork old new r
+
+-- Doing a session whose board is given back: the same, where the board is one of this input and has the journal.
+pub record RunsTo (how : Turns) (i : Input) (names : Table) (old new : SinkView) (r : Result Shown SinkRefusal) : Type 0 where
+  pub input : IfOk r (λ b. b.input ≡ i)
+  pub done : IfOk r (λ b. IsDoneAs how i names old.bytes new.bytes b.entries)
   pub cut : OnErr r (IsCut how i names old new)
   pub counted : CountsWork old new r

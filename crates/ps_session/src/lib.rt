@@ -9,5 +9,5 @@ mod texts;
 mod ways;
 
 pub use laws::{histories_tell_success, one_journal, sessions_go_well};
-pub use session::{run, run_unwritten, status_of};
+pub use session::{run, run_to_board, run_unwritten, status_of};
 pub use ways::Turns;

@@ -7,7 +7,7 @@ ghost use Rattle.ps_board.specs.Board.{nothing_done};
 ghost use Rattle.ps_replies.specs.Plans.{GivesLeast};
 ghost use Rattle.ps_session.specs.Answers.{AskAtEnd};
 ghost use Rattle.ps_session.specs.Lines.{IsIdle, PutsMore, text_from, WritesLine, WritesLines};
-ghost use Rattle.ps_session.specs.Session.{AreTurns, IsJournal, Runs};
+ghost use Rattle.ps_session.specs.Session.{AreTurns, IsJournal, Runs, RunsTo};
 ghost use Rattle.ps_session.specs.declared.ways.Turns.TheVariants.{InOrder};
 
 use super::lines::{advance, advance_by};
@@ -136,7 +136,34 @@ fn write_lines<R: Threads + Wait + Sync, S: Solver + Sync, G: Gate + Sync, O: Si
 
 /// Does the session of an input: each line up to the first `quit`, with the runs that they open, whose members take turns like this. It
 /// writes the journal: the header, and for each line its entries, with those of its run, by one `put`. The gate is called once for each
-/// unit of work. The status is 1 where a line was refused or a run failed, else 0. It promises no return.
+/// unit of work. The board is given back once all is written: it has the journal. It promises no return.
+pub fn run_to_board<R: Threads + Wait + Sync, S: Solver + Sync, G: Gate + Sync, O: Sink>(
+    rt: &R,
+    alloc: Global,
+    names: &Names,
+    input: Input,
+    solver: &S,
+    gate: &G,
+    turns: Turns,
+    out: &mut O,
+) -> Result<Board, SinkRefusal>
+    requires solver { GivesLeast (S.says solver.now) }
+    requires names { AreNames names.now }
+    requires sound { IsSound input }
+    requires turns { AreTurns turns }
+    ensures { RunsTo turns input names.now (O.shown out.old) (O.shown out.new) result }
+{
+    let expert = Expert::new(alloc, input.domain.copy(alloc)?)?;
+    let board = Board::open(alloc, input)?;
+    let (board, written) = write_lines(rt, alloc, names, board, &expert, solver, gate, turns, out);
+    match written {
+        Ok(()) => Ok(board),
+        Err(why) => Err(why),
+    }
+}
+
+/// Does the session of an input and writes its journal, as `run_to_board` does it. The status is 1 where a line was
+/// refused or a run failed, else 0.
 pub fn run<R: Threads + Wait + Sync, S: Solver + Sync, G: Gate + Sync, O: Sink>(
     rt: &R,
     alloc: Global,
@@ -153,11 +180,8 @@ pub fn run<R: Threads + Wait + Sync, S: Solver + Sync, G: Gate + Sync, O: Sink>(
     requires turns { AreTurns turns }
     ensures { Runs turns input names.now (O.shown out.old) (O.shown out.new) result }
 {
-    let expert = Expert::new(alloc, input.domain.copy(alloc)?)?;
-    let board = Board::open(alloc, input)?;
-    let (board, written) = write_lines(rt, alloc, names, board, &expert, solver, gate, turns, out);
-    match written {
-        Ok(()) => Ok(status_of(board.entries())),
+    match run_to_board(rt, alloc, names, input, solver, gate, turns, out) {
+        Ok(board) => Ok(status_of(board.entries())),
         Err(why) => Err(why),
     }
 }
