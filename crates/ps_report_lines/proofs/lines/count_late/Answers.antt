@@ -1,0 +1,12 @@
+use Rattle.std.proofs.Common.{◌∙◌, rules, tests}
+use Rattle.std.proofs.lemmas.Iterator.{YieldsList-from_slice}
+use Rattle.std.proofs.lemmas.Iterator.Consumers.{YieldsList-from_filter, count_from_yields_List}
+use Rattle.std.proofs.lemmas.List.Sums.{length-filter}
+use Rattle.ps_report_lines.proofs.lines.count_late.Goals as goal
+
+pub returns : goal.returns
+returns c =
+    count_from_yields_List c.filter.result _ c.count.ensures.ran (
+    YieldsList-from_filter _ (λ kept. kept.0) (YieldsList-from_slice c.args.all.now (cc)) c.filter.ensures.closure (λ x b q k. search (rules, tests))
+    )
+    ∙ length-filter (λ kept. kept.0) c.args.all.now
