@@ -1,8 +1,8 @@
 -- What follows for the status of a call, by the ways in which it can end.
-use Rattle.std.proofs.Common.{◌≡◌, ◌≢◌, ℕ, ◌≤◌, Option, Some, None, Err, List, [], ◌∷◌, inl, inr, refl, sym, ap, ◌∙◌, subst, arith}
+use Rattle.std.proofs.Common.{◌≡◌, ◌≢◌, ℕ, ◌≤◌, ◌⊎◌, Option, Some, None, Ok, Err, List, [], ◌∷◌, inl, inr, refl, sym, ap, ◌∙◌, subst, arith}
 use Rattle.ps_world.specs.declared.failures.Failure.TheVariants as failure
 use Rattle.ps_action.proofs.ArcTables.{true_false}
-use Rattle.ps_text.specs.Outside.{FilesView, SinkView, next}
+use Rattle.ps_text.specs.Outside.{FilesView, Puts, SinkView, next}
 use Rattle.ps_validate.specs.declared.verdicts.Invalid.{Invalid}
 use Rattle.ps_words.specs.Words.{Request, asked_of}
 use Rattle.ps_words.specs.Words.Request.{a_generation, a_session, a_check, a_validation, a_replay}
@@ -13,18 +13,19 @@ use Rattle.ps_inputs.specs.Reading.FileFault.{no_file, too_long, too_many}
 use Rattle.ps_inputs.specs.Reading.Reading.{gives, faulty, unknown}
 use Rattle.ps_inputs.specs.declared.faults.Fault.{Fault}
 use Rattle.ps_inputs.specs.declared.faults.Fault.TheVariants.{Usage, NoDomain, NoMember, Crowd, Twice, TooLong, Lines, Unread}
+use Rattle.ps_inputs.specs.declared.works.Session.{Session}
 use Rattle.ps_inputs.specs.declared.works.Work.{Work}
 use Rattle.ps_inputs.specs.declared.works.Work.TheVariants as work
 use Rattle.ps_audit.specs.Findings.{finding_status}
 use Rattle.ps_audit.specs.declared.findings.Finding.{Finding}
 use Rattle.ps_audit.specs.declared.findings.Finding.TheVariants.{Legal, Illegal}
-use Rattle.ps_calls.specs.Headline.{Reports, verdict_of}
-use Rattle.ps_calls.specs.Headline.Answers.{done, at_fault, cannot_write, starved_at_work, starved_before}
-use Rattle.ps_calls.specs.Headline.Reports.{told, unwritten, starved, wordless}
-use Rattle.ps_calls.specs.Laws.{FailedReadsAreTold, FailedWritesAreTold, FaultsWriteNothing, FirstWordsDecide, IsBroken, IsOfFault, IsOfWork, IsStatusOf, IsToJudge, IsToRun, LeadsTo, ModesDecide, RefusedWritesAreTold, StatusesAreFew, TextsDecide, UnreadIsCounted, UnwrittenIsCounted, WordsDecide, WorkIsDoneInSilence}
+use Rattle.ps_calls.specs.Headline.{Informs, Performs, Reports, has_reports, verdict_of}
+use Rattle.ps_calls.specs.Headline.Answers.{done, reported, at_fault, cannot_write, starved_at_work, starved_before}
+use Rattle.ps_calls.specs.Headline.Informs.{told, unwritten, starved, wordless}
+use Rattle.ps_calls.specs.Laws.{FailedReadsAreTold, FailedWritesAreTold, FaultsWriteNothing, FirstWordsDecide, IsBroken, IsOfFault, IsOfWork, IsStatusOf, IsToJudge, IsToRun, LeadsTo, asks_reports, ModesDecide, RefusedWritesAreTold, ReportsAreTold, StatusesAreFew, TellsReports, TextsDecide, UnreadIsCounted, UnwrittenIsCounted, WordsDecide, WorkIsDoneInSilence}
 use Rattle.ps_calls.specs.Verdicts.{verdict_status}
 use Rattle.ps_calls.proofs.Modes.{judging-quiet, running-loud}
-use Rattle.ps_calls.proofs.Statuses.{no_fault-broken, no_work-broken, no_work-fault, status-of_fault, status-of_work, status-performed, status-reported}
+use Rattle.ps_calls.proofs.Statuses.{no_fault-broken, no_work-broken, no_work-fault, status-of_fault, status-informed, status-of_work, status-performed, status-reported}
 
 -- ---- failures
 
@@ -40,7 +41,8 @@ unread-changed Lines before now e changed = absurd (changed e)
 unread-changed (Unread file) before now e changed = refl
 
 pub failed_reads_are_told : FailedReadsAreTold
-failed_reads_are_told c _ (done w status l p s) changed = absurd (changed l.failed)
+failed_reads_are_told c _ (done w status l p n s) changed = absurd (changed l.failed)
+failed_reads_are_told c _ (reported t d status l on p rs r) changed = absurd (changed l.failed)
 failed_reads_are_told c _ (at_fault f status l o r) changed =
     elim (status-reported f _ _ status r) [
       | inl e ↦ inl (e ∙ unread-changed f _ _ l.failed changed)
@@ -51,24 +53,27 @@ failed_reads_are_told c _ (starved_at_work w l p s) changed = absurd (changed l.
 failed_reads_are_told c _ (starved_before l o s) changed = absurd (changed l.failed)
 
 pub failed_writes_are_told : FailedWritesAreTold
-failed_writes_are_told c _ (done w status l p s) changed = absurd (changed p.counted.0)
+failed_writes_are_told c _ (done w status l p n s) changed = absurd (changed p.counted.0)
+failed_writes_are_told c _ (reported t d status l on p rs r) changed = absurd (changed p.counted.0)
 failed_writes_are_told c _ (at_fault f status l o r) changed = absurd (changed (ap (λ v. v.failed) o))
 failed_writes_are_told c _ (cannot_write w l p s) changed = refl
 failed_writes_are_told c _ (starved_at_work w l p s) changed = absurd (changed p.counted)
 failed_writes_are_told c _ (starved_before l o s) changed = absurd (changed (ap (λ v. v.failed) o))
 
--- a fault that is told leaves no refused write
-reported-refused : (f : Fault) (old new : SinkView) (status : ℕ) → Reports f old new status → new.refused ≢ old.refused → IsBroken status
-reported-refused f old new _ (told p) changed = absurd (changed p.counted.1)
-reported-refused f old new _ (unwritten p) changed = inl refl
-reported-refused f old new _ (starved p) changed = inr refl
-reported-refused f old new _ (wordless p) changed = inr refl
+-- a text that is told leaves no refused write
+informed-refused : (text : List ℕ) (d : ℕ) (old new : SinkView) (status : ℕ) → Informs text d old new status → new.refused ≢ old.refused → IsBroken status
+informed-refused text d old new _ (told p) changed = absurd (changed p.counted.1)
+informed-refused text d old new _ (unwritten p) changed = inl refl
+informed-refused text d old new _ (starved p) changed = inr refl
+informed-refused text d old new _ (wordless p) changed = inr refl
 
 pub refused_writes_are_told : RefusedWritesAreTold
-refused_writes_are_told c _ (done w status l p s) (inl changed) = absurd (changed p.counted.1)
-refused_writes_are_told c _ (done w status l p s) (inr changed) = absurd (changed (ap (λ v. v.refused) s))
+refused_writes_are_told c _ (done w status l p n s) (inl changed) = absurd (changed p.counted.1)
+refused_writes_are_told c _ (done w status l p n s) (inr changed) = absurd (changed (ap (λ v. v.refused) s))
+refused_writes_are_told c _ (reported t d status l on p rs r) (inl changed) = absurd (changed p.counted.1)
+refused_writes_are_told c _ (reported t d status l on p rs r) (inr changed) = informed-refused _ _ _ _ status r changed
 refused_writes_are_told c _ (at_fault f status l o r) (inl changed) = absurd (changed (ap (λ v. v.refused) o))
-refused_writes_are_told c _ (at_fault f status l o r) (inr changed) = reported-refused f _ _ status r changed
+refused_writes_are_told c _ (at_fault f status l o r) (inr changed) = informed-refused _ _ _ _ status r changed
 refused_writes_are_told c _ (cannot_write w l p s) changed = inl refl
 refused_writes_are_told c _ (starved_at_work w l p s) changed = inr refl
 refused_writes_are_told c _ (starved_before l o s) changed = inr refl
@@ -83,15 +88,85 @@ reported-no_work f old new status r h =
       | inr broken ↦ no_work-broken status h broken
     ]
 
+-- what is asked for has reports where the work has them
+asked-reports : (q : Request) (w : Work) → IsAsked q w → asks_reports (Some q) ≡ has_reports w
+asked-reports (a_session s) (work.Session t) kind = sym kind
+asked-reports (a_check file) (work.Check names d) kind = refl
+asked-reports (a_validation domain script plan) (work.Validation v) kind = refl
+asked-reports (a_replay q) (work.Replay r) kind = refl
+asked-reports (a_generation n) (work.Generation g) kind = refl
+asked-reports q w kind = absurd kind
+
+loaded-reports : (ws : List (List ℕ)) (old : FilesView) (w : Work) → IsLoaded ws old w → asks_reports (asked_of ws) ≡ has_reports w
+loaded-reports ws old w l = ap asks_reports l.asked ∙ asked-reports l.request w l.kind
+
+-- a text that is told with a status of work is told whole, and no write is refused
+informed-whole : (text : List ℕ) (d : ℕ) (old new : SinkView) (status : ℕ) → Informs text d old new status → IsOfWork status
+    → (status ≡ d) × Puts text old new (Ok tt)
+informed-whole text d old new _ (told p) h = (refl, p)
+informed-whole text d old new _ (unwritten p) h = absurd (no_work-broken 5 h (inl refl))
+informed-whole text d old new _ (starved p) h = absurd (no_work-broken 6 h (inr refl))
+informed-whole text d old new _ (wordless p) h = absurd (no_work-broken 6 h (inr refl))
+
 pub work_is_done_in_silence : WorkIsDoneInSilence
-work_is_done_in_silence c _ (done w status l p s) h = (s, l.failed, p.counted.0, p.counted.1)
+work_is_done_in_silence c _ (done w status l p n s) h = (
+  (λ none. s),
+  record {
+    read = l.failed;
+    failed = p.counted.0;
+    refused = p.counted.1;
+    err_failed = ap (λ v. v.failed) s;
+    err_refused = ap (λ v. v.refused) s;
+  },
+)
+work_is_done_in_silence c _ (reported t d status l on p rs r) h =
+    let whole = informed-whole _ _ _ _ status r h in (
+      (λ none. absurd (true_false t.reports on (sym (loaded-reports c.words c.before.files (work.Session t) l.loaded) ∙ none))),
+      record {
+        read = l.failed;
+        failed = p.counted.0;
+        refused = p.counted.1;
+        err_failed = whole.1.counted.0;
+        err_refused = whole.1.counted.1;
+      },
+    )
 work_is_done_in_silence c _ (at_fault f status l o r) h = absurd (reported-no_work f _ _ status r h)
 work_is_done_in_silence c _ (cannot_write w l p s) h = absurd (no_work-broken 5 h (inl refl))
 work_is_done_in_silence c _ (starved_at_work w l p s) h = absurd (no_work-broken 6 h (inr refl))
 work_is_done_in_silence c _ (starved_before l o s) h = absurd (no_work-broken 6 h (inr refl))
 
+pub reports_are_told : ReportsAreTold
+reports_are_told c _ (done w status l p n s) asks h =
+    absurd (true_false (has_reports w) (sym (loaded-reports c.words c.before.files w l.loaded) ∙ asks) n)
+reports_are_told c _ (reported t d status l on p rs r) asks h =
+    let whole = informed-whole _ _ _ _ status r h in
+    subst (TellsReports c) (sym whole.0) (record { session = t; loaded = l; done = p; reports = rs; told = whole.1.whole })
+reports_are_told c _ (at_fault f status l o r) asks h = absurd (reported-no_work f _ _ status r h)
+reports_are_told c _ (cannot_write w l p s) asks h = absurd (no_work-broken 5 h (inl refl))
+reports_are_told c _ (starved_at_work w l p s) asks h = absurd (no_work-broken 6 h (inr refl))
+reports_are_told c _ (starved_before l o s) asks h = absurd (no_work-broken 6 h (inr refl))
+
+-- a session whose reports are told is answered with a status of work, or broken off
+reported-status : (t : Session) (d status : ℕ) (old new out out' : SinkView) (text : List ℕ) → Performs (work.Session t) out out' (Ok d)
+    → Informs text d old new status → IsStatusOf (work.Session t) status ⊎ IsBroken status
+reported-status t d status old new out out' text p r =
+    elim (status-informed text d old new status r) [
+      | inl e ↦ inl (subst (IsStatusOf (work.Session t)) (sym e) (status-performed (work.Session t) out out' d p))
+      | inr broken ↦ inr broken
+    ]
+
+-- so it isn't answered as a fault
+reported-no_fault : (t : Session) (d status : ℕ) (old new out out' : SinkView) (text : List ℕ) → Performs (work.Session t) out out' (Ok d)
+    → Informs text d old new status → IsOfFault status → ⊥
+reported-no_fault t d status old new out out' text p r h =
+    elim (reported-status t d status old new out out' text p r) [
+      | inl few ↦ no_work-fault status (inl few) h
+      | inr broken ↦ no_fault-broken status h broken
+    ]
+
 pub faults_write_nothing : FaultsWriteNothing
-faults_write_nothing c _ (done w status l p s) h = absurd (no_work-fault status (status-of_work w status (status-performed w _ _ status p)) h)
+faults_write_nothing c _ (done w status l p n s) h = absurd (no_work-fault status (status-of_work w status (status-performed w _ _ status p)) h)
+faults_write_nothing c _ (reported t d status l on p rs r) h = absurd (reported-no_fault t d status _ _ _ _ _ p r h)
 faults_write_nothing c _ (at_fault f status l o r) h = o
 faults_write_nothing c _ (cannot_write w l p s) h = absurd (no_fault-broken 5 h (inl refl))
 faults_write_nothing c _ (starved_at_work w l p s) h = absurd (no_fault-broken 6 h (inr refl))
@@ -112,8 +187,9 @@ four-of_fault : (status : ℕ) → status ≡ 4 → IsOfFault status
 four-of_fault status h = (omega arith, omega arith)
 
 pub unread_is_counted : UnreadIsCounted
-unread_is_counted c _ (done w status l p s) h =
+unread_is_counted c _ (done w status l p n s) h =
     absurd (no_work-fault status (status-of_work w status (status-performed w _ _ status p)) (four-of_fault status h))
+unread_is_counted c _ (reported t d status l on p rs r) h = absurd (reported-no_fault t d status _ _ _ _ _ p r (four-of_fault status h))
 unread_is_counted c _ (at_fault f status l o r) h =
     elim (status-reported f _ _ status r) [
       | inl e ↦ unread-counted f _ _ l.failed (sym e ∙ h)
@@ -123,17 +199,25 @@ unread_is_counted c _ (cannot_write w l p s) h = absurd (omega arith)
 unread_is_counted c _ (starved_at_work w l p s) h = absurd (omega arith)
 unread_is_counted c _ (starved_before l o s) h = absurd (omega arith)
 
--- a fault is answered with 5 only where its line couldn't be written
-reported-unwritten : (f : Fault) (old new : SinkView) (status : ℕ) → Reports f old new status → status ≡ 5 → new.failed ≡ next old.failed
-reported-unwritten f old new _ (told p) h = absurd (no_fault-broken (fault_status f) (status-of_fault f) (inl h))
-reported-unwritten f old new _ (unwritten p) h = p.counted.0
-reported-unwritten f old new _ (starved p) h = absurd (omega arith)
-reported-unwritten f old new _ (wordless p) h = absurd (omega arith)
+-- a text that is to be told with another status is told with 5 only where it couldn't be written
+informed-unwritten : (text : List ℕ) (d : ℕ) (old new : SinkView) (status : ℕ) → Informs text d old new status → d ≢ 5 → status ≡ 5 → new.failed ≡ next old.failed
+informed-unwritten text d old new _ (told p) other h = absurd (other h)
+informed-unwritten text d old new _ (unwritten p) other h = p.counted.0
+informed-unwritten text d old new _ (starved p) other h = absurd (omega arith)
+informed-unwritten text d old new _ (wordless p) other h = absurd (omega arith)
+
+no_fault-five : (f : Fault) → fault_status f ≢ 5
+no_fault-five f h = no_fault-broken (fault_status f) (status-of_fault f) (inl h)
+
+no_work-five : (w : Work) (d : ℕ) → IsStatusOf w d → d ≢ 5
+no_work-five w d h five = no_work-broken d (status-of_work w d h) (inl five)
 
 pub unwritten_is_counted : UnwrittenIsCounted
-unwritten_is_counted c _ (done w status l p s) h =
+unwritten_is_counted c _ (done w status l p n s) h =
     absurd (no_work-broken status (status-of_work w status (status-performed w _ _ status p)) (inl h))
-unwritten_is_counted c _ (at_fault f status l o r) h = inr (o, reported-unwritten f _ _ status r h)
+unwritten_is_counted c _ (reported t d status l on p rs r) h =
+    inr (inr (loaded-reports c.words c.before.files (work.Session t) l.loaded ∙ on), informed-unwritten _ _ _ _ status r (no_work-five (work.Session t) d (status-performed (work.Session t) _ _ d p)) h)
+unwritten_is_counted c _ (at_fault f status l o r) h = inr (inl o, informed-unwritten _ _ _ _ status r (no_fault-five f) h)
 unwritten_is_counted c _ (cannot_write w l p s) h = inl p.counted.0
 unwritten_is_counted c _ (starved_at_work w l p s) h = absurd (omega arith)
 unwritten_is_counted c _ (starved_before l o s) h = absurd (omega arith)
@@ -169,8 +253,12 @@ unasked-usage ws old new Lines due none = absurd (asked-apart ws due.0 none due.
 unasked-usage ws old new (Unread file) due none = absurd (asked-apart ws due.0 none due.1)
 
 pub words_decide : WordsDecide
-words_decide c _ (done w status l p s) = (
+words_decide c _ (done w status l p n s) = (
   (λ h. absurd (no_work-fault status (status-of_work w status (status-performed w _ _ status p)) (two-of_fault status h))),
+  (λ none. absurd (asked-apart c.words l.loaded.request none l.loaded.asked)),
+)
+words_decide c _ (reported t d status l on p rs r) = (
+  (λ h. absurd (reported-no_fault t d status _ _ _ _ _ p r (two-of_fault status h))),
   (λ none. absurd (asked-apart c.words l.loaded.request none l.loaded.asked)),
 )
 words_decide c _ (at_fault f status l o r) = (
@@ -244,7 +332,12 @@ module _ (ws : List (List ℕ)) (old new : FilesView) (r : Request) (asked : ask
       here due.0 due.1 (λ part. LeadsTo part 4) (leads-unread (reading_of old.told due.0) due.2.before file.items due.2.named)
 
 pub texts_decide : TextsDecide
-texts_decide c _ (done w status l p s) r asked = inr (leads-loaded c.words c.before.files c.after.files r asked w status l.loaded (status-performed w _ _ status p))
+texts_decide c _ (reported t d status l on p rs r) q asked =
+    elim (reported-status t d status _ _ _ _ _ p r) [
+      | inl few ↦ inr (leads-loaded c.words c.before.files c.after.files q asked (work.Session t) status l.loaded few)
+      | inr broken ↦ inl broken
+    ]
+texts_decide c _ (done w status l p n s) r asked = inr (leads-loaded c.words c.before.files c.after.files r asked w status l.loaded (status-performed w _ _ status p))
 texts_decide c _ (at_fault f status l o h) r asked =
     elim (status-reported f _ _ status h) [
       | inl e ↦ inr (subst (LeadsTo (reading_of c.before.files.told r)) (sym e) (leads-due c.words c.before.files c.after.files r asked f l.refused))
@@ -288,14 +381,31 @@ one-of_work status h = inl (omega arith)
 seven-of_work : (status : ℕ) → status ≡ 7 → IsOfWork status
 seven-of_work status h = inr h
 
+-- a session is asked for as one
+session-runs : (o : Request) (t : Session) → IsAsked o (work.Session t) → IsToRun o
+session-runs (a_session s) t kind = inl (s, refl)
+session-runs o t kind = absurd kind
+
+reported-no_seven : (t : Session) (d status : ℕ) (old new out out' : SinkView) (text : List ℕ) → Performs (work.Session t) out out' (Ok d)
+    → Informs text d old new status → status ≡ 7 → ⊥
+reported-no_seven t d status old new out out' text p r h =
+    elim (reported-status t d status old new out out' text p r) [
+      | inl few ↦ omega arith
+      | inr broken ↦ no_work-broken status (seven-of_work status h) broken
+    ]
+
 pub modes_decide : ModesDecide
-modes_decide c _ (done w status l p s) =
+modes_decide c _ (done w status l p n s) =
     let r = l.loaded.request in
     let asked = l.loaded.asked in
     let kind = status-performed w _ _ status p in (
       (λ h. (r, asked, one-run r w status l.loaded.kind kind h)),
       (λ h. (r, asked, seven-judged r w status l.loaded.kind kind h)),
     )
+modes_decide c _ (reported t d status l on p rs r) = (
+  (λ h. (l.loaded.request, l.loaded.asked, session-runs l.loaded.request t l.loaded.kind)),
+  (λ h. absurd (reported-no_seven t d status _ _ _ _ _ p r h)),
+)
 modes_decide c _ (at_fault f status l o r) = (
   (λ h. absurd (reported-no_work f _ _ status r (one-of_work status h))),
   (λ h. absurd (reported-no_work f _ _ status r (seven-of_work status h))),
@@ -325,7 +435,12 @@ fault_few : (f : Fault) (status : ℕ) → status ≡ fault_status f → status 
 fault_few f status e = let range : IsOfFault (fault_status f) = status-of_fault f in omega arith
 
 pub statuses_are_few : StatusesAreFew
-statuses_are_few c _ (done w status l p s) = work_few status (status-of_work w status (status-performed w _ _ status p))
+statuses_are_few c _ (done w status l p n s) = work_few status (status-of_work w status (status-performed w _ _ status p))
+statuses_are_few c _ (reported t d status l on p rs r) =
+    elim (reported-status t d status _ _ _ _ _ p r) [
+      | inl few ↦ work_few status (inl few)
+      | inr broken ↦ broken_few status broken
+    ]
 statuses_are_few c _ (at_fault f status l o r) =
     elim (status-reported f _ _ status r) [
       | inl e ↦ fault_few f status e

@@ -4,3 +4,4 @@ pub mod Modes
 pub mod OneSession
 pub mod Performed
 pub mod Statuses
+pub mod WithReports

@@ -1,10 +1,10 @@
 -- The statuses of work and of faults.
-use Rattle.std.proofs.Common.{◌≡◌, ℕ, ◌<◌, ◌⊎◌, Bool, true, false, if◌then◌else◌, Option, Some, None, Ok, inl, inr, refl, sym, subst, arith}
+use Rattle.std.proofs.Common.{◌≡◌, ℕ, ◌<◌, ◌⊎◌, Bool, true, false, if◌then◌else◌, Option, Some, None, List, Ok, inl, inr, refl, sym, subst, arith}
 use Rattle.std.specs.List.{list_any}
 use Rattle.ps_rules.specs.History.{is_mishap}
 use Rattle.ps_text.specs.Outside.{SinkView}
 use Rattle.ps_validate.specs.declared.verdicts.Invalid.{Invalid}
-use Rattle.ps_inputs.specs.Faults.{fault_status}
+use Rattle.ps_inputs.specs.Faults.{fault_line, fault_status}
 use Rattle.ps_inputs.specs.declared.faults.Fault.{Fault}
 use Rattle.ps_inputs.specs.declared.faults.Fault.TheVariants.{Usage, NoDomain, NoMember, Crowd, Twice, TooLong, Lines, Unread}
 use Rattle.ps_inputs.specs.declared.works.Work.{Work}
@@ -12,8 +12,8 @@ use Rattle.ps_inputs.specs.declared.works.Work.TheVariants as work
 use Rattle.ps_audit.specs.Findings.{finding_status}
 use Rattle.ps_audit.specs.declared.findings.Finding.{Finding}
 use Rattle.ps_audit.specs.declared.findings.Finding.TheVariants.{Legal, Illegal}
-use Rattle.ps_calls.specs.Headline.{Performs, Reports, verdict_of}
-use Rattle.ps_calls.specs.Headline.Reports.{told, unwritten, starved, wordless}
+use Rattle.ps_calls.specs.Headline.{Informs, Performs, Reports, verdict_of}
+use Rattle.ps_calls.specs.Headline.Informs.{told, unwritten, starved, wordless}
 use Rattle.ps_calls.specs.Laws.{IsBroken, IsOfFault, IsOfWork, IsStatusOf}
 use Rattle.ps_calls.specs.Verdicts.{verdict_status}
 
@@ -44,12 +44,16 @@ status-of_work (work.Check names d) status h = inl (omega arith)
 status-of_work (work.Validation v) status h = subst IsOfWork (sym h) (verdict_of_work (verdict_of v).0)
 status-of_work (work.Replay r) status h = subst IsOfWork (sym h.2) (finding_of_work h.0)
 
--- a fault is answered with its own status, or telling it failed
+-- a text is told with its own status, or telling it failed
+pub status-informed : (text : List ℕ) (done : ℕ) (old new : SinkView) (status : ℕ) → Informs text done old new status → (status ≡ done) ⊎ IsBroken status
+status-informed text done old new _ (told p) = inl refl
+status-informed text done old new _ (unwritten p) = inr (inl refl)
+status-informed text done old new _ (starved p) = inr (inr refl)
+status-informed text done old new _ (wordless p) = inr (inr refl)
+
+-- so is a fault
 pub status-reported : (f : Fault) (old new : SinkView) (status : ℕ) → Reports f old new status → (status ≡ fault_status f) ⊎ IsBroken status
-status-reported f old new _ (told p) = inl refl
-status-reported f old new _ (unwritten p) = inr (inl refl)
-status-reported f old new _ (starved p) = inr (inr refl)
-status-reported f old new _ (wordless p) = inr (inr refl)
+status-reported f old new status h = status-informed (fault_line f) (fault_status f) old new status h
 
 pub status-of_fault : (f : Fault) → IsOfFault (fault_status f)
 status-of_fault Usage = (omega arith, omega arith)

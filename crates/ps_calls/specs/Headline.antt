@@ -1,5 +1,6 @@
 -- What a call of the program claims.
-use Rattle.std.specs.Prelude.{◌≡◌, ℕ, ◌⊎◌, if◌then◌else◌, Option, List, [], Result, Ok, Err, IfOk, OnErr}
+use Rattle.std.specs.Prelude.{◌≡◌, ℕ, ◌⊎◌, Bool, true, false, if◌then◌else◌, Option, List, [], Result, Ok, Err, IfOk, OnErr}
+use Rattle.std.specs.Global.{Vec}
 use Rattle.std.specs.Io.KnownBytes.{Appends}
 use Rattle.ps_world.specs.Names.{Table}
 use Rattle.ps_world.specs.declared.domains.Domain.{Domain}
@@ -28,6 +29,8 @@ use Rattle.ps_rules.specs.History.{status_of}
 use Rattle.ps_machine.specs.declared.inputs.Input.{Input}
 use Rattle.ps_machine.specs.declared.journal.Entry.{Entry}
 use Rattle.ps_audit.specs.Findings.{Finds as FindsJournal, finding_status, IsAnswer}
+use Rattle.ps_hub.specs.declared.report.Report.{Report}
+use Rattle.ps_report_lines.specs.Lines.{report_lines}
 use Rattle.ps_audit.specs.declared.findings.Finding.{Finding}
 use Rattle.ps_calls.specs.Verdicts.{verdict_line, verdict_status}
 
@@ -130,13 +133,21 @@ abbrev pub GivesUp : SinkRefusal → SinkView → SinkView → ℕ → Type 0
 GivesUp Failed old new status = (status ≡ 5) × Says cannot_write_line old new
 GivesUp OutOfMemory old new status = (status ≡ 6) × Says out_of_memory_line old new
 
--- Telling a fault: its line is told, with its status; or a write was refused, since writing failed or memory ran out; or there was no
--- memory for the line.
-pub data Reports (f : Fault) (old new : SinkView) : ℕ → Type 0 where
-  told : Puts (fault_line f) old new (Ok tt) → Reports f old new (fault_status f)
-  unwritten : Puts (fault_line f) old new (Err Failed) → Reports f old new 5
-  starved : Puts (fault_line f) old new (Err OutOfMemory) → Reports f old new 6
-  wordless : Says out_of_memory_line old new → Reports f old new 6
+-- Telling a text to a sink: it is told, and the call ends with this status; or a write was refused, since writing failed or memory ran out; or
+-- there was no memory for the text.
+pub data Informs (text : List ℕ) (done : ℕ) (old new : SinkView) : ℕ → Type 0 where
+  told : Puts text old new (Ok tt) → Informs text done old new done
+  unwritten : Puts text old new (Err Failed) → Informs text done old new 5
+  starved : Puts text old new (Err OutOfMemory) → Informs text done old new 6
+  wordless : Says out_of_memory_line old new → Informs text done old new 6
+
+-- telling a fault: its line, with its status
+abbrev pub Reports : Fault → SinkView → SinkView → ℕ → Type 0
+Reports f old new status = Informs (fault_line f) (fault_status f) old new status
+
+-- telling a text for which there may be no memory
+abbrev pub InformsOf : {E : Type 0} → Result (Vec ℕ) E → ℕ → SinkView → SinkView → ℕ → Type 0
+InformsOf r done old new status = (text : List ℕ) → IfOk r (λ v. v.items ≡ text) → Informs text done old new status
 
 -- ending a call whose work came to this
 abbrev pub Finishes : Result ℕ SinkRefusal → SinkView → SinkView → ℕ → Type 0
@@ -147,6 +158,25 @@ Finishes (Err why) old new status = GivesUp why old new status
 abbrev pub Refuses : Failure Fault → SinkView → SinkView → ℕ → Type 0
 Refuses (failure.Refused f) old new status = Reports f old new status
 Refuses failure.OutOfMemory old new status = (status ≡ 6) × Says out_of_memory_line old new
+
+-- ---- reports
+
+-- whether the reports of this work are told
+abbrev pub has_reports : Work → Bool
+has_reports (work.Session s) = s.reports
+has_reports w = false
+
+-- the lines of these reports against the journal of a session that is done
+abbrev pub lines_of : (s : Session) (old new : SinkView) (status : ℕ) → Performs (work.Session s) old new (Ok status) → List Report → List ℕ
+lines_of s old new status p reports = report_lines s.names s.input p.done.2.journal reports
+
+-- Doing work, and telling what is to be told: nothing of work that is done and has no reports; the reports of a session that has them; why work
+-- is broken off.
+pub data Ends (w : Work) (out out' err err' : SinkView) : ℕ → Type 0 where
+  silent : (status : ℕ) → has_reports w ≡ false → Performs w out out' (Ok status) → err' ≡ err → Ends w out out' err err' status
+  telling : (s : Session) (done status : ℕ) → w ≡ work.Session s → s.reports ≡ true → (p : Performs (work.Session s) out out' (Ok done))
+      (reports : List Report) → Informs (lines_of s out out' done p reports) done err err' status → Ends w out out' err err' status
+  cut : (why : SinkRefusal) (status : ℕ) → Performs w out out' (Err why) → GivesUp why err err' status → Ends w out out' err err' status
 
 -- ---- the headline
 
@@ -180,8 +210,10 @@ PerformsAs c w r = Performs w c.before.out c.after.out r
 
 -- The headline: a row for each way in which a call can end, with its status.
 pub data Answers (c : Call) : ℕ → Type 0 where
-  done : (w : Work) (status : ℕ) → LoadsAs c (Ok w) → PerformsAs c w (Ok status)
+  done : (w : Work) (status : ℕ) → LoadsAs c (Ok w) → PerformsAs c w (Ok status) → has_reports w ≡ false
       → c.after.err ≡ c.before.err → Answers c status
+  reported : (s : Session) (done status : ℕ) → LoadsAs c (Ok (work.Session s)) → s.reports ≡ true → (p : PerformsAs c (work.Session s) (Ok done))
+      (reports : List Report) → Informs (lines_of s c.before.out c.after.out done p reports) done c.before.err c.after.err status → Answers c status
   at_fault : (f : Fault) (status : ℕ) → LoadsAs c (Err (failure.Refused f)) → c.after.out ≡ c.before.out
       → Reports f c.before.err c.after.err status → Answers c status
   cannot_write : (w : Work) → LoadsAs c (Ok w) → PerformsAs c w (Err Failed)

@@ -1,5 +1,6 @@
 -- What follows for the status of a call.
-use Rattle.std.specs.Prelude.{◌≡◌, ◌≢◌, ℕ, ◌<◌, ◌≤◌, ◌⊎◌, true, false, None, Some, List, [], ◌∷◌}
+use Rattle.std.specs.Prelude.{◌≡◌, ◌≢◌, ℕ, ◌<◌, ◌≤◌, ◌⊎◌, Bool, true, false, Option, None, Some, List, [], ◌∷◌, Ok}
+use Rattle.std.specs.Io.KnownBytes.{Appends}
 use Rattle.ps_text.specs.Outside.{next}
 use Rattle.ps_words.specs.Words.{ReplayRequest, Request, SessionRequest, asked_of}
 use Rattle.ps_words.specs.Words.Request.{a_generation, a_session, a_validation, a_replay}
@@ -16,7 +17,8 @@ use Rattle.ps_audit.specs.declared.findings.Finding.{Finding}
 use Rattle.ps_course.specs.Beginnings.{GoInOrder}
 use Rattle.ps_course.specs.Segments.{GoWell}
 use Rattle.ps_session.specs.Session.{IsSession}
-use Rattle.ps_calls.specs.Headline.{Answers, Call, IsFound, turns_of, verdict_of}
+use Rattle.ps_hub.specs.declared.report.Report.{Report}
+use Rattle.ps_calls.specs.Headline.{Answers, Call, IsFound, LoadsAs, PerformsAs, lines_of, turns_of, verdict_of}
 use Rattle.ps_calls.specs.Verdicts.{verdict_status}
 
 -- this is so of each call with each status that it answers
@@ -48,11 +50,35 @@ RefusedWritesAreTold = OfEachCall (λ c status.
 abbrev pub IsOfWork : ℕ → Type 0
 IsOfWork status = (status < 2) ⊎ (status ≡ 7)
 
--- the answers 0, 1 and 7 leave `err` as it was, and no read and no write has failed
+-- whether what is asked for is a session whose reports are told
+abbrev pub asks_reports : Option Request → Bool
+asks_reports (Some (a_session s)) = s.reports
+asks_reports asked = false
+
+-- no read and no write has failed
+pub record IsFlawless (c : Call) : Type 0 where
+  pub read : c.after.files.failed ≡ c.before.files.failed
+  pub failed : c.after.out.failed ≡ c.before.out.failed
+  pub refused : c.after.out.refused ≡ c.before.out.refused
+  pub err_failed : c.after.err.failed ≡ c.before.err.failed
+  pub err_refused : c.after.err.refused ≡ c.before.err.refused
+
+-- with the answers 0, 1 and 7 no read and no write has failed, and where no reports are asked for, `err` is as it was
 abbrev pub WorkIsDoneInSilence : Type 0
 WorkIsDoneInSilence = OfEachCall (λ c status. IsOfWork status
-    → (c.after.err ≡ c.before.err) × (c.after.files.failed ≡ c.before.files.failed)
-    × (c.after.out.failed ≡ c.before.out.failed) × (c.after.out.refused ≡ c.before.out.refused))
+    → (asks_reports (asked_of c.words) ≡ false → c.after.err ≡ c.before.err) × IsFlawless c)
+
+-- A session is done with this status, and what `err` took is the lines of some reports against the journal that `out` took.
+pub record TellsReports (c : Call) (status : ℕ) : Type 0 where
+  pub session : Session
+  pub loaded : LoadsAs c (Ok (work.Session session))
+  pub done : PerformsAs c (work.Session session) (Ok status)
+  pub reports : List Report
+  pub told : Appends c.before.err.bytes c.after.err.bytes (lines_of session c.before.out c.after.out status done reports)
+
+-- where reports are asked for, the answers 0, 1 and 7 come only where they are told
+abbrev pub ReportsAreTold : Type 0
+ReportsAreTold = OfEachCall (λ c status. asks_reports (asked_of c.words) ≡ true → IsOfWork status → TellsReports c status)
 
 -- the status is that of a fault
 abbrev pub IsOfFault : ℕ → Type 0
@@ -66,10 +92,14 @@ FaultsWriteNothing = OfEachCall (λ c status. IsOfFault status → c.after.out �
 abbrev pub UnreadIsCounted : Type 0
 UnreadIsCounted = OfEachCall (λ c status. status ≡ 4 → c.after.files.failed ≡ next c.before.files.failed)
 
--- the answer 5 comes only where a write to `out` failed, or where one to `err` did and nothing was written to `out`
+-- nothing was written to `out`, or reports are asked for
+abbrev pub IsUnwrittenOrReported : Call → Type 0
+IsUnwrittenOrReported c = (c.after.out ≡ c.before.out) ⊎ (asks_reports (asked_of c.words) ≡ true)
+
+-- The answer 5 comes only where a write to `out` failed, or where one to `err` did and nothing was written to `out`, or reports were to be told.
 abbrev pub UnwrittenIsCounted : Type 0
 UnwrittenIsCounted = OfEachCall (λ c status. status ≡ 5
-    → (c.after.out.failed ≡ next c.before.out.failed) ⊎ ((c.after.out ≡ c.before.out) × (c.after.err.failed ≡ next c.before.err.failed)))
+    → (c.after.out.failed ≡ next c.before.out.failed) ⊎ (IsUnwrittenOrReported c × (c.after.err.failed ≡ next c.before.err.failed)))
 
 -- ---- what decides the status
 

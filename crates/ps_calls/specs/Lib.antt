@@ -1,4 +1,5 @@
 pub mod Headline
 pub mod Laws
+pub mod Reported
 pub mod Telling
 pub mod Verdicts

@@ -2,11 +2,13 @@
 ghost use Rattle.std.specs.Prelude.{◌≡◌, true};
 ghost use Rattle.ps_inputs.specs.Faults.{word_texts};
 ghost use Rattle.ps_inputs.specs.Input.{is_quiet};
-ghost use Rattle.ps_calls.specs.Headline.{Answers, call_of, Finishes, moment, Refuses};
+ghost use Rattle.ps_inputs.specs.declared.works.Work.TheVariants.{Session as ASession};
+ghost use Rattle.ps_calls.specs.Headline.{Answers, call_of, Ends, Finishes, moment, Refuses};
 
-use super::performing::{perform, perform_quiet};
-use super::reporting::{give_up, report};
-use ps_inputs::{Fault, load};
+use super::performing::{do_generation, do_reported_session, do_session, perform_quiet};
+use super::reported::Reported;
+use super::reporting::{give_up, inform, report};
+use ps_inputs::{Fault, Session, Work, load};
 use ps_pool::Gate;
 use ps_text::{Files, Sink, SinkRefusal};
 use ps_world::Failure;
@@ -23,7 +25,7 @@ use std::thread::Threads;
 /// | 2 | the words aren't in the grammar: a mode and its options, as `ps_words` reads them |
 /// | 3 | a file is too long, a script has too many lines, the domain's text is no domain, or the members are at fault |
 /// | 4 | a file can't be read |
-/// | 5 | a write to `out` failed, or one to `err` of the line of status 2, 3 or 4 |
+/// | 5 | a write to `out` failed, or one to `err` of the line of status 2, 3 or 4 or of the reports of a session |
 /// | 6 | out of memory |
 /// | 7 | the plan isn't valid; the journal isn't legal |
 ///
@@ -41,6 +43,10 @@ use std::thread::Threads;
 /// a line and of the run that it opens; where no write was refused, all of that text or nothing. So of a run in which memory runs out nothing
 /// is written.
 ///
+/// With `--reports`, `err` takes the lines of reports once the journal is written: what the journal bears out of some
+/// list of reports, and how many of its units no report tells of. That the list has all that performers did is not
+/// promised: units that nobody reported are counted.
+///
 /// The gate is called once for each unit of work of a session's members. It promises no return: a session may go on for ever.
 pub fn plansys<R: Threads + Wait + Sync, F: Files, O: Sink, E: Sink, G: Gate + Sync>(
     rt: &R,
@@ -56,8 +62,68 @@ pub fn plansys<R: Threads + Wait + Sync, F: Files, O: Sink, E: Sink, G: Gate + S
         Answers (call_of (word_texts words.now) before after) result }
 {
     match load(alloc, words, files) {
-        Ok(work) => finish(perform(rt, alloc, work, gate, out), err),
+        Ok(work) => do_work(rt, alloc, work, gate, out, err),
         Err(why) => refuse(alloc, why, err),
+    }
+}
+
+/// Does the work, and says to `err` what is to be said: the reports of a session that has them, or why the work is
+/// broken off.
+fn do_work<R: Threads + Wait + Sync, O: Sink, E: Sink, G: Gate + Sync>(
+    rt: &R,
+    alloc: Global,
+    work: Work,
+    gate: &G,
+    out: &mut O,
+    err: &mut E,
+) -> u8
+    ensures { Ends work (O.shown out.old) (O.shown out.new) (E.shown err.old) (E.shown err.new)
+        result }
+{
+    match work {
+        Work::Session(session) => end_session(rt, alloc, session, gate, out, err),
+        Work::Generation(generation) => {
+            finish(do_generation(rt, alloc, generation, gate, out), err)
+        }
+        quiet => finish(perform_quiet(alloc, quiet, out), err),
+    }
+}
+
+/// Does a session, and says to `err` its reports, if it has them, or why it is broken off.
+fn end_session<R: Threads + Wait + Sync, O: Sink, E: Sink, G: Gate + Sync>(
+    rt: &R,
+    alloc: Global,
+    session: Session,
+    gate: &G,
+    out: &mut O,
+    err: &mut E,
+) -> u8
+    ensures { Ends (ASession session) (O.shown out.old) (O.shown out.new) (E.shown err.old)
+        (E.shown err.new) result }
+{
+    if session.reports {
+        report_session(rt, alloc, session, gate, out, err)
+    } else {
+        finish(do_session(rt, alloc, session, gate, out), err)
+    }
+}
+
+/// Does a session, writes its journal to `out`, and then says its reports to `err`.
+fn report_session<R: Threads + Wait + Sync, O: Sink, E: Sink, G: Gate + Sync>(
+    rt: &R,
+    alloc: Global,
+    session: Session,
+    gate: &G,
+    out: &mut O,
+    err: &mut E,
+) -> u8
+    requires { session.reports ≡ true }
+    ensures { Ends (ASession session) (O.shown out.old) (O.shown out.new) (E.shown err.old)
+        (E.shown err.new) result }
+{
+    match do_reported_session(rt, alloc, session, gate, out) {
+        Ok(Reported { status, lines }) => inform(lines, status, err),
+        Err(why) => give_up(err, why),
     }
 }
 

@@ -1,5 +1,5 @@
 //! Laws of the headline: each is the contract of a function that does nothing.
-ghost use Rattle.ps_calls.specs.Laws.{FailedReadsAreTold, FailedWritesAreTold, FaultsWriteNothing, FirstWordsDecide, ModesDecide, OrderedSessionsAreOne, RefusedWritesAreTold, StatusesAreFew, TextsDecide, UnreadIsCounted, UnwrittenIsCounted, WordsDecide, WorkIsDoneInSilence, WrittenSessionsGoWell};
+ghost use Rattle.ps_calls.specs.Laws.{FailedReadsAreTold, FailedWritesAreTold, FaultsWriteNothing, FirstWordsDecide, ModesDecide, OrderedSessionsAreOne, RefusedWritesAreTold, ReportsAreTold, StatusesAreFew, TextsDecide, UnreadIsCounted, UnwrittenIsCounted, WordsDecide, WorkIsDoneInSilence, WrittenSessionsGoWell};
 
 use ps_session::{one_journal, sessions_go_well};
 
@@ -18,9 +18,16 @@ pub fn refused_writes_are_told()
     ensures { RefusedWritesAreTold }
 {}
 
-/// The answers 0, 1 and 7 leave `err` as it was, and neither a read nor a write has failed.
+/// With the answers 0, 1 and 7 neither a read nor a write has failed, and where no reports are asked for, `err` is as
+/// it was.
 pub fn work_is_done_in_silence()
     ensures { WorkIsDoneInSilence }
+{}
+
+/// Where reports are asked for, the answers 0, 1 and 7 come only where `err` took the lines of some reports against the
+/// journal that `out` took.
+pub fn reports_are_told()
+    ensures { ReportsAreTold }
 {}
 
 /// The answers 2, 3 and 4 leave `out` as it was.
@@ -33,7 +40,8 @@ pub fn unread_is_counted()
     ensures { UnreadIsCounted }
 {}
 
-/// The answer 5 comes only where a write to `out` failed, or where one to `err` did and nothing was written to `out`.
+/// The answer 5 comes only where a write to `out` failed, or where one to `err` did and nothing was written to `out`,
+/// or reports were to be told.
 pub fn unwritten_is_counted()
     ensures { UnwrittenIsCounted }
 {}

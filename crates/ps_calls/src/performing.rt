@@ -8,9 +8,11 @@ ghost use Rattle.ps_board.specs.Board.{nothing_done};
 ghost use Rattle.ps_gen.specs.Summary.{summary_text};
 ghost use Rattle.ps_rules.specs.History.{status_of};
 ghost use Rattle.ps_session.specs.Session.{AreTurns};
+ghost use Rattle.ps_calls.specs.Reported.{RunsReported};
 ghost use Rattle.ps_calls.specs.Headline.{CountsSession, Finds, IsQuiet, Performs, WritesWithStatus, turns_of, verdict_after};
 ghost use Rattle.ps_calls.specs.Verdicts.{verdict_line, verdict_status};
 
+use super::reported::{Reported, run_reported};
 use super::verdicts::{verdict_line, verdict_status};
 use ps_audit::{Audited, audit, finding_status};
 use ps_board::Board;
@@ -29,24 +31,7 @@ use std::alloc::{AllocError, Global};
 use std::sync::Wait;
 use std::thread::Threads;
 
-/// Does the work, and gives its status: 0 or 1 for a session, written or not, 0 for a check, 0 or 7 for a plan and for a journal.
-pub fn perform<R: Threads + Wait + Sync, G: Gate + Sync, O: Sink>(
-    rt: &R,
-    alloc: Global,
-    work: Work,
-    gate: &G,
-    out: &mut O,
-) -> Result<u8, SinkRefusal>
-    ensures { Performs work (O.shown out.old) (O.shown out.new) result }
-{
-    match work {
-        Work::Session(session) => do_session(rt, alloc, session, gate, out),
-        Work::Generation(generation) => do_generation(rt, alloc, generation, gate, out),
-        quiet => perform_quiet(alloc, quiet, out),
-    }
-}
-
-/// Does work that always returns: a check, a validation or a replay.
+/// Does work that always returns, and gives its status: 0 for a check, 0 or 7 for a plan and for a journal.
 pub fn perform_quiet<O: Sink>(alloc: Global, work: Work, out: &mut O) -> Result<u8, SinkRefusal>
     requires { IsQuiet work }
     ensures { Performs work (O.shown out.old) (O.shown out.new) result }
@@ -72,7 +57,7 @@ fn turns_of(session: &Session) -> Turns
 }
 
 /// Does a session, and writes its journal. The status is 1 where a line was refused or a run failed, else 0.
-fn do_session<R: Threads + Wait + Sync, G: Gate + Sync, O: Sink>(
+pub fn do_session<R: Threads + Wait + Sync, G: Gate + Sync, O: Sink>(
     rt: &R,
     alloc: Global,
     session: Session,
@@ -87,8 +72,26 @@ fn do_session<R: Threads + Wait + Sync, G: Gate + Sync, O: Sink>(
     run(rt, alloc, &names, input, &solver, gate, turns, out)
 }
 
+/// Does a session whose performers report what they do, and writes its journal. Its status is that of one without
+/// reports; the lines of the reports are given.
+pub fn do_reported_session<R: Threads + Wait + Sync, G: Gate + Sync, O: Sink>(
+    rt: &R,
+    alloc: Global,
+    session: Session,
+    gate: &G,
+    out: &mut O,
+) -> Result<Reported, SinkRefusal>
+    ensures { RunsReported (turns_of session) session.input session.names (O.shown out.old)
+        (O.shown out.new) result }
+{
+    let turns = turns_of(&session);
+    let Session { names, input, .. } = session;
+    let solver = Forward::new();
+    run_reported(rt, alloc, &names, input, &solver, gate, turns, out)
+}
+
 /// Does the session of the generator's texts, and writes the counts of its journal. The status is that of the session.
-fn do_generation<R: Wait, G: Gate, O: Sink>(
+pub fn do_generation<R: Wait, G: Gate, O: Sink>(
     rt: &R,
     alloc: Global,
     generation: Generation,

@@ -1,23 +1,31 @@
 //! Telling why the work of a call isn't done.
 ghost use Rattle.ps_inputs.specs.Faults.{fault_line, fault_status};
-ghost use Rattle.ps_calls.specs.Headline.{GivesUp, Reports, Says};
+ghost use Rattle.ps_calls.specs.Headline.{GivesUp, InformsOf, Reports, Says};
 
 use ps_inputs::{Fault, fault_line};
 use ps_text::{Sink, SinkRefusal, put};
-use std::alloc::Global;
+use std::alloc::{AllocError, Global};
+
+/// Says a text to `err`, and gives this status; or, where there was no memory for the text or a write is refused, that
+/// of this.
+pub fn inform<E: Sink>(text: Result<Vec<u8>, AllocError>, status: u8, err: &mut E) -> u8
+    ensures { InformsOf text status (E.shown err.old) (E.shown err.new) result }
+{
+    let Ok(text) = text else {
+        return give_up(err, SinkRefusal::OutOfMemory);
+    };
+    match put(err, text.as_slice()) {
+        Ok(()) => status,
+        Err(SinkRefusal::Failed) => 5,
+        Err(SinkRefusal::OutOfMemory) => 6,
+    }
+}
 
 /// Says to `err` what is at fault, and gives the status.
 pub fn report<E: Sink>(alloc: Global, fault: &Fault, err: &mut E) -> u8
     ensures { Reports fault.now (E.shown err.old) (E.shown err.new) result }
 {
-    let Ok(line) = fault_line(alloc, fault) else {
-        return give_up(err, SinkRefusal::OutOfMemory);
-    };
-    match put(err, line.as_slice()) {
-        Ok(()) => fault.status(),
-        Err(SinkRefusal::Failed) => 5,
-        Err(SinkRefusal::OutOfMemory) => 6,
-    }
+    inform(fault_line(alloc, fault), fault.status(), err)
 }
 
 /// Says to `err` why the call is broken off, and gives the status.
