@@ -1,5 +1,5 @@
 -- A condition that nothing in a list hits is as true as before a change that the list names.
-use Rattle.std.proofs.Common.{◌≡◌, ◌<◌, ℕ, Bool, true, false, not, ◌||◌, List, [], ◌∷◌, All, Option, Some, None, refl, ap, sym, ◌∙◌}
+use Rattle.std.proofs.Common.{◌≡◌, ◌<◌, ℕ, Bool, true, false, not, ◌||◌, if◌then◌else◌, List, [], ◌∷◌, All, Option, Some, None, refl, ap, sym, ◌∙◌}
 use Rattle.std.specs.List.{list_any}
 use Rattle.std.proofs.lemmas.List.Elements.{All-nil, All-cons}
 use Rattle.std.proofs.lemmas.Bool.{or_right, false_from_ne_true, or_parts, or_from}
@@ -14,7 +14,7 @@ use Rattle.ps_eval.specs.Laws.{Agree}
 use Rattle.ps_eval.proofs.Reading.{truth_reads_what_is_named}
 use Rattle.ps_users.specs.Users.{Users, uses}
 use Rattle.ps_users.proofs.Things.{all_so, thing_itself, thing_same}
-use Rattle.ps_monitor.specs.Hits.{HeldBefore, is_hit}
+use Rattle.ps_monitor.specs.Hits.{but_for, HeldBefore, is_hit, is_started}
 use Rattle.ps_monitor.specs.Indexed.{IsIndexed, is_read, watch_at}
 use Rattle.ps_monitor.specs.Naming.{NamesChange, has, is_named}
 use Rattle.ps_monitor.specs.Watched.{is_false}
@@ -50,11 +50,18 @@ unhit_same d changed before now (Some cs) named e =
     ap not (sym (truth_reads_what_is_named d before now cs (all_so (λ t. is_named changed t ≡ false) (Agree before now) named (read_by_list cs) unnamed)))
 
 -- a watched condition that isn't hit isn't false
-pub unhit : (d : Domain) (now : Knowledge) (watches : ℕ → Option (List CondTree)) (changed : List Touched) (act : ℕ) → act < 256 → HeldBefore d now watches changed
+unhit : (d : Domain) (now : Knowledge) (watches : ℕ → Option (List CondTree)) (changed : List Touched) (act : ℕ) → act < 256 → HeldBefore d now watches changed
     → is_hit changed (watches act) ≡ false → is_false d now (watches act) ≡ false
 unhit d now watches changed act low h e =
     let same = unhit_same d changed h.before now (watches act) h.named e in
     false_from_ne_true (is_false d now (watches act)) (λ broken. true_false (is_false d now (watches act)) broken (same ∙ h.held act low e broken))
+
+-- nor is that of an act that has not just started
+pub unhit-others : (d : Domain) (now : Knowledge) (watches : ℕ → Option (List CondTree)) (changed : List Touched) (started : Option ℕ) (act : ℕ) → act < 256
+    → HeldBefore d now (but_for started watches) changed → is_started started act ≡ false → is_hit changed (watches act) ≡ false → is_false d now (watches act) ≡ false
+unhit-others d now watches changed started act low h other e =
+    let same : but_for started watches act ≡ watches act = ap (λ b. if b then None else watches act) other in
+    ap (is_false d now) (sym same) ∙ unhit d now (but_for started watches) changed act low h (ap (is_hit changed) same ∙ e)
 
 -- ---- what is found
 

@@ -1,7 +1,7 @@
 //! What active acts need while they run.
-ghost use Rattle.std.specs.Prelude.{◌≡◌, ◌≢◌, ℕ, ◌+◌, ◌<◌, ◌≤◌, not, is_some, ◌&&◌, length, Some, None, false, true, if◌then◌else◌, slice_index_or, OnOk, OnErr};
+ghost use Rattle.std.specs.Prelude.{◌≡◌, ◌≢◌, ℕ, ◌+◌, ◌<◌, ◌≤◌, not, is_some, ◌&&◌, ◌||◌, length, Some, None, false, true, if◌then◌else◌, slice_index_or, OnOk, OnErr};
 ghost use Rattle.ps_monitor.specs.Watched.{broken, is_false, is_other, marked, others, watched};
-ghost use Rattle.ps_monitor.specs.Hits.{HeldBefore, hit, is_hit};
+ghost use Rattle.ps_monitor.specs.Hits.{but_for, due, HeldBefore, hit, is_hit, is_started};
 
 use super::acts::Acts;
 use super::judge::{Judge, Judging};
@@ -12,6 +12,16 @@ use ps_domain::Expert;
 use ps_problem::Problem;
 use ps_world::Conds;
 use std::alloc::{AllocError, Global};
+
+/// Whether an act is the one that has just started.
+fn is_started(started: Option<u32>, act: u32) -> bool
+    ensures { result ≡ is_started started act }
+{
+    match started {
+        Some(it) => act == it,
+        None => false,
+    }
+}
 
 /// The watched acts with their over-all conditions.
 #[derive(Drop)]
@@ -107,11 +117,12 @@ impl Monitor {
         self.watches.is_false(judge, act)
     }
 
-    /// Whether an act is watched and its condition is false. It judges only an act that is hit.
+    /// Whether an act is watched and its condition is false. It judges only an act that has just started or that is hit.
     fn judge_act<J: Judge>(
         &self,
         judge: &mut J,
         changed: &[Touched],
+        started: Option<u32>,
         candidates: &Acts,
         act: u32,
     ) -> bool
@@ -119,17 +130,53 @@ impl Monitor {
         requires count { J.count judge.old < 9223372036854775808 }
         requires candidates { (a : ℕ) → a < 256 → is_hit changed.now (watched self.now a) ≡ true
             → slice_index_or candidates.now.marks a false ≡ true }
-        requires held { HeldBefore (J.domain judge.old) (J.known judge.old) (watched self.now) changed.now }
+        requires held { HeldBefore (J.domain judge.old) (J.known judge.old)
+            (but_for started (watched self.now)) changed.now }
         ensures same { result ≡ is_false (J.domain judge.old) (J.known judge.old) (watched self.now act) }
         ensures count { J.count judge.new ≤ J.count judge.old
-            + (if is_hit changed.now (watched self.now act) then 1 else 0) }
+            + (if is_started started act || is_hit changed.now (watched self.now act) then 1 else 0) }
         ensures domain { J.domain judge.new ≡ J.domain judge.old }
         ensures known { J.known judge.new ≡ J.known judge.old }
     {
+        if is_started(started, act) {
+            return self.watches.is_false(judge, act);
+        }
         if !candidates.has(act) {
             return false;
         }
         self.is_broken(judge, changed, act)
+    }
+
+    /// The watched acts whose condition is false, where before a change that the list names none was false but of those acts that
+    /// something in the list hits, and of one that has just started: that one wasn't watched, and its condition may be false whatever
+    /// changed. It judges those alone, and takes no memory.
+    pub fn broken_since<J: Judge>(
+        &self,
+        judge: &mut J,
+        changed: &[Touched],
+        started: Option<u32>,
+    ) -> Acts
+        requires count { J.count judge.old ≤ 4611686018427387904 }
+        requires held { HeldBefore (J.domain judge.old) (J.known judge.old)
+            (but_for started (watched self.now)) changed.now }
+        ensures list { (n : ℕ) → n ≤ 256 → marked result n
+            ≡ broken (J.domain judge.old) (J.known judge.old) self.now n }
+        ensures each { (act : ℕ) → act < 256 → slice_index_or result.marks act false
+            ≡ is_false (J.domain judge.old) (J.known judge.old) (watched self.now act) }
+        ensures count { J.count judge.new ≤ J.count judge.old
+            + length (due changed.now started (watched self.now) 256) }
+        ensures domain { J.domain judge.new ≡ J.domain judge.old }
+        ensures known { J.known judge.new ≡ J.known judge.old }
+    {
+        let candidates = self.watches.candidates(changed);
+        let mut all = Acts::none();
+        for act in 0..256 {
+            all.set(
+                act,
+                self.judge_act(judge, changed, started, &candidates, act),
+            );
+        }
+        all
     }
 
     /// The watched acts whose condition is false, where before a change that the list names none was false but of those acts that
@@ -146,12 +193,7 @@ impl Monitor {
         ensures domain { J.domain judge.new ≡ J.domain judge.old }
         ensures known { J.known judge.new ≡ J.known judge.old }
     {
-        let candidates = self.watches.candidates(changed);
-        let mut all = Acts::none();
-        for act in 0..256 {
-            all.set(act, self.judge_act(judge, changed, &candidates, act));
-        }
-        all
+        self.broken_since(judge, changed, None)
     }
 
     /// The watched acts that aren't among these.

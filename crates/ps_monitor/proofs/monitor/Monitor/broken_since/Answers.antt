@@ -1,9 +1,9 @@
-use Rattle.std.proofs.Common.{◌≡◌, ◌<◌, ◌&&◌, ◌∷◌, [], ℕ, Bool, true, false, if◌then◌else◌, nat_lt, length, slice_index_or, refl, ap, ◌∙◌, arith, length-append}
+use Rattle.std.proofs.Common.{◌≡◌, ◌<◌, ◌&&◌, ◌||◌, ◌∷◌, [], ℕ, Bool, true, false, if◌then◌else◌, nat_lt, length, slice_index_or, refl, ap, ◌∙◌, arith, length-append}
 use Rattle.std.proofs.lemmas.Bool.Decides.{nat_tests}
-use Rattle.ps_monitor.specs.Hits.{hit, is_hit}
+use Rattle.ps_monitor.specs.Hits.{due, is_hit, is_started}
 use Rattle.ps_monitor.specs.Watched.{is_false, watched}
 use Rattle.ps_monitor.proofs.Lists.{few, filter-more, filter-same, one_set, set_length}
-use Rattle.ps_monitor.proofs.monitor.Monitor.broken_by.Goals as goal
+use Rattle.ps_monitor.proofs.monitor.Monitor.broken_since.Goals as goal
 
 one_or_none : (n : ℕ) (b : Bool) → length (if b then n ∷ [] else []) ≡ (if b then 1 else 0)
 one_or_none n true = refl
@@ -16,8 +16,8 @@ loop-act-preserved g c =
     let inv = c.loop-act.invariant in
     let n = c.loop-act.act in
     let over : ℕ → Bool = λ i. is_false d k (watched c.args.self.now i) in
-    let p : ℕ → Bool = λ i. is_hit c.args.changed.now (watched c.args.self.now i) in
-    let more = ap length (filter-more p n) ∙ length-append (hit c.args.changed.now (watched c.args.self.now) n) (if p n then n ∷ [] else []) in
+    let p : ℕ → Bool = λ i. is_started c.args.started i || is_hit c.args.changed.now (watched c.args.self.now i) in
+    let more = ap length (filter-more p n) ∙ length-append (due c.args.changed.now c.args.started (watched c.args.self.now) n) (if p n then n ∷ [] else []) in
     let one = one_or_none n (p n) in
     let is : c.judge_act.result ≡ over n = c.judge_act.ensures.same ∙ (λ i. is_false (inv.domain i) (inv.known i) (watched c.args.self.now n)) in
     record {
@@ -30,7 +30,7 @@ loop-act-preserved g c =
 
 pub judge_act-requires-clause-count : goal.judge_act-requires-clause-count
 judge_act-requires-clause-count g c =
-    let low = few (λ i. is_hit c.args.changed.now (watched c.args.self.now i)) c.loop-act.act in
+    let low = few (λ i. is_started c.args.started i || is_hit c.args.changed.now (watched c.args.self.now i)) c.loop-act.act in
     omega (arith, c.loop-act.invariant.count, c.requires.count, low, c.loop-act-test.true)
 
 pub returns-clause-list : goal.returns-clause-list
