@@ -25,7 +25,7 @@ use Rattle.ps_board.specs.Core.{over_in, watch_for}
 abbrev pub Watches : Monitor → List GroundAction → List Entry → Type 0
 Watches m gs es = (act : ℕ) → watched m act ≡ watch_for gs act (state act es)
 
-false-for : (b : Bool) (d : Domain) (k : Knowledge) (cs : List CondTree) → is_false d k (if b then Some cs else None) ≡ (b && not (all_true d k cs))
+pub false-for : (b : Bool) (d : Domain) (k : Knowledge) (cs : List CondTree) → is_false d k (if b then Some cs else None) ≡ (b && not (all_true d k cs))
 false-for true d k cs = refl
 false-for false d k cs = refl
 

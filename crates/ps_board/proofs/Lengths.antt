@@ -9,7 +9,6 @@ use Rattle.ps_action.specs.declared.states.ActState.{ActState}
 use Rattle.ps_action.specs.declared.states.ActState.TheVariants.{Failed, Waiting}
 use Rattle.ps_machine.specs.declared.inputs.Input.{Input}
 use Rattle.ps_machine.specs.declared.journal.FailWhy.{FailWhy}
-use Rattle.ps_machine.specs.declared.journal.FailWhy.TheVariants as fail
 use Rattle.ps_machine.specs.declared.journal.Event.{Event}
 use Rattle.ps_machine.specs.declared.journal.Event.TheVariants as event
 use Rattle.ps_machine.specs.declared.journal.Entry.{Entry}

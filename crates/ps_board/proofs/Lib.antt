@@ -6,6 +6,7 @@ pub mod Forced
 pub mod Going
 pub mod Granting
 pub mod Handing
+pub mod Held
 pub mod Keeping
 pub mod Lengths
 pub mod Observing
@@ -17,4 +18,5 @@ pub mod Sparing
 pub mod Stuck
 pub mod Submitting
 pub mod Ticking
+pub mod Touching
 pub mod Watches

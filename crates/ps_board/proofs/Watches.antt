@@ -78,7 +78,7 @@ watch-next (event.Cancel j why) gs new m mid act s same old mids =
     ended-off gs act s Cancelled (watched mid act) (act == j) refl (mids ∙ old) ∙ ap (λ xs. watch_for xs act (unwrap_or (only_if (act == j) Cancelled) s)) (sym (same refl))
 watch-next e gs new m mid act s same old mids = mids ∙ old ∙ ap (λ xs. watch_for xs act s) (sym (same refl))
 
-same-grounds : (i : Input) (es : List Entry) (e : Event) (gs new : List GroundAction) → gs ≡ grounds i.domain (plan es)
+pub same-grounds : (i : Input) (es : List Entry) (e : Event) (gs new : List GroundAction) → gs ≡ grounds i.domain (plan es)
     → new ≡ grounds i.domain (unwrap_or (says_plan e) (plan es)) → says_plan e ≡ None → new ≡ gs
 same-grounds i es e gs new old next still = next ∙ ap (λ o. grounds i.domain (unwrap_or o (plan es))) still ∙ sym old
 

@@ -6,4 +6,5 @@ pub mod Grants
 pub mod Kept
 pub mod Submits
 pub mod Ticks
+pub mod Touching
 pub mod Watching

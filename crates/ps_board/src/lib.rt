@@ -6,6 +6,7 @@ mod board;
 mod commands;
 mod submits;
 mod ticks;
+mod touched;
 mod turns;
 mod watching;
 mod whole;

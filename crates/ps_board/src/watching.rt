@@ -1,12 +1,15 @@
 //! How an event changes what is watched.
-ghost use Rattle.std.specs.Prelude.{◌≡◌, ◌≤◌, true, length, IsOk, OnOk, OnErr};
-ghost use Rattle.ps_monitor.specs.Watched.{watched};
+ghost use Rattle.std.specs.Prelude.{◌≡◌, ℕ, ◌<◌, ◌≤◌, false, true, length, slice_index_or, IsOk, OnOk, OnErr};
+ghost use Rattle.ps_monitor.specs.Hits.{but_for, HeldBefore};
+ghost use Rattle.ps_monitor.specs.Watched.{broken, is_false, marked, watched};
 ghost use Rattle.ps_board.specs.Core.{takes_only_room};
 ghost use Rattle.ps_board.specs.Watching.{IsWatchedAs, StartsWithin, watched_after, watched_from, watched_without};
 
-use ps_action::GroundAction;
+use ps_action::{GroundAction, Touched};
+use ps_domain::Expert;
 use ps_machine::Event;
-use ps_monitor::Monitor;
+use ps_monitor::{Acts, Judging, Monitor};
+use ps_problem::Problem;
 use std::alloc::AllocError;
 
 /// Watches the act that an event starts, if it starts one. The only error is that memory ran out, and then nothing changes; other
@@ -54,4 +57,23 @@ pub fn unwatch_ended(monitor: &mut Monitor, what: &Event)
         Event::Cancel { act, why: _ } => monitor.unwatch(*act),
         _ => {}
     }
+}
+
+/// The watched acts whose condition is false after an event that changed these things and that started this act, if it started one.
+/// Before it no act that was watched was broken, so that only those are judged that it may have broken.
+pub fn broken_since(
+    monitor: &Monitor,
+    problem: &Problem,
+    expert: &Expert,
+    changed: &[Touched],
+    started: Option<u32>,
+) -> Acts
+    requires { HeldBefore expert.now problem.now (but_for started (watched monitor.now)) changed.now }
+    ensures list { (n : ℕ) → n ≤ 256
+        → marked result n ≡ broken expert.now problem.now monitor.now n }
+    ensures each { (act : ℕ) → act < 256 → slice_index_or result.marks act false
+        ≡ is_false expert.now problem.now (watched monitor.now act) }
+{
+    let mut judge = Judging::new(problem, expert);
+    monitor.broken_since(&mut judge, changed, started)
 }

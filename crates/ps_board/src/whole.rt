@@ -1,12 +1,16 @@
 //! What a board is made of.
-ghost use Rattle.std.specs.Prelude.{◌≡◌, ◌≤◌, IsTrue, true, false, max, IsOk, OnOk, OnErr, Some};
+ghost use Rattle.std.specs.Prelude.{◌≡◌, ◌≤◌, IsTrue, true, false, max, IfOk, IsOk, OnOk, OnErr, Some};
 ghost use Rattle.ps_rules.specs.Legal.{has_hand};
 ghost use Rattle.ps_rows.specs.Table.{MayBegin};
 ghost use Rattle.ps_board.specs.Kept.{IsShown};
 ghost use Rattle.ps_board.specs.Core.{Covers, edit_of, HasBlock, HasPlaces, HasSpare, is_quiet, IsDue, IsGrown, makes_plan, MayCome, most_entries, Spends, Stands};
+ghost use Rattle.ps_board.specs.Touching.{touched_by};
 
 use super::blocks::{cancel_all, is_fail, only_if, push, reserve};
-use super::watching::{unwatch_ended, unwatch_started, watch_started};
+use super::touched::{started_by, touched_by};
+use super::watching::{broken_since, unwatch_ended, unwatch_started, watch_started};
+use ps_action::Touched;
+use ps_eval::edited_by;
 use ps_machine::{By, CancelWhy, Entry, Event, Input, Refusal};
 use ps_monitor::Monitor;
 use ps_rows::Present;
@@ -52,9 +56,11 @@ fn makes_plan(what: &Event) -> bool
 }
 
 impl Core {
-    /// Appends the block of an event, where all but the entries and what they tell is as it is after that event.
-    fn append(&mut self, hand: u8, what: Event)
-        requires { IsDue self.now hand what }
+    /// Appends the block of an event that changed these things, where all but the entries and what they tell is as it is after that
+    /// event.
+    fn append(&mut self, hand: u8, what: Event, changed: &[Touched])
+        requires due { IsDue self.now hand what }
+        requires changed { changed.now ≡ touched_by self.now.present.grounds.items what }
         ensures stands { Stands self.new }
         ensures entries { HasBlock self.old hand what self.new }
         ensures input { self.new.input ≡ self.old.input }
@@ -63,7 +69,7 @@ impl Core {
         if is_quiet(&what) {
             self.append_quiet(hand, what);
         } else {
-            self.append_forcing(hand, what);
+            self.append_forcing(hand, what, changed);
         }
     }
 
@@ -81,21 +87,28 @@ impl Core {
         self.spare = self.spare.saturating_sub(1);
     }
 
-    /// Appends the block of an event that may force cancels.
-    fn append_forcing(&mut self, hand: u8, what: Event)
-        requires { IsDue self.now hand what }
+    /// Appends the block of an event that may force cancels, and that changed these things. Only those watched acts are judged that
+    /// it may have broken.
+    fn append_forcing(&mut self, hand: u8, what: Event, changed: &[Touched])
+        requires due { IsDue self.now hand what }
+        requires changed { changed.now ≡ touched_by self.now.present.grounds.items what }
         ensures stands { Stands self.new }
         ensures entries { HasBlock self.old hand what self.new }
         ensures input { self.new.input ≡ self.old.input }
         ensures spare { Spends self.old self.new }
     {
         let fails = is_fail(&what);
+        let started = started_by(&what);
         let before = self.entries.len();
         self.present.ledger.take(&what);
         push(&mut self.entries, Entry { hand, what });
-        let broken = self
-            .monitor
-            .broken(&self.present.problem, &self.present.expert, &[]);
+        let broken = broken_since(
+            &self.monitor,
+            &self.present.problem,
+            &self.present.expert,
+            changed,
+            started,
+        );
         let others = self.monitor.others(&broken);
         let any = cancel_all(
             &mut self.entries,
@@ -166,14 +179,16 @@ impl Core {
         Ok(())
     }
 
-    /// Makes all that is kept ready for the block of a legal event: memory, what is watched, what is known and the plan. The only
-    /// error is that memory ran out, and then what is kept still stands.
-    fn prepare(&mut self, alloc: Global, hand: u8, what: &Event) -> Result<(), AllocError>
+    /// Makes all that is kept ready for the block of a legal event: memory, what is watched, what is known and the plan. Answers what
+    /// the event changes. The only error is that memory ran out, and then what is kept still stands.
+    fn prepare(&mut self, alloc: Global, hand: u8, what: &Event) -> Result<Vec<Touched>, AllocError>
         requires stands { Stands self.now }
         requires legal { MayCome self.now what.now }
         requires plan { MayBegin what.now self.now.present }
         requires by { IsTrue (has_hand what.now hand) }
         ensures ok { OnOk result (IsDue self.new hand what.now) }
+        ensures changed { IfOk result
+            (λ changed. changed.items ≡ touched_by self.new.present.grounds.items what.now) }
         ensures err { OnErr result (Stands self.new) }
         ensures entries { self.new.entries.items ≡ self.old.entries.items }
         ensures input { self.new.input ≡ self.old.input }
@@ -182,11 +197,12 @@ impl Core {
     {
         let most = self.most_entries(what);
         self.make_room(what, most)?;
+        let changed = touched_by(alloc, &self.present.grounds, what)?;
         watch_started(&mut self.monitor, &self.present.grounds, what)?;
         match self.present.advance(alloc, what) {
             Ok(()) => {
                 unwatch_ended(&mut self.monitor, what);
-                Ok(())
+                Ok(changed)
             }
             Err(error) => {
                 unwatch_started(&mut self.monitor, what);
@@ -209,8 +225,8 @@ impl Core {
         ensures spare { Spends self.old self.new }
         ensures reserved { Covers self.old hand (Some what) → IsOk result }
     {
-        self.prepare(alloc, hand, &what)?;
-        self.append(hand, what);
+        let changed = self.prepare(alloc, hand, &what)?;
+        self.append(hand, what, &changed);
         Ok(())
     }
 
@@ -229,12 +245,13 @@ impl Core {
         self.make_room(&Event::Quit, 257)?;
         match self.present.problem.edit(&self.present.expert, &edit) {
             Ok(_) => {
-                self.append(hand, Event::Edit { by, edit });
+                let changed = edited_by(&edit);
+                self.append(hand, Event::Edit { by, edit }, changed.as_slice());
                 Ok(())
             }
             Err(Failure::Refused(why)) => {
                 let why = Refusal::Edit(why);
-                self.append(hand, Event::Refused { by, why });
+                self.append_quiet(hand, Event::Refused { by, why });
                 Ok(())
             }
             Err(Failure::OutOfMemory) => Err(AllocError),

@@ -14,7 +14,8 @@ use Rattle.ps_board.specs.declared.whole.Core.{Core}
 use Rattle.ps_board.specs.Core.{watch_for}
 use Rattle.ps_board.proofs.Lengths.{block-exact, block-some, plans-none}
 use Rattle.ps_board.proofs.Ready.{due, legal-grown, on-err, room-grown, stands-again, stands-grown, watching-told}
-use Rattle.ps_board.proofs.Watches.{start-there, watches-again, watches-next}
+use Rattle.ps_board.proofs.Touching.{touched-still}
+use Rattle.ps_board.proofs.Watches.{same-grounds, start-there, watches-again, watches-next}
 use Rattle.ps_board.proofs.whole.Core.prepare.Goals as goal
 
 pub make_room-requires-clause-some : goal.make_room-requires-clause-some
@@ -35,11 +36,14 @@ returns-in_err-make_room-clause-reserved c = λ covered.
     let ok = c.make_room.ensures.reserved (plans-none e covered.kind) (omega (arith, exact, room, c.most_entries-most.ensures)) in
     absurd (true≢false (sym ok ∙ ap is_ok c.in_err-make_room.was))
 
+pub returns-in_err-changed-clause-err : goal.returns-in_err-changed-clause-err
+returns-in_err-changed-clause-err c = on-err _ (stands-grown c.args.self.now c.make_room.new.self c.requires.stands c.make_room.ensures.grown c.make_room.ensures.spare)
+
 pub watch_started-requires-clause-few : goal.watch_started-requires-clause-few
 watch_started-requires-clause-few c =
     let stands = stands-grown c.args.self.now c.make_room.new.self c.requires.stands c.make_room.ensures.grown c.make_room.ensures.spare in
     let few = stands.kept.few in
-    let long = ap length c.deref.ensures.value ∙ stands.all in
+    let long = ap length c.deref-2.ensures.value ∙ stands.all in
     omega (arith, long, few)
 
 pub watch_started-requires-clause-there : goal.watch_started-requires-clause-there
@@ -47,7 +51,7 @@ watch_started-requires-clause-there c =
     let old : Core = c.args.self.now in
     let mid : Core = c.make_room.new.self in
     let stands = stands-grown old mid c.requires.stands c.make_room.ensures.grown c.make_room.ensures.spare in
-    start-there mid.input mid.entries.items c.args.what.now (length c.deref.result.now) (ap length c.deref.ensures.value ∙ stands.all)
+    start-there mid.input mid.entries.items c.args.what.now (length c.deref-2.result.now) (ap length c.deref-2.ensures.value ∙ stands.all)
     (legal-grown old mid c.make_room.ensures.grown c.args.what.now c.requires.legal)
 
 pub returns-in_err-watch_started-clause-err : goal.returns-in_err-watch_started-clause-err
@@ -65,17 +69,29 @@ returns-in-Ok-clause-ok c =
     let e = c.args.what.now in
     let stood = keeps-standing old.input es old.present mid.present grown.kept c.requires.stands.kept in
     let ahead = c.in-Ok.ensures.ok old.input es stood in
-    let gs : c.deref.result.now ≡ grounds old.input.domain (plan es) = c.deref.ensures.value ∙ stood.grounds in
+    let gs : c.deref-2.result.now ≡ grounds old.input.domain (plan es) = c.deref-2.ensures.value ∙ stood.grounds in
     let places = c.in_ok-make_room.ensures.ok in
     let space = places.entries in
     let room = room-grown old mid c.requires.stands.spare grown c.make_room.ensures.spare in
     let same : mid.present.ledger ≡ c.advance.new.self.ledger = sym c.in-Ok.ensures.base.ledger in
     due old _ c.args.hand e c.requires.stands grown.input grown.entries c.requires.legal c.requires.by c.requires.plan ahead
-    (watches-next old.input es e c.deref.result.now c.advance.new.self.grounds.items mid.monitor c.watch_started.new.monitor c.unwatch_ended.new.monitor gs ahead.grounds
+    (watches-next old.input es e c.deref-2.result.now c.advance.new.self.grounds.items mid.monitor c.watch_started.new.monitor c.unwatch_ended.new.monitor gs ahead.grounds
     (λ act. ap (λ m. watched m act) grown.monitor ∙ watching-told old c.requires.stands act ∙ ap (λ (xs : List GroundAction). watch_for xs act (state act es)) (c.requires.stands.kept.grounds ∙ sym gs))
     c.in_ok-watch_started.ensures.ok c.unwatch_ended.ensures)
     (record { ledger = subst (HasRoom e) same places.ledger; entries = subst (λ n. length mid.entries.items + n ≤ vec_capacity mid.entries) c.most_entries-most.ensures space; short = places.short })
     (record { entries = room.entries; ledger = subst (ledger.HasSpare mid.spare) same room.ledger })
+
+pub returns-in-Ok-clause-changed : goal.returns-in-Ok-clause-changed
+returns-in-Ok-clause-changed c =
+    let old : Core = c.args.self.now in
+    let mid : Core = c.make_room.new.self in
+    let es = old.entries.items in
+    let e = c.args.what.now in
+    let stood = keeps-standing old.input es old.present mid.present c.make_room.ensures.grown.kept c.requires.stands.kept in
+    let ahead = c.in-Ok.ensures.ok old.input es stood in
+    let gs : c.deref.result.now ≡ grounds old.input.domain (plan es) = c.deref.ensures.value ∙ stood.grounds in
+    c.in_ok-changed.ensures.ok
+    ∙ touched-still c.deref.result.now c.advance.new.self.grounds.items e (same-grounds old.input es e c.deref.result.now c.advance.new.self.grounds.items gs ahead.grounds)
 
 pub returns-in-Err-clause-err : goal.returns-in-Err-clause-err
 returns-in-Err-clause-err c =
@@ -85,10 +101,10 @@ returns-in-Err-clause-err c =
     let es = old.entries.items in
     let e = c.args.what.now in
     let stood = keeps-standing old.input es old.present mid.present grown.kept c.requires.stands.kept in
-    let gs : c.deref.result.now ≡ grounds old.input.domain (plan es) = c.deref.ensures.value ∙ stood.grounds in
+    let gs : c.deref-2.result.now ≡ grounds old.input.domain (plan es) = c.deref-2.ensures.value ∙ stood.grounds in
     let room = room-grown old mid c.requires.stands.spare grown c.make_room.ensures.spare in
     let same : mid.present ≡ c.advance.new.self = sym c.in-Err.ensures.err in
-    let watching = watches-again old.input es e c.deref.result.now mid.monitor c.watch_started.new.monitor c.unwatch_started.new.monitor c.requires.legal
+    let watching = watches-again old.input es e c.deref-2.result.now mid.monitor c.watch_started.new.monitor c.unwatch_started.new.monitor c.requires.legal
     (λ act. ap (λ m. watched m act) grown.monitor ∙ watching-told old c.requires.stands act ∙ ap (λ (xs : List GroundAction). watch_for xs act (state act es)) (c.requires.stands.kept.grounds ∙ sym gs))
     c.in_ok-watch_started.ensures.ok c.unwatch_started.ensures in
     stands-again old _ c.requires.stands grown.input grown.entries (subst (rows.Stands old.input es) same stood) (λ act. watching act ∙ ap (λ m. watched m act) grown.monitor)

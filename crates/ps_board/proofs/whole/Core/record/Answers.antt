@@ -1,4 +1,4 @@
-use Rattle.std.proofs.Common.{◌≡◌, ◌+◌, ◌≤◌, IsTrue, Err, length, refl, ap, arith, sym, subst, ◌∙◌}
+use Rattle.std.proofs.Common.{◌≡◌, ◌+◌, ◌≤◌, IsTrue, Err, option_to_list, length, refl, ap, arith, sym, subst, ◌∙◌}
 use Rattle.std.specs.Vec.{vec_capacity}
 use Rattle.ps_world.specs.Edits.{Edits}
 use Rattle.ps_machine.specs.declared.journal.Event.TheVariants as event
@@ -12,10 +12,11 @@ use Rattle.ps_board.specs.declared.whole.Core.{Core}
 use Rattle.ps_board.specs.Core.{edit_of, MayCome}
 use Rattle.ps_board.proofs.Ready.{block-grown, due-still, edit-grown, event-accepted, event-refused, legal-grown, stands-again, stands-grown}
 use Rattle.ps_board.proofs.Sparing.{spent-from, spent-still}
+use Rattle.ps_board.proofs.Touching.{listed}
 use Rattle.ps_board.proofs.whole.Core.record.Goals as goal
 
-pub append-requires : goal.append-requires
-append-requires c =
+pub append-requires-clause-due : goal.append-requires-clause-due
+append-requires-clause-due c =
     let old : Core = c.args.self.now in
     let mid : Core = c.make_room.new.self in
     let new : Core = record mid { present = record mid.present { problem = c.edit.new.self } } in
@@ -32,8 +33,8 @@ append-requires c =
     refl (λ act. refl) refl (record { ledger = record { acts = places.ledger.acts; spare = places.ledger.spare }; entries = places.entries; short = places.short })
     (record { entries = stands.spare.entries; ledger = stands.spare.ledger })
 
-pub append-requires-in-Err-Refused : goal.append-requires-in-Err-Refused
-append-requires-in-Err-Refused c =
+pub append_quiet-requires-clause-due : goal.append_quiet-requires-clause-due
+append_quiet-requires-clause-due c =
     let old : Core = c.args.self.now in
     let mid : Core = c.make_room.new.self in
     let new : Core = record mid { present = record mid.present { problem = c.edit.new.self } } in
@@ -75,7 +76,7 @@ returns-in-Err-Refused-clause-ok c =
     let refused = subst (λ f. Edits mid.present.expert c.args.edit mid.present.problem (Err f) c.edit.new.self) c.in-Err-Refused.field-0-is c.in-Err-Refused.ensures in
     let stands = stands-grown old mid c.requires.stands grown c.make_room.ensures.spare in
     let is = event-refused mid c.in-Err-Refused.why c.args.by c.args.edit stands refused.0 in
-    c.append-in-Err-Refused.ensures.entries ∙ ap (with_block mid.input c.args.hand mid.entries.items) (sym is ∙ edit-grown old mid grown c.args.by c.args.edit)
+    c.append_quiet.ensures.entries ∙ ap (with_block mid.input c.args.hand mid.entries.items) (sym is ∙ edit-grown old mid grown c.args.by c.args.edit)
     ∙ block-grown old mid grown c.args.hand (edit_of old c.args.by c.args.edit)
 
 pub returns-clause-stands : goal.returns-clause-stands
@@ -97,4 +98,7 @@ returns-in-Ok-clause-spare c =
 pub returns-in-Err-Refused-clause-spare : goal.returns-in-Err-Refused-clause-spare
 returns-in-Err-Refused-clause-spare c =
     let mid : Core = c.make_room.new.self in
-    spent-from c.args.self.now (record mid { present = record mid.present { problem = c.edit.new.self } }) c.append-in-Err-Refused.new.self c.make_room.ensures.grown.entries c.make_room.ensures.spare c.append-in-Err-Refused.ensures.spare
+    spent-from c.args.self.now (record mid { present = record mid.present { problem = c.edit.new.self } }) c.append_quiet.new.self c.make_room.ensures.grown.entries c.make_room.ensures.spare c.append_quiet.ensures.spare
+
+pub append-requires-clause-changed : goal.append-requires-clause-changed
+append-requires-clause-changed c = listed c.edited_by-changed.result c.as_slice.result.now c.as_slice.ensures ∙ ap option_to_list c.edited_by-changed.ensures
