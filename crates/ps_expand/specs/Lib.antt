@@ -1,0 +1,4 @@
+pub mod Attempts
+pub mod Children
+pub mod Joining
+pub mod Listing

@@ -1,0 +1,11 @@
+//! A search over something that expands what is known, which keeps each state as its difference from the start.
+#![tactic(auto)]
+
+mod during;
+mod expander;
+mod expanding;
+mod joining;
+mod listing;
+
+pub use expander::Expander;
+pub use expanding::{Child, Expand};
