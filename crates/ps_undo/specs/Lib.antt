@@ -1,0 +1,5 @@
+pub mod Changes
+pub mod Editing
+pub mod Laws
+pub mod Saved
+pub mod Runs
