@@ -1,12 +1,10 @@
 -- Calls leave what a run of them says.
-use Rattle.std.proofs.Common.{◌≡◌, ◌≢◌, Bool, true, false, if◌then◌else◌, Option, Some, None, Result, Ok, Err, refl, ap, sym, ◌∙◌}
+use Rattle.std.proofs.Common.{◌≡◌, Bool, true, false, if◌then◌else◌, Option, Some, None, Ok, refl, ap, sym, ◌∙◌}
 use Rattle.std.specs.Bool.{Decides}
-use Rattle.ps_world.specs.Knowledge.{edited}
 use Rattle.ps_world.specs.Same.{is_same, is_same_decides}
 use Rattle.ps_world.specs.contracts.known.Knowledge.{the_row}
 use Rattle.ps_world.specs.declared.domains.Domain.{Domain}
 use Rattle.ps_world.specs.declared.edits.Edit.{Edit}
-use Rattle.ps_world.specs.declared.known.Knowledge.{Knowledge}
 use Rattle.ps_undo.specs.Editing.{EditMakes, after_edit}
 use Rattle.ps_undo.specs.Runs.{CallsAreOfRuns, after_call, after_made, after_step, make}
 use Rattle.ps_undo.specs.declared.editing.Editing.{Editing}

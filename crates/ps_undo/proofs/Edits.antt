@@ -11,7 +11,7 @@ use Rattle.std.proofs.lemmas.List.Elements.{filter_agree}
 use Rattle.std.proofs.lemmas.Map.Views.{list_any-from_Contains}
 use Rattle.ps_world.specs.CondViews.{cond_tree}
 use Rattle.ps_world.specs.Facts.{fact_cmp}
-use Rattle.ps_world.specs.Knowledge.{cond_names, edited, goal_without, is_among, same_fact, without}
+use Rattle.ps_world.specs.Knowledge.{cond_names, edited, goal_without, is_among, same_fact}
 use Rattle.ps_world.specs.Names.{name_cmp, same_name}
 use Rattle.ps_world.specs.declared.conditions.Cond.{Cond}
 use Rattle.ps_world.specs.declared.domains.Domain.{Domain}

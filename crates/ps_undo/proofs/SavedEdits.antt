@@ -1,5 +1,5 @@
 -- The edits that save what is known give it.
-use Rattle.std.proofs.Common.{◌≡◌, ◌+◌, ◌≤◌, ◌<◌, nat_le, Bool, true, false, not, cond, ◌||◌, ◌&&◌, List, [], ◌∷◌, ◌++◌, Option, Some, None, IfSome, is_some, is_none, Result, Ok, Err, All, filter, find, fold, map, length, inl, inr, refl, ap, sym, ◌∙◌, subst, arith}
+use Rattle.std.proofs.Common.{◌≡◌, ◌+◌, ◌≤◌, ◌<◌, nat_le, Bool, true, false, not, cond, ◌||◌, ◌&&◌, List, [], ◌∷◌, ◌++◌, Option, Some, None, IfSome, is_some, is_none, Result, Ok, All, filter, find, fold, map, length, inl, inr, refl, ap, sym, ◌∙◌, subst, arith}
 use Rattle.std.specs.BTreeMap.{insert_entry}
 use Rattle.std.specs.BTreeSet.{insert_key}
 use Rattle.std.specs.List.{AllByRecursion, Contains, list_any}
@@ -18,12 +18,12 @@ use Rattle.std.proofs.lemmas.Map.Views.{tells_apart}
 use Rattle.ps_world.specs.Facts.{fact_cmp}
 use Rattle.ps_world.specs.CondViews.{cond_tree}
 use Rattle.ps_world.specs.Knowledge.{constant_of, edited, fault_of_cond, fault_of_fact, fault_of_value, function_of, is_type, kind_of, most_instances, opening, predicate_of, same_fact, unless, value_in, with_constant}
-use Rattle.ps_world.specs.Names.{Table, name_cmp, same_name}
+use Rattle.ps_world.specs.Names.{name_cmp, same_name}
 use Rattle.ps_world.specs.declared.conditions.Cond.{Cond}
 use Rattle.ps_world.specs.declared.domains.Domain.{Domain}
 use Rattle.ps_world.specs.declared.domains.Param.{Param}
 use Rattle.ps_world.specs.declared.edits.Edit.{Edit}
-use Rattle.ps_world.specs.declared.edits.Edit.TheVariants.{AddFact, AddInstance}
+use Rattle.ps_world.specs.declared.edits.Edit.TheVariants.{AddFact}
 use Rattle.ps_world.specs.declared.edits.EditRefusal.{EditRefusal}
 use Rattle.ps_world.specs.declared.edits.EditRefusal.TheVariants.{NoFunction, NoPredicate}
 use Rattle.ps_world.specs.declared.facts.Fact.{Fact}
@@ -37,10 +37,10 @@ use Rattle.ps_problem.specs.WellKnown.{IsWellKnown}
 use Rattle.ps_problem.proofs.Changes.{kind_after}
 use Rattle.ps_problem.proofs.Filters.{insert_entry-same, keys-filter, sorted-filter}
 use Rattle.ps_problem.proofs.Opening.{kind_opened, length-insert_entry, sorted_opened}
-use Rattle.ps_problem.proofs.PutFacts.{facts_same, known, known-inserted}
+use Rattle.ps_problem.proofs.PutFacts.{facts_same, known-inserted}
 use Rattle.ps_problem.proofs.Removals.{tests_agree}
 use Rattle.ps_problem.proofs.Suits.{cond_stays, no_fault}
-use Rattle.ps_undo.specs.Saved.{AreSaved, IsInLineOrder, SavedGiveIt, edited_by, edited_next, is_new, set_goal, set_instance, set_value}
+use Rattle.ps_undo.specs.Saved.{SavedGiveIt, edited_by, edited_next, is_new, set_goal, set_instance, set_value}
 use Rattle.ps_undo.proofs.Entries.{put, same_entries, sorted-put}
 use Rattle.ps_undo.proofs.Parts.{Are, all_found, at-put}
 

@@ -1,5 +1,5 @@
 -- The edits that save what is known.
-use Rattle.std.specs.Prelude.{◌≡◌, ℕ, Bool, is_none, Option, Some, None, Result, Ok, Err, List, [], ◌∷◌, ◌++◌, filter, fold, map}
+use Rattle.std.specs.Prelude.{◌≡◌, Bool, is_none, Option, Some, None, Result, Ok, Err, List, [], ◌∷◌, ◌++◌, filter, fold, map}
 use Rattle.std.specs.Cmp.Lexicographic.{slice_cmp}
 use Rattle.std.specs.List.Sorted.{IsPermutation, IsSortedByKey}
 use Rattle.std.specs.Ordering.{nat_cmp}

@@ -1,4 +1,4 @@
-use Rattle.std.proofs.Common.{◌≡◌, List, map, ap, ◌∙◌}
+use Rattle.std.proofs.Common.{◌≡◌, map, ap, ◌∙◌}
 use Rattle.ps_undo.specs.Saved.{IsInLineOrder}
 use Rattle.ps_undo.proofs.LineOrders.{if_ok, in_line_order}
 use Rattle.ps_undo.proofs.saving.in_line_order.Goals as goal
