@@ -66,8 +66,13 @@ pub fn keep(changed: bool, step: Step, past: &mut VecDeque<Step>, future: &mut V
         past.push_front_reserved(step);
         past.truncate(MOST_KEPT);
         future.clear();
+    } else {
+        let_go(step);
     }
 }
+
+/// Lets go of a step.
+fn let_go(_step: Step) {}
 
 /// Takes the first step out, and gives its edit. None where there is none.
 fn take_first(steps: &mut VecDeque<Step>) -> Option<Edit>
