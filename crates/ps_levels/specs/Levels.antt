@@ -75,6 +75,11 @@ pub record IsExpanded {N S : Type 0} (p : Space N S) (from to most : ℕ) (old :
   pub kept : new ≡ take most (old ++ fresh p old (flat_map p.moves (drop from old)))
   pub none : NoneGood p new
 
+-- what is searched stays, and what is held besides
+pub record Stays {N S H : Type 0} (old : Space N S) (before : H) (new : Space N S) (after : H) : Type 0 where
+  pub space : new ≡ old
+  pub held : after ≡ before
+
 -- ---- the answer
 
 -- what is answered where no node of a level is looked for

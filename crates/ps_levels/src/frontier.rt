@@ -1,6 +1,6 @@
 //! What a search asks of a store of nodes.
 ghost use Rattle.std.specs.Prelude.{◌≡◌, ◌++◌, ◌∷◌, ℕ, suc, [], List, None, option_map, drop, length, take, IfOk};
-ghost use Rattle.ps_levels.specs.Levels.{CanExpand, Space, first_good, fresh};
+ghost use Rattle.ps_levels.specs.Levels.{CanExpand, Space, Stays, first_good, fresh};
 
 use std::alloc::AllocError;
 
@@ -13,6 +13,8 @@ pub trait Frontier {
 
     ghost State: { Type 0 };
 
+    ghost Held: { Type 0 };
+
     ghost path: { Self.Node → Self.Path };
 
     ghost space: { Self → Space Self.Node Self.State };
@@ -20,6 +22,9 @@ pub trait Frontier {
     ghost nodes: { Self → List Self.Node };
 
     ghost expanded: { Self → ℕ };
+
+    /// What it holds besides, which no call changes.
+    ghost held: { Self → Held };
 
     /// What the store rests on, where so many nodes may be kept. It is lost where a path was found and where memory ran out.
     ghost sound: { Self → ℕ → Type 0 };
@@ -38,7 +43,7 @@ pub trait Frontier {
     fn expand(&mut self, most: u32) -> Result<Option<Self::Path>, AllocError>
         requires sound { sound self.old most }
         requires next { CanExpand (space self.old) most (expanded self.old) (nodes self.old) }
-        ensures space { space self.new ≡ space self.old }
+        ensures stays { Stays (space self.old) (held self.old) (space self.new) (held self.new) }
         ensures count { expanded self.new ≡ suc (expanded self.old) }
         ensures found { IfOk result (λ found. (n : Self.Node) (ns : List Self.Node)
             → drop (expanded self.old) (nodes self.old) ≡ n ∷ ns

@@ -1,6 +1,6 @@
 //! The search.
 ghost use Rattle.std.specs.Prelude.{◌≡◌, ◌≤◌, ℕ, None, option_map, drop, flat_map, IfOk};
-ghost use Rattle.ps_levels.specs.Levels.{Begins, IsExact, IsExpanded, IsFrugal, IsGivenAt, IsLevel, answer_from, first_good};
+ghost use Rattle.ps_levels.specs.Levels.{Begins, IsExact, IsExpanded, IsFrugal, IsGivenAt, IsLevel, Stays, answer_from, first_good};
 
 use crate::frontier::Frontier;
 use std::alloc::AllocError;
@@ -27,7 +27,8 @@ fn expand_level<F: Frontier>(
     requires sound { F.sound frontier.old most }
     requires level { IsLevel (F.space frontier.old) from to most (F.expanded frontier.old)
         (F.nodes frontier.old) }
-    ensures space { F.space frontier.new ≡ F.space frontier.old }
+    ensures stays { Stays (F.space frontier.old) (F.held frontier.old) (F.space frontier.new)
+        (F.held frontier.new) }
     ensures count { F.expanded frontier.new ≤ to }
     ensures found { IfOk result (λ found. found ≡ option_map F.path
         (first_good (F.space frontier.old) (flat_map (F.space frontier.old).moves
@@ -56,7 +57,8 @@ pub fn search<F: Frontier>(
     requires sound { F.sound frontier.old budget }
     requires exact { IsExact (F.space frontier.old) }
     requires budget { 1 ≤ budget }
-    ensures space { F.space frontier.new ≡ F.space frontier.old }
+    ensures stays { Stays (F.space frontier.old) (F.held frontier.old) (F.space frontier.new)
+        (F.held frontier.new) }
     ensures answer { IfOk result (λ found. found ≡ answer_from (F.space frontier.old) F.path
         budget last 0) }
     ensures frugal { IfOk result (λ found. (depth : ℕ)

@@ -1,6 +1,8 @@
 -- A row that is expanded, and what it leads to.
-use Rattle.std.specs.Prelude.{◌≡◌, ℕ, Bool, false, Option, Some, List, ◌∷◌, [], ◌++◌, All, find, fold, map, slice_get}
+use Rattle.std.specs.Prelude.{◌≡◌, ℕ, Bool, false, Option, Some, None, List, ◌∷◌, [], ◌++◌, All, find, fold, length, map, slice_get}
+use Rattle.std.specs.List.{last_or}
 use Rattle.ps_ground.specs.Goals.{is_good}
+use Rattle.ps_ground.specs.Prepared.{IsSound}
 use Rattle.ps_ground.specs.States.{State}
 use Rattle.ps_ground.specs.declared.prepared.Prepared.{Prepared}
 use Rattle.ps_solve.specs.Queue.{IsQueue, Lead, leads_from, with_lead}
@@ -52,3 +54,14 @@ first_good e ls = find (λ l. meets_goal e.task.now l.state) ls
 -- the rows are a queue of which those before the one that is expanded are expanded
 abbrev pub IsNext : Expansion → List (Row × List ℕ) → Type 0
 IsNext e reached = IsQueue e.task.now.expert.now e.task.now.problem.now e.task.now.grounds.atoms e.task.now.grounds.actions.items (meets_goal e.task.now) e.most e.from (leads_of e.task.now reached)
+
+-- a ground action can be tried: it is sound, and this row has a flag for each atom
+pub record CanTry (e : Expansion) (action : Prepared) (next : Row) : Type 0 where
+  pub sound : IsSound e.task.now.grounds.atoms action
+  pub wide : length next.flags ≡ length e.task.now.grounds.atoms
+
+-- all can be tried: the row that is expanded is the next of the queue, this ground action led to it, and this row has a flag for each atom
+pub record CanTryAll (e : Expansion) (last : Option ℕ) (next : Row) (reached : List (Row × List ℕ)) : Type 0 where
+  pub led : last ≡ last_or None (places_of reached e.from)
+  pub queue : IsNext e reached
+  pub wide : length next.flags ≡ length e.task.now.grounds.atoms

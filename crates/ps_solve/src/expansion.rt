@@ -1,8 +1,7 @@
 //! A row that is expanded.
 ghost use Rattle.std.specs.Prelude.{◌≡◌, ◌∷◌, ◌++◌, [], None, false, true, length, option_map, IfOk, OnOk};
-ghost use Rattle.std.specs.List.{last_or, list_any};
-ghost use Rattle.ps_ground.specs.Prepared.{IsSound};
-ghost use Rattle.ps_solve.specs.Expansions.{IsExpanding, IsNext, all_led, first_good, kept, lead_to, leads_of, led_by, meets_goal};
+ghost use Rattle.std.specs.List.{list_any};
+ghost use Rattle.ps_solve.specs.Expansions.{CanTry, CanTryAll, IsExpanding, IsNext, all_led, first_good, kept, lead_to, leads_of, led_by, meets_goal};
 ghost use Rattle.ps_solve.specs.Queue.{acts_at, with_lead};
 ghost use Rattle.ps_solve.specs.Reached.{places_of};
 ghost use Rattle.ps_solve.specs.Rows.{plain_state};
@@ -66,8 +65,7 @@ impl<'a> Expansion<'a> {
         reached: &mut Reached,
     ) -> Result<bool, AllocError>
         requires expanding { IsExpanding self.now reached.old }
-        requires wide { length next.old.flags ≡ length self.now.task.now.grounds.atoms }
-        requires sound { IsSound self.now.task.now.grounds.atoms action.now }
+        requires able { CanTry self.now action.now next.old }
         ensures good { IfOk result (λ good. good
             ≡ list_any (λ l. meets_goal self.now.task.now l.state)
             (led_by self.now reached.old place (action.now ∷ []))) }
@@ -95,9 +93,7 @@ impl<'a> Expansion<'a> {
         reached: &mut Reached,
     ) -> Result<Option<u32>, AllocError>
         requires expanding { IsExpanding self.now reached.old }
-        requires last { last ≡ last_or None (places_of reached.old self.now.from) }
-        requires next { IsNext self.now reached.old }
-        requires wide { length next.old.flags ≡ length self.now.task.now.grounds.atoms }
+        requires able { CanTryAll self.now last next.old reached.old }
         ensures found { IfOk result (λ place.
             option_map (λ i. places_of reached.old self.now.from ++ i ∷ []) place
             ≡ option_map (λ l. l.places) (first_good self.now (all_led self.now reached.old))) }

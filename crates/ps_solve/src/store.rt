@@ -42,12 +42,15 @@ impl<'a> Frontier for Rows<'a> {
     ghost use Rattle.ps_ground.specs.Moves.{Node as NodeView};
     ghost use Rattle.ps_ground.specs.States.{State as StateView};
     ghost use Rattle.ps_solve.specs.Stores.{IsStore, nodes_in, space_of};
+    ghost use Rattle.ps_solve.specs.declared.task.Task.{Task as TaskView};
 
     type Path = Seq<Act>;
 
     ghost Node = { NodeView };
 
     ghost State = { StateView };
+
+    ghost Held = { TaskView };
 
     ghost path = { λ n. n.path };
 
@@ -56,6 +59,8 @@ impl<'a> Frontier for Rows<'a> {
     ghost nodes = { λ r. nodes_in r.task.now r.reached };
 
     ghost expanded = { λ r. r.expanded };
+
+    ghost held = { λ r. r.task.now };
 
     ghost sound = { λ r most. IsStore r.task.now most r.expanded r.reached };
 

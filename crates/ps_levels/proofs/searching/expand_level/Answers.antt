@@ -44,7 +44,8 @@ loop-place-preserved g c =
     ∙ ap (λ l. take c.args.most (nodes ++ fresh p nodes (moves l))) (sym first.1) in
     let count = length-take c.args.most (nodes ++ fresh p nodes (p.moves n)) in
     record {
-      space = c.expand.ensures.space ∙ inv.space;
+      space = c.expand.ensures.stays.space ∙ inv.space;
+      held = c.expand.ensures.stays.held ∙ inv.held;
       expanded = omega (arith, c.expand.ensures.count, inv.expanded);
       same = ap (take c.args.to) is_new ∙ stay c.args.to c.args.most old nodes (fresh p nodes (p.moves n)) inv.same c.requires.level.count c.requires.level.room;
       short = omega (arith, ap length is_new, count);

@@ -10,6 +10,7 @@ invariant-loop-place g l =
     let nodes = g.F.Frontier.nodes l.frontier in
     record {
       space : g.F.Frontier.space l.frontier ≡ p;
+      held : g.F.Frontier.held l.frontier ≡ g.F.Frontier.held l.initial.frontier;
       expanded : g.F.Frontier.expanded l.frontier ≡ l._place;
       same : take l.to nodes ≡ old;
       short : length nodes ≤ l.most;

@@ -74,7 +74,8 @@ loop-depth-preserved g c =
     let P : ℕ → ℕ → Type 0 = λ m d. IsAt p c.args.budget m d new in
     let Q : ℕ → Type 0 = λ m. answer_from p path c.args.budget (c.args.last - m) m ≡ answer_from p path c.args.budget c.args.last 0 in
     record {
-      space = c.expand_level.ensures.space ∙ inv.space;
+      space = c.expand_level.ensures.stays.space ∙ inv.space;
+      held = c.expand_level.ensures.stays.held ∙ inv.held;
       sound = c.in_ok-path-2.ensures.sound c.in_default-2.is;
       expanded = (c.in_ok-path-2.ensures.done c.in_default-2.is).done;
       here = subst (λ m. P m c.len-reached.result) next (subst (λ d. P (suc n) d) (sym c.len-reached.ensures) deeper);

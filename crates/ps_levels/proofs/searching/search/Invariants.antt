@@ -9,6 +9,7 @@ invariant-loop-depth g l =
     let p = g.F.Frontier.space l.initial.frontier in
     record {
       space : g.F.Frontier.space l.frontier ≡ p;
+      held : g.F.Frontier.held l.frontier ≡ g.F.Frontier.held l.initial.frontier;
       expanded : g.F.Frontier.expanded l.frontier ≡ l.done;
       sound : g.F.Frontier.sound l.frontier l.budget;
       here : IsAt p l.budget l.depth l.done (g.F.Frontier.nodes l.frontier);

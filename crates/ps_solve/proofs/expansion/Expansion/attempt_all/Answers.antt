@@ -8,8 +8,8 @@ use Rattle.ps_solve.proofs.expansion.Expansion.attempt_all.Goals as goal
 
 pub loop-i-init : goal.loop-i-init
 loop-i-init c = record {
-  tried = begins c.args.self.now c.args.reached.now c.args.last c.requires.expanding c.requires.next c.requires.last;
-  wide = c.requires.wide;
+  tried = begins c.args.self.now c.args.reached.now c.args.last c.requires.expanding c.requires.able.queue c.requires.able.led;
+  wide = c.requires.able.wide;
 }
 
 pub loop-i-preserved-then-is_pruned : goal.loop-i-preserved-then-is_pruned
@@ -26,14 +26,17 @@ loop-i-preserved-then-is_pruned c =
       wide = c.loop-i.invariant.wide;
     }
 
-pub attempt-requires-clause-sound : goal.attempt-requires-clause-sound
-attempt-requires-clause-sound c =
+pub attempt-requires-clause-able : goal.attempt-requires-clause-able
+attempt-requires-clause-able c =
     let t = c.args.self.now.task.now in
     let xs = c.as_slice-actions.result.now in
     let i = c.loop-i.i in
     let q = c.index-actions-i.result in
     let within : i < length xs = omega (arith, c.loop-i-test.true) in
-    sound_there t.grounds.atoms i t.grounds.actions.items q (there_at xs t.grounds.actions.items i q c.as_slice-actions.ensures.value within c.index-actions-i.is) t.prepared.grounded.sound
+    record {
+      sound = sound_there t.grounds.atoms i t.grounds.actions.items q (there_at xs t.grounds.actions.items i q c.as_slice-actions.ensures.value within c.index-actions-i.is) t.prepared.grounded.sound;
+      wide = c.loop-i.invariant.wide;
+    }
 
 pub loop-i-preserved : goal.loop-i-preserved
 loop-i-preserved c =
