@@ -1,3 +1,11 @@
-mod Known
-mod Joined
-mod Attempts
+pub mod Attempts
+pub mod Differing
+pub mod Joined
+pub mod Known
+pub mod Leading
+pub mod Reaching
+pub mod Standing
+pub mod Stepping
+pub mod Storing
+pub mod Trees
+pub mod Zipped

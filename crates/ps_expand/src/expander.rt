@@ -36,6 +36,13 @@ impl<'a> Expander<'a> {
         let listing = Listing::of(expert, problem)?;
         Ok(Expander { listing, count: 0 })
     }
+
+    /// How often it has expanded.
+    pub fn count(&self) -> u64
+        ensures { result ≡ self.now.count }
+    {
+        self.count
+    }
 }
 
 impl<'a> Expand for Expander<'a> {
