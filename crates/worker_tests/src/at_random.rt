@@ -124,6 +124,11 @@ fn texts(alloc: Global, dice: &mut Dice) -> Result<Texts, AllocError> {
     Ok(Texts { script, members })
 }
 
+/// The texts of a session that looks random.
+pub fn random_texts(alloc: Global, seed: u64) -> Result<Texts, AllocError> {
+    texts(alloc, &mut Dice { state: seed })
+}
+
 /// What came in sessions.
 #[derive(Clone, Copy)]
 struct Seen {
@@ -151,9 +156,8 @@ fn assert_session<R: Threads + Wait + Sync + Abort>(
     workers: u32,
     seen: &mut Seen,
 ) -> Result<(), Fail> {
-    let mut dice = Dice { state: seed };
-    let texts = texts(alloc, &mut dice)?;
-    let Answer { status, out } = session(rt, alloc, &texts, workers, &NoGate)?;
+    let texts = random_texts(alloc, seed)?;
+    let Answer { status, out, .. } = session(rt, alloc, &texts, workers, &NoGate)?;
     let journal = out.as_str();
     assert_eq!(rt; status, status_told(journal), "{seed}");
     let judged = replay(rt, alloc, &texts, journal)?;

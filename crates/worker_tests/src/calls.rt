@@ -15,6 +15,7 @@ use std::thread::Threads;
 pub struct Answer {
     pub status: u8,
     pub out: String,
+    pub err: String,
 }
 
 /// The script and the members of a session, each member by its name. The domain is `ROOMS`.
@@ -75,7 +76,8 @@ fn call<R: Threads + Wait + Sync, G: Gate + Sync>(
     let mut err = MemSink::new(alloc, usize::MAX);
     let status = plansys(rt, alloc, &words, files, &mut out, &mut err, gate);
     let out = str::from_utf8(out.bytes())?.to_string(alloc)?;
-    Ok(Answer { status, out })
+    let err = str::from_utf8(err.bytes())?.to_string(alloc)?;
+    Ok(Answer { status, out, err })
 }
 
 /// Does the session of these texts by so many workers.
@@ -87,6 +89,20 @@ pub fn session<R: Threads + Wait + Sync, G: Gate + Sync>(
     gate: &G,
 ) -> Result<Answer, Fail> {
     let mode = format!(in alloc; "session --workers {workers}")?;
+    let line = line_of(alloc, mode.as_str(), texts)?;
+    let mut files = files_of(alloc, texts, "")?;
+    call(rt, alloc, line.as_str(), &mut files, gate)
+}
+
+/// Does the session of these texts by so many workers, with reports.
+pub fn session_with_reports<R: Threads + Wait + Sync, G: Gate + Sync>(
+    rt: &R,
+    alloc: Global,
+    texts: &Texts,
+    workers: u32,
+    gate: &G,
+) -> Result<Answer, Fail> {
+    let mode = format!(in alloc; "session --reports --workers {workers}")?;
     let line = line_of(alloc, mode.as_str(), texts)?;
     let mut files = files_of(alloc, texts, "")?;
     call(rt, alloc, line.as_str(), &mut files, gate)

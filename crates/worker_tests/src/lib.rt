@@ -1,5 +1,5 @@
 //! Tests of sessions whose runs workers do, with threads: journals judged by replay, units of work and searches that go on at the same time,
-//! runs that stop where memory runs out.
+//! runs that stop where memory runs out; reports, held against journals.
 #![tactic(auto)]
 
 #[cfg(test)]
@@ -8,6 +8,8 @@ mod at_random;
 mod calls;
 #[cfg(test)]
 mod meeting;
+#[cfg(test)]
+mod reports;
 #[cfg(test)]
 mod runs;
 #[cfg(test)]
