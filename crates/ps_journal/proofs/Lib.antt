@@ -1,4 +1,5 @@
 pub mod HeadTexts
 pub mod InOrder
+pub mod KnownLines
 pub mod NameLines
 pub mod ReplyLines

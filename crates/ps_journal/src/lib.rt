@@ -12,4 +12,4 @@ mod replies;
 pub use entries::print_entry;
 pub use heads::{push_head, push_settings};
 pub use printed::{Printed, name_text, push_after, push_number};
-pub use replies::{Told, entry_text};
+pub use replies::{Told, entry_text, push_known, push_replies};

@@ -9,7 +9,7 @@ ghost use Rattle.ps_machine.specs.declared.journal.Entry.{Entry as EntryView};
 ghost use Rattle.ps_machine.specs.declared.journal.Event.TheVariants as event;
 ghost use Rattle.ps_rules.specs.Known.{know};
 ghost use Rattle.ps_rules.specs.Journal.{answer_lines, entry_text, reply_mark, reply_text};
-ghost use Rattle.ps_journal.specs.Told.{IsTold};
+ghost use Rattle.ps_journal.specs.Told.{IsTold, known_lines};
 
 use super::known::{push_goal, push_in_order};
 use super::printed::{Printed, push_after};
@@ -80,6 +80,26 @@ fn push_answer(
         → OnOk result (out.new.items ≡ out.old.items
         ++ reply_text (answer_lines names.now i es query.now)) }
 {
+    match query {
+        Query::Plan => push_replies(told.steps.as_slice(), names, out),
+        Query::Tree => push_indented(alloc, told.tree.as_slice(), out),
+        known => push_known(alloc, names, expert, problem, known, out),
+    }
+}
+
+/// Adds the lines that answer a query of what is declared or known; none of a plan or a tree. A name that the table hasn't is printed as
+/// nothing.
+pub fn push_known(
+    alloc: Global,
+    names: &Names,
+    expert: &Expert,
+    problem: &Problem,
+    query: &Query,
+    out: &mut Vec<u8>,
+) -> Result<(), AllocError>
+    ensures { OnOk result (out.new.items ≡ out.old.items
+        ++ reply_text (known_lines names.now expert.now problem.now query.now)) }
+{
     let domain = expert.domain();
     match query {
         Query::ModelTypes => push_types(domain.types.as_slice(), names, out),
@@ -95,8 +115,7 @@ fn push_answer(
         Query::ProblemPredicates => push_in_order(alloc, problem.facts()?.as_slice(), names, out),
         Query::ProblemFunctions => push_in_order(alloc, problem.values()?.as_slice(), names, out),
         Query::ProblemGoal => push_goal(alloc, problem.goal(), names, out),
-        Query::Plan => push_replies(told.steps.as_slice(), names, out),
-        Query::Tree => push_indented(alloc, told.tree.as_slice(), out),
+        Query::Plan | Query::Tree => Ok(()),
     }
 }
 
@@ -122,7 +141,7 @@ fn push_reply_of<T: Printed>(value: &T, names: &Names, out: &mut Vec<u8>) -> Res
 }
 
 /// Adds the texts of values, each as a reply.
-fn push_replies<T: Printed>(
+pub fn push_replies<T: Printed>(
     values: &[T],
     names: &Names,
     out: &mut Vec<u8>,
