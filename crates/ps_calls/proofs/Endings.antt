@@ -1,13 +1,14 @@
 -- What follows for the status of a call, by the ways in which it can end.
-use Rattle.std.proofs.Common.{◌≡◌, ◌≢◌, ℕ, ◌≤◌, ◌⊎◌, Option, Some, None, Ok, Err, List, [], ◌∷◌, inl, inr, refl, sym, ap, ◌∙◌, subst, arith}
+use Rattle.std.proofs.Common.{◌≡◌, ◌≢◌, ℕ, ◌≤◌, ◌⊎◌, Bool, true, false, if◌then◌else◌, Option, Some, None, Ok, Err, List, [], ◌∷◌, inl, inr, refl, sym, ap, ◌∙◌, subst, arith}
+use Rattle.std.specs.List.{list_any}
 use Rattle.ps_world.specs.declared.failures.Failure.TheVariants as failure
 use Rattle.ps_action.proofs.ArcTables.{true_false}
 use Rattle.ps_text.specs.Outside.{FilesView, Puts, SinkView, next}
 use Rattle.ps_validate.specs.declared.verdicts.Invalid.{Invalid}
 use Rattle.ps_words.specs.Words.{Request, asked_of}
-use Rattle.ps_words.specs.Words.Request.{a_generation, a_session, a_check, a_validation, a_replay}
+use Rattle.ps_words.specs.Words.Request.{a_generation, a_session, a_check, a_validation, a_replay, an_editing}
 use Rattle.ps_inputs.specs.Faults.{IsDue, IsLoaded, failed_after, fault_status}
-use Rattle.ps_inputs.specs.Input.{HasFault, IsAsked, IsWork, Material, is_quiet, reading_of, texts_of}
+use Rattle.ps_inputs.specs.Input.{HasFault, IsAsked, IsWork, Material, is_judging, reading_of, texts_of}
 use Rattle.ps_inputs.specs.Reading.{MayFail, MayGive, MayReadNext, Reading}
 use Rattle.ps_inputs.specs.Reading.FileFault.{no_file, too_long, too_many}
 use Rattle.ps_inputs.specs.Reading.Reading.{gives, faulty, unknown}
@@ -16,6 +17,8 @@ use Rattle.ps_inputs.specs.declared.faults.Fault.TheVariants.{Usage, NoDomain, N
 use Rattle.ps_inputs.specs.declared.works.Session.{Session}
 use Rattle.ps_inputs.specs.declared.works.Work.{Work}
 use Rattle.ps_inputs.specs.declared.works.Work.TheVariants as work
+use Rattle.ps_editing.specs.Lines.{is_refused}
+use Rattle.ps_editing.specs.Runs.{Stage}
 use Rattle.ps_audit.specs.Findings.{finding_status}
 use Rattle.ps_audit.specs.declared.findings.Finding.{Finding}
 use Rattle.ps_audit.specs.declared.findings.Finding.TheVariants.{Legal, Illegal}
@@ -24,7 +27,7 @@ use Rattle.ps_calls.specs.Headline.Answers.{done, reported, at_fault, cannot_wri
 use Rattle.ps_calls.specs.Headline.Informs.{told, unwritten, starved, wordless}
 use Rattle.ps_calls.specs.Laws.{FailedReadsAreTold, FailedWritesAreTold, FaultsWriteNothing, FirstWordsDecide, IsBroken, IsOfFault, IsOfWork, IsStatusOf, IsToJudge, IsToRun, LeadsTo, asks_reports, ModesDecide, RefusedWritesAreTold, ReportsAreTold, StatusesAreFew, TellsReports, TextsDecide, UnreadIsCounted, UnwrittenIsCounted, WordsDecide, WorkIsDoneInSilence}
 use Rattle.ps_calls.specs.Verdicts.{verdict_status}
-use Rattle.ps_calls.proofs.Modes.{judging-quiet, running-loud}
+use Rattle.ps_calls.proofs.Modes.{judging-judged, running-unjudged}
 use Rattle.ps_calls.proofs.Statuses.{no_fault-broken, no_work-broken, no_work-fault, status-of_fault, status-informed, status-of_work, status-performed, status-reported}
 
 -- ---- failures
@@ -94,6 +97,7 @@ asked-reports (a_session s) (work.Session t) kind = sym kind
 asked-reports (a_check file) (work.Check names d) kind = refl
 asked-reports (a_validation domain script plan) (work.Validation v) kind = refl
 asked-reports (a_replay q) (work.Replay r) kind = refl
+asked-reports (an_editing domain script) (work.Editing e) kind = refl
 asked-reports (a_generation n) (work.Generation g) kind = refl
 asked-reports q w kind = absurd kind
 
@@ -357,19 +361,25 @@ not_one : (f : Finding) → finding_status f ≡ 1 → ⊥
 not_one Legal h = omega arith
 not_one (Illegal line) h = omega arith
 
--- work with the status 1 is a session or a generation
+-- work with the status 1 is a session, a generation or an editor's
 one-run : (o : Request) (w : Work) (status : ℕ) → IsAsked o w → IsStatusOf w status → status ≡ 1 → IsToRun o
 one-run (a_session s) (work.Session t) status kind h one = inl (s, refl)
-one-run (a_generation n) (work.Generation g) status kind h one = inr (n, refl)
+one-run (a_generation n) (work.Generation g) status kind h one = inr (inl (n, refl))
+one-run (an_editing domain script) (work.Editing e) status kind h one = inr (inr (domain, script, refl))
 one-run (a_check file) (work.Check names d) status kind h one = absurd (omega arith)
 one-run (a_validation domain script plan) (work.Validation v) status kind h one = absurd (no_one (verdict_of v).0 (sym h ∙ one))
 one-run (a_replay q) (work.Replay r) status kind h one = absurd (not_one h.0 (sym h.2 ∙ one))
 one-run o w status kind h one = absurd kind
 
+no_seven : (b : Bool) (n : ℕ) → n ≡ (if b then 1 else 0) → n ≡ 7 → ⊥
+no_seven true n e h = omega arith
+no_seven false n e h = omega arith
+
 -- work with the status 7 is a validation or a replay
 seven-judged : (o : Request) (w : Work) (status : ℕ) → IsAsked o w → IsStatusOf w status → status ≡ 7 → IsToJudge o
 seven-judged (a_session s) (work.Session t) status kind h seven = absurd (omega arith)
 seven-judged (a_generation n) (work.Generation g) status kind h seven = absurd (omega arith)
+seven-judged (an_editing domain script) (work.Editing e) status kind h seven = absurd (no_seven (list_any (λ (s : Stage). is_refused s.answer) h.0) status h.3 seven)
 seven-judged (a_check file) (work.Check names d) status kind h seven = absurd (omega arith)
 seven-judged (a_validation domain script plan) (work.Validation v) status kind h seven = inl (domain, script, plan, refl)
 seven-judged (a_replay q) (work.Replay r) status kind h seven = inr (q, refl)
@@ -417,8 +427,8 @@ modes_decide c _ (starved_before l o s) = ((λ h. absurd (omega arith)), (λ h. 
 pub first_words_decide : FirstWordsDecide
 first_words_decide c status h =
     let modes = modes_decide c status h in (
-      (λ quiet one. let is = modes.0 one in true_false (is_quiet c.words) quiet (running-loud c.words is.0 is.1 is.2)),
-      (λ loud seven. let is = modes.1 seven in true_false (is_quiet c.words) (judging-quiet c.words is.0 is.1 is.2) loud),
+      (λ judges one. let is = modes.0 one in true_false (is_judging c.words) judges (running-unjudged c.words is.0 is.1 is.2)),
+      (λ none seven. let is = modes.1 seven in true_false (is_judging c.words) (judging-judged c.words is.0 is.1 is.2) none),
     )
 
 -- ---- the greatest status

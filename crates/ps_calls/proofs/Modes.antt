@@ -2,11 +2,11 @@
 use Rattle.std.proofs.Common.{◌≡◌, ℕ, Bool, true, false, ◌||◌, Option, Some, None, IfSome, inl, inr, ap, ◌∙◌, option_map, option_and_then, List, [], ◌∷◌, codes, if◌then◌else◌, refl, sym, subst}
 use Rattle.ps_world.specs.Lines.{same_text}
 use Rattle.ps_world.proofs.SameTexts.{same_text-is}
-use Rattle.ps_words.specs.Words.{Request, SessionRequest, asked_by, asked_in, asked_of, budget_in, carts_in, check_app, check_of, gen_app, generation_of, journal_app, is_well_formed, mode_of, replans_in, replay_of, replay_with, rows_read, session_app, session_of, session_with, validate_app, validation_of, workers_in}
-use Rattle.ps_words.specs.Words.Request.{a_generation, a_session, a_check, a_validation, a_replay}
+use Rattle.ps_words.specs.Words.{Request, SessionRequest, asked_by, asked_in, asked_of, budget_in, carts_in, check_app, check_of, edit_app, editing_of, gen_app, generation_of, journal_app, is_well_formed, mode_of, replans_in, replay_of, replay_with, rows_read, session_app, session_of, session_with, validate_app, validation_of, workers_in}
+use Rattle.ps_words.specs.Words.Request.{a_generation, a_session, a_check, a_validation, a_replay, an_editing}
 use Rattle.ps_words.specs.declared.commands.Mode.{Mode}
 use Rattle.ps_words.specs.declared.commands.Mode.TheVariants as mode
-use Rattle.ps_inputs.specs.Input.{argument, is_quiet}
+use Rattle.ps_inputs.specs.Input.{argument, is_judging, is_quiet}
 use Rattle.ps_calls.specs.Laws.{IsToJudge, IsToRun}
 
 -- the first word is this one
@@ -24,6 +24,7 @@ mode_in (a_session s) = mode.Session
 mode_in (a_check domain) = mode.Check
 mode_in (a_validation domain script plan) = mode.Validate
 mode_in (a_replay q) = replay_mode q.migrates
+mode_in (an_editing domain script) = mode.Edit
 mode_in (a_generation n) = mode.Gen
 
 -- the word of a mode
@@ -33,6 +34,7 @@ word_of mode.Check = codes "check"
 word_of mode.Validate = codes "validate"
 word_of mode.Replay = codes "replay"
 word_of mode.Migrate = codes "migrate"
+word_of mode.Edit = codes "edit"
 word_of mode.Gen = codes "gen"
 
 -- what is made of something in a mode is of that mode
@@ -62,6 +64,7 @@ in-mode mode.Check words = made-mode check_of mode.Check (λ rows. refl) (rows_r
 in-mode mode.Validate words = made-mode validation_of mode.Validate (λ rows. refl) (rows_read validate_app words)
 in-mode mode.Replay words = journal-mode false (rows_read (journal_app (codes "replay")) words)
 in-mode mode.Migrate words = journal-mode true (rows_read (journal_app (codes "migrate")) words)
+in-mode mode.Edit words = made-mode editing_of mode.Edit (λ rows. refl) (rows_read edit_app words)
 in-mode mode.Gen words = next-mode generation_of mode.Gen (λ rows. made-mode a_generation mode.Gen (λ n. refl) (carts_in rows)) (rows_read gen_app words)
 
 -- the mode is one that this word names
@@ -72,8 +75,11 @@ IsNamed word o = IfSome o (λ m. same_text word (word_of m) ≡ true)
 abbrev gen_if : Bool → Option Mode
 gen_if b = if b then Some mode.Gen else None
 
+abbrev edit_if : List ℕ → Bool → Option Mode
+edit_if word b = if b then Some mode.Edit else gen_if (same_text word (codes "gen"))
+
 abbrev migrate_if : List ℕ → Bool → Option Mode
-migrate_if word b = if b then Some mode.Migrate else gen_if (same_text word (codes "gen"))
+migrate_if word b = if b then Some mode.Migrate else edit_if word (same_text word (codes "edit"))
 
 abbrev replay_if : List ℕ → Bool → Option Mode
 replay_if word b = if b then Some mode.Replay else migrate_if word (same_text word (codes "migrate"))
@@ -88,9 +94,13 @@ by-gen : (word : List ℕ) (b : Bool) → same_text word (codes "gen") ≡ b →
 by-gen word true is = is
 by-gen word false is = tt
 
+by-edit : (word : List ℕ) (b : Bool) → same_text word (codes "edit") ≡ b → IsNamed word (edit_if word b)
+by-edit word true is = is
+by-edit word false is = by-gen word (same_text word (codes "gen")) refl
+
 by-migrate : (word : List ℕ) (b : Bool) → same_text word (codes "migrate") ≡ b → IsNamed word (migrate_if word b)
 by-migrate word true is = is
-by-migrate word false is = by-gen word (same_text word (codes "gen")) refl
+by-migrate word false is = by-edit word (same_text word (codes "edit")) refl
 
 by-replay : (word : List ℕ) (b : Bool) → same_text word (codes "replay") ≡ b → IsNamed word (replay_if word b)
 by-replay word true is = is
@@ -132,11 +142,15 @@ first-word (first ∷ rest) = by-mode first (first ∷ rest) rest (mode_of first
 begins-asked : (ws : List (List ℕ)) (r : Request) → asked_of ws ≡ Some r → begins ws (word_of (mode_in r))
 begins-asked ws r e = subst (λ (o : Option Request). IfSome o (λ asked. begins ws (word_of (mode_in asked)))) e (first-word ws)
 
--- whether a word is that of a mode that always returns
-abbrev quiet : List ℕ → Bool
-quiet word =
+-- whether a word is that of a mode that judges a text
+abbrev judging : List ℕ → Bool
+judging word =
     same_text word (codes "check")
     || (same_text word (codes "validate") || (same_text word (codes "replay") || same_text word (codes "migrate")))
+
+-- whether it is that of a mode that always returns
+abbrev quiet : List ℕ → Bool
+quiet word = same_text word (codes "edit") || judging word
 
 loud-word : (word : List ℕ) → word ≡ codes "session" → quiet word ≡ false
 loud-word word e = subst (λ (w : List ℕ). quiet w ≡ false) (sym e) refl
@@ -144,12 +158,15 @@ loud-word word e = subst (λ (w : List ℕ). quiet w ≡ false) (sym e) refl
 loud-gen : (word : List ℕ) → word ≡ codes "gen" → quiet word ≡ false
 loud-gen word e = subst (λ (w : List ℕ). quiet w ≡ false) (sym e) refl
 
-quiet-validate : (word : List ℕ) → word ≡ codes "validate" → quiet word ≡ true
-quiet-validate word e = subst (λ (w : List ℕ). quiet w ≡ true) (sym e) refl
+judging-none : (word other : List ℕ) → judging other ≡ false → word ≡ other → judging word ≡ false
+judging-none word other none e = subst (λ (w : List ℕ). judging w ≡ false) (sym e) none
 
-quiet-replay : (word : List ℕ) (migrates : Bool) → word ≡ word_of (replay_mode migrates) → quiet word ≡ true
-quiet-replay word false e = subst (λ (w : List ℕ). quiet w ≡ true) (sym e) refl
-quiet-replay word true e = subst (λ (w : List ℕ). quiet w ≡ true) (sym e) refl
+judging-validate : (word : List ℕ) → word ≡ codes "validate" → judging word ≡ true
+judging-validate word e = subst (λ (w : List ℕ). judging w ≡ true) (sym e) refl
+
+judging-replay : (word : List ℕ) (migrates : Bool) → word ≡ word_of (replay_mode migrates) → judging word ≡ true
+judging-replay word false e = subst (λ (w : List ℕ). judging w ≡ true) (sym e) refl
+judging-replay word true e = subst (λ (w : List ℕ). judging w ≡ true) (sym e) refl
 
 -- a session isn't asked for by the words of a mode that always returns
 pub session-loud : (ws : List (List ℕ)) (s : SessionRequest) → asked_of ws ≡ Some (a_session s) → is_quiet ws ≡ false
@@ -159,17 +176,24 @@ session-loud ws s e = loud-word (argument ws 0) (same_text-is (argument ws 0) (c
 pub generation-loud : (ws : List (List ℕ)) (n : ℕ) → asked_of ws ≡ Some (a_generation n) → is_quiet ws ≡ false
 generation-loud ws n e = loud-gen (argument ws 0) (same_text-is (argument ws 0) (codes "gen") (begins-asked ws (a_generation n) e))
 
--- so doing a session isn't
-pub running-loud : (ws : List (List ℕ)) (r : Request) → asked_of ws ≡ Some r → IsToRun r → is_quiet ws ≡ false
-running-loud ws r e (inl h) = session-loud ws h.0 (e ∙ ap Some h.1)
-running-loud ws r e (inr h) = generation-loud ws h.0 (e ∙ ap Some h.1)
+-- the words of a mode that judges a text don't ask for lines to be done
+pub running-unjudged : (ws : List (List ℕ)) (r : Request) → asked_of ws ≡ Some r → IsToRun r → is_judging ws ≡ false
+running-unjudged ws r e (inl h) =
+    let asked : asked_of ws ≡ Some (a_session h.0) = e ∙ ap Some h.1 in
+    judging-none (argument ws 0) (codes "session") refl (same_text-is (argument ws 0) (codes "session") (begins-asked ws (a_session h.0) asked))
+running-unjudged ws r e (inr (inl h)) =
+    let asked : asked_of ws ≡ Some (a_generation h.0) = e ∙ ap Some h.1 in
+    judging-none (argument ws 0) (codes "gen") refl (same_text-is (argument ws 0) (codes "gen") (begins-asked ws (a_generation h.0) asked))
+running-unjudged ws r e (inr (inr h)) =
+    let asked : asked_of ws ≡ Some (an_editing h.0 h.1) = e ∙ ap Some h.2 in
+    judging-none (argument ws 0) (codes "edit") refl (same_text-is (argument ws 0) (codes "edit") (begins-asked ws (an_editing h.0 h.1) asked))
 
--- judging a plan or a journal is
-pub judging-quiet : (ws : List (List ℕ)) (r : Request) → asked_of ws ≡ Some r → IsToJudge r → is_quiet ws ≡ true
-judging-quiet ws r e (inl h) =
+-- they ask for a plan or a journal to be judged
+pub judging-judged : (ws : List (List ℕ)) (r : Request) → asked_of ws ≡ Some r → IsToJudge r → is_judging ws ≡ true
+judging-judged ws r e (inl h) =
     let asked : asked_of ws ≡ Some (a_validation h.0 h.1 h.2) = e ∙ ap Some h.3 in
-    quiet-validate (argument ws 0) (same_text-is (argument ws 0) (codes "validate") (begins-asked ws (a_validation h.0 h.1 h.2) asked))
-judging-quiet ws r e (inr h) =
+    judging-validate (argument ws 0) (same_text-is (argument ws 0) (codes "validate") (begins-asked ws (a_validation h.0 h.1 h.2) asked))
+judging-judged ws r e (inr h) =
     let asked : asked_of ws ≡ Some (a_replay h.0) = e ∙ ap Some h.1 in
     let migrates = h.0.migrates in
-    quiet-replay (argument ws 0) migrates (same_text-is (argument ws 0) (word_of (replay_mode migrates)) (begins-asked ws (a_replay h.0) asked))
+    judging-replay (argument ws 0) migrates (same_text-is (argument ws 0) (word_of (replay_mode migrates)) (begins-asked ws (a_replay h.0) asked))

@@ -11,6 +11,8 @@ use Rattle.ps_text.specs.Outside.{Counts, CountsWork, Puts, SinkView}
 use Rattle.ps_text.specs.declared.sinks.SinkRefusal.{SinkRefusal}
 use Rattle.ps_text.specs.declared.sinks.SinkRefusal.TheVariants.{Failed, OutOfMemory}
 use Rattle.ps_validate.specs.declared.verdicts.Invalid.{Invalid}
+use Rattle.ps_editing.specs.Runs.{WritesRun}
+use Rattle.ps_inputs.specs.declared.works.Editing.{Editing}
 use Rattle.ps_inputs.specs.declared.works.Generation.{Generation}
 use Rattle.ps_inputs.specs.declared.works.Replay.{Replay}
 use Rattle.ps_inputs.specs.declared.works.Session.{Session}
@@ -21,7 +23,7 @@ use Rattle.ps_session.specs.Session.{IsJournal, Runs}
 use Rattle.ps_session.specs.declared.ways.Turns.TheVariants.{InOrder}
 use Rattle.ps_audit.specs.Findings.{finding_line, finding_status}
 use Rattle.ps_audit.specs.declared.findings.Finding.{Finding}
-use Rattle.ps_calls.specs.Headline.{CountsSession, IsFound, IsReply, Performs, WritesWithStatus, answer_line, turns_of, verdict_of}
+use Rattle.ps_calls.specs.Headline.{CountsSession, IsFound, IsReply, Performs, WritesWithStatus, answer_line, edit_lines, turns_of, verdict_of}
 use Rattle.ps_calls.specs.Verdicts.{verdict_line, verdict_status}
 
 -- ---- one text
@@ -69,6 +71,10 @@ found r f out old new (Err e) is reply w = record { done = tt; cut = inr (f, out
 -- memory ran out before the journal was judged
 pub unfound : (r : Replay) (start : SinkView) → Performs (work.Replay r) start start (Err OutOfMemory)
 unfound r start = record { done = tt; cut = inl (0, Appends-nil start.bytes); counted = refl }
+
+-- the lines of an editor were done
+pub prepared : (e : Editing) (old new : SinkView) (r : Result ℕ SinkRefusal) → WritesRun e.domain e.names (edit_lines e) old new r → Performs (work.Editing e) old new r
+prepared e old new r run = record { done = run.done; cut = run.cut; counted = run.counted }
 
 -- a session's input was run
 pub ran : (s : Session) (old new : SinkView) (r : Result ℕ SinkRefusal) → Runs (turns_of s) s.input s.names old new r → Performs (work.Session s) old new r

@@ -2,6 +2,8 @@
 use Rattle.std.proofs.Common.{◌≡◌, ℕ, ◌<◌, ◌⊎◌, Bool, true, false, if◌then◌else◌, Option, Some, None, List, Ok, inl, inr, refl, sym, subst, arith}
 use Rattle.std.specs.List.{list_any}
 use Rattle.ps_rules.specs.History.{is_mishap}
+use Rattle.ps_editing.specs.Lines.{is_refused}
+use Rattle.ps_editing.specs.Runs.{Stage}
 use Rattle.ps_text.specs.Outside.{SinkView}
 use Rattle.ps_validate.specs.declared.verdicts.Invalid.{Invalid}
 use Rattle.ps_inputs.specs.Faults.{fault_line, fault_status}
@@ -28,6 +30,7 @@ status-performed (work.Generation g) old new status p = subst (λ n. n < 2) (sym
 status-performed (work.Check names d) old new status p = p.done.0
 status-performed (work.Validation v) old new status p = p.done.0
 status-performed (work.Replay r) old new status p = (p.done.0, p.done.2, p.done.4)
+status-performed (work.Editing e) old new status p = (p.done.stages, p.done.last, p.done.run, p.done.is_status)
 
 verdict_of_work : (wrong : Option Invalid) → IsOfWork (verdict_status wrong)
 verdict_of_work None = inl (omega arith)
@@ -43,6 +46,7 @@ status-of_work (work.Generation g) status h = inl h
 status-of_work (work.Check names d) status h = inl (omega arith)
 status-of_work (work.Validation v) status h = subst IsOfWork (sym h) (verdict_of_work (verdict_of v).0)
 status-of_work (work.Replay r) status h = subst IsOfWork (sym h.2) (finding_of_work h.0)
+status-of_work (work.Editing e) status h = inl (subst (λ n. n < 2) (sym h.3) (flag_below (list_any (λ (s : Stage). is_refused s.answer) h.0)))
 
 -- a text is told with its own status, or telling it failed
 pub status-informed : (text : List ℕ) (done : ℕ) (old new : SinkView) (status : ℕ) → Informs text done old new status → (status ≡ done) ⊎ IsBroken status

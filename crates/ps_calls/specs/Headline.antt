@@ -16,6 +16,7 @@ use Rattle.ps_validate.specs.declared.verdicts.Invalid.{Invalid}
 use Rattle.ps_inputs.specs.Faults.{Loads, fault_line, fault_status}
 use Rattle.ps_inputs.specs.Input.{cannot_write_line, out_of_memory_line}
 use Rattle.ps_inputs.specs.declared.faults.Fault.{Fault}
+use Rattle.ps_inputs.specs.declared.works.Editing.{Editing}
 use Rattle.ps_inputs.specs.declared.works.Replay.{Replay}
 use Rattle.ps_inputs.specs.declared.works.Session.{Session}
 use Rattle.ps_inputs.specs.declared.works.Validation.{Validation}
@@ -32,6 +33,8 @@ use Rattle.ps_audit.specs.Findings.{Finds as FindsJournal, finding_status, IsAns
 use Rattle.ps_hub.specs.declared.report.Report.{Report}
 use Rattle.ps_report_lines.specs.Lines.{report_lines}
 use Rattle.ps_audit.specs.declared.findings.Finding.{Finding}
+use Rattle.ps_editing.specs.Lines.{EditLine, worded}
+use Rattle.ps_editing.specs.Runs.{IsEdited, IsEditedInPart}
 use Rattle.ps_calls.specs.Verdicts.{verdict_line, verdict_status}
 
 -- ---- doing the work
@@ -75,9 +78,13 @@ abbrev pub IsCountCut : Input → ℕ → Option (List ℕ) → Option (List ℕ
 IsCountCut i carts old new =
     AppendsPrefix old new [] ⊎ ((journal : List Entry) × IsJournal InOrder i journal × AppendsPrefix old new (summary_text carts journal))
 
+-- the lines of an editor, each with what it says to an editor alone
+abbrev pub edit_lines : Editing → List EditLine
+edit_lines e = worded e.lines.items e.words.items
+
 -- The work is done, with this status: a session writes the text of its journal, whose status it is, and a generation the counts of such a
 -- journal, with the status of that; a check writes the domain's canonical text, a validation the line that says what the plan is worth, a
--- replay the line that says what the journal is found to be, or a legal journal anew.
+-- replay the line that says what the journal is found to be, or a legal journal anew, and an editor the text of its run, whose status it is.
 abbrev pub IsWorkDone : Work → Option (List ℕ) → Option (List ℕ) → ℕ → Type 0
 IsWorkDone (work.Session s) old new status = IsDone (turns_of s) s.input s.names old new status
 IsWorkDone (work.Generation g) old new status = IsCountDone g.input g.carts old new status
@@ -86,9 +93,10 @@ IsWorkDone (work.Validation v) old new status =
     (status ≡ verdict_status (verdict_of v).0) × Appends old new (answer_line (verdict_of v))
 IsWorkDone (work.Replay r) old new status =
     (f : Finding) × (out : List ℕ) × IsFound r f × IsReply r f out × (status ≡ finding_status f) × Appends old new out
+IsWorkDone (work.Editing e) old new status = IsEdited e.domain e.names (edit_lines e) old new status
 
 -- The work is broken off: what it wrote is a prefix of the text of a beginning of a session's journal, of a journal's counts, of the domain's
--- text, or of the line of a plan or of a journal; before a journal is made that is counted, or it is found what a journal is, nothing is
+-- text, of the line of a plan or of a journal, or of the run of an editor's first lines; before a journal is made that is counted, or it is found what a journal is, nothing is
 -- written.
 abbrev pub IsWorkCut : Work → SinkView → SinkView → Type 0
 IsWorkCut (work.Session s) old new = IsCut (turns_of s) s.input s.names old new
@@ -97,6 +105,7 @@ IsWorkCut (work.Check names d) old new = AppendsPrefix old.bytes new.bytes (doma
 IsWorkCut (work.Validation v) old new = AppendsPrefix old.bytes new.bytes (answer_line (verdict_of v))
 IsWorkCut (work.Replay r) old new =
     AppendsPrefix old.bytes new.bytes [] ⊎ ((f : Finding) × (out : List ℕ) × IsFound r f × IsReply r f out × AppendsPrefix old.bytes new.bytes out)
+IsWorkCut (work.Editing e) old new = IsEditedInPart e.domain e.names (edit_lines e) old.bytes new.bytes
 
 -- Doing the work: it is done, with the status that is answered, or broken off, where a write was refused or memory ran out.
 pub record Performs (w : Work) (old new : SinkView) (r : Result ℕ SinkRefusal) : Type 0 where

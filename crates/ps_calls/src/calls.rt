@@ -20,8 +20,8 @@ use std::thread::Threads;
 ///
 /// | Status | Where |
 /// |---|---|
-/// | 0 | the session was done, no line was refused and each run succeeded; the domain was written in its canonical text; the plan is valid; the journal is legal |
-/// | 1 | the session was done, and a line was refused or a run failed |
+/// | 0 | the session was done, no line was refused and each run succeeded; the domain was written in its canonical text; the plan is valid; the journal is legal; the problem was prepared, and no line was refused |
+/// | 1 | the session was done, and a line was refused or a run failed; the problem was prepared, and a line was refused |
 /// | 2 | the words aren't in the grammar: a mode and its options, as `ps_words` reads them |
 /// | 3 | a file is too long, a script has too many lines, the domain's text is no domain, or the members are at fault |
 /// | 4 | a file can't be read |
@@ -127,7 +127,8 @@ fn report_session<R: Threads + Wait + Sync, O: Sink, E: Sink, G: Gate + Sync>(
     }
 }
 
-/// Does the modes that always return, `check`, `validate`, `replay` and `migrate`, and gives the exit status, which is never 1.
+/// Does the modes that always return, `check`, `validate`, `replay`, `migrate` and `edit`, and gives the exit status, which is 1 for `edit`
+/// alone.
 pub fn plansys_quiet<F: Files, O: Sink, E: Sink>(
     alloc: Global,
     words: &[String],

@@ -56,7 +56,7 @@ pub fn texts_decide()
     ensures { TextsDecide }
 {}
 
-/// The answer 1 comes only to a session or a generation, and 7 only to a plan or a journal that is judged.
+/// The answer 1 comes only to a session, a generation or an editor, and 7 only to a plan or a journal that is judged.
 pub fn modes_decide()
     ensures { ModesDecide }
 {}

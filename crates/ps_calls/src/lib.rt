@@ -1,4 +1,4 @@
-//! The top calls: a session, a check, a validation, a replay and a migration, from words and files to bytes and a status.
+//! The top calls: a session, a check, a validation, a replay, a migration and an editor, from words and files to bytes and a status.
 #![tactic(auto)]
 
 mod calls;

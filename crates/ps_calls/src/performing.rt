@@ -2,7 +2,7 @@
 ghost use Rattle.ps_world.specs.DomainTexts.{domain_text};
 ghost use Rattle.ps_text.specs.Names.{AreNames};
 ghost use Rattle.ps_audit.specs.Findings.{finding_status};
-ghost use Rattle.ps_inputs.specs.declared.works.Work.TheVariants.{Session as ASession, Generation as AGeneration, Validation as AValidation, Replay as AReplay};
+ghost use Rattle.ps_inputs.specs.declared.works.Work.TheVariants.{Session as ASession, Generation as AGeneration, Validation as AValidation, Replay as AReplay, Editing as AnEditing};
 ghost use Rattle.std.specs.Prelude.{◌≡◌};
 ghost use Rattle.ps_board.specs.Board.{nothing_done};
 ghost use Rattle.ps_gen.specs.Summary.{summary_text};
@@ -17,8 +17,9 @@ use super::verdicts::{verdict_line, verdict_status};
 use ps_audit::{Audited, audit, finding_status};
 use ps_board::Board;
 use ps_domain::Expert;
+use ps_editing::run_edits;
 use ps_gen::summary;
-use ps_inputs::{Generation, Replay, Session, Validation, Work};
+use ps_inputs::{Editing, Generation, Replay, Session, Validation, Work};
 use ps_machine::{Entry, Input, Line};
 use ps_pddl::print_domain;
 use ps_pool::Gate;
@@ -31,7 +32,8 @@ use std::alloc::{AllocError, Global};
 use std::sync::Wait;
 use std::thread::Threads;
 
-/// Does work that always returns, and gives its status: 0 for a check, 0 or 7 for a plan and for a journal.
+/// Does work that always returns, and gives its status: 0 for a check, 0 or 7 for a plan and for a journal, 0 or 1 for a problem that is
+/// prepared.
 pub fn perform_quiet<O: Sink>(alloc: Global, work: Work, out: &mut O) -> Result<u8, SinkRefusal>
     requires { IsQuiet work }
     ensures { Performs work (O.shown out.old) (O.shown out.new) result }
@@ -40,6 +42,7 @@ pub fn perform_quiet<O: Sink>(alloc: Global, work: Work, out: &mut O) -> Result<
         Work::Check { names, domain } => check(alloc, &names, &domain, out),
         Work::Validation(validation) => validate(alloc, validation, out),
         Work::Replay(replay) => do_replay(alloc, replay, out),
+        Work::Editing(editing) => do_edit(alloc, editing, out),
         Work::Session(_) | Work::Generation(_) => unreachable!(),
     }
 }
@@ -233,6 +236,27 @@ fn do_replay<O: Sink>(alloc: Global, replay: Replay, out: &mut O) -> Result<u8, 
         migrates,
     )?;
     write_audit(&audit, out)
+}
+
+/// Does the lines of an editor, and writes what comes of them. The status is 1 where a line was refused, else 0.
+fn do_edit<O: Sink>(alloc: Global, editing: Editing, out: &mut O) -> Result<u8, SinkRefusal>
+    ensures { Performs (AnEditing editing) (O.shown out.old) (O.shown out.new) result }
+{
+    let Editing {
+        names,
+        domain,
+        lines,
+        words,
+        ..
+    } = editing;
+    run_edits(
+        alloc,
+        &names,
+        domain,
+        lines.as_slice(),
+        words.as_slice(),
+        out,
+    )
 }
 
 /// Writes what is to be written for a journal. The status is 0 where it is legal, else 7.

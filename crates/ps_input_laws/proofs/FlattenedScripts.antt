@@ -10,7 +10,7 @@ use Rattle.ps_script.specs.Kinds.{IsKind}
 use Rattle.ps_script.specs.Lines.{is_nothing}
 use Rattle.ps_script.specs.declared.kinds.Kind.TheVariants.{Command}
 use Rattle.ps_words.specs.Words.{Request}
-use Rattle.ps_words.specs.Words.Request.{a_session, a_check, a_validation, a_replay, a_generation}
+use Rattle.ps_words.specs.Words.Request.{a_session, a_check, a_validation, a_replay, an_editing, a_generation}
 use Rattle.ps_inputs.specs.Flats.{Flat, Flattened, followed, is_quit, no_line, on_source, one_line, plan_line, script_in, source_line, step, walk, with_room}
 use Rattle.ps_inputs.specs.Flats.Flattened.{plain, with_plan, too_deep}
 use Rattle.ps_inputs.specs.Input.{InputTexts, Material, named_texts, reading_of, texts_in, texts_of}
@@ -173,6 +173,9 @@ request_commands texts (a_validation domain script plan) =
 request_commands texts (a_replay r) =
     given_then HasFew HasCommands (texts_in texts r.domain r.script r.members) _ (input_few texts r.domain r.script r.members) (λ input is.
     given_next HasCommands (read_file texts r.journal) _ (λ t. is.0))
+request_commands texts (an_editing domain script) =
+    given_next HasCommands (read_file texts domain) _ (λ d.
+    given_then (AreFew 0) HasCommands (script_in texts script) _ (script_few texts script) (λ flat is. is.0))
 request_commands texts (a_generation carts) = All-map IsCommandLine plain _ (script_commands carts)
 
 pub scripts_of_requests_are_commands : (texts : Texts) (request : Request) (used : List (List ℕ)) (m : Material) → reading_of texts request ≡ gives used m → All IsCommandLine (texts_of m).script

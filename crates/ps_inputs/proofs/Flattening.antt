@@ -1,9 +1,9 @@
 -- A script with its files, line by line.
-use Rattle.std.proofs.Common.{◌≡◌, ℕ, suc, ◌+◌, ◌<◌, ◌≤◌, inl, inr, Bool, true, false, if◌then◌else◌, nat_lt, None, Result, Ok, Err, List, [], ◌∷◌, ◌++◌, length, drop, get_or, slice_range, refl, sym, ap, ◌∙◌, subst, append_assoc, arith}
+use Rattle.std.proofs.Common.{◌≡◌, ℕ, suc, ◌+◌, ◌<◌, ◌≤◌, inl, inr, Bool, true, false, if◌then◌else◌, nat_lt, Option, None, Result, Ok, Err, List, [], ◌∷◌, ◌++◌, length, map, drop, get_or, slice_range, refl, sym, ap, ◌∙◌, subst, append_assoc, arith}
 use Rattle.std.proofs.Common.{drop-cons}
 use Rattle.std.proofs.Math.Seq.{drop-length}
 use Rattle.std.proofs.lemmas.Bool.Decides.{nat_tests}
-use Rattle.std.proofs.lemmas.List.{append-nil, length-append}
+use Rattle.std.proofs.lemmas.List.{append-nil, length-append, map-append}
 use Rattle.std.specs.Global.{Vec}
 use Rattle.ps_world.specs.Names.{Table}
 use Rattle.ps_world.specs.declared.failures.Failure.{Failure}
@@ -30,8 +30,10 @@ use Rattle.ps_inputs.specs.Reading.FileFault.{too_many}
 use Rattle.ps_inputs.specs.Reading.Reading.{gives, faulty}
 use Rattle.ps_inputs.specs.Flats.{Flat, Flattened, followed, is_quit, no_line, on_source, plain_line, plan_line, step, walk, with_room}
 use Rattle.ps_inputs.specs.Flats.Flattened.{plain, with_plan, too_deep}
-use Rattle.ps_inputs.specs.Scripts.{IsScript, given_by, plan_in}
+use Rattle.ps_edit_words.specs.Words.{edit_word}
+use Rattle.ps_inputs.specs.Scripts.{IsScript, given_by, plan_in, word_of}
 use Rattle.ps_inputs.specs.Scripts.IsScript.{nothing as no_script, one_more}
+use Rattle.ps_edit_words.specs.declared.words.EditWord.{EditWord}
 use Rattle.ps_inputs.specs.Faults.{ReadsPart}
 use Rattle.ps_inputs.specs.Parts.{Adds, HasRoom, IsAdded, IsPushed, Opens, PutsDeep, PutsPlain, PutsPlan, ReadsText, ReadsFileLine, Walks, WalksLines, count_of}
 use Rattle.ps_inputs.specs.declared.reading.scripts.Script.{Script}
@@ -116,14 +118,15 @@ more_few : (before after : Script) (new : List Line) → count_of before < most_
 more_few before after new lt e one = omega (arith, ap length e, length-append before.lines.items new, one)
 
 -- a command line is read
-pub plain_added : (bytes : List ℕ) (before after : Script) (ends : Bool) → ends ≡ is_quit bytes → count_of before < most_lines → IsPushed bytes before after → PutsPlain bytes before after (Ok ends)
-plain_added bytes before after ends e lt pushed files =
+pub plain_added : (bytes : List ℕ) (before after : Script) (ends : Bool) → ends ≡ is_quit bytes → count_of before < most_lines → IsPushed bytes before after → after.words.items ≡ before.words.items ++ edit_word bytes ∷ [] → PutsPlain bytes before after (Ok ends)
+plain_added bytes before after ends e lt pushed words files =
     let here = pushed.0 ∷ [] in
     let flat : Flat = record { lines = plain bytes ∷ []; ended = is_quit bytes } in
     let added : IsAdded before after flat ends = record {
       lines = here;
       read = one_more [] [] before.names (plain bytes) here after.names no_script (pushed.0, pushed.1, refl);
       added = pushed.2;
+      words = words;
       count = refl;
       few = more_few before after here lt pushed.2 refl;
       ends = sym e;
@@ -131,13 +134,14 @@ plain_added bytes before after ends e lt pushed files =
     room_read (count_of before) (gives [] flat) files files (Ok ends) lt (read_nothing files flat ends added)
 
 -- a line stands too deep
-pub deep_added : (before after : Script) → count_of before < most_lines → after.names ≡ before.names → after.lines.items ≡ before.lines.items ++ Bad Nest ∷ [] → PutsDeep before after (Ok false)
-deep_added before after lt same pushed files =
+pub deep_added : (before after : Script) → count_of before < most_lines → after.names ≡ before.names → after.lines.items ≡ before.lines.items ++ Bad Nest ∷ [] → after.words.items ≡ before.words.items ++ None ∷ [] → PutsDeep before after (Ok false)
+deep_added before after lt same pushed words files =
     let flat : Flat = record { lines = too_deep ∷ []; ended = false } in
     let added : IsAdded before after flat false = record {
       lines = Bad Nest ∷ [];
       read = one_more [] [] before.names too_deep (Bad Nest ∷ []) after.names no_script (refl, same);
       added = pushed;
+      words = words;
       count = refl;
       few = more_few before after (Bad Nest ∷ []) lt pushed refl;
       ends = refl;
@@ -150,8 +154,8 @@ deep_added before after lt same pushed files =
 abbrev with_its_plan : List ℕ → List ℕ → Reading Flat
 with_its_plan bytes plan = gives [] (record { lines = with_plan bytes plan ∷ []; ended = false })
 
-pub plan_added : (bytes file : List ℕ) (old new : FilesView) (before after : Script) (v : Vec ℕ) (r : Read) (between : Table) (plan : Result (List PlanStep) PlanTextRefusal) → is_nothing bytes ≡ false → is_source bytes ≡ false → count_of before < most_lines → ReadsText file old new (Ok v) → IsRead before.names bytes r between → plan_in between v.items ≡ (plan, after.names) → after.lines.items ≡ before.lines.items ++ given_by (Good (RunPlanLine plan)) r → PutsPlan bytes file old new before after (Ok false)
-plan_added bytes file old new before after v r between plan something no_source lt text read names pushed =
+pub plan_added : (bytes file : List ℕ) (old new : FilesView) (before after : Script) (v : Vec ℕ) (r : Read) (between : Table) (plan : Result (List PlanStep) PlanTextRefusal) → is_nothing bytes ≡ false → is_source bytes ≡ false → count_of before < most_lines → ReadsText file old new (Ok v) → IsRead before.names bytes r between → plan_in between v.items ≡ (plan, after.names) → after.lines.items ≡ before.lines.items ++ given_by (Good (RunPlanLine plan)) r → after.words.items ≡ before.words.items ++ None ∷ [] → PutsPlan bytes file old new before after (Ok false)
+plan_added bytes file old new before after v r between plan something no_source lt text read names pushed words =
     let run = Good (RunPlanLine plan) in
     let here = given_by run r in
     let one : length here ≡ 1 = one_read run before.names bytes r between something no_source read in
@@ -161,6 +165,7 @@ plan_added bytes file old new before after v r between plan something no_source 
       read = one_more [] [] before.names (with_plan bytes t) here after.names no_script
           (r, between, read, ap (λ p. given_by (Good (RunPlanLine p.0)) r) (of t e), ap (λ p. p.1) (of t e));
       added = pushed;
+      words = words;
       count = one;
       few = more_few before after here lt pushed one;
       ends = refl;
@@ -196,7 +201,7 @@ opens_nothing levels file old new before after m why e h =
 
 -- no line is added
 pub none_added : (script : Script) → length script.lines.items ≤ most_lines → IsAdded script script no_line false
-none_added script few = record { lines = []; read = no_script; added = sym (append-nil script.lines.items); count = refl; few = few; ends = refl }
+none_added script few = record { lines = []; read = no_script; added = sym (append-nil script.lines.items); words = sym (append-nil script.words.items); count = refl; few = few; ends = refl }
 
 pub takes_nothing : (levels : ℕ) (bytes : List ℕ) (files : FilesView) (script : Script) → length script.lines.items ≤ most_lines → IsKind bytes Nothing → ReadsFileLine levels bytes files files script script (Ok false)
 takes_nothing levels bytes files script few is = rw is (read_nothing files no_line false (none_added script few))
@@ -221,6 +226,8 @@ added_after flat more first middle last b ended h g = record {
   lines = h.lines ++ g.lines;
   read = scripts_join first.names middle.names last.names flat.lines more.lines h.lines g.lines h.read g.read;
   added = g.added ∙ ap (λ (x : List Line). x ++ g.lines) h.added ∙ append_assoc first.lines.items h.lines g.lines;
+  words = g.words ∙ ap (λ (x : List (Option EditWord)). x ++ map word_of more.lines) h.words ∙ append_assoc first.words.items (map word_of flat.lines) (map word_of more.lines)
+      ∙ ap (λ (x : List (Option EditWord)). first.words.items ++ x) (sym (map-append word_of flat.lines more.lines));
   count = omega (arith, length-append h.lines g.lines, length-append flat.lines more.lines, h.count, g.count);
   few = g.few;
   ends = g.ends;

@@ -8,18 +8,20 @@ use Rattle.ps_text.specs.Outside.{FilesView}
 use Rattle.ps_world.specs.declared.domains.Domain.{Domain}
 use Rattle.ps_machine.specs.declared.inputs.Input.{Input}
 use Rattle.ps_machine.specs.declared.inputs.Line.{Line}
+use Rattle.ps_pddl.proofs.SoundReadings.{readings_are_well_formed}
+use Rattle.ps_problem.specs.WellKnown.{HasConstants}
 use Rattle.ps_words.specs.Words.{ReplayRequest, Request, SessionRequest}
-use Rattle.ps_words.specs.Words.Request.{a_session, a_check, a_validation, a_replay, a_generation}
+use Rattle.ps_words.specs.Words.Request.{a_session, a_check, a_validation, a_replay, an_editing, a_generation}
 use Rattle.ps_inputs.specs.Reading.{MayGive, Reading, Texts, and_then, read_file}
 use Rattle.ps_inputs.specs.Reading.Reading.{gives}
 use Rattle.ps_inputs.specs.Flats.{Flat, script_in}
 use Rattle.ps_inputs.specs.Scripts.{IsScript}
 use Rattle.ps_inputs.specs.Members.{AreAtFault, AreMembers, NamedText}
-use Rattle.ps_inputs.specs.Input.{GoesBy, HasBadMembers, InputTexts, IsBegun, IsDomain, IsInput, Material, domain_in, domain_text_of, generated, named_texts, reading_of, texts_in, texts_of}
+use Rattle.ps_inputs.specs.Input.{GoesBy, HasBadMembers, InputTexts, IsBegun, IsDomain, IsInput, Material, domain_in, domain_text_of, first_names, generated, named_texts, reading_of, texts_in, texts_of}
 use Rattle.ps_rules.specs.Heads.{Settings}
-use Rattle.ps_inputs.specs.Input.Material.{for_session, for_check, for_validation, for_replay, for_generation}
+use Rattle.ps_inputs.specs.Input.Material.{for_session, for_check, for_validation, for_replay, for_editing, for_generation}
 use Rattle.ps_inputs.specs.Faults.{ReadsPart}
-use Rattle.ps_inputs.specs.Parts.{Generates, IsAnswered, IsGenerated, IsJudged, IsJudgedAs, IsJudgedInput, IsScriptFrom, IsUnjudged, Joins, Judges, LoadsRequest, ReadsDomainFile, ReadsInput, ReadsMembers, ReadsScript, ReadsText, named}
+use Rattle.ps_inputs.specs.Parts.{Generates, IsAnswered, IsGenerated, IsJudged, IsJudgedAs, IsJudgedInput, IsScriptFrom, IsUnjudged, IsWordedFrom, Joins, Judges, LoadsRequest, ReadsDomainFile, ReadsInput, ReadsMembers, ReadsScript, ReadsText, named}
 use Rattle.ps_inputs.specs.declared.judging.Loaded.{Loaded}
 use Rattle.ps_inputs.specs.declared.reading.domains.Judged.{Judged}
 use Rattle.ps_inputs.specs.declared.reading.inputs.Unjudged.{Unjudged}
@@ -27,6 +29,7 @@ use Rattle.ps_inputs.specs.declared.reading.members.MemberText.{MemberText}
 use Rattle.ps_inputs.specs.declared.reading.scripts.Script.{Script}
 use Rattle.ps_inputs.specs.declared.faults.Fault.{Fault}
 use Rattle.ps_inputs.specs.declared.faults.Fault.TheVariants.{Usage, NoDomain, NoMember, Crowd, Twice, TooLong, Lines, Unread}
+use Rattle.ps_inputs.specs.declared.works.Editing.{Editing}
 use Rattle.ps_inputs.specs.declared.works.Generation.{Generation}
 use Rattle.ps_inputs.specs.declared.works.Replay.{Replay}
 use Rattle.ps_inputs.specs.declared.works.Session.{Session}
@@ -122,7 +125,7 @@ module _ (domain_file script_file : List ℕ) (member_files : List (List ℕ)) (
           then_read (read_file old.told domain_file) script_after old middle new j (Ok u) first
           (λ d is. then_read (script_in middle.told script_file) (λ t flat. members_after t d flat) middle later new script (Ok u) second
           (λ flat are. then_read (named_texts later.told member_files) (λ t members. input_of d flat members) later new new v (Ok u) h
-          (λ members same. read_nothing new (record { domain = d; script = flat.lines; members = members }) u (unjudged u d flat members names domain lines is are (ap (map named) kept ∙ same)))))
+          (λ members same. read_nothing new (record { domain = d; script = flat.lines; members = members }) u (unjudged u d flat members names domain lines is are.0 (ap (map named) kept ∙ same)))))
 
 -- ---- the input that texts are
 
@@ -368,3 +371,55 @@ module _ (carts : ℕ) (u : Unjudged) (is : IsGenerated carts u) where
 -- memory runs out
 pub generation_starved : (carts : ℕ) → Generates carts (Err OutOfMemory)
 generation_starved carts files = out_of_memory (reading_of files.told (a_generation carts)) files files refl refl
+
+-- ---- a problem that is to be prepared
+
+-- a domain that was read has few constants, each of them once and of a declared type
+pub has_constants : (text : List ℕ) (d : Domain) (names : Table) → IsDomain text d names → HasConstants d
+has_constants text d names is =
+    let constants = (readings_are_well_formed first_names text d names is).constants in
+    record { few = constants.few; apart = constants.apart; kinds = constants.kinds }
+
+module _ (domain_file script_file : List ℕ) (old : FilesView) where
+  -- what the script's text gives
+  abbrev editing_of : List ℕ → Flat → Reading Material
+  editing_of d flat = gives [] (for_editing d flat.lines)
+
+  abbrev editing_after : Texts → List ℕ → Reading Material
+  editing_after t d = and_then (script_in t script_file) (editing_of d)
+
+  pub editing_undomained : (new : FilesView) (why : Failure Fault) → ReadsDomainFile domain_file old new (Err why) → LoadsRequest (an_editing domain_file script_file) old new (Err why)
+  unfolding reading_of
+  editing_undomained new why h = then_ended (read_file old.told domain_file) (editing_after old.told) old new why h
+
+  module _ (middle : FilesView) (j : Judged) (first : ReadsDomainFile domain_file old middle (Ok j)) where
+    pub editing_unscripted : (new : FilesView) (why : Failure Fault) → ReadsScript j.names script_file middle new (Err why) → LoadsRequest (an_editing domain_file script_file) old new (Err why)
+    unfolding reading_of
+    editing_unscripted new why h =
+        then_read (read_file old.told domain_file) editing_after old middle new j (Err why) first (λ d is. then_ended (script_in middle.told script_file) (editing_of d) middle new why h)
+
+    module _ (new : FilesView) (script : Script) (second : ReadsScript j.names script_file middle new (Ok script)) where
+      editing_read : (r : Result Work Fault) → ((d : List ℕ) (flat : Flat) → IsJudged d j → IsWordedFrom j.names flat.lines script → IsAnswered old.told (an_editing domain_file script_file) (for_editing d flat.lines) r) → LoadsRequest (an_editing domain_file script_file) old new (Ok r)
+      unfolding reading_of
+      editing_read r f =
+          then_read (read_file old.told domain_file) editing_after old middle new j (Ok r) first
+          (λ d is. then_read (script_in middle.told script_file) (λ t flat. editing_of d flat) middle new new script (Ok r) second
+          (λ flat are. read_nothing new (for_editing d flat.lines) r (f d flat is are)))
+
+      pub editing_good : (d : Domain) → j.domain ≡ Ok d → (e : Editing) → e.names ≡ script.names → e.domain ≡ d → e.lines.items ≡ script.lines.items → e.words.items ≡ script.words.items → LoadsRequest (an_editing domain_file script_file) old new (Ok (Ok (work.Editing e)))
+      editing_good d good e names same lines words =
+          editing_read (Ok (work.Editing e))
+          (λ text flat is are. (
+            tt,
+            record {
+              between = j.names;
+              read = subst (λ (x : Domain). IsDomain text x j.names) (sym same) (judged_domain text j d good is);
+              lines = subst (λ (t : Table). IsScript j.names flat.lines e.lines.items t) (sym names) (subst (λ (ls : List Line). IsScript j.names flat.lines ls script.names) (sym lines) are.0.read);
+              words = words ∙ are.1;
+            },
+          ))
+
+      pub editing_bad : (fault : Fault) → j.domain ≡ Err fault → LoadsRequest (an_editing domain_file script_file) old new (Ok (Err fault))
+      editing_bad fault bad =
+          editing_read (Err fault)
+          (λ text flat is are. judged_fault old.told j.names (an_editing domain_file script_file) (for_editing text flat.lines) fault (subst (IsJudgedAs text j.names) bad is) (told_judged domain_file old middle j (Err fault) bad first))

@@ -6,7 +6,7 @@ use Rattle.ps_world.specs.declared.domains.Domain.{Domain}
 use Rattle.ps_machine.specs.declared.inputs.Input.{Input}
 use Rattle.ps_machine.specs.declared.inputs.Line.{Line}
 use Rattle.ps_words.specs.Words.{Request, SessionRequest}
-use Rattle.ps_words.specs.Words.Request.{a_session, a_check, a_validation, a_replay, a_generation}
+use Rattle.ps_words.specs.Words.Request.{a_session, a_check, a_validation, a_replay, an_editing, a_generation}
 use Rattle.ps_rules.specs.Heads.{Settings}
 use Rattle.ps_entries.specs.Journals.{HasSettings}
 use Rattle.ps_gen.specs.Texts as generator
@@ -17,12 +17,13 @@ use Rattle.ps_inputs.specs.Reading.{Reading, Texts, and_then, read_file}
 use Rattle.ps_inputs.specs.Reading.Reading.{gives}
 use Rattle.ps_inputs.specs.Flats.{Flattened, script_in}
 use Rattle.ps_inputs.specs.Flats.Flattened.{plain}
-use Rattle.ps_inputs.specs.Scripts.{IsScript}
+use Rattle.ps_inputs.specs.Scripts.{IsScript, word_of}
 use Rattle.ps_inputs.specs.Members.{AreAtFault, AreMembers, NamedText, first_repeated, is_crowd}
 use Rattle.ps_inputs.specs.declared.faults.Fault.{Fault}
 use Rattle.ps_inputs.specs.declared.faults.Fault.TheVariants.{NoDomain}
+use Rattle.ps_inputs.specs.declared.works.Editing.{Editing as EditingWork}
 use Rattle.ps_inputs.specs.declared.works.Work.{Work}
-use Rattle.ps_inputs.specs.declared.works.Work.TheVariants.{Session, Check, Validation, Replay, Generation}
+use Rattle.ps_inputs.specs.declared.works.Work.TheVariants.{Session, Check, Validation, Replay, Editing, Generation}
 
 -- ---- the texts
 
@@ -34,12 +35,14 @@ pub record InputTexts : Type 0 where
 
 -- What the files of a request hold: for a session what is asked for and its input's texts; for a check the domain's text; for a plan to be
 -- validated an input's texts and the text of the plan; for a replay its budget and how often a plan may be made anew, an input's texts and
--- the text of the journal; for a generation, which has no files, how many carts there are.
+-- the text of the journal; for a problem that is to be prepared the domain's text and the script's command lines; for a generation, which
+-- has no files, how many carts there are.
 pub data Material : Type 0 where
   for_session : SessionRequest → InputTexts → Material
   for_check : List ℕ → Material
   for_validation : InputTexts → List ℕ → Material
   for_replay : ℕ → ℕ → InputTexts → List ℕ → Material
+  for_editing : List ℕ → List Flattened → Material
   for_generation : ℕ → Material
 
 -- the generator's members
@@ -88,6 +91,10 @@ reading_of texts (a_replay r) =
     and_then (texts_in texts r.domain r.script r.members) (λ input.
     and_then (read_file texts r.journal) (λ journal.
     gives [] (for_replay r.budget r.replans input journal)))
+reading_of texts (an_editing domain_file script_file) =
+    and_then (read_file texts domain_file) (λ domain.
+    and_then (script_in texts script_file) (λ script.
+    gives [] (for_editing domain script.lines)))
 reading_of texts (a_generation carts) = gives [] (for_generation carts)
 
 -- reading the text of the domain alone: its file, or the generator's text
@@ -96,14 +103,16 @@ domain_in texts (a_session s) = read_file texts s.domain
 domain_in texts (a_check file) = read_file texts file
 domain_in texts (a_validation domain script plan) = read_file texts domain
 domain_in texts (a_replay r) = read_file texts r.domain
+domain_in texts (an_editing domain script) = read_file texts domain
 domain_in texts (a_generation carts) = gives [] generator.domain_text
 
--- the texts of the input; a check has that of the domain alone
+-- the texts of the input; a check has that of the domain alone, and a problem that is to be prepared has no members
 abbrev pub texts_of : Material → InputTexts
 texts_of (for_session asked input) = input
 texts_of (for_check domain) = record { domain = domain; script = []; members = [] }
 texts_of (for_validation input plan) = input
 texts_of (for_replay budget replans input journal) = input
+texts_of (for_editing domain script) = record { domain = domain; script = script; members = [] }
 texts_of (for_generation carts) = generated carts
 
 -- the text of the domain
@@ -134,6 +143,14 @@ pub record IsInput (budget replans : ℕ) (texts : InputTexts) (i : Input) (name
   pub bounded : i.budget ≡ budget
   pub renewed : i.replans ≡ replans
 
+-- Texts are read as the domain and the lines of a problem that is to be prepared, with the table after them, and with what each line
+-- says to an editor alone.
+pub record IsPrepared (domain : List ℕ) (script : List Flattened) (e : EditingWork) : Type 0 where
+  pub between : Table
+  pub read : IsDomain domain e.domain between
+  pub lines : IsScript between script e.lines.items e.names
+  pub words : e.words.items ≡ map word_of script
+
 -- how many states a search may reach where the words don't say
 abbrev pub usual_budget : ℕ
 usual_budget = 20000
@@ -155,6 +172,7 @@ IsWork (for_check domain) (Check names d) = IsDomain domain d names
 IsWork (for_validation input plan) (Validation v) = IsInput 0 0 input v.input v.names × (v.plan.items ≡ plan)
 IsWork (for_replay budget replans input journal) (Replay r) =
     ((s : Settings) × GoesBy (budget, replans) journal s × IsInput s.0 s.1 input r.input r.names) × (r.journal.items ≡ journal)
+IsWork (for_editing domain script) (Editing e) = IsPrepared domain script e
 IsWork (for_generation carts) (Generation g) =
     IsInput usual_budget usual_replans (generated carts) g.input g.names × (g.carts ≡ carts)
 IsWork m w = ⊥
@@ -166,6 +184,7 @@ IsAsked (a_session s) (Session t) = t.reports ≡ s.reports
 IsAsked (a_check file) (Check names d) = Unit {0}
 IsAsked (a_validation domain script plan) (Validation v) = Unit {0}
 IsAsked (a_replay r) (Replay w) = w.migrates ≡ r.migrates
+IsAsked (an_editing domain script) (Editing e) = Unit {0}
 IsAsked (a_generation carts) (Generation g) = g.carts ≡ carts
 IsAsked r w = ⊥
 
@@ -242,9 +261,13 @@ HasFault texts fault = HasBadMembers texts fault
 abbrev pub argument : List (List ℕ) → ℕ → List ℕ
 argument ws i = slice_index_or ws i []
 
--- whether the first word is that of a mode that always returns
-abbrev pub is_quiet : List (List ℕ) → Bool
-is_quiet ws =
+-- whether the first word is that of a mode that judges a text
+abbrev pub is_judging : List (List ℕ) → Bool
+is_judging ws =
     same_text (argument ws 0) (codes "check")
     || (same_text (argument ws 0) (codes "validate")
     || (same_text (argument ws 0) (codes "replay") || same_text (argument ws 0) (codes "migrate")))
+
+-- whether the first word is that of a mode that always returns
+abbrev pub is_quiet : List (List ℕ) → Bool
+is_quiet ws = same_text (argument ws 0) (codes "edit") || is_judging ws

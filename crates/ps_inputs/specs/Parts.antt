@@ -22,7 +22,7 @@ use Rattle.ps_inputs.specs.Reading.Reading.{gives}
 use Rattle.ps_inputs.specs.Members.{AreAtFault, AreMembers, IsNoMember, NamedText, first_repeated, is_crowd, member_cause}
 use Rattle.ps_inputs.specs.Flats.{Flat, Flattened, on_source, one_line, plain_line, plan_line, script_in, step, walk}
 use Rattle.ps_inputs.specs.Flats.Flattened.{plain, too_deep}
-use Rattle.ps_inputs.specs.Scripts.{IsScript}
+use Rattle.ps_inputs.specs.Scripts.{IsScript, word_of}
 use Rattle.ps_inputs.specs.Input.{HasBadMembers, InputTexts, IsAsked, IsDomain, IsInput, IsNoDomain, IsWork, Material, domain_in, domain_text_of, generated, named_texts, reading_of, texts_in, texts_of}
 use Rattle.ps_inputs.specs.Faults.{ReadsPart}
 use Rattle.ps_inputs.specs.declared.faults.Fault.{Fault}
@@ -63,12 +63,13 @@ HasRoom n (Ok u) = n < most_lines
 HasRoom n (Err (Refused Lines)) = most_lines ≤ n
 HasRoom n (Err failure) = ⊥
 
--- Command lines were read after the lines before them: each is one line more, there are not too many, and the answer is whether the last
--- of them ends the script.
+-- Command lines were read after the lines before them: each is one line more, with what it says to an editor alone, there are not too many, and
+-- the answer is whether the last of them ends the script.
 pub record IsAdded (before after : Script) (flat : Flat) (ended : Bool) : Type 0 where
   pub lines : List Line
   pub read : IsScript before.names flat.lines lines after.names
   pub added : after.lines.items ≡ before.lines.items ++ lines
+  pub words : after.words.items ≡ before.words.items ++ map word_of flat.lines
   pub count : length lines ≡ length flat.lines
   pub few : length after.lines.items ≤ most_lines
   pub ends : flat.ended ≡ ended
@@ -126,9 +127,13 @@ pub record IsScriptFrom (names : Table) (commands : List Flattened) (script : Sc
   pub read : IsScript names commands script.lines.items script.names
   pub few : length script.lines.items ≤ most_lines
 
+-- the same, and what each of them says to an editor alone
+abbrev pub IsWordedFrom : Table → List Flattened → Script → Type 0
+IsWordedFrom names commands script = IsScriptFrom names commands script × (script.words.items ≡ map word_of commands)
+
 -- reading the script in a file
 abbrev pub ReadsScript : Table → List ℕ → FilesView → FilesView → Result Script (Failure Fault) → Type 0
-ReadsScript names file old new r = ReadsPart (script_in old.told file) old new (λ flat. IsScriptFrom names flat.lines) r
+ReadsScript names file old new r = ReadsPart (script_in old.told file) old new (λ flat. IsWordedFrom names flat.lines) r
 
 -- ---- members
 

@@ -1,4 +1,4 @@
--- That an input is sound is a proposition.
+-- That an input is sound is a proposition, and so is that a domain has few constants, each of them once.
 use Rattle.std.proofs.Common.{Option, Ok, Err, List}
 use Rattle.std.proofs.Props.{props}
 use Rattle.ps_world.specs.Trees.{CondTree, CondTrees, all_of, no, holds, same, compares, is_a, none, more}
@@ -6,6 +6,7 @@ use Rattle.ps_world.specs.declared.conditions.Cond.{Cond}
 use Rattle.ps_world.specs.declared.domains.Domain.{Domain}
 use Rattle.ps_world.specs.declared.edits.Edit.{Edit}
 use Rattle.ps_world.specs.declared.edits.Edit.TheVariants.{AddInstance, RemoveInstance, AddFact, RemoveFact, SetValue, RemoveValue, SetGoal, RemoveGoal}
+use Rattle.ps_problem.specs.WellKnown.{HasConstants}
 use Rattle.ps_machine.specs.declared.inputs.Command.TheVariants as command
 use Rattle.ps_machine.specs.declared.inputs.Input.{Input}
 use Rattle.ps_machine.specs.declared.inputs.Line.{Line}
@@ -72,3 +73,6 @@ sound-line-prop (Bad cause) = hlevel props
 
 pub sound_prop : (i : Input) → IsProp (IsSound i)
 sound_prop i = hlevel (props, performer-prop i.domain, observer-prop, sound-line-prop)
+
+pub constants_prop : (d : Domain) → IsProp (HasConstants d)
+constants_prop d = hlevel props

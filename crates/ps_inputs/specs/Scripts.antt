@@ -8,6 +8,8 @@ use Rattle.ps_machine.specs.declared.inputs.Command.TheVariants.{RunPlan}
 use Rattle.ps_plan.specs.PlanText.{plan_fault, planned, said_by}
 use Rattle.ps_action.specs.declared.acts.PlanStep.{PlanStep}
 use Rattle.ps_action.specs.declared.refusals.PlanTextRefusal.{PlanTextRefusal}
+use Rattle.ps_edit_words.specs.Words.{edit_word}
+use Rattle.ps_edit_words.specs.declared.words.EditWord.{EditWord}
 use Rattle.ps_script.specs.Lines.{IsRead}
 use Rattle.ps_script.specs.declared.reading.Read.{Read}
 use Rattle.ps_script.specs.declared.reading.Read.TheVariants as read
@@ -39,6 +41,12 @@ Adds table (with_plan bytes text) new after =
     (r : Read) × (between : Table) × IsRead table bytes r between
     × (new ≡ given_by (Good (RunPlan (plan_in between text).0)) r) × (after ≡ (plan_in between text).1)
 Adds table too_deep new after = (new ≡ Bad Nest ∷ []) × (after ≡ table)
+
+-- what a command line says to an editor alone, if it begins with a word that no session knows
+abbrev pub word_of : Flattened → Option EditWord
+word_of (plain bytes) = edit_word bytes
+word_of (with_plan bytes text) = None
+word_of too_deep = None
 
 -- These command lines, read one after another, are these lines of the terminal: the first is read with the first table, each
 -- other one with the table after the line before it, and the last table is that after the last line.

@@ -1,6 +1,6 @@
 //! Loading: the work that words and files give.
 ghost use Rattle.ps_words.specs.Words.{IsInRange, replay_said, said, settings_said};
-ghost use Rattle.ps_words.specs.Words.Request.{a_check, a_generation, a_replay, a_session, a_validation};
+ghost use Rattle.ps_words.specs.Words.Request.{a_check, a_generation, a_replay, a_session, a_validation, an_editing};
 ghost use Rattle.std.specs.Prelude.{IfOk};
 ghost use Rattle.ps_rules.specs.Heads.{AreSettings};
 ghost use Rattle.ps_inputs.specs.Faults.{Loads, word_texts};
@@ -9,8 +9,10 @@ ghost use Rattle.ps_inputs.specs.Parts.{Generates, LoadsRequest};
 
 use crate::faults::Fault;
 use crate::judging::{Loaded, judge};
-use crate::reading::{Judged, generate, read_domain_file, read_input, read_text};
-use crate::works::{Generation, Replay, Session, Validation, Work};
+use crate::reading::{
+    Judged, Script, generate, read_domain_file, read_input, read_script, read_text,
+};
+use crate::works::{Editing, Generation, Replay, Session, Validation, Work};
 use ps_entries::settings_in;
 use ps_text::Files;
 use ps_words::{Asked, ReplaySettings, Settings, read_words};
@@ -125,6 +127,34 @@ fn load_replay<'a, F: Files>(
     }
 }
 
+/// Reads the files of a problem that is to be prepared: the domain's, and the script's with the files that it names. A domain's text that
+/// is none is told after all files are read.
+fn load_editing<F: Files>(
+    alloc: Global,
+    domain: &str,
+    script: &str,
+    files: &mut F,
+) -> Result<Result<Work, Fault>, Failure<Fault>>
+    ensures { LoadsRequest (an_editing domain.now script.now) (F.shown files.old)
+        (F.shown files.new) result }
+{
+    let Judged { names, domain } = read_domain_file(alloc, domain, files)?;
+    let Script {
+        names,
+        lines,
+        words,
+    } = read_script(alloc, names, script, files)?;
+    match domain {
+        Ok(domain) => Ok(Ok(Work::Editing(Editing {
+            names,
+            domain,
+            lines,
+            words,
+        }))),
+        Err(fault) => Ok(Err(fault)),
+    }
+}
+
 /// Judges the generator's texts, for which no file is read.
 fn load_generation(alloc: Global, carts: u32) -> Result<Result<Work, Fault>, Failure<Fault>>
     requires { IsInRange (a_generation carts) }
@@ -160,6 +190,7 @@ fn load_asked<'a, F: Files>(
             plan,
         } => load_validation(alloc, domain, script, plan, files),
         Asked::Replay(settings) => load_replay(alloc, &settings, files),
+        Asked::Edit { domain, script } => load_editing(alloc, domain, script, files),
         Asked::Generate { carts } => load_generation(alloc, carts),
     }
 }

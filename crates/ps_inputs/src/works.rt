@@ -1,9 +1,11 @@
 //! The work that words and files give.
 ghost use Rattle.std.specs.Prelude.{◌<◌, ◌≤◌, ◌^◌, length};
 ghost use Rattle.ps_rules.specs.Sound.{IsSound};
-ghost use Rattle.ps_inputs.specs.Propositions.{sound_prop};
+ghost use Rattle.ps_problem.specs.WellKnown.{HasConstants};
+ghost use Rattle.ps_inputs.specs.Propositions.{constants_prop, sound_prop};
 
-use ps_machine::Input;
+use ps_edit_words::EditWord;
+use ps_machine::{Input, Line};
 use ps_text::Names;
 use ps_world::Domain;
 
@@ -46,6 +48,18 @@ pub struct Replay {
     ghost short: { length journal.items < 2 ^ 32 },
 }
 
+/// The lines of a script that prepares a problem over a domain, with the table of all of their names.
+#[derive(Drop)]
+pub struct Editing {
+    pub names: Names,
+    pub domain: Domain,
+    /// The command lines of the script, in order.
+    pub lines: Vec<Line>,
+    /// What each of them says to an editor alone, if it begins with a word that no session knows.
+    pub words: Vec<Option<EditWord>>,
+    ghost constants: { HasConstants domain } by { Prim.hlevel constants_prop },
+}
+
 /// A session of the generator's texts, of which a summary is told, with the table of all of its names.
 #[derive(Drop)]
 pub struct Generation {
@@ -67,6 +81,8 @@ pub enum Work {
     Validation(Validation),
     /// To judge a journal.
     Replay(Replay),
+    /// To prepare a problem.
+    Editing(Editing),
     /// To do the lines of the generator's script, and to sum up what came of it.
     Generation(Generation),
 }

@@ -4,10 +4,10 @@ use Rattle.std.specs.Option.{IfSome}
 use Rattle.std.proofs.lemmas.Bool.Decides.{nat_tests}
 use Rattle.clap.proofs.WalkLemmas.{both}
 use Rattle.clap.specs.Walk.{Row, Text, first_of}
-use Rattle.ps_words.specs.Words.{IsInRange, asked_in, budget_in, carts_in, check_app, check_of, gen_app, generation_of, journal_app, number_of, number_or, replans_in, replay_of, replay_with, rows_read, session_app, session_of, session_with, text_in, validate_app, validation_of, within, workers_in}
+use Rattle.ps_words.specs.Words.{IsInRange, asked_in, budget_in, carts_in, check_app, check_of, edit_app, editing_of, gen_app, generation_of, journal_app, number_of, number_or, replans_in, replay_of, replay_with, rows_read, session_app, session_of, session_with, text_in, validate_app, validation_of, within, workers_in}
 use Rattle.ps_words.specs.Words.Request.{a_generation}
 use Rattle.ps_words.specs.declared.commands.Mode.{Mode}
-use Rattle.ps_words.specs.declared.commands.Mode.TheVariants.{Session, Check, Validate, Replay, Migrate, Gen}
+use Rattle.ps_words.specs.declared.commands.Mode.TheVariants.{Session, Check, Validate, Replay, Migrate, Edit, Gen}
 
 -- a number that is found to be within a range is in it
 within-range : (low high m n : ℕ) → within low high m ≡ Some n → (low ≤ n) × (n ≤ high)
@@ -68,6 +68,10 @@ validation-range : (o : Option (List Row)) → IfSome (option_map validation_of 
 validation-range None = tt
 validation-range (Some rows) = tt
 
+editing-range : (o : Option (List Row)) → IfSome (option_map editing_of o) IsInRange
+editing-range None = tt
+editing-range (Some rows) = tt
+
 -- the number of carts, where it is in its range
 carts-range : (o : Option ℕ) → ((n : ℕ) → o ≡ Some n → (1 ≤ n) × (n ≤ 100)) → IfSome (option_map a_generation o) IsInRange
 carts-range None few = tt
@@ -84,4 +88,5 @@ asked_in_range Check words = check-range (rows_read check_app words)
 asked_in_range Validate words = validation-range (rows_read validate_app words)
 asked_in_range Replay words = replay-range false (rows_read (journal_app (codes "replay")) words)
 asked_in_range Migrate words = replay-range true (rows_read (journal_app (codes "migrate")) words)
+asked_in_range Edit words = editing-range (rows_read edit_app words)
 asked_in_range Gen words = generation-range (rows_read gen_app words)

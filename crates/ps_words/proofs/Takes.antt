@@ -5,7 +5,7 @@ use Rattle.clap.specs.Kinds.{IsAmong, Kinds}
 use Rattle.clap.specs.Walk.{Row}
 use Rattle.clap.specs.declared.error.kind.ErrorKind.{ErrorKind}
 use Rattle.clap.proofs.OnLiterals.{clap_on_literals}
-use Rattle.ps_words.specs.Words.{check_app, gen_app, journal_app, mode_app, session_app, unless_faulty, validate_app}
+use Rattle.ps_words.specs.Words.{check_app, edit_app, gen_app, journal_app, mode_app, session_app, unless_faulty, validate_app}
 use Rattle.ps_words.specs.declared.commands.Mode.{Mode}
 use Rattle.ps_words.specs.declared.commands.Mode.TheVariants as mode
 
@@ -44,6 +44,10 @@ pub migrate_simple : is_simple_and_free (journal_app (codes "migrate")) ≡ true
 unfolding journal_app clap_on_literals
 migrate_simple = refl
 
+pub edit_simple : is_simple_and_free edit_app ≡ true
+unfolding edit_app clap_on_literals
+edit_simple = refl
+
 pub gen_simple : is_simple_and_free gen_app ≡ true
 unfolding gen_app clap_on_literals
 gen_simple = refl
@@ -54,4 +58,5 @@ mode_simple mode.Check = check_simple
 mode_simple mode.Validate = validate_simple
 mode_simple mode.Replay = replay_simple
 mode_simple mode.Migrate = migrate_simple
+mode_simple mode.Edit = edit_simple
 mode_simple mode.Gen = gen_simple

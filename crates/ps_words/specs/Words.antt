@@ -11,7 +11,7 @@ use Rattle.clap.specs.Walk.{Row, Rule, Text, all_of, first_of}
 use Rattle.clap.specs.declared.builder.action.ArgAction.TheVariants.{Append, Set, SetTrue}
 use Rattle.ps_world.specs.Lines.{same_text}
 use Rattle.ps_words.specs.declared.asked.Asked.{Asked}
-use Rattle.ps_words.specs.declared.asked.Asked.TheVariants.{Session, Check, Validate, Replay, Generate}
+use Rattle.ps_words.specs.declared.asked.Asked.TheVariants.{Session, Check, Validate, Replay, Edit, Generate}
 use Rattle.ps_words.specs.declared.asked.ReplaySettings.{ReplaySettings}
 use Rattle.ps_words.specs.declared.asked.Settings.{Settings}
 use Rattle.ps_words.specs.declared.commands.Mode.{Mode}
@@ -52,6 +52,7 @@ pub data Request : Type 0 where
   a_check : Text → Request
   a_validation : Text → Text → Text → Request
   a_replay : ReplayRequest → Request
+  an_editing : Text → Text → Request
   a_generation : ℕ → Request
 
 -- the most workers
@@ -76,6 +77,7 @@ IsInRange (a_session s) = (1 ≤ s.workers) × (s.workers ≤ most_workers) × (
 IsInRange (a_check domain) = Unit {0}
 IsInRange (a_validation domain script plan) = Unit {0}
 IsInRange (a_replay r) = (1 ≤ r.budget) × (r.budget ≤ most_budget) × (r.replans ≤ most_replans)
+IsInRange (an_editing domain script) = Unit {0}
 IsInRange (a_generation carts) = (1 ≤ carts) × (carts ≤ most_carts)
 
 -- what these settings of a session say
@@ -109,6 +111,7 @@ said (Session settings) = a_session (settings_said settings)
 said (Check domain) = a_check domain.now
 said (Validate domain script plan) = a_validation domain.now script.now plan.now
 said (Replay settings) = a_replay (replay_said settings)
+said (Edit domain script) = an_editing domain.now script.now
 said (Generate carts) = a_generation carts
 
 -- ---- the form of the words after the mode
@@ -240,6 +243,10 @@ journal_app name = command_of name (
     option_rule (codes "domain") true ∷ option_rule (codes "script") true ∷ option_rule (codes "journal") true
     ∷ option_rule (codes "budget") false ∷ option_rule (codes "replans") false ∷ words_rule (codes "members") ∷ [])
 
+-- edit --domain F --script F
+unfoldable pub edit_app : App
+edit_app = command_of (codes "edit") (option_rule (codes "domain") true ∷ option_rule (codes "script") true ∷ [])
+
 -- gen N
 unfoldable pub gen_app : App
 gen_app = command_of (codes "gen") (word_rule (codes "carts") ∷ [])
@@ -251,6 +258,7 @@ mode_app mode.Check = check_app
 mode_app mode.Validate = validate_app
 mode_app mode.Replay = journal_app (codes "replay")
 mode_app mode.Migrate = journal_app (codes "migrate")
+mode_app mode.Edit = edit_app
 mode_app mode.Gen = gen_app
 
 -- what the words give for each option, where there is no fault in them
@@ -362,6 +370,10 @@ abbrev pub replay_of : Bool → List Row → Option Request
 replay_of migrates rows = option_and_then (λ budget. option_map (λ replans. replay_with migrates rows budget replans)
     (replans_in rows)) (budget_in rows)
 
+-- the editing that is asked for
+abbrev pub editing_of : List Row → Request
+editing_of rows = an_editing (text_in (codes "domain") rows) (text_in (codes "script") rows)
+
 -- how many carts a generated session has, if the word is a number in its range
 abbrev pub carts_in : List Row → Option ℕ
 carts_in rows = number_in 1 most_carts (text_in (codes "carts") rows)
@@ -377,7 +389,8 @@ mode_of word = if same_text word (codes "session") then Some mode.Session
     else (if same_text word (codes "validate") then Some mode.Validate
     else (if same_text word (codes "replay") then Some mode.Replay
     else (if same_text word (codes "migrate") then Some mode.Migrate
-    else (if same_text word (codes "gen") then Some mode.Gen else None)))))
+    else (if same_text word (codes "edit") then Some mode.Edit
+    else (if same_text word (codes "gen") then Some mode.Gen else None))))))
 
 -- what the words ask for in a mode, by what they give for the options of its command
 abbrev pub asked_from : Mode → List Row → Option Request
@@ -386,6 +399,7 @@ asked_from mode.Check rows = Some (check_of rows)
 asked_from mode.Validate rows = Some (validation_of rows)
 asked_from mode.Replay rows = replay_of false rows
 asked_from mode.Migrate rows = replay_of true rows
+asked_from mode.Edit rows = Some (editing_of rows)
 asked_from mode.Gen rows = generation_of rows
 
 -- what the words ask for in a mode, where its command takes them
@@ -395,6 +409,7 @@ asked_in mode.Check words = option_map check_of (rows_read check_app words)
 asked_in mode.Validate words = option_map validation_of (rows_read validate_app words)
 asked_in mode.Replay words = option_and_then (replay_of false) (rows_read (journal_app (codes "replay")) words)
 asked_in mode.Migrate words = option_and_then (replay_of true) (rows_read (journal_app (codes "migrate")) words)
+asked_in mode.Edit words = option_map editing_of (rows_read edit_app words)
 asked_in mode.Gen words = option_and_then generation_of (rows_read gen_app words)
 
 -- what the words ask for where their first is this mode, and these follow it

@@ -71,6 +71,13 @@ pub enum Asked<'a> {
     },
     /// To judge a journal.
     Replay(ReplaySettings<'a>),
+    /// To prepare a problem by the lines of a script.
+    Edit {
+        /// The file of the domain.
+        domain: &'a str,
+        /// The file of the script.
+        script: &'a str,
+    },
     /// To do a generated session, and to count its entries.
     Generate {
         /// How many carts the session has: 1 to 100.
@@ -172,6 +179,10 @@ fn asked_from<'a>(
         })),
         Mode::Replay => replay_of(alloc, matches, false),
         Mode::Migrate => replay_of(alloc, matches, true),
+        Mode::Edit => Ok(Some(Asked::Edit {
+            domain: text_of(matches, "domain"),
+            script: text_of(matches, "script"),
+        })),
         Mode::Gen => Ok(generation_of(matches)),
     }
 }

@@ -5,7 +5,7 @@ ghost use Rattle.clap.specs.Matches.{found_of};
 ghost use Rattle.clap.specs.Simple.{App, app_of, with_rule};
 ghost use Rattle.clap.specs.Walk.{first_of, rows_of};
 ghost use Rattle.ps_words.specs.Words.{word_texts, command_of, option_rule, flag_rule, word_rule, words_rule, rows_read, text_in, words_in, is_set_in, mode_of};
-ghost use Rattle.ps_words.specs.Words.{session_app, check_app, validate_app, journal_app, gen_app, mode_app};
+ghost use Rattle.ps_words.specs.Words.{session_app, check_app, validate_app, journal_app, edit_app, gen_app, mode_app};
 
 use clap::error::ErrorKind;
 use clap::{Arg, ArgAction, ArgMatches, Command};
@@ -24,6 +24,8 @@ pub enum Mode {
     Replay,
     /// Judge a journal, and write it anew where it is legal.
     Migrate,
+    /// Prepare a problem by the lines of a script.
+    Edit,
     /// Do a generated session, and count its entries.
     Gen,
 }
@@ -38,6 +40,7 @@ pub fn mode_of(word: &str) -> Option<Mode>
         "validate" => Some(Mode::Validate),
         "replay" => Some(Mode::Replay),
         "migrate" => Some(Mode::Migrate),
+        "edit" => Some(Mode::Edit),
         "gen" => Some(Mode::Gen),
         _ => None,
     }
@@ -158,6 +161,15 @@ fn journal_command<'a>(alloc: Global, name: &'a str) -> Result<Command<'a>, Allo
     with_words(alloc, command, "members")
 }
 
+/// The command of an editor.
+fn edit_command<'a>(alloc: Global) -> Result<Command<'a>, AllocError>
+    ensures { IfOk result (λ c. app_of c ≡ edit_app) }
+{
+    let command = Ok(bare_command(alloc, "edit"));
+    let command = with_option(alloc, command, "domain", true);
+    with_option(alloc, command, "script", true)
+}
+
 /// The command of a generated session.
 fn gen_command<'a>(alloc: Global) -> Result<Command<'a>, AllocError>
     ensures { IfOk result (λ c. app_of c ≡ gen_app) }
@@ -176,6 +188,7 @@ pub fn mode_command<'a>(alloc: Global, mode: Mode) -> Result<Command<'a>, AllocE
         Mode::Validate => validate_command(alloc),
         Mode::Replay => journal_command(alloc, "replay"),
         Mode::Migrate => journal_command(alloc, "migrate"),
+        Mode::Edit => edit_command(alloc),
         Mode::Gen => gen_command(alloc),
     }
 }

@@ -28,6 +28,10 @@ plansys replay --domain FILE --script FILE --journal FILE [--budget N] [--replan
 plansys migrate --domain FILE --script FILE --journal FILE [--budget N] [--replans N] [MEMBER ..]
     Judges a journal as `replay` does, and writes it in version 2 where it is legal; else the line at which it isn't.
     plansys migrate --domain samples/rooms/domain.pddl --script samples/rooms/run --journal samples/rooms/journal samples/rooms/asker samples/rooms/charger samples/rooms/mover
+plansys edit --domain FILE --script FILE
+    Prepares a problem: does the edits of a script over a domain, takes them back at `undo` and makes them again at `redo`, answers
+    what the domain and the problem are asked, and writes at `save` the lines that make the problem as it is then.
+    plansys edit --domain samples/edit/domain.pddl --script samples/edit/script
 plansys gen N
     Does a generated session in memory, in which N carts, from 1 to 100, are brought through a warehouse one after the other, and
     writes how many runs, starts of acts, requests, offers and entries it has.

@@ -109,6 +109,14 @@ validate --domain d --plan p -> none
 validate --script s --plan p -> none
 validate --domain d --script s --plan p --workers 2 -> none
 validate --domain d --script s --plan p q -> none
+edit --domain d --script s -> edit d s
+edit --script=s --domain=d -> edit d s
+edit --domain d -> none
+edit --script s -> none
+edit --domain d --script s m -> none
+edit --domain d --script s --budget 7 -> none
+edit --domain d --script s --ordered -> none
+edit --domain d --script s --script t -> none
 Check --domain d -> none
 checks --domain d -> none
 --domain d check -> none
@@ -199,6 +207,7 @@ fn told_of_asked(alloc: Global, asked: Option<Asked<'_>>) -> Result<String, Allo
             },
         ) => { format!(in alloc; "validate {domain} {script} {plan}") }
         Some(Asked::Replay(settings)) => told_of_replay(alloc, settings),
+        Some(Asked::Edit { domain, script }) => format!(in alloc; "edit {domain} {script}"),
         Some(Asked::Generate { carts }) => format!(in alloc; "gen {carts}"),
         None => String::from_str(alloc, "none"),
     }

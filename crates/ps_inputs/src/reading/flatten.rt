@@ -93,7 +93,12 @@ pub fn read_script<F: Files>(
     ensures { ReadsScript names file.now (F.shown files.old) (F.shown files.new) result }
 {
     let lines = Vec::new(alloc);
-    let mut script = Script { names, lines };
+    let words = Vec::new(alloc);
+    let mut script = Script {
+        names,
+        lines,
+        words,
+    };
     open(alloc, files, LEVELS, file, &mut script)?;
     Ok(script)
 }

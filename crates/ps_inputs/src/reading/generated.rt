@@ -33,7 +33,12 @@ fn generate_script(alloc: Global, names: Names, carts: u32) -> Result<Script, Al
 {
     let texts = script_lines(alloc, carts)?;
     let lines = Vec::new(alloc);
-    let mut script = Script { names, lines };
+    let words = Vec::new(alloc);
+    let mut script = Script {
+        names,
+        lines,
+        words,
+    };
     push_all(alloc, texts.as_slice(), &mut script)?;
     Ok(script)
 }
@@ -63,7 +68,7 @@ pub fn generate(alloc: Global, carts: u32) -> Result<Unjudged, AllocError>
     ensures { IfOk result (IsGenerated carts) }
 {
     let Judged { names, domain } = judge_domain(alloc, domain_text())?;
-    let Script { names, lines } = generate_script(alloc, names, carts)?;
+    let Script { names, lines, .. } = generate_script(alloc, names, carts)?;
     let members = generate_members(alloc)?;
     Ok(Unjudged {
         names,

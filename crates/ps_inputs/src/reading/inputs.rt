@@ -35,7 +35,7 @@ pub fn read_input<F: Files>(
         (F.shown files.old) (F.shown files.new) result }
 {
     let Judged { names, domain } = read_domain_file(alloc, domain, files)?;
-    let Script { names, lines } = read_script(alloc, names, script, files)?;
+    let Script { names, lines, .. } = read_script(alloc, names, script, files)?;
     let members = read_members(alloc, members, files)?;
     Ok(Unjudged {
         names,

@@ -12,6 +12,7 @@ ghost use Rattle.ps_inputs.specs.Parts.{HasRoom, IsPushed, PutsDeep, PutsPlain, 
 use super::files::read_text;
 use crate::faults::Fault;
 use ps_action::{PlanStep, PlanTextRefusal};
+use ps_edit_words::{EditWord, edit_word};
 use ps_machine::{Command, Line, LineCause};
 use ps_plan::read_plan;
 use ps_script::{Read, read_line, trimmed};
@@ -22,11 +23,13 @@ use std::alloc::{AllocError, Global};
 /// The most command lines of a script with its files.
 const MOST_LINES: usize = 10_000;
 
-/// The lines of a script, with the table of all names that were read.
+/// The lines of a script, with the table of all names that were read, and what each line of a file says to an editor alone, if it begins
+/// with a word that no session knows.
 #[derive(Drop)]
 pub struct Script {
     pub names: Names,
     pub lines: Vec<Line>,
+    pub words: Vec<Option<EditWord>>,
 }
 
 /// Refuses where there is no room for one line more.
@@ -95,7 +98,8 @@ fn plan_in(
 /// Reads a command line that names no file, and puts it at the end of those before it.
 pub fn push_plain(alloc: Global, line: &[u8], script: &mut Script) -> Result<(), AllocError>
     requires { IsKind line.now kind.Command }
-    ensures { OnOk result (IsPushed line.now script.old script.new) }
+    ensures pushed { OnOk result (IsPushed line.now script.old script.new) }
+    ensures words { script.new.words ≡ script.old.words }
 {
     let Read::Line(read) = read_line(alloc, &mut script.names, line)? else {
         unreachable!()
@@ -113,6 +117,7 @@ pub fn put_plain(alloc: Global, line: &[u8], script: &mut Script) -> Result<bool
     check_room(script.lines.as_slice())?;
     let ends = is_quit(alloc, line)?;
     push_plain(alloc, line, script)?;
+    script.words.push(edit_word(line))?;
     Ok(ends)
 }
 
@@ -123,6 +128,7 @@ pub fn put_deep(script: &mut Script) -> Result<bool, Failure<Fault>>
 {
     check_room(script.lines.as_slice())?;
     script.lines.push(Line::Bad(LineCause::Nest))?;
+    script.words.push(None)?;
     Ok(false)
 }
 
@@ -146,5 +152,6 @@ pub fn put_plan<F: Files>(
     let read = read_line(alloc, &mut script.names, line)?;
     let plan = plan_in(alloc, &mut script.names, text.as_slice())?;
     push_read(read, Line::Good(Command::RunPlan(plan)), &mut script.lines)?;
+    script.words.push(None)?;
     Ok(false)
 }

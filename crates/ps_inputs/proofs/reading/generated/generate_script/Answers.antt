@@ -15,6 +15,6 @@ push_all-requires c =
 
 pub returns : goal.returns
 returns c =
-    let first : Script = record { names = c.args.names; lines = c.new-lines.result } in
+    let first : Script = record { names = c.args.names; lines = c.new-lines.result; words = c.new-words.result } in
     script_pushed c.args.names c.as_slice.result.now (script_lines c.args.carts) first c.push_all.new.script refl c.new-lines.ensures.items (ap texts_of c.as_slice.ensures.value ∙ c.in_ok-texts.ensures)
     (omega (arith, script_length c.args.carts, c.requires)) c.in_ok-push_all.ensures
