@@ -8,6 +8,8 @@ mod patching;
 #[cfg(test)]
 mod plans;
 #[cfg(test)]
+mod searching;
+#[cfg(test)]
 mod telling;
 #[cfg(test)]
 mod touching;

@@ -10,7 +10,8 @@ use std::alloc::Global;
 use std::process::Abort;
 use std::test::Fail;
 
-const LEIA: &str = "set instance leia robot
+/// Leia stands at the entrance, with little charge, and is to go to the bedroom.
+pub const LEIA: &str = "set instance leia robot
 set instance entrance room
 set instance kitchen room
 set instance bedroom room
