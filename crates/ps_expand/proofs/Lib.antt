@@ -5,7 +5,5 @@ pub mod Known
 pub mod Leading
 pub mod Reaching
 pub mod Standing
-pub mod Stepping
 pub mod Storing
 pub mod Trees
-pub mod Zipped

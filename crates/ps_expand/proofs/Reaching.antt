@@ -9,7 +9,7 @@ use Rattle.ps_levels.specs.Paths.{paths}
 use Rattle.ps_levels.proofs.Walks.{length-paths}
 use Rattle.ps_expand.specs.Reached.{AreReached, AreWithin, IsWithin, act_paths, acts_at, keys_in, path_in}
 use Rattle.ps_expand.specs.declared.differences.Difference.{Difference}
-use Rattle.ps_expand.proofs.Zipped.{length-zip, zip-push, zip_firsts, zip_seconds}
+use Rattle.ps_ground.proofs.Zipped.{length-zip, zip-push, zip_firsts, zip_seconds}
 
 pub one_longer : {A : Type 0} (xs : List A) (x : A) → length (xs ++ x ∷ []) ≡ suc (length xs)
 one_longer xs x = let l = length-append xs (x ∷ []) in omega (arith, l)

@@ -33,7 +33,7 @@ use Rattle.ps_expand.specs.Trees.{AreBeside, AreOf, IsOf, child_node, node_in, n
 use Rattle.ps_expand.specs.declared.differences.Difference.{Difference}
 use Rattle.ps_expand.specs.declared.expanding.Child.{Child}
 use Rattle.ps_expand.proofs.Differing.{alike, leads_forth}
-use Rattle.ps_expand.proofs.Stepping.{stepped_at}
+use Rattle.ps_ground.proofs.Stepping.{stepped_at}
 
 -- ---- the same state
 

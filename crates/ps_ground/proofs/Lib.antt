@@ -13,4 +13,6 @@ pub mod PuttingIn
 pub mod Removed
 pub mod Rising
 pub mod Settled
+pub mod Stepping
 pub mod Thinning
+pub mod Zipped

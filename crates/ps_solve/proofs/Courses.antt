@@ -24,7 +24,7 @@ use Rattle.ps_ground.specs.States.{State, at, state_of, stepped}
 use Rattle.ps_ground.specs.Moves.{Node, grounds, move, moves}
 use Rattle.ps_solve.specs.Nodes.{root}
 use Rattle.ps_ground.proofs.Lists.{filter_map-filter_map, filter_map-flat_map, filter_map-map, flat_map-filter_map, lengthened_by, lists_more, map-filter_map, none_given}
-use Rattle.ps_solve.proofs.Stepping.{next, run, run-append, run_at}
+use Rattle.ps_ground.proofs.Stepping.{next, run, run-append, run_at}
 
 -- ---- the act of a ground action
 

@@ -14,7 +14,5 @@ pub mod Reaching
 pub mod Refilled
 pub mod SameRows
 pub mod SameStates
-pub mod Stepping
 pub mod Storing
 pub mod Whole
-pub mod Zipped

@@ -7,7 +7,7 @@ use Rattle.ps_levels.specs.Paths.{paths}
 use Rattle.ps_levels.proofs.Walks.{length-paths}
 use Rattle.ps_solve.specs.Reached.{places_of, rows_of}
 use Rattle.ps_solve.specs.declared.rows.Row.{Row}
-use Rattle.ps_solve.proofs.Zipped.{length-zip, zip-push, zip_firsts, zip_seconds}
+use Rattle.ps_ground.proofs.Zipped.{length-zip, zip-push, zip_firsts, zip_seconds}
 
 -- what is pushed onto a list is one more
 pub one_longer : {A : Type 0} (xs : List A) (x : A) → length (xs ++ x ∷ []) ≡ suc (length xs)

@@ -21,7 +21,7 @@ use Rattle.ps_solve.specs.Nodes.{firsts, is_met, met, same_state, with_state}
 use Rattle.ps_solve.proofs.Firsts.{AllMet, all_met, is_met-met, states}
 use Rattle.ps_solve.proofs.Levels.{level_is, nodes, reach_is, reached}
 use Rattle.ps_solve.proofs.SameStates.{met_more, same_known-at, state_itself, state_same}
-use Rattle.ps_solve.proofs.Stepping.{next, next_at}
+use Rattle.ps_ground.proofs.Stepping.{next, next_at}
 
 -- ---- what a list has
 

@@ -25,7 +25,7 @@ use Rattle.ps_solve.proofs.Firsts.{AllMet, LeadInto, still_met}
 use Rattle.ps_solve_laws.proofs.LevelLaw.{has_gift}
 use Rattle.ps_solve.proofs.Levels.{NoneBefore, found, leads, least_at, level_is, nodes, none_after, reached, succs}
 use Rattle.ps_solve.proofs.SameStates.{state_itself}
-use Rattle.ps_solve.proofs.Stepping.{next, run}
+use Rattle.ps_ground.proofs.Stepping.{next, run}
 
 module _ (d : Domain) (k : Knowledge) (goal : Cond) (there : k.goal ≡ Some goal) where
   -- a depth where nothing is left, and up to which nothing that is reached meets the goal
