@@ -170,7 +170,7 @@ impl Monitor {
     {
         let candidates = self.watches.candidates(changed);
         let mut all = Acts::none();
-        for act in 0..256 {
+        for act in 0..self.count() {
             all.set(
                 act,
                 self.judge_act(judge, changed, started, &candidates, act),
