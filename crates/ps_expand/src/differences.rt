@@ -187,6 +187,16 @@ fn terms(alloc: Global, values: &[(Fact, Num)]) -> Result<Seq<Fact>, AllocError>
     Ok(all)
 }
 
+/// The terms whose values a change takes or gives.
+fn touched_by(alloc: Global, change: &Change) -> Result<Vec<Fact>, AllocError>
+    ensures { IfOk result (λ v. v.items ≡ change.now.gone ++ keys_of change.now.values) }
+{
+    let mut touched = Vec::from_slice(alloc, change.gone.as_slice())?;
+    let valued = terms(alloc, change.values.as_slice())?;
+    touched.extend_from_slice(valued.as_slice())?;
+    Ok(touched)
+}
+
 /// The change that takes out and puts in these facts and values.
 fn change(
     alloc: Global,
@@ -214,6 +224,13 @@ fn change(
         gone: terms(alloc, gone.as_slice())?,
         goal: None,
     })
+}
+
+/// A change in a box: what owns one has a single part to let go of.
+fn boxed(alloc: Global, change: Change) -> Result<Box<Change>, AllocError>
+    ensures { IfOk result (λ c. c.value ≡ change) }
+{
+    Ok(Box::new(alloc, change)?)
 }
 
 impl Difference {
@@ -252,8 +269,7 @@ impl Difference {
         ensures { IfOk result (λ x. x ≡ difference start.now here.now) }
     {
         let alloc = start.allocator();
-        let mut touched = Vec::from_slice(alloc, change.gone.as_slice())?;
-        touched.extend_from_slice(terms(alloc, change.values.as_slice())?.as_slice())?;
+        let touched = touched_by(alloc, change)?;
         Ok(Difference {
             came: new_facts(start, here, self.came.as_slice(), change.adds.as_slice())?,
             went: new_facts(here, start, self.went.as_slice(), change.deletes.as_slice())?,
@@ -263,16 +279,18 @@ impl Difference {
     }
 
     /// The change from the first to the second.
-    pub fn forth(&self, alloc: Global) -> Result<Change, AllocError>
-        ensures { IfOk result (λ c. c ≡ forth self.now) }
+    pub fn forth(&self, alloc: Global) -> Result<Box<Change>, AllocError>
+        ensures { IfOk result (λ c. c.value ≡ forth self.now) }
     {
-        change(alloc, &self.came, &self.went, &self.given, &self.lost)
+        let change = change(alloc, &self.came, &self.went, &self.given, &self.lost)?;
+        boxed(alloc, change)
     }
 
     /// The change from the second back to the first.
-    pub fn back(&self, alloc: Global) -> Result<Change, AllocError>
-        ensures { IfOk result (λ c. c ≡ back self.now) }
+    pub fn back(&self, alloc: Global) -> Result<Box<Change>, AllocError>
+        ensures { IfOk result (λ c. c.value ≡ back self.now) }
     {
-        change(alloc, &self.went, &self.came, &self.lost, &self.given)
+        let change = change(alloc, &self.went, &self.came, &self.lost, &self.given)?;
+        boxed(alloc, change)
     }
 }

@@ -67,6 +67,20 @@ fn grounded_again(
     Ok(actions)
 }
 
+/// All ground actions among some instances. `TooMany` where there are more than 50,000.
+fn actions_among(
+    alloc: Global,
+    expert: &Expert,
+    instances: &[(Name, Name)],
+) -> Result<Vec<GroundAction>, Failure<GroundAllRefusal>>
+    ensures gives { Gives (λ _. all_ground expert.now instances.now) result
+        (listed expert.now instances.now) }
+    ensures listed { IfOk result (λ v. AreListed expert.now instances.now v.items) }
+{
+    let all = expert.ground_all(instances)?;
+    Ok(grounded_again(alloc, expert, instances, &all)?)
+}
+
 impl<'a> Listing<'a> {
     /// Those of a problem with its goal. `TooMany` where there are more than 50,000.
     pub fn of(
@@ -80,18 +94,16 @@ impl<'a> Listing<'a> {
         ensures instances { IfOk result (λ l. l.instances.items ≡ problem.now.instances) }
         ensures goal { IfOk result (λ l. problem.now.goal ≡ Some l.goal) }
     {
-        let alloc = problem.allocator();
         let Some(goal) = problem.goal() else {
             unreachable!()
         };
-        let goal = goal.copy(alloc)?;
+        let alloc = problem.allocator();
         let instances = problem.instances()?;
-        let all = expert.ground_all(&instances)?;
-        let actions = grounded_again(alloc, expert, &instances, &all)?;
+        let actions = actions_among(alloc, expert, &instances)?;
         Ok(Listing {
             expert,
             instances,
-            goal,
+            goal: goal.copy(alloc)?,
             actions,
         })
     }

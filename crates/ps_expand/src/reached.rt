@@ -1,7 +1,8 @@
 //! Differences that were reached, and how.
-ghost use Rattle.std.specs.Prelude.{◌≡◌, ◌<◌, ◌++◌, ◌∷◌, [], false, length, slice_get, Some, IfOk, OnOk};
+ghost use Rattle.std.specs.Prelude.{◌≡◌, ◌<◌, ◌≤◌, ◌++◌, ◌∷◌, [], false, length, slice_get, slice_index_or, Some, IfOk, OnErr, OnOk};
 ghost use Rattle.std.specs.List.{list_any};
 ghost use Rattle.std.specs.Option.{option_copied};
+ghost use Rattle.ps_levels.specs.Paths.{paths};
 ghost use Rattle.ps_expand.specs.Orders.{same_difference};
 ghost use Rattle.ps_expand.specs.Reached.{acts_at, keys_in, path_in, with_difference};
 
@@ -95,12 +96,7 @@ impl Reached {
         ensures { OnOk result (self.new ≡ self.old
             ++ (difference, path_in self.old from ++ act ∷ []) ∷ []) }
     {
-        let place = self.acts.len() as u32;
-        self.trail.push(from, place)?;
-        if self.acts.push(act).is_err() {
-            self.trail.pop();
-            return Err(AllocError);
-        }
+        push_step(&mut self.trail, &mut self.acts, from, act)?;
         match self.differences.insert(difference) {
             Ok(_) => Ok(()),
             Err(_) => {
@@ -127,6 +123,26 @@ impl Reached {
         }
         self.push(difference, from, act)
     }
+}
+
+/// Puts in a step from an earlier node and its act, or neither.
+fn push_step(trail: &mut Trail, acts: &mut Vec<Act>, from: u32, act: Act) -> Result<(), AllocError>
+    requires from { from ≤ length trail.old }
+    requires few { length acts.old.items < 4294967296 }
+    ensures trail { OnOk result (trail.new ≡ trail.old ++ (from, length acts.old.items) ∷ []) }
+    ensures paths { OnOk result (paths trail.new ≡ paths trail.old
+        ++ (slice_index_or (paths trail.old) from [] ++ length acts.old.items ∷ []) ∷ []) }
+    ensures acts { OnOk result (acts.new.items ≡ acts.old.items ++ act ∷ []) }
+    ensures no_step { OnErr result (trail.new ≡ trail.old) }
+    ensures no_act { OnErr result (acts.new.items ≡ acts.old.items) }
+{
+    let place = acts.len() as u32;
+    trail.push(from, place)?;
+    if acts.push(act).is_err() {
+        trail.pop();
+        return Err(AllocError);
+    }
+    Ok(())
 }
 
 /// Puts the act at a place at the end, if there is one.

@@ -123,7 +123,7 @@ pub fn search_from<X: Expand>(
     let mut store = Store::new(problem)?;
     let mut tree = Tree {
         expander: &mut *expander,
-        store: &mut store,
+        store: &mut *store,
         expanded: 0,
     };
     search_in(&mut tree, budget, most)

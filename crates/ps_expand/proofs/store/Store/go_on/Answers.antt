@@ -13,7 +13,7 @@ returns-clause-here c = λ x e.
     let there = c.in-Some.ensures ∙ e in
     let same : c.in-Some.difference.now ≡ x = cc in
     let start : c.patch.new.self ≡ k =
-    c.in_ok-patch.ensures.ok ∙ ap (changed h) (c.in_ok-back.ensures ∙ ap back at.is) ∙ leads_back k h at.start at.rise at.beside in
+    c.in_ok-patch.ensures.ok ∙ ap (changed h) (c.deref.ensures ∙ c.in_ok-back.ensures ∙ ap back at.is) ∙ leads_back k h at.start at.rise at.beside in
     c.in_ok-patch-2.ensures.ok
-    ∙ (λ i. changed (start i) (c.in_ok-forth.ensures i))
+    ∙ (λ i. changed (start i) ((c.deref-2.ensures ∙ c.in_ok-forth.ensures) i))
     ∙ ap (λ (y : Difference). changed k (forth y)) same
