@@ -27,11 +27,17 @@ fn begins_end(rest: &[u8]) -> bool
     }
 }
 
+/// How many letters each of these words has.
+const LETTERS: usize = 4;
+
 /// What a word says to an editor alone, in any case of its letters.
 fn word_named(word: &[u8]) -> Option<EditWord>
     ensures { result ≡ word_named word.now }
 {
-    if reads_as(word, b"undo") {
+    // Every line of a script comes by here, and few begin with a word as long.
+    if word.len() != LETTERS {
+        None
+    } else if reads_as(word, b"undo") {
         Some(EditWord::Undo)
     } else if reads_as(word, b"redo") {
         Some(EditWord::Redo)
@@ -47,10 +53,10 @@ fn word_named(word: &[u8]) -> Option<EditWord>
 pub fn edit_word(line: &[u8]) -> Option<EditWord>
     ensures { result ≡ edit_word line.now }
 {
-    let rest = trimmed(after_run(line));
     match word_named(first_run(line)) {
         None => None,
         Some(word) => {
+            let rest = trimmed(after_run(line));
             if begins_end(rest) {
                 Some(word)
             } else {
