@@ -4,7 +4,8 @@ use ps_world::Name;
 use std::str;
 use std::test::Fail;
 
-fn push_name(names: &Names, name: Name, text: &mut String) -> Result<(), Fail> {
+/// Adds a name.
+pub fn push_name(names: &Names, name: Name, text: &mut String) -> Result<(), Fail> {
     if name.0 < names.len() as u64 {
         text.push_str(str::from_utf8(names.text(name))?)?;
     }

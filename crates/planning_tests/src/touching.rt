@@ -1,7 +1,7 @@
 //! What conditions read, and what effects and edits change.
-use super::telling::push_listed;
+use super::telling::{push_listed, push_name};
 use super::worlds::{World, cond_of, edit_of, ground_of, world_of};
-use ps_action::Touched;
+use ps_action::{Place, Touched};
 use ps_eval::{changed_by, edited_by, reads};
 use ps_text::Names;
 use ps_world::Conds;
@@ -19,7 +19,22 @@ const WORK: &str = "(define (domain work)
 const TWO: &str = "set instance leia robot
 set instance r2d2 robot";
 
-/// Things one after another: an instance as `(N)`, a fact as `(P N)`, a value as `=(F N)`.
+/// A place, an open argument of which is told as `?`.
+fn push_place(names: &Names, place: &Place, text: &mut String) -> Result<(), Fail> {
+    text.push_str(" (")?;
+    push_name(names, place.head, text)?;
+    for hole in place.args.as_slice() {
+        text.push_str(" ")?;
+        match hole {
+            Some(name) => push_name(names, *name, text)?,
+            None => text.push_str("?")?,
+        }
+    }
+    text.push_str(")")?;
+    Ok(())
+}
+
+/// Things one after another: an instance as `(N)`, a fact as `(P N)`, a value as `=(F N)`, and all instances as `(?)`.
 fn told_touched(alloc: Global, names: &Names, all: &[Touched]) -> Result<String, Fail> {
     let mut text = String::new(alloc);
     for touched in all {
@@ -32,6 +47,12 @@ fn told_touched(alloc: Global, names: &Names, all: &[Touched]) -> Result<String,
                 text.push_str(" =")?;
                 push_listed(names, term.head, term.args.as_slice(), &mut text)?;
             }
+            Touched::Facts(place) => push_place(names, place, &mut text)?,
+            Touched::Values(place) => {
+                text.push_str(" =")?;
+                push_place(names, place, &mut text)?;
+            }
+            Touched::Instances => text.push_str(" (?)")?,
         }
     }
     Ok(text)

@@ -1,3 +1,4 @@
+pub mod Bindings
 pub mod Clashes
 pub mod Contained
 pub mod Facts
@@ -8,4 +9,6 @@ pub mod Keys
 pub mod Made
 pub mod MadeFacts
 pub mod MadeValues
+pub mod Meeting
+pub mod Standing
 pub mod ArcTables

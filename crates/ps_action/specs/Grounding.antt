@@ -2,7 +2,7 @@
 use Rattle.std.specs.Prelude.{ℕ, ◌-◌, ◌==◌, if◌then◌else◌, Option, Some, None, Result, Err, List, [], ◌∷◌, ◌++◌, map, zip, filter, flat_map, fold, length, slice_get}
 use Rattle.std.specs.BTreeMap.{insert_entry}
 use Rattle.ps_world.specs.Names.{name_cmp}
-use Rattle.ps_world.specs.Trees.{ExprTree, number, value_of, negated, operated, CondTree, CondTrees, all_of, no, holds, same, compares, is_a, none, more}
+use Rattle.ps_world.specs.Trees.{ExprTree, number, value_of, negated, operated, CondTree, CondTrees, all_of, any_of, no, implied, holds, same, compares, is_a, for_some, for_all, none, more}
 use Rattle.ps_world.specs.Knowledge.{action_of, is_below, misfit_by, first_misfit_by}
 use Rattle.ps_world.specs.declared.names.Name.{Name}
 use Rattle.ps_world.specs.declared.schemas.Term.{Term}
@@ -53,11 +53,15 @@ put_expr args (Bin op x y) = Bin op (put_tree args x) (put_tree args y)
 abbrev mutual
   pub put_cond : List Name → CondTree → CondTree
   put_cond args (all_of cs) = all_of (put_conds args cs)
+  put_cond args (any_of cs) = any_of (put_conds args cs)
   put_cond args (no c) = no (put_cond args c)
+  put_cond args (implied a b) = implied (put_cond args a) (put_cond args b)
   put_cond args (holds l) = holds (put_lifted args l)
   put_cond args (same s t) = same (put_term args s) (put_term args t)
   put_cond args (compares rel x y) = compares rel (put_tree args x) (put_tree args y)
   put_cond args (is_a t kind) = is_a (put_term args t) kind
+  put_cond args (for_some ps c) = for_some ps (put_cond args c)
+  put_cond args (for_all ps c) = for_all ps (put_cond args c)
 
   pub put_conds : List Name → CondTrees → CondTrees
   put_conds args none = none

@@ -1,12 +1,16 @@
 pub mod ArcTables
 pub mod Arcs
+pub mod Bindings
 pub mod Effects
 pub mod Grounded
 pub mod Grounding
+pub mod Holes
 pub mod Laws
+pub mod Places
 pub mod Plans
 pub mod Search
 pub mod Texts
+pub mod Things
 pub mod Touching
 pub mod Trees
 pub mod Truth

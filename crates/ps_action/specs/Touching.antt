@@ -1,36 +1,56 @@
--- What conditions read and what changes, one by one.
-use Rattle.std.specs.Prelude.{Option, Some, None, List, [], ◌∷◌, ◌++◌, map}
-use Rattle.ps_world.specs.Trees.{ExprTree, number, value_of, negated, operated, CondTree, CondTrees, all_of, no, holds, same, compares, is_a, none, more, cond_trees}
-use Rattle.ps_world.specs.Knowledge.{ground, name_of}
+-- What conditions read and what changes, one by one; where a variable stands, all that stands at a place.
+use Rattle.std.specs.Prelude.{if◌then◌else◌, Option, Some, None, List, [], ◌∷◌, ◌++◌, map}
+use Rattle.ps_world.specs.Trees.{ExprTree, number, value_of, negated, operated, CondTree, CondTrees, all_of, any_of, no, implied, holds, same, compares, is_a, for_some, for_all, none, more, cond_trees}
+use Rattle.ps_world.specs.Knowledge.{ground}
+use Rattle.ps_world.specs.declared.schemas.Term.{Term}
+use Rattle.ps_world.specs.declared.schemas.Term.TheVariants.{Var, Const}
 use Rattle.ps_world.specs.declared.schemas.Lifted.{Lifted}
 use Rattle.ps_world.specs.declared.actions.Effect.{Effect}
 use Rattle.ps_world.specs.declared.actions.Effect.TheVariants.{Add, Delete, Number}
 use Rattle.ps_world.specs.declared.edits.Edit.{Edit}
 use Rattle.ps_world.specs.declared.edits.Edit.TheVariants.{AddInstance, RemoveInstance, AddFact, RemoveFact, SetValue, RemoveValue, SetGoal, RemoveGoal}
 use Rattle.ps_action.specs.declared.touched.Touched.{Touched}
-use Rattle.ps_action.specs.declared.touched.Touched.TheVariants.{Fact, Value, Instance}
+use Rattle.ps_action.specs.declared.touched.Touched.TheVariants.{Fact, Value, Instance, Facts, Values, Instances}
+use Rattle.ps_action.specs.Places.{has_var, place_of}
 
--- the instances that the arguments of a fact or a function term are
+-- the fact that a head with terms is, or its place, where a variable stands in it
+abbrev pub fact_of : Lifted → Touched
+fact_of l = if has_var l then Facts (place_of l) else Fact (ground l)
+
+-- the same of a function term
+abbrev pub value_at : Lifted → Touched
+value_at l = if has_var l then Values (place_of l) else Value (ground l)
+
+-- the instance that a term names, or all instances, where it is a variable
+abbrev pub named_by : Term → Touched
+named_by (Var i) = Instances
+named_by (Const n) = Instance n
+
+-- the instances that stand as arguments of a fact or a function term
 abbrev pub arguments : Lifted → List Touched
-arguments l = map Instance (ground l).args
+arguments l = map named_by l.terms
 
 -- what an expression reads: its function terms and their arguments
 abbrev pub read_by_expr : ExprTree → List Touched
 read_by_expr (number n) = []
-read_by_expr (value_of l) = Value (ground l) ∷ arguments l
+read_by_expr (value_of l) = value_at l ∷ arguments l
 read_by_expr (negated x) = read_by_expr x
 read_by_expr (operated op x y) = read_by_expr x ++ read_by_expr y
 
 abbrev mutual
   -- What a condition reads: its facts and function terms with their arguments, the names that it compares, and the name whose
-  -- type it asks for.
+  -- type it asks for; and all instances, where it binds variables.
   pub read_by : CondTree → List Touched
   read_by (all_of cs) = read_by_all cs
+  read_by (any_of cs) = read_by_all cs
   read_by (no c) = read_by c
-  read_by (holds l) = Fact (ground l) ∷ arguments l
-  read_by (same s t) = Instance (name_of s) ∷ Instance (name_of t) ∷ []
+  read_by (implied a b) = read_by a ++ read_by b
+  read_by (holds l) = fact_of l ∷ arguments l
+  read_by (same s t) = named_by s ∷ named_by t ∷ []
   read_by (compares rel x y) = read_by_expr x ++ read_by_expr y
-  read_by (is_a t kind) = Instance (name_of t) ∷ []
+  read_by (is_a t kind) = named_by t ∷ []
+  read_by (for_some ps c) = Instances ∷ read_by c
+  read_by (for_all ps c) = Instances ∷ read_by c
 
   -- the same of several
   pub read_by_all : CondTrees → List Touched
@@ -43,9 +63,9 @@ read_by_list cs = read_by_all (cond_trees cs)
 
 -- what an effect changes
 abbrev pub changed_by_effect : Effect → Touched
-changed_by_effect (Add l) = Fact (ground l)
-changed_by_effect (Delete l) = Fact (ground l)
-changed_by_effect (Number how l x) = Value (ground l)
+changed_by_effect (Add l) = fact_of l
+changed_by_effect (Delete l) = fact_of l
+changed_by_effect (Number how l x) = value_at l
 
 -- what an edit changes; the goal is none of these
 abbrev pub changed_by_edit : Edit → Option Touched

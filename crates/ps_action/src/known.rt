@@ -4,7 +4,7 @@ ghost use Rattle.std.specs.List.{list_any};
 ghost use Rattle.std.specs.Map.{lookup};
 ghost use Rattle.std.specs.Option.{option_copied};
 ghost use Rattle.ps_world.specs.Names.{same_name};
-ghost use Rattle.ps_world.specs.Knowledge.{function_of, is_below, is_known, kind_of, predicate_of, same_fact, value_in};
+ghost use Rattle.ps_world.specs.Knowledge.{function_of, is_below, is_known, is_type, kind_of, predicate_of, same_fact, value_in};
 
 use ps_world::{Decl, Domain, Fact, Knowledge, Name, Num};
 
@@ -36,6 +36,10 @@ pub trait Types {
     ghost use Rattle.ps_world.specs.declared.domains.Domain.{Domain as DomainView};
 
     ghost types: { Self → DomainView };
+
+    /// Whether the domain has this type: `object`, or one that it declares.
+    fn is_type(&self, name: Name) -> bool
+        ensures { result ≡ is_type (types self.now) name };
 
     /// Whether the first type is the second or below it.
     fn is_subtype(&self, low: Name, high: Name) -> bool
@@ -106,6 +110,10 @@ impl Known for Knowledge {
 
 impl Types for Domain {
     ghost types = { λ d. d };
+
+    fn is_type(&self, name: Name) -> bool {
+        Domain::is_type(self, name)
+    }
 
     fn is_subtype(&self, low: Name, high: Name) -> bool {
         self.is_below(low, high)

@@ -1,49 +1,48 @@
 -- Ground actions, taken by their places, act as is asked for where orders of acts are said to go well.
-use Rattle.std.proofs.Common.{◌≡◌, ℕ, ◌<◌, Bool, true, false, ◌||◌, Option, Some, None, is_some, Result, Ok, Err, List, [], ◌∷◌, All, slice_get, refl, ap, sym, ◌∙◌, subst, inl, inr}
+use Rattle.std.proofs.Common.{◌≡◌, ℕ, ◌<◌, Bool, true, false, ◌||◌, Option, Some, None, is_some, Result, Ok, Err, List, All, slice_get, refl, sym, ◌∙◌, subst}
 use Rattle.std.specs.Result.{result_ok}
-use Rattle.std.specs.List.{Contains, list_any}
-use Rattle.std.proofs.lemmas.List.Elements.{All-nil, All-cons, All-head, All-tail}
-use Rattle.std.proofs.lemmas.Bool.{or_right}
+use Rattle.std.proofs.lemmas.Bool.{or_left, or_right}
 use Rattle.ps_world.specs.declared.domains.Domain.{Domain}
 use Rattle.ps_world.specs.declared.known.Knowledge.{Knowledge}
-use Rattle.ps_action.proofs.Contained.{contains_first, contains_later, or_cases}
 use Rattle.ps_action.specs.Effects.{effect}
 use Rattle.ps_action.specs.Truth.{all_true}
 use Rattle.ps_action.specs.declared.acts.GroundAction.{GroundAction}
 use Rattle.ps_action.specs.declared.refusals.EffectRefusal.{EffectRefusal}
 use Rattle.ps_action.specs.declared.touched.Touched.{Touched}
-use Rattle.ps_action.specs.declared.touched.Touched.TheVariants.{Fact, Value, Instance}
+use Rattle.ps_action.specs.declared.touched.Touched.TheVariants.{Fact, Value, Instance, Facts, Values, Instances}
 use Rattle.ps_eval.specs.Laws.{Agree}
 use Rattle.ps_orders.specs.Acts.{Acts, Acting, AreSame, IsCondition, IsEffect}
-use Rattle.ps_action.specs.Arcs.{changes, is_arc, reads, same_thing}
+use Rattle.ps_action.specs.Arcs.{changes, is_arc, read_by_action, reads}
+use Rattle.ps_action.specs.Things.{Thing, a_fact, a_value, is_met, touched}
 use Rattle.ps_action.proofs.ArcTables.{true_false}
+use Rattle.ps_action.proofs.Meeting.{only_things}
 use Rattle.ps_arcs.specs.Laws.{EndAlike, LeavesAlone, LeavesOthers}
 use Rattle.ps_arcs.proofs.Alike.{conditions_read_things, effects_leave_others, effects_read_things}
 use Rattle.ps_arcs.proofs.Alone.{no_arc_leaves_alone}
-use Rattle.ps_users.proofs.Things.{absent, among, thing_itself, thing_same}
+use Rattle.ps_arcs.proofs.Meeting.{changes_things, each_so, found_so}
 
 -- ---- what is read and changed
 
--- what may be the same in two states: one fact, value or instance, or else, where none of these is named, all instances and the goal
+-- what may be the same in two states: one fact or value, or else, where none of these is named, all instances and the goal
 abbrev pub Told : Type 0
-Told = Option Touched
+Told = Option Thing
 
 -- two states are the same there
 abbrev pub SameAt : Knowledge → Knowledge → Told → Type 0
 SameAt k l None = (k.instances ≡ l.instances) × (k.goal ≡ l.goal)
-SameAt k l (Some t) = Agree k l t
+SameAt k l (Some x) = Agree k l (touched x)
 
 -- whether a ground action reads this, where each one reads the instances
 abbrev read_at : Option GroundAction → Told → Bool
 read_at o None = true
-read_at None (Some t) = false
-read_at (Some a) (Some t) = list_any (same_thing t) (reads a)
+read_at None (Some x) = false
+read_at (Some a) (Some x) = is_met x (reads a)
 
 -- whether it changes this, where none changes the instances or the goal
 abbrev changed_at : Option GroundAction → Told → Bool
 changed_at o None = false
-changed_at None (Some t) = false
-changed_at (Some a) (Some t) = list_any (same_thing t) (changes a)
+changed_at None (Some x) = false
+changed_at (Some a) (Some x) = is_met x (changes a)
 
 abbrev touched_at : Option GroundAction → Told → Bool
 touched_at o x = read_at o x || changed_at o x
@@ -88,68 +87,41 @@ acts_of d gs = record {
   arc = is_arc gs;
 }
 
--- ---- lists of things
-
-found : (t : Touched) (ts : List Touched) → list_any (same_thing t) ts ≡ true → Contains ts t
-found t [] e = absurd (cc)
-found t (x ∷ xs) e =
-    elim (or_cases (same_thing t x) (list_any (same_thing t) xs) e) [
-      | inl s ↦ contains_first x t xs (sym (thing_same t x s))
-      | inr later ↦ contains_later x t xs (found t xs later)
-    ]
-
-not_found : (t : Touched) (ts : List Touched) → list_any (same_thing t) ts ≡ false → ¬ (Contains ts t)
-not_found t ts e c = true_false (list_any (same_thing t) ts) (among t ts c) e
-
--- what holds of each thing that is found
-module _ (P : Touched → Type 0) where
-  pub each_so : (ts : List Touched) → ((t : Touched) → list_any (same_thing t) ts ≡ true → P t) → All P ts
-  each_so [] h = All-nil P
-  each_so (x ∷ xs) h =
-      All-cons P x xs (h x (ap (λ b. b || list_any (same_thing x) xs) (thing_itself x)))
-      (each_so xs (λ t e. h t (or_right (same_thing t x) (list_any (same_thing t) xs) e)))
-
-  found_so : (ts : List Touched) → All P ts → (t : Touched) → list_any (same_thing t) ts ≡ true → P t
-  found_so [] h t e = absurd (cc)
-  found_so (x ∷ xs) h t e =
-      elim (or_cases (same_thing t x) (list_any (same_thing t) xs) e) [
-        | inl s ↦ subst P (sym (thing_same t x s)) (All-head P x xs h)
-        | inr later ↦ found_so xs (All-tail P x xs h) t later
-      ]
-
 -- ---- being the same
 
+-- a state is the same as itself
 pub agree_itself : (k : Knowledge) (t : Touched) → Agree k k t
 agree_itself k (Fact f) = refl
 agree_itself k (Value f) = refl
 agree_itself k (Instance n) = refl
+agree_itself k (Facts p) = λ f at. refl
+agree_itself k (Values p) = λ f at. refl
+agree_itself k Instances = refl
 
-agree_turned : (k l : Knowledge) (t : Touched) → Agree k l t → Agree l k t
-agree_turned k l (Fact f) e = sym e
-agree_turned k l (Value f) e = sym e
-agree_turned k l (Instance n) e = sym e
+turned_at : (k l : Knowledge) (x : Thing) → Agree k l (touched x) → Agree l k (touched x)
+turned_at k l (a_fact f) e = sym e
+turned_at k l (a_value f) e = sym e
 
-agree_joined : (k l m : Knowledge) (t : Touched) → Agree k l t → Agree l m t → Agree k m t
-agree_joined k l m (Fact f) e g = e ∙ g
-agree_joined k l m (Value f) e g = e ∙ g
-agree_joined k l m (Instance n) e g = e ∙ g
+joined_at : (k l m : Knowledge) (x : Thing) → Agree k l (touched x) → Agree l m (touched x) → Agree k m (touched x)
+joined_at k l m (a_fact f) e g = e ∙ g
+joined_at k l m (a_value f) e g = e ∙ g
 
 itself : (k : Knowledge) (x : Told) → SameAt k k x
 itself k None = (refl, refl)
-itself k (Some t) = agree_itself k t
+itself k (Some x) = agree_itself k (touched x)
 
 turned : (k l : Knowledge) (x : Told) → SameAt k l x → SameAt l k x
 turned k l None h = (sym h.0, sym h.1)
-turned k l (Some t) h = agree_turned k l t h
+turned k l (Some x) h = turned_at k l x h
 
 joined : (k l m : Knowledge) (x : Told) → SameAt k l x → SameAt l m x → SameAt k m x
 joined k l m None g h = (g.0 ∙ h.0, g.1 ∙ h.1)
-joined k l m (Some t) g h = agree_joined k l m t g h
+joined k l m (Some x) g h = joined_at k l m x g h
 
 -- ---- conditions
 
 read_same : (a : GroundAction) (k l : Knowledge) → AreSame SameAt (read_at (Some a)) k l → All (Agree k l) (reads a)
-read_same a k l s = each_so (Agree k l) (reads a) (λ t e. s (Some t) e)
+read_same a k l s = each_so k l (reads a) (only_things (read_by_action a)) (λ x e. s (Some x) e)
 
 starts_read : (d : Domain) (o : Option GroundAction) → IsCondition SameAt (read_at o) (starts d o)
 starts_read d None k l s = refl
@@ -183,14 +155,14 @@ module _ (k l : Knowledge) (ts : List Touched) where
 
 all_changed : (a : GroundAction) (m o : Knowledge) → All (Agree m o) (changes a) → AreSame SameAt (changed_at (Some a)) m o
 all_changed a m o h None e = absurd (cc)
-all_changed a m o h (Some t) e = found_so (Agree m o) (changes a) h t e
+all_changed a m o h (Some x) e = found_so m o (changes a) h x e
 
 others_stay : (a : GroundAction) (k m : Knowledge) (r : Result Knowledge EffectRefusal) → LeavesOthers k (changes a) r → result_ok r ≡ Some m → (x : Told) → changed_at (Some a) x ≡ false → SameAt k m x
 others_stay a k m (Err r) h e x c = absurd (cc)
 others_stay a k m (Ok new) h e None c = let same : new ≡ m = cc in subst (λ l. SameAt k l None) same (sym h.1, sym h.2)
-others_stay a k m (Ok new) h e (Some t) c =
+others_stay a k m (Ok new) h e (Some x) c =
     let same : new ≡ m = cc in
-    subst (λ l. Agree k l t) same (agree_turned new k t (h.0 t (not_found t (changes a) c)))
+    subst (λ l. Agree k l (touched x)) same (turned_at new k x (h.0 x c))
 
 -- these effects of a ground action act by what it reads and changes alone
 abbrev ActAlike : GroundAction → (Knowledge → Result Knowledge EffectRefusal) → Type 0
@@ -204,9 +176,8 @@ LeaveOthers a act = (k : Knowledge) → LeavesOthers k (changes a) (act k)
 module _ (a : GroundAction) (act : Knowledge → Result Knowledge EffectRefusal) (alike : ActAlike a act) (leaves : LeaveOthers a act) where
   ends_alike : (k l : Knowledge) → AreSame SameAt (touched_at (Some a)) k l → EndAlike k l (changes a) (act k) (act l)
   ends_alike k l s =
-      let has = λ (t : Touched) (ts : List Touched). list_any (same_thing t) ts in
-      let read = each_so (Agree k l) (reads a) (λ t e. s (Some t) (ap (λ b. b || has t (changes a)) e)) in
-      let changed = each_so (Agree k l) (changes a) (λ t e. s (Some t) (or_right (has t (reads a)) (has t (changes a)) e)) in
+      let read = each_so k l (reads a) (only_things (read_by_action a)) (λ x e. s (Some x) (or_left (is_met x (reads a)) (is_met x (changes a)) e)) in
+      let changed = each_so k l (changes a) (changes_things a) (λ x e. s (Some x) (or_right (is_met x (reads a)) (is_met x (changes a)) e)) in
       alike k l (s None refl).0 read changed
 
   is_effect : IsEffect SameAt (touched_at (Some a)) (changed_at (Some a)) (λ k. result_ok (act k))
@@ -219,7 +190,7 @@ module _ (a : GroundAction) (act : Knowledge → Result Knowledge EffectRefusal)
 -- where no ground action stands nothing changes
 none_changed : (x : Told) → changed_at None x ≡ false
 none_changed None = refl
-none_changed (Some t) = refl
+none_changed (Some x) = refl
 
 no_effect : IsEffect SameAt (touched_at None) (changed_at None) (λ k. Some k)
 no_effect = record {
@@ -248,15 +219,13 @@ Untouched o p x = changed_at o x ≡ true → touched_at p x ≡ false
 
 untouched : (a b : GroundAction) → LeavesAlone a b → (x : Told) → Untouched (Some a) (Some b) x
 untouched a b h None e = absurd (cc)
-untouched a b h (Some t) e =
-    let w = h t (found t (changes a) e) in
-    let read = absent t (reads b) w.0 in
-    let changed = absent t (changes b) w.1 in
-    λ i. read i || changed i
+untouched a b h (Some x) e =
+    let w = h x e in
+    λ i. w.0 i || w.1 i
 
 none_untouched : (o : Option GroundAction) (x : Told) → Untouched o None x
 none_untouched o None e = absurd (cc)
-none_untouched o (Some t) e = refl
+none_untouched o (Some x) e = refl
 
 by_none_untouched : (p : Option GroundAction) (x : Told) → Untouched None p x
 by_none_untouched p x e = absurd (true_false (changed_at None x) e (none_changed x))

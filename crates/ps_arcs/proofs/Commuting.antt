@@ -1,6 +1,7 @@
 -- That each order of starts and ends that the arcs of a good plan's ground actions allow goes well.
-use Rattle.std.proofs.Common.{◌≡◌, ℕ, zero, suc, ◌<◌, true, Some, None, is_some, is_ok as is_fine, Result, Ok, Err, List, [], ◌∷◌, length, slice_get, refl, ap, sym, ◌∙◌, subst, arith}
+use Rattle.std.proofs.Common.{◌≡◌, ℕ, zero, suc, ◌<◌, true, Some, None, is_some, is_ok as is_fine, Result, Ok, Err, List, [], ◌∷◌, All, length, slice_get, refl, ap, sym, ◌∙◌, subst, arith}
 use Rattle.std.specs.Result.{result_ok}
+use Rattle.std.proofs.lemmas.List.Elements.{All-nil, All-cons}
 use Rattle.ps_world.specs.declared.domains.Domain.{Domain}
 use Rattle.ps_world.specs.declared.known.Knowledge.{Knowledge}
 use Rattle.ps_action.specs.Effects.{effect}
@@ -15,9 +16,11 @@ use Rattle.ps_action.specs.Arcs.{is_arc}
 use Rattle.ps_arcs.specs.Commuting.{AllHold, GoWell, IsGood, OrdersGoWell, TellTheSame}
 use Rattle.ps_arcs.specs.Beginnings.{BeginningsGoWell, CanGoOn, Come, TruthReadsWhatIsTold}
 use Rattle.ps_arcs.specs.Beginnings.Come.{opened, started, closed, retold}
-use Rattle.ps_arcs.proofs.Acting.{each_so, Told, SameAt, starts, lasts, closes, begun, finished, acts_of, acting}
+use Rattle.ps_arcs.proofs.Meeting.{all_told}
+use Rattle.ps_arcs.proofs.Acting.{Told, SameAt, starts, lasts, closes, begun, finished, acts_of, acting}
 use Rattle.ps_arcs.proofs.Steps.{parts}
 use Rattle.ps_eval.specs.Laws.{Agree}
+use Rattle.ps_action.specs.Things.{touched}
 use Rattle.ps_action.specs.Touching.{read_by_list}
 use Rattle.ps_eval.proofs.Reading.{truth_reads_what_is_named}
 
@@ -111,7 +114,7 @@ module _ (d : Domain) (gs : List GroundAction) (last : Knowledge) where
   tell_the_same : (k l : Knowledge) → l ≡ last → ((x : Told) → SameAt k l x) → TellTheSame k last
   tell_the_same k l e h =
       let same : (x : Told) → SameAt k last x = subst (λ m. (x : Told) → SameAt k m x) e h in
-      record { instances = (same None).0; goal = (same None).1; things = λ t. same (Some t) }
+      record { instances = (same None).0; goal = (same None).1; things = all_told k last (same None).0 (λ x. same (Some x)) }
 
   holds_all : (now : ℕ → Stage) (k : Knowledge) → AllHolds SameAt (length gs) (acts_of d gs) now k → AllHold d gs now k
   holds_all now k h i a e r = subst (λ o. lasts d o k ≡ true) e (h i (within gs i a e) r)
@@ -155,7 +158,7 @@ fine (Err r) e = absurd (cc)
 
 told_at : (k l : Knowledge) → TellTheSame k l → (x : Told) → SameAt k l x
 told_at k l t None = (t.instances, t.goal)
-told_at k l t (Some u) = t.things u
+told_at k l t (Some x) = t.things (touched x)
 
 module _ (d : Domain) (gs : List GroundAction) (first : Knowledge) where
   all_come : (now : ℕ → Stage) (k : Knowledge) → Come d gs first now k → Comes SameAt (length gs) (acts_of d gs) first now k
@@ -185,5 +188,10 @@ beginnings_go_well d k last gs now l g c =
     go_on d gs k last (plan.before (length gs)) now l (last_at d last gs k g)
     (any_beginning Knowledge Told SameAt (length gs) (acts_of d gs) (acting d gs (length gs)) k plan now l (all_come d gs k now l c))
 
+-- what holds of all holds of each
+each : {A : Type 0} (P : A → Type 0) → ((x : A) → P x) → (xs : List A) → All P xs
+each P so [] = All-nil P
+each P so (x ∷ xs) = All-cons P x xs (so x) (each P so xs)
+
 pub truth_reads_what_is_told : TruthReadsWhatIsTold
-truth_reads_what_is_told d one other cs t = truth_reads_what_is_named d one other cs (each_so (Agree one other) (read_by_list cs) (λ u e. t.things u))
+truth_reads_what_is_told d one other cs t = truth_reads_what_is_named d one other cs (each (Agree one other) t.things (read_by_list cs))

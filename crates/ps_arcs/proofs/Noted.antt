@@ -1,19 +1,16 @@
 -- Several acts that are noted one after another, with the things that they use.
-use Rattle.std.proofs.Common.{◌≡◌, inl, inr, ℕ, zero, suc, ◌+◌, ◌<◌, ◌≤◌, nat_eq, Bool, true, false, ◌&&◌, ◌||◌, List, [], ◌∷◌, ◌++◌, get_or, length, take, refl, ap, sym, ◌∙◌, arith}
+use Rattle.std.proofs.Common.{◌≡◌, ℕ, zero, suc, ◌+◌, ◌<◌, ◌≤◌, nat_eq, Bool, true, false, ◌&&◌, ◌||◌, List, [], ◌∷◌, ◌++◌, get_or, length, take, refl, ap, sym, ◌∙◌, arith}
 use Rattle.std.specs.Prelude.{slice_get}
 use Rattle.std.specs.List.{list_any}
 use Rattle.std.specs.Option.{option_map_or}
 use Rattle.std.proofs.lemmas.Bool.Decides.{nat_tests}
 use Rattle.std.proofs.lemmas.Grind.{common_steps}
 use Rattle.std.proofs.lemmas.List.{take_all, take_more}
-use Rattle.std.proofs.lemmas.Option.{slice_get_past}
 use Rattle.ps_action.specs.declared.acts.GroundAction.{GroundAction}
 use Rattle.ps_action.specs.declared.touched.Touched.{Touched}
-use Rattle.ps_action.specs.Arcs.{same_thing}
-use Rattle.ps_action.proofs.ArcTables.{true_false}
-use Rattle.ps_users.specs.Users.{AreWithin, Enters, Users, uses}
+use Rattle.ps_action.specs.Arcs.{meets}
+use Rattle.ps_users.specs.Users.{Enters, Users}
 use Rattle.ps_arcs.specs.Indexed.{AreUses}
-use Rattle.ps_arcs.proofs.Listed.{within_or}
 
 module _ {A : Type 0} (p : A → Bool) where
   -- what passes at a place of a list with one more
@@ -38,7 +35,7 @@ module _ {A : Type 0} (p : A → Bool) where
 pub one_used : (listed : GroundAction → List Touched) (gs : List GroundAction) (k : ℕ) (a : GroundAction) (old new : Users) → k < length gs → a ≡ get_or gs k a
     → AreUses listed (take k gs) old → Enters old (listed a) k new → AreUses listed (take (k + 1) gs) new
 one_used listed gs k a old new within is before entered t i =
-    let p : GroundAction → Bool = λ b. list_any (same_thing t) (listed b) in
+    let p : GroundAction → Bool = λ b. list_any (meets t) (listed b) in
     let long : length (take k gs) ≡ k = grind (arith, common_steps) in
     let more : take k gs ++ a ∷ [] ≡ take (k + 1) gs = ap (λ b. take k gs ++ b ∷ []) is ∙ sym (take_more gs k a within) in
     entered t i ∙ ap (λ b. b || (nat_eq i k && p a)) (before t i) ∙ push_at p (take k gs) a i k long
@@ -46,15 +43,4 @@ one_used listed gs k a old new within is before entered t i =
 
 pub all_used : (listed : GroundAction → List Touched) (gs : List GroundAction) (k : ℕ) (users : Users) → length gs ≤ k → AreUses listed (take k gs) users → AreUses listed gs users
 all_used listed gs k users all are t i =
-    are t i ∙ ap (λ l. option_map_or (λ a. list_any (same_thing t) (listed a)) (slice_get l i) false) (take_all k gs all)
-
--- only as many acts use anything as there are
-pub users_within : (listed : GroundAction → List Touched) (gs : List GroundAction) (users : Users) (n : ℕ) → n ≡ length gs → AreUses listed gs users → AreWithin n users
-users_within listed gs users n long are t i used =
-    elim (within_or i (length gs)) [
-      | inl within ↦ omega (arith, within, long)
-      | inr past ↦
-          let none : uses users t i ≡ false =
-          are t i ∙ ap (λ o. option_map_or (λ a. list_any (same_thing t) (listed a)) o false) (slice_get_past gs i past) in
-          absurd (true_false (uses users t i) used none)
-    ]
+    are t i ∙ ap (λ l. option_map_or (λ a. list_any (meets t) (listed a)) (slice_get l i) false) (take_all k gs all)

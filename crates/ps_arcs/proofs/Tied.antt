@@ -1,16 +1,12 @@
 -- Flags that tell which ground actions are tied.
-use Rattle.std.proofs.Common.{◌≡◌, ℕ, zero, suc, ◌<◌, Bool, true, false, ◌&&◌, ◌||◌, List, [], ◌∷◌, Option, Some, None, drop, get_or, length, take, refl, ap, sym, ◌∙◌, arith}
+use Rattle.std.proofs.Common.{◌≡◌, ℕ, ◌<◌, Bool, true, false, ◌&&◌, ◌||◌, List, [], ◌∷◌, Option, Some, None, get_or, length, refl, ap, sym, ◌∙◌, arith}
 use Rattle.std.specs.Prelude.{nat_lt, slice_get}
-use Rattle.std.specs.List.{list_all, list_any}
+use Rattle.std.specs.List.{list_any}
 use Rattle.std.specs.Option.{option_map_or}
-use Rattle.std.specs.Cmp.{first_so, second_so}
-use Rattle.std.proofs.lemmas.List.{take-append-drop}
-use Rattle.std.proofs.lemmas.List.Folds.{list_any-append}
 use Rattle.std.proofs.lemmas.Bool.Decides.{nat_tests}
-use Rattle.ps_world.proofs.Truths.{or_more}
 use Rattle.ps_action.specs.declared.acts.GroundAction.{GroundAction}
 use Rattle.ps_action.specs.declared.touched.Touched.{Touched}
-use Rattle.ps_action.specs.Arcs.{are_tied, changes, is_arc, meet, reads, same_thing}
+use Rattle.ps_action.specs.Arcs.{are_tied, changes, is_arc, meet, reads, meets}
 use Rattle.ps_arcs.specs.Listing.{are_met, touching}
 use Rattle.ps_users.specs.Users.{Marks, Users, uses}
 use Rattle.ps_arcs.specs.Indexed.{AreTied, AreUses, is_tied}
@@ -21,7 +17,7 @@ none_passes : (things : List Touched) → list_any (λ t. false) things ≡ fals
 none_passes [] = refl
 none_passes (t ∷ ts) = none_passes ts
 
-any_at : (listed : GroundAction → List Touched) (things : List Touched) (o : Option GroundAction) → list_any (λ t. option_map_or (λ a. list_any (same_thing t) (listed a)) o false) things ≡ option_map_or (λ a. meet things (listed a)) o false
+any_at : (listed : GroundAction → List Touched) (things : List Touched) (o : Option GroundAction) → list_any (λ t. option_map_or (λ a. list_any (meets t) (listed a)) o false) things ≡ option_map_or (λ a. meet things (listed a)) o false
 any_at listed things (Some a) = refl
 any_at listed things None = none_passes things
 
@@ -60,29 +56,6 @@ module _ (gs : List GroundAction) (s : List Touched × List Touched) (readers ch
         ∙ or_three (get_or first j false) (list_any (λ t. uses changers t j) s.0) (list_any (λ t. uses readers t j) s.1) (list_any (λ t. uses changers t j) s.1)
         ∙ ap (λ b. get_or first j false || b) (tied_at j),
   )
-
--- ---- flags that are all set
-
-each_set : (flags : List Bool) → list_all (λ flag. flag) flags ≡ true → (j : ℕ) → j < length flags → get_or flags j false ≡ true
-each_set [] e j h = absurd (omega (arith, h))
-each_set (flag ∷ flags) e zero h = first_so flag (list_all (λ flag. flag) flags) e
-each_set (flag ∷ flags) e (suc j) h = each_set flags (second_so flag (list_all (λ flag. flag) flags) e) j (omega (arith, h))
-
--- what passes among the first passes among all
-more_pass : (p : Touched → Bool) (things : List Touched) (k : ℕ) → list_any p (take k things) ≡ true → list_any p things ≡ true
-more_pass p things k e =
-    ap (list_any p) (sym (take-append-drop k things)) ∙ list_any-append p (take k things) (drop k things)
-    ∙ ap (λ b. b || list_any p (drop k things)) e
-
--- once all flags are set, the things that are left set none
-pub all_marked : (users : Users) (things : List Touched) (k : ℕ) (old new : List Bool) → list_all (λ flag. flag) new ≡ true
-    → Marks old (λ j. list_any (λ t. uses users t j) (take k things)) new → Marks old (λ j. list_any (λ t. uses users t j) things) new
-all_marked users things k old new set marks = (
-  marks.0,
-  λ j within.
-      let on : get_or new j false ≡ true = each_set new set j (omega (arith, within, marks.0)) in
-      on ∙ sym (or_more (get_or old j false) (list_any (λ t. uses users t j) (take k things)) (list_any (λ t. uses users t j) things) (sym (marks.1 j within) ∙ on) (more_pass (λ t. uses users t j) things k)),
-)
 
 -- ---- arcs
 

@@ -4,14 +4,14 @@ use Rattle.std.specs.List.{list_any}
 use Rattle.std.specs.Option.{option_map_or}
 use Rattle.ps_action.specs.declared.acts.GroundAction.{GroundAction}
 use Rattle.ps_action.specs.declared.touched.Touched.{Touched}
-use Rattle.ps_action.specs.Arcs.{changes, is_arc, reads, same_thing}
+use Rattle.ps_action.specs.Arcs.{changes, is_arc, reads, meets}
 use Rattle.ps_users.specs.Users.{Users, uses}
 use Rattle.ps_arcs.specs.Listing.{are_met, touching}
 
--- an act uses exactly the things that are listed of its ground action
+-- an act uses something that meets this exactly where something that is listed of its ground action does
 abbrev pub AreUses : (GroundAction → List Touched) → List GroundAction → Users → Type 0
 AreUses listed gs users =
-    (t : Touched) (i : ℕ) → uses users t i ≡ option_map_or (λ a. list_any (same_thing t) (listed a)) (slice_get gs i) false
+    (t : Touched) (i : ℕ) → uses users t i ≡ option_map_or (λ a. list_any (meets t) (listed a)) (slice_get gs i) false
 
 -- acts read and change exactly what their ground actions do
 pub record IsIndexed (gs : List GroundAction) (readers changers : Users) : Type 0 where

@@ -5,11 +5,11 @@ use Rattle.ps_action.specs.Arcs.{arcs_from, changes, is_thing, meet, reads}
 use Rattle.ps_action.specs.declared.acts.GroundAction.{GroundAction}
 use Rattle.ps_action.specs.declared.touched.Touched.{Touched}
 
--- the things among these are put at the end
+-- the things and places among these are put at the end
 abbrev pub Adds : List Touched → List Touched → List Touched → Type 0
 Adds old more new = new ≡ old ++ filter is_thing more
 
--- the things that a ground action reads, and those that it changes
+-- the things and places that a ground action reads, and those that it changes
 abbrev pub touching : GroundAction → List Touched × List Touched
 touching a = (reads a, changes a)
 

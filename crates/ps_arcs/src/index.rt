@@ -1,12 +1,11 @@
 //! Ground actions, found by the things that they read and change.
-ghost use Rattle.std.specs.Prelude.{◌≡◌, ◌≤◌, ◌<◌, nat_eq, [], length, All, IfOk, OnOk};
-ghost use Rattle.std.specs.List.{list_all, list_any};
+ghost use Rattle.std.specs.Prelude.{◌≡◌, ◌≤◌, ◌<◌, [], length, IfOk, OnOk};
 ghost use Rattle.ps_action.specs.Arcs.{changes, reads};
-ghost use Rattle.ps_users.specs.Users.{AreWithin, Enters, Marks, uses};
+ghost use Rattle.ps_users.specs.Users.{Enters, Marks};
 ghost use Rattle.ps_arcs.specs.Indexed.{AreTied, IsIndexed, is_tied};
 
 use super::touching::Touching;
-use ps_action::{GroundAction, Touched};
+use ps_action::GroundAction;
 use ps_users::Users;
 use std::alloc::{AllocError, Global};
 use std::marker::Model;
@@ -66,12 +65,11 @@ impl<'a> Index<'a> {
 
     /// Sets the flag of each ground action that is tied to one of which this is listed.
     fn mark_tied(&self, touching: &Touching, flags: &mut [bool])
-        requires { length flags.old ≡ length self.now }
         ensures { Marks flags.old (is_tied self.now touching.now) flags.new }
     {
-        mark_all(flags, touching.reads(), &self.changers);
-        mark_all(flags, touching.changes(), &self.readers);
-        mark_all(flags, touching.changes(), &self.changers);
+        self.changers.mark_all(touching.reads(), flags);
+        self.readers.mark_all(touching.changes(), flags);
+        self.changers.mark_all(touching.changes(), flags);
     }
 }
 
@@ -108,34 +106,4 @@ fn enter(
     readers.enter_all(touching.reads(), place)?;
     changers.enter_all(touching.changes(), place)?;
     Ok(())
-}
-
-/// Sets the flag of each act that uses one of these things. Where all are set it stops.
-fn mark_all(flags: &mut [bool], things: &[Touched], users: &Users)
-    requires { AreWithin (length flags.old) users.now }
-    ensures { Marks flags.old (λ j. list_any (λ t. uses users.now t j) things.now) flags.new }
-{
-    for thing in things {
-        if are_set(flags) {
-            return;
-        }
-        mark(flags, users.of(thing));
-    }
-}
-
-/// Whether each flag is set.
-fn are_set(flags: &[bool]) -> bool
-    ensures { result ≡ list_all (λ flag. flag) flags.now }
-{
-    flags.iter().all(|flag| *flag)
-}
-
-/// Sets the flags at these places.
-fn mark(flags: &mut [bool], places: &[u32])
-    requires { All (λ i. i < length flags.old) places.now }
-    ensures { Marks flags.old (λ j. list_any (nat_eq j) places.now) flags.new }
-{
-    for place in places {
-        flags[*place as usize] = true;
-    }
 }

@@ -3,27 +3,27 @@ ghost use Rattle.ps_arcs.specs.Beginnings.{BeginningsGoWell, TruthReadsWhatIsTol
 ghost use Rattle.ps_arcs.specs.Commuting.{JudgedIsGood, JudgedIsGrounded, OrdersGoWell};
 ghost use Rattle.ps_arcs.specs.Laws.{ArcsAreListed, ConditionsReadThings, EffectsLeaveOthers, EffectsReadThings, NoArcLeavesAlone};
 
-/// The conditions of a ground action hold by the things that it reads alone: where two know the same instances and agree on
-/// those things, each of its three lists of conditions holds in both or in neither.
+/// The conditions of a ground action hold by the things and places that it reads alone: where two know the same instances and agree on
+/// those, each of its three lists of conditions holds in both or in neither.
 pub fn conditions_read_things()
     ensures { ConditionsReadThings }
 {}
 
-/// The effects of a ground action act by the things that it reads or changes alone: where two know the same instances and agree on
-/// those things, each of its two lists of effects is refused in both, for the same cause, or in neither, and then the outcomes
+/// The effects of a ground action act by the things and places that it reads or changes alone: where two know the same instances and
+/// agree on those, each of its two lists of effects is refused in both, for the same cause, or in neither, and then the outcomes
 /// agree on all that it changes, and on all on which they agreed before.
 pub fn effects_read_things()
     ensures { EffectsReadThings }
 {}
 
-/// Effects of a ground action that aren't refused change nothing but what it changes: every other fact and value stays as it was,
-/// and so do the instances and the goal.
+/// Effects of a ground action that aren't refused change nothing but what meets what it changes: every other fact and value stays as it
+/// was, and so do the instances and the goal.
 pub fn effects_leave_others()
     ensures { EffectsLeaveOthers }
 {}
 
-/// Where there is no arc from one ground action to a later one, no thing that one of the two changes is read or changed by the
-/// other.
+/// Where there is no arc from one ground action to a later one, no fact or value that what one of the two changes meets is met by what the
+/// other reads or changes.
 pub fn no_arc_leaves_alone()
     ensures { NoArcLeavesAlone }
 {}

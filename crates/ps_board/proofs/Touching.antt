@@ -1,44 +1,53 @@
 -- What an event doesn't touch is as it was.
-use Rattle.std.proofs.Common.{◌≡◌, ◌↔◌, ◌≢◌, ◌⊎◌, ◌||◌, Bool, true, false, Option, Some, None, MatchOption, option_to_list, pos, Result, Ok, Err, List, [], ◌∷◌, ◌++◌, map, inl, inr, refl, ap, sym, subst, append-nil, ◌∙◌}
+use Rattle.std.proofs.Common.{◌≡◌, ◌↔◌, ◌≢◌, ◌⊎◌, ◌||◌, Bool, true, false, Option, Some, None, MatchOption, is_some, filter, not, if◌then◌else◌, option_to_list, Result, Ok, Err, List, [], ◌∷◌, map, inl, inr, refl, ap, sym, subst, ◌∙◌}
+use Rattle.std.specs.BTreeMap.{insert_entry}
+use Rattle.std.specs.BTreeSet.{insert_key}
 use Rattle.std.specs.List.{Contains, list_any}
+use Rattle.std.specs.Map.{lookup}
 use Rattle.std.specs.Option.{unwrap_or}
-use Rattle.std.proofs.lemmas.Bool.{false_from_ne_true, or_parts, true≢false}
+use Rattle.std.proofs.lemmas.Bool.{false_from_ne_true, or_from, or_parts, true≢false}
 use Rattle.std.proofs.lemmas.Cmp.{eq_by_cmp_equiv}
 use Rattle.std.proofs.lemmas.Map.Views.{list_any-from_Contains, Contains-from_any, tells_apart}
-use Rattle.ps_world.specs.Names.{object, same_name}
-use Rattle.ps_world.specs.Knowledge.{edited, is_among, is_known, kind_of, same_fact, value_in}
+use Rattle.ps_world.specs.CondViews.{cond_tree}
+use Rattle.ps_world.specs.Facts.{fact_cmp}
+use Rattle.ps_world.specs.Names.{same_name}
+use Rattle.ps_world.specs.Knowledge.{edited, fault_of_cond, fault_of_fact, fault_of_value, is_among, is_known, kind_of, same_fact, unless, value_in, without_fact, without_goal, without_value}
 use Rattle.ps_world.specs.declared.names.Name.{Name}
 use Rattle.ps_world.specs.declared.numbers.Num.{Num}
-use Rattle.ps_world.specs.declared.expressions.Expr.TheVariants as expr
+use Rattle.ps_world.specs.declared.conditions.Cond.{Cond}
 use Rattle.ps_world.specs.declared.facts.Fact.{Fact as GroundFact}
 use Rattle.ps_world.specs.declared.actions.Effect.{Effect}
 use Rattle.ps_world.specs.declared.domains.Domain.{Domain}
 use Rattle.ps_world.specs.declared.known.Knowledge.{Knowledge}
 use Rattle.ps_world.specs.declared.edits.Edit.{Edit}
-use Rattle.ps_world.specs.declared.edits.Edit.TheVariants.{AddInstance, RemoveInstance, AddFact, RemoveFact, SetValue, RemoveValue}
+use Rattle.ps_world.specs.declared.edits.Edit.TheVariants.{AddInstance, RemoveInstance, AddFact, RemoveFact, SetValue, RemoveValue, SetGoal, RemoveGoal}
 use Rattle.ps_world.specs.declared.edits.EditRefusal.{EditRefusal}
-use Rattle.ps_action.specs.Arcs.{changes}
+use Rattle.ps_world.specs.declared.edits.EditRefusal.TheVariants.{NoFact, NoValue}
+use Rattle.ps_action.specs.Arcs.{meets}
+use Rattle.ps_action.specs.Places.{closed, places_meet}
+use Rattle.ps_action.specs.Things.{Thing, a_fact, a_value, holds_thing, is_met, touched}
+use Rattle.ps_action.specs.declared.places.Place.{Place}
+use Rattle.ps_action.proofs.Meeting.{one_met}
 use Rattle.ps_action.specs.Effects.{effect}
 use Rattle.ps_action.specs.Touching.{changed_by_effect}
 use Rattle.ps_action.specs.declared.acts.Act.{Act}
 use Rattle.ps_action.specs.declared.acts.GroundAction.{GroundAction}
 use Rattle.ps_action.specs.declared.refusals.EffectRefusal.{EffectRefusal}
 use Rattle.ps_action.specs.declared.touched.Touched.{Touched}
-use Rattle.ps_action.specs.declared.touched.Touched.TheVariants.{Fact, Value, Instance}
+use Rattle.ps_action.specs.declared.touched.Touched.TheVariants.{Fact, Value, Instance, Facts, Values, Instances}
 use Rattle.ps_action.proofs.Contained.{fact_itself}
 use Rattle.ps_action.proofs.Facts.{exact_facts, facts_total, same_name-is, same_name-refl}
-use Rattle.ps_users.proofs.Things.{among}
 use Rattle.ps_eval.specs.Laws.{Agree}
 use Rattle.ps_problem.specs.Changes.{FactAfter, IsChange, KindAfter, ValueAfter}
 use Rattle.ps_problem.proofs.Changes.{edits_change}
 use Rattle.ps_arcs.specs.Laws.{LeavesOthers}
 use Rattle.ps_arcs.proofs.Acting.{agree_itself}
-use Rattle.ps_arcs.proofs.Alike.{effects_leave_others}
+use Rattle.ps_arcs.proofs.Alike.{effects_leave}
 use Rattle.ps_machine.specs.declared.journal.Event.{Event}
 use Rattle.ps_machine.specs.declared.journal.Event.TheVariants as event
 use Rattle.ps_rules.specs.Known.{grounds, kept, known_after, part}
 use Rattle.ps_rules.specs.Runs.{says_plan}
-use Rattle.ps_monitor.specs.Naming.{has, is_named, NamesChange}
+use Rattle.ps_monitor.specs.Naming.{has, has_name, is_named, NamesChange}
 use Rattle.ps_board.specs.Touching.{touched_by, touched_by_edit}
 
 -- ---- the same before and after
@@ -47,34 +56,88 @@ agree-back : (one other : Knowledge) (t : Touched) → Agree one other t → Agr
 agree-back one other (Fact f) h = sym h
 agree-back one other (Value f) h = sym h
 agree-back one other (Instance n) h = sym h
+agree-back one other (Facts p) h = λ f at. sym (h f at)
+agree-back one other (Values p) h = λ f at. sym (h f at)
+agree-back one other Instances h = sym h
 
--- a thing that isn't named isn't in the list
+-- what isn't named meets nothing in the list
 unnamed-absent : (ts : List Touched) (t : Touched) → is_named ts t ≡ false → has ts t ≡ false
 unnamed-absent ts (Fact f) e = (or_parts (has ts (Fact f)) _ e).0
 unnamed-absent ts (Value f) e = (or_parts (has ts (Value f)) _ e).0
 unnamed-absent ts (Instance n) e = e
+unnamed-absent ts (Facts p) e = (or_parts (has ts (Facts p)) _ e).0
+unnamed-absent ts (Values p) e = (or_parts (has ts (Values p)) _ e).0
+unnamed-absent ts Instances e = e
+
+-- ---- a place and what stands there
+
+-- what holds a thing that a list meets meets the list
+unmet : (ts : List Touched) (t : Touched) (x : Thing) → is_named ts t ≡ false → holds_thing x t ≡ true → is_met x ts ≡ false
+unmet ts t x e at = false_from_ne_true (is_met x ts) (λ met. true≢false (sym (one_met x t ts at met) ∙ unnamed-absent ts t e))
+
+thing_met : (x : Thing) (t : Touched) → holds_thing x t ≡ meets (touched x) t
+thing_met (a_fact f) (Fact g) = refl
+thing_met (a_fact f) (Value g) = refl
+thing_met (a_fact f) (Instance n) = refl
+thing_met (a_fact f) (Facts p) = refl
+thing_met (a_fact f) (Values p) = refl
+thing_met (a_fact f) Instances = refl
+thing_met (a_value f) (Fact g) = refl
+thing_met (a_value f) (Value g) = refl
+thing_met (a_value f) (Instance n) = refl
+thing_met (a_value f) (Facts p) = refl
+thing_met (a_value f) (Values p) = refl
+thing_met (a_value f) Instances = refl
+
+-- a list with an instance in it meets all instances
+instance-met : (n : Name) (t : Touched) → meets (Instance n) t ≡ true → meets Instances t ≡ true
+instance-met n (Instance m) e = refl
+instance-met n Instances e = refl
+instance-met n t e = absurd (cc)
+
+no-instance : (ts : List Touched) (n : Name) → has ts Instances ≡ false → has ts (Instance n) ≡ false
+no-instance [] n e = refl
+no-instance (t ∷ ts) n e =
+    let parts = or_parts (meets Instances t) (has ts Instances) e in
+    or_from (meets (Instance n) t) (has ts (Instance n)) (false_from_ne_true (meets (Instance n) t) (λ m. true≢false (sym (instance-met n t m) ∙ parts.0))) (no-instance ts n parts.1)
+
+no-instances : (ts : List Touched) (ns : List Name) → has ts Instances ≡ false → has_name ts ns ≡ false
+no-instances ts [] e = refl
+no-instances ts (n ∷ ns) e = or_from (has ts (Instance n)) (has_name ts ns) (no-instance ts n e) (no-instances ts ns e)
+
+met-as : (x : Thing) (ts : List Touched) → is_met x ts ≡ has ts (touched x)
+met-as x ts = λ i. list_any (λ t. thing_met x t i) ts
+
+-- what stands at a place that isn't named isn't named either
+fact-below : (ts : List Touched) (p : Place) (f : GroundFact) → is_named ts (Facts p) ≡ false → places_meet p (closed f) ≡ true → is_named ts (Fact f) ≡ false
+fact-below ts p f e at =
+    or_from (has ts (Fact f)) (has_name ts f.args) (sym (met-as (a_fact f) ts) ∙ unmet ts (Facts p) (a_fact f) e at)
+    (no-instances ts f.args (or_parts (has ts (Facts p)) (has ts Instances) e).1)
+
+value-below : (ts : List Touched) (p : Place) (f : GroundFact) → is_named ts (Values p) ≡ false → places_meet p (closed f) ≡ true → is_named ts (Value f) ≡ false
+value-below ts p f e at =
+    or_from (has ts (Value f)) (has_name ts f.args) (sym (met-as (a_value f) ts) ∙ unmet ts (Values p) (a_value f) e at)
+    (no-instances ts f.args (or_parts (has ts (Values p)) (has ts Instances) e).1)
 
 -- ---- effects
 
--- a ground action with these effects alone
-abbrev only : List Effect → GroundAction
-only es = record {
-  act = record { action = object; args = [] };
-  duration = expr.Num (pos 0);
-  conditions = record { at_start = []; over_all = []; at_end = [] };
-  effects = record { at_start = es; at_end = [] };
-}
-
-effects-left : (k : Knowledge) (es : List Effect) (r : Result Knowledge EffectRefusal) → LeavesOthers k (changes (only es)) r → NamesChange (map changed_by_effect es) k (kept k r)
+effects-left : (k : Knowledge) (es : List Effect) (r : Result Knowledge EffectRefusal) → LeavesOthers k (map changed_by_effect es) r → NamesChange (map changed_by_effect es) k (kept k r)
 effects-left k es (Err fault) h = λ t e. agree_itself k t
-effects-left k es (Ok new) h = λ t e.
-    let ts : List Touched = map changed_by_effect es in
-    let absent : ¬ (Contains (ts ++ []) t) =
-    λ c. true≢false (sym (among t ts (subst (λ xs. Contains xs t) (append-nil ts) c)) ∙ unnamed-absent ts t e) in
-    agree-back new k t (h.0 t absent)
+effects-left k es (Ok new) h = λ t e. agree-back new k t (left t e)
+  where
+    ts : List Touched
+    ts = map changed_by_effect es
+
+    left : (t : Touched) → is_named ts t ≡ false → Agree new k t
+    left (Fact f) e = h.0 (a_fact f) (unmet ts (Fact f) (a_fact f) e (fact_itself f))
+    left (Value f) e = h.0 (a_value f) (unmet ts (Value f) (a_value f) e (fact_itself f))
+    left (Instance n) e = ap (λ is. lookup (same_name n) is) h.1
+    left (Facts p) e = λ f at. h.0 (a_fact f) (unmet ts (Facts p) (a_fact f) e at)
+    left (Values p) e = λ f at. h.0 (a_value f) (unmet ts (Values p) (a_value f) e at)
+    left Instances e = h.1
 
 effects-named : (d : Domain) (k : Knowledge) (es : List Effect) → NamesChange (map changed_by_effect es) k (kept k (effect d k es))
-effects-named d k es = effects-left k es (effect d k es) (effects_leave_others d k (only es)).0
+effects-named d k es = effects-left k es (effect d k es) (effects_leave d k es)
 
 -- ---- edits
 
@@ -140,17 +203,58 @@ known-same k new f h =
     (λ e. list_any-from_Contains laws f new.facts (h.0 (Contains-from_any (tells_apart exact_facts) f k.facts e)))
     (λ e. list_any-from_Contains laws f k.facts (h.1 (Contains-from_any (tells_apart exact_facts) f new.facts e)))
 
-edit-left : (k : Knowledge) (edit : Edit) (new : Knowledge) → IsChange k edit new → NamesChange (touched_by_edit edit) k new
-edit-left k edit new h (Fact f) e = known-same k new f (both (fact-after k edit f e) (h.facts f))
-edit-left k edit new h (Value f) e = same-option (value_in k f) (value_in new f) (λ x. both (value-after k edit f x e) (h.values f x))
-edit-left k edit new h (Instance n) e = same-option (kind_of k n) (kind_of new n) (λ t. both (kind-after k edit n t e) (h.kinds n t))
+-- ---- the instances
+
+-- the instances are those from before, unless there is a refusal
+abbrev Keeps : Knowledge → Result Knowledge EditRefusal → Type 0
+Keeps k (Ok new) = k.instances ≡ new.instances
+Keeps k (Err why) = Unit {0}
+
+keeps-unless : (k : Knowledge) (o : Option EditRefusal) (r : Result Knowledge EditRefusal) → Keeps k r → Keeps k (unless o r)
+keeps-unless k None r h = h
+keeps-unless k (Some why) r h = tt
+
+keeps-where : (k : Knowledge) (b : Bool) (r : Result Knowledge EditRefusal) (why : EditRefusal) → Keeps k r → Keeps k (if b then r else Err why)
+keeps-where k true r why h = h
+keeps-where k false r why h = tt
+
+keeps-goal : (k : Knowledge) (o : Option Cond) → Keeps k (without_goal k o)
+keeps-goal k None = tt
+keeps-goal k (Some goal) = refl
+
+edit-keeps : (d : Domain) (k : Knowledge) (edit : Edit) → is_named (touched_by_edit edit) Instances ≡ false → Keeps k (edited d k edit)
+edit-keeps d k (AddInstance n t) e = absurd (cc)
+edit-keeps d k (RemoveInstance n) e = absurd (cc)
+edit-keeps d k (AddFact f) e = keeps-unless k (fault_of_fact d k f) (Ok (record k { facts = insert_key fact_cmp k.facts f })) refl
+edit-keeps d k (RemoveFact f) e =
+    keeps-unless k (fault_of_fact d k f) (without_fact k f) (keeps-where k (is_known k f) (Ok (record k { facts = filter (λ g. not (same_fact f g)) k.facts })) NoFact refl)
+edit-keeps d k (SetValue f x) e = keeps-unless k (fault_of_value d k f) (Ok (record k { values = insert_entry fact_cmp k.values f x })) refl
+edit-keeps d k (RemoveValue f) e =
+    keeps-unless k (fault_of_value d k f) (without_value k f)
+    (keeps-where k (is_some (value_in k f)) (Ok (record k { values = filter (λ v. not (same_fact f v.0)) k.values })) NoValue refl)
+edit-keeps d k (SetGoal c) e = keeps-unless k (fault_of_cond d k [] (cond_tree c)) (Ok (record k { goal = Some c })) refl
+edit-keeps d k RemoveGoal e = keeps-goal k k.goal
+
+fact-left : (k : Knowledge) (edit : Edit) (new : Knowledge) → IsChange k edit new → (f : GroundFact) → is_named (touched_by_edit edit) (Fact f) ≡ false → is_known k f ≡ is_known new f
+fact-left k edit new h f e = known-same k new f (both (fact-after k edit f e) (h.facts f))
+
+value-left : (k : Knowledge) (edit : Edit) (new : Knowledge) → IsChange k edit new → (f : GroundFact) → is_named (touched_by_edit edit) (Value f) ≡ false → value_in k f ≡ value_in new f
+value-left k edit new h f e = same-option (value_in k f) (value_in new f) (λ x. both (value-after k edit f x e) (h.values f x))
+
+edit-left : (k : Knowledge) (edit : Edit) (new : Knowledge) → IsChange k edit new → (is_named (touched_by_edit edit) Instances ≡ false → k.instances ≡ new.instances) → NamesChange (touched_by_edit edit) k new
+edit-left k edit new h same (Fact f) e = fact-left k edit new h f e
+edit-left k edit new h same (Value f) e = value-left k edit new h f e
+edit-left k edit new h same (Instance n) e = same-option (kind_of k n) (kind_of new n) (λ t. both (kind-after k edit n t e) (h.kinds n t))
+edit-left k edit new h same (Facts p) e = λ f at. fact-left k edit new h f (fact-below (touched_by_edit edit) p f e at)
+edit-left k edit new h same (Values p) e = λ f at. value-left k edit new h f (value-below (touched_by_edit edit) p f e at)
+edit-left k edit new h same Instances e = same e
 
 edit-named : (d : Domain) (k : Knowledge) (edit : Edit) → NamesChange (touched_by_edit edit) k (kept k (edited d k edit))
 edit-named d k edit = made (edited d k edit) refl
   where
     made : (r : Result Knowledge EditRefusal) → edited d k edit ≡ r → NamesChange (touched_by_edit edit) k (kept k r)
     made (Err why) e = λ t absent. agree_itself k t
-    made (Ok new) e = edit-left k edit new (edits_change d k edit new e).0
+    made (Ok new) e = edit-left k edit new (edits_change d k edit new e).0 (λ named. subst (Keeps k) e (edit-keeps d k edit named))
 
 -- what an edit touches, as a list
 pub listed : {A : Type 0} (o : Option A) (xs : List A) → MatchOption o (xs ≡ []) (λ x. xs ≡ x ∷ []) → xs ≡ option_to_list o

@@ -86,6 +86,10 @@ impl Expert {
 impl Types for Expert {
     ghost types = { λ e. e };
 
+    fn is_type(&self, name: Name) -> bool {
+        Expert::is_type(self, name)
+    }
+
     fn is_subtype(&self, low: Name, high: Name) -> bool {
         Expert::is_subtype(self, low, high)
     }

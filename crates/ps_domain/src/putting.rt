@@ -4,8 +4,8 @@ ghost use Rattle.ps_world.specs.CondViews.{cond_tree};
 ghost use Rattle.ps_action.specs.Grounding.{put_term, put_lifted, put_tree, put_expr, put_cond, put_effect, fitting, put_list};
 
 use ps_world::{
-    BoxedCond, BoxedExpr, Cond, Conds, Effect, Expr, Lifted, MOST_ARGUMENTS, Name, Param, Seq,
-    Term, Terms,
+    BoxedCond, BoxedExpr, Cond, Conds, Duplicate, Effect, Expr, Lifted, MOST_ARGUMENTS, Name,
+    Param, Seq, Term, Terms,
 };
 use std::alloc::{AllocError, Global};
 
@@ -72,7 +72,13 @@ fn put_cond(alloc: Global, args: &[Name], cond: &Cond) -> Result<Cond, AllocErro
 {
     match cond {
         Cond::And(parts) => Ok(Cond::And(put_conds(alloc, args, parts)?)),
+        Cond::Or(parts) => Ok(Cond::Or(put_conds(alloc, args, parts)?)),
         Cond::Not(inner) => Ok(Cond::Not(put_boxed_cond(alloc, args, inner)?)),
+        Cond::Imply(one, other) => {
+            let one = put_boxed_cond(alloc, args, one)?;
+            let other = put_boxed_cond(alloc, args, other)?;
+            Ok(Cond::Imply(one, other))
+        }
         Cond::Holds(lifted) => Ok(Cond::Holds(put_lifted(args, lifted))),
         Cond::Same(one, other) => Ok(Cond::Same(put_term(args, *one), put_term(args, *other))),
         Cond::Cmp(rel, left, right) => {
@@ -81,6 +87,14 @@ fn put_cond(alloc: Global, args: &[Name], cond: &Cond) -> Result<Cond, AllocErro
             Ok(Cond::Cmp(*rel, left, right))
         }
         Cond::IsA(term, kind) => Ok(Cond::IsA(put_term(args, *term), *kind)),
+        Cond::ForSome(params, inner) => {
+            let params = params.copy(alloc)?;
+            Ok(Cond::ForSome(params, put_boxed_cond(alloc, args, inner)?))
+        }
+        Cond::ForAll(params, inner) => {
+            let params = params.copy(alloc)?;
+            Ok(Cond::ForAll(params, put_boxed_cond(alloc, args, inner)?))
+        }
     }
 }
 

@@ -1,17 +1,18 @@
 -- What is printed with a table is printed so with each table that keeps its names.
-use Rattle.std.proofs.Common.{◌≡◌, ℕ, ◌<◌, true, ◌&&◌, nat_le, List, [], ◌∷◌, ◌++◌, codes, length, map, slice_get, Some, All, refl, sym, ap, ◌∙◌, arith}
+use Rattle.std.proofs.Common.{◌≡◌, ℕ, ◌<◌, true, ◌&&◌, nat_le, List, [], ◌∷◌, ◌++◌, codes, length, map, slice_get, slice_index_or, Some, All, refl, sym, ap, ◌∙◌, arith}
 use Rattle.std.proofs.lemmas.Bool.{and_from, and_parts}
 use Rattle.std.proofs.lemmas.Bool.Decides.{nat_tests}
-use Rattle.std.proofs.lemmas.List.Elements.{All-nil, All-cons, All-head, All-tail}
+use Rattle.std.proofs.lemmas.List.Elements.{All-nil, All-cons, All-head, All-tail, All-append}
 use Rattle.std.proofs.lemmas.Option.{slice_get_within, slice_get-get_or}
 use Rattle.std.specs.Fmt.{decimal}
 use Rattle.std.specs.List.{list_all}
 use Rattle.ps_world.specs.CondViews.{cond_tree}
-use Rattle.ps_world.specs.DomainTexts.{after_spaces, cond_text, conds_text, expr_text, lifted_text, op_text, rel_text, term_text}
-use Rattle.ps_world.specs.Names.{Table, name_text}
+use Rattle.ps_world.specs.DomainTexts.{after_spaces, bound_text, cond_text, conds_text, expr_text, lifted_text, op_text, param_text, rel_text, spaced, term_text}
+use Rattle.ps_world.specs.Names.{Table, name_text, object}
 use Rattle.ps_world.specs.Numbers.{number_text}
 use Rattle.ps_world.specs.Texts.{args_text, edit_refusal_text, edit_text, fact_text}
-use Rattle.ps_world.specs.Trees.{ExprTree, number, value_of, negated, operated, CondTree, CondTrees, all_of, no, holds, same, compares, is_a, none, more}
+use Rattle.ps_world.specs.Trees.{ExprTree, number, value_of, negated, operated, CondTree, CondTrees, all_of, any_of, no, implied, holds, same, compares, is_a, for_some, for_all, none, more}
+use Rattle.ps_world.specs.declared.domains.Param.{Param}
 use Rattle.ps_world.specs.declared.edits.Edit.{Edit as Change}
 use Rattle.ps_world.specs.declared.edits.Edit.TheVariants as edit
 use Rattle.ps_world.specs.declared.edits.EditRefusal.{EditRefusal}
@@ -39,7 +40,7 @@ use Rattle.ps_machine.specs.declared.journal.Entry.{Entry}
 use Rattle.ps_machine.specs.declared.journal.Refusal.{Refusal}
 use Rattle.ps_machine.specs.declared.journal.Refusal.TheVariants as refusal
 use Rattle.ps_text.specs.Names.{Keeps}
-use Rattle.ps_print.specs.CanonicalWords.{AreCondsOf, IsCondOf, IsExprOf, IsLiftedOf, IsNameOf, IsTermOf}
+use Rattle.ps_print.specs.CanonicalWords.{AreCondsOf, IsCondOf, IsExprOf, IsLiftedOf, IsNameOf, IsParamOf, IsTermOf}
 use Rattle.ps_script_laws.specs.Sayable.{IsEditOf, IsFactOf, IsQueryOf}
 use Rattle.ps_entries.specs.Forms.{is_act, is_by, is_byte, is_cause, is_edit_cause, is_entry, is_event, is_ground_cause, is_known, is_long, is_on_request, is_plan_cause, is_short, may_run}
 use Rattle.ps_entries.proofs.PrintedCauses.{known-of}
@@ -86,47 +87,76 @@ module _ (t u : Table) (keeps : Keeps t u) where
 
   -- ---- goals
 
-  term-kept : (s : Term) → IsTermOf (length t) 0 s → term_text u [] s ≡ term_text t [] s
-  term-kept (Var i) h = absurd (omega (arith, h))
-  term-kept (Const n) h = name-kept n h
+  param-kept : (p : Param) → IsParamOf (length t) p → param_text u p ≡ param_text t p
+  param-kept p h =
+      ap (λ x. codes "?" ++ (x ++ (codes " - " ++ name_text u p.kind))) (name-kept p.name h.0)
+      ∙ ap (λ x. codes "?" ++ (name_text t p.name ++ (codes " - " ++ x))) (name-kept p.kind h.1)
 
-  terms-kept : (ts : List Term) → All (IsTermOf (length t) 0) ts → map (term_text u []) ts ≡ map (term_text t []) ts
-  terms-kept [] h = refl
-  terms-kept (s ∷ ts) h =
-      ap (λ x. x ∷ map (term_text u []) ts) (term-kept s (All-head (IsTermOf (length t) 0) s ts h))
-      ∙ ap (λ x. term_text t [] s ∷ x) (terms-kept ts (All-tail (IsTermOf (length t) 0) s ts h))
+  params-kept : (ps : List Param) → All (IsParamOf (length t)) ps → map (param_text u) ps ≡ map (param_text t) ps
+  params-kept [] h = refl
+  params-kept (p ∷ ps) h =
+      ap (λ x. x ∷ map (param_text u) ps) (param-kept p (All-head (IsParamOf (length t)) p ps h))
+      ∙ ap (λ x. param_text t p ∷ x) (params-kept ps (All-tail (IsParamOf (length t)) p ps h))
 
-  lifted-kept : (l : Lifted) → IsLiftedOf (length t) 0 l → lifted_text u [] l ≡ lifted_text t [] l
-  lifted-kept l h =
-      ap (λ x. codes "(" ++ (x ++ (after_spaces (map (term_text u []) l.terms) ++ codes ")"))) (name-kept l.head h.0)
-      ∙ ap (λ x. codes "(" ++ (name_text t l.head ++ (after_spaces x ++ codes ")"))) (terms-kept l.terms h.1)
+  -- where these variables are in force
+  module _ (ps : List Param) (known : All (IsParamOf (length t)) ps) where
+    term-kept : (s : Term) → IsTermOf (length t) (length ps) s → term_text u ps s ≡ term_text t ps s
+    term-kept (Var i) h =
+        let other : Param = record { name = object; kind = object } in
+        ap (λ x. codes "?" ++ x) (name-kept (slice_index_or ps i other).name (known i other h).0)
+    term-kept (Const n) h = name-kept n h
 
-  expr-kept : (x : ExprTree) → IsExprOf (length t) 0 x → expr_text u [] x ≡ expr_text t [] x
-  expr-kept (number n) h = refl
-  expr-kept (value_of l) h = lifted-kept l h
-  expr-kept (negated x) h = ap (λ y. codes "(- " ++ (y ++ codes ")")) (expr-kept x h)
-  expr-kept (operated op x y) h =
-      ap (λ z. codes "(" ++ (op_text op ++ (codes " " ++ (z ++ (codes " " ++ (expr_text u [] y ++ codes ")")))))) (expr-kept x h.0)
-      ∙ ap (λ z. codes "(" ++ (op_text op ++ (codes " " ++ (expr_text t [] x ++ (codes " " ++ (z ++ codes ")")))))) (expr-kept y h.1)
+    terms-kept : (ts : List Term) → All (IsTermOf (length t) (length ps)) ts → map (term_text u ps) ts ≡ map (term_text t ps) ts
+    terms-kept [] h = refl
+    terms-kept (s ∷ ts) h =
+        ap (λ x. x ∷ map (term_text u ps) ts) (term-kept s (All-head (IsTermOf (length t) (length ps)) s ts h))
+        ∙ ap (λ x. term_text t ps s ∷ x) (terms-kept ts (All-tail (IsTermOf (length t) (length ps)) s ts h))
+
+    lifted-kept : (l : Lifted) → IsLiftedOf (length t) (length ps) l → lifted_text u ps l ≡ lifted_text t ps l
+    lifted-kept l h =
+        ap (λ x. codes "(" ++ (x ++ (after_spaces (map (term_text u ps) l.terms) ++ codes ")"))) (name-kept l.head h.0)
+        ∙ ap (λ x. codes "(" ++ (name_text t l.head ++ (after_spaces x ++ codes ")"))) (terms-kept l.terms h.1)
+
+    expr-kept : (x : ExprTree) → IsExprOf (length t) (length ps) x → expr_text u ps x ≡ expr_text t ps x
+    expr-kept (number n) h = refl
+    expr-kept (value_of l) h = lifted-kept l h
+    expr-kept (negated x) h = ap (λ y. codes "(- " ++ (y ++ codes ")")) (expr-kept x h)
+    expr-kept (operated op x y) h =
+        ap (λ z. codes "(" ++ (op_text op ++ (codes " " ++ (z ++ (codes " " ++ (expr_text u ps y ++ codes ")")))))) (expr-kept x h.0)
+        ∙ ap (λ z. codes "(" ++ (op_text op ++ (codes " " ++ (expr_text t ps x ++ (codes " " ++ (z ++ codes ")")))))) (expr-kept y h.1)
+
+  -- the variables of a quantifier, and its condition
+  bound-kept : (start : List ℕ) (qs : List Param) (x y : List ℕ) → All (IsParamOf (length t)) qs → x ≡ y → start ++ (bound_text u qs ++ (codes " " ++ (x ++ codes ")"))) ≡ start ++ (bound_text t qs ++ (codes " " ++ (y ++ codes ")")))
+  bound-kept start qs x y h e =
+      ap (λ w. start ++ ((codes "(" ++ (spaced w ++ codes ")")) ++ (codes " " ++ (x ++ codes ")")))) (params-kept qs h)
+      ∙ ap (λ w. start ++ (bound_text t qs ++ (codes " " ++ (w ++ codes ")")))) e
 
   mutual
-    cond-kept : (c : CondTree) → IsCondOf (length t) 0 c → cond_text u [] c ≡ cond_text t [] c
-    cond-kept (all_of cs) h = ap (λ x. codes "(and" ++ (x ++ codes ")")) (conds-kept cs h)
-    cond-kept (no c) h = ap (λ x. codes "(not " ++ (x ++ codes ")")) (cond-kept c h)
-    cond-kept (holds l) h = lifted-kept l h
-    cond-kept (same s r) h =
-        ap (λ x. codes "(= " ++ (x ++ (codes " " ++ (term_text u [] r ++ codes ")")))) (term-kept s h.0)
-        ∙ ap (λ x. codes "(= " ++ (term_text t [] s ++ (codes " " ++ (x ++ codes ")")))) (term-kept r h.1)
-    cond-kept (compares rel x y) h =
-        ap (λ z. codes "(" ++ (rel_text rel ++ (codes " " ++ (z ++ (codes " " ++ (expr_text u [] y ++ codes ")")))))) (expr-kept x h.0)
-        ∙ ap (λ z. codes "(" ++ (rel_text rel ++ (codes " " ++ (expr_text t [] x ++ (codes " " ++ (z ++ codes ")")))))) (expr-kept y h.1)
-    cond-kept (is_a s kind) h = absurd h
+    cond-kept : (ps : List Param) → All (IsParamOf (length t)) ps → (c : CondTree) → IsCondOf (length t) ps c → cond_text u ps c ≡ cond_text t ps c
+    cond-kept ps known (all_of cs) h = ap (λ x. codes "(and" ++ (x ++ codes ")")) (conds-kept ps known cs h)
+    cond-kept ps known (any_of cs) h = ap (λ x. codes "(or" ++ (x ++ codes ")")) (conds-kept ps known cs h.1)
+    cond-kept ps known (no c) h = ap (λ x. codes "(not " ++ (x ++ codes ")")) (cond-kept ps known c h)
+    cond-kept ps known (implied a b) h =
+        ap (λ x. codes "(imply " ++ (x ++ (codes " " ++ (cond_text u ps b ++ codes ")")))) (cond-kept ps known a h.1.0)
+        ∙ ap (λ x. codes "(imply " ++ (cond_text t ps a ++ (codes " " ++ (x ++ codes ")")))) (cond-kept ps known b h.1.1)
+    cond-kept ps known (holds l) h = lifted-kept ps known l h
+    cond-kept ps known (same s r) h =
+        ap (λ x. codes "(= " ++ (x ++ (codes " " ++ (term_text u ps r ++ codes ")")))) (term-kept ps known s h.0)
+        ∙ ap (λ x. codes "(= " ++ (term_text t ps s ++ (codes " " ++ (x ++ codes ")")))) (term-kept ps known r h.1)
+    cond-kept ps known (compares rel x y) h =
+        ap (λ z. codes "(" ++ (rel_text rel ++ (codes " " ++ (z ++ (codes " " ++ (expr_text u ps y ++ codes ")")))))) (expr-kept ps known x h.0)
+        ∙ ap (λ z. codes "(" ++ (rel_text rel ++ (codes " " ++ (expr_text t ps x ++ (codes " " ++ (z ++ codes ")")))))) (expr-kept ps known y h.1)
+    cond-kept ps known (is_a s kind) h = absurd h
+    cond-kept ps known (for_some qs c) h =
+        bound-kept (codes "(exists ") qs (cond_text u (ps ++ qs) c) (cond_text t (ps ++ qs) c) h.0 (cond-kept (ps ++ qs) (All-append (IsParamOf (length t)) ps qs known h.0) c h.1)
+    cond-kept ps known (for_all qs c) h =
+        bound-kept (codes "(forall ") qs (cond_text u (ps ++ qs) c) (cond_text t (ps ++ qs) c) h.0 (cond-kept (ps ++ qs) (All-append (IsParamOf (length t)) ps qs known h.0) c h.1)
 
-    conds-kept : (cs : CondTrees) → AreCondsOf (length t) 0 cs → conds_text u [] cs ≡ conds_text t [] cs
-    conds-kept none h = refl
-    conds-kept (more c cs) h =
-        ap (λ x. codes " " ++ (x ++ conds_text u [] cs)) (cond-kept c h.0)
-        ∙ ap (λ x. codes " " ++ (cond_text t [] c ++ x)) (conds-kept cs h.1)
+    conds-kept : (ps : List Param) → All (IsParamOf (length t)) ps → (cs : CondTrees) → AreCondsOf (length t) ps cs → conds_text u ps cs ≡ conds_text t ps cs
+    conds-kept ps known none h = refl
+    conds-kept ps known (more c cs) h =
+        ap (λ x. codes " " ++ (x ++ conds_text u ps cs)) (cond-kept ps known c h.0)
+        ∙ ap (λ x. codes " " ++ (cond_text t ps c ++ x)) (conds-kept ps known cs h.1)
 
   -- ---- edits and queries
 
@@ -144,7 +174,7 @@ module _ (t u : Table) (keeps : Keeps t u) where
   edit-kept (edit.RemoveFact f) h = ap (λ x. codes "remove predicate " ++ x) (fact-kept f h)
   edit-kept (edit.SetValue f n) h = ap (λ x. codes "set function " ++ (codes "(= " ++ (x ++ (codes " " ++ (number_text n ++ codes ")"))))) (fact-kept f h.0)
   edit-kept (edit.RemoveValue f) h = ap (λ x. codes "remove function " ++ x) (fact-kept f h)
-  edit-kept (edit.SetGoal goal) h = ap (λ x. codes "set goal " ++ x) (cond-kept (cond_tree goal) h.known)
+  edit-kept (edit.SetGoal goal) h = ap (λ x. codes "set goal " ++ x) (cond-kept [] (All-nil (IsParamOf (length t))) (cond_tree goal) h.known)
   edit-kept edit.RemoveGoal h = refl
 
   pub query-kept : (q : Query) → IsQueryOf t q → query_text u q ≡ query_text t q

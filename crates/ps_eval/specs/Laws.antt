@@ -1,19 +1,24 @@
 -- A law of truth.
-use Rattle.std.specs.Prelude.{◌≡◌, List, All}
+use Rattle.std.specs.Prelude.{◌≡◌, true, List, All}
 use Rattle.ps_world.specs.Trees.{CondTree}
 use Rattle.ps_world.specs.Knowledge.{is_known, kind_of, value_in}
+use Rattle.ps_world.specs.declared.facts.Fact.{Fact as GroundFact}
 use Rattle.ps_world.specs.declared.domains.Domain.{Domain}
 use Rattle.ps_world.specs.declared.known.Knowledge.{Knowledge}
 use Rattle.ps_action.specs.Truth.{all_true}
 use Rattle.ps_action.specs.declared.touched.Touched.{Touched}
-use Rattle.ps_action.specs.declared.touched.Touched.TheVariants.{Fact, Value, Instance}
+use Rattle.ps_action.specs.declared.touched.Touched.TheVariants.{Fact, Value, Instance, Facts, Values, Instances}
+use Rattle.ps_action.specs.Places.{closed, places_meet}
 use Rattle.ps_action.specs.Touching.{read_by_list}
 
--- this thing is the same in both
+-- this is the same in both; of a place, each fact or value that stands there
 abbrev pub Agree : Knowledge → Knowledge → Touched → Type 0
 Agree one other (Fact f) = is_known one f ≡ is_known other f
 Agree one other (Value f) = value_in one f ≡ value_in other f
 Agree one other (Instance n) = kind_of one n ≡ kind_of other n
+Agree one other (Facts p) = (f : GroundFact) → places_meet p (closed f) ≡ true → is_known one f ≡ is_known other f
+Agree one other (Values p) = (f : GroundFact) → places_meet p (closed f) ≡ true → value_in one f ≡ value_in other f
+Agree one other Instances = one.instances ≡ other.instances
 
 -- conditions hold in both or in neither, where all that they read is the same in both
 abbrev pub TruthReadsWhatIsNamed : Type 0

@@ -2,18 +2,16 @@
 ghost use Rattle.std.specs.Prelude.{◌≡◌, [], ◌∷◌, ◌++◌, map, IfOk, OnOk};
 ghost use Rattle.ps_world.specs.CondViews.{cond_tree};
 ghost use Rattle.ps_world.specs.ExprViews.{expr_tree};
-ghost use Rattle.ps_world.specs.Knowledge.{name_of};
-ghost use Rattle.ps_action.specs.declared.touched.Touched.TheVariants.{Instance};
-ghost use Rattle.ps_action.specs.Touching.{arguments, changed_by_edit, changed_by_effect, read_by, read_by_expr, read_by_list};
+ghost use Rattle.ps_action.specs.Touching.{arguments, changed_by_edit, changed_by_effect, named_by, read_by, read_by_expr, read_by_list};
 
 use ps_action::Touched;
 use ps_world::{BoxedCond, BoxedExpr, Cond, Conds, Edit, Effect, Expr, Lifted, Term};
 use std::alloc::{AllocError, Global};
 
 fn push_name(term: &Term, all: &mut Vec<Touched>) -> Result<(), AllocError>
-    ensures { OnOk result (all.new.items ≡ all.old.items ++ Instance (name_of term.now) ∷ []) }
+    ensures { OnOk result (all.new.items ≡ all.old.items ++ named_by term.now ∷ []) }
 {
-    all.push(Touched::Instance(term.name()))?;
+    all.push(Touched::named_by(term))?;
     Ok(())
 }
 
@@ -33,7 +31,7 @@ fn push_expr(expr: &Expr, all: &mut Vec<Touched>) -> Result<(), AllocError>
     match expr {
         Expr::Num(_) => Ok(()),
         Expr::Fun(lifted) => {
-            all.push(Touched::Value(lifted.ground()))?;
+            all.push(Touched::value_at(lifted))?;
             push_arguments(lifted, all)
         }
         Expr::Neg(inner) => push_boxed_expr(inner, all),
@@ -56,10 +54,14 @@ fn push_cond(cond: &Cond, all: &mut Vec<Touched>) -> Result<(), AllocError>
     ensures { OnOk result (all.new.items ≡ all.old.items ++ read_by (cond_tree cond.now)) }
 {
     match cond {
-        Cond::And(parts) => push_conds(parts, all),
+        Cond::And(parts) | Cond::Or(parts) => push_conds(parts, all),
         Cond::Not(inner) => push_boxed_cond(inner, all),
+        Cond::Imply(left, right) => {
+            push_boxed_cond(left, all)?;
+            push_boxed_cond(right, all)
+        }
         Cond::Holds(lifted) => {
-            all.push(Touched::Fact(lifted.ground()))?;
+            all.push(Touched::fact_of(lifted))?;
             push_arguments(lifted, all)
         }
         Cond::Same(one, other) => {
@@ -71,6 +73,10 @@ fn push_cond(cond: &Cond, all: &mut Vec<Touched>) -> Result<(), AllocError>
             push_expr(right, all)
         }
         Cond::IsA(term, _) => push_name(term, all),
+        Cond::ForSome(_, part) | Cond::ForAll(_, part) => {
+            all.push(Touched::Instances)?;
+            push_boxed_cond(part, all)
+        }
     }
 }
 
@@ -92,7 +98,8 @@ fn push_conds(conds: &Conds, all: &mut Vec<Touched>) -> Result<(), AllocError>
 }
 
 /// What a list of conditions reads: each fact and function term that stands in it, and each name that stands there as an
-/// argument, in a `(= a b)` or where its type is asked for. One thing may be named twice.
+/// argument, in a `(= a b)` or where its type is asked for. Where a variable stands as an argument, it is the place that the fact or the
+/// function term has, and for the name all instances; a quantifier reads all instances too. One thing may be named twice.
 pub fn reads(alloc: Global, conds: &Conds) -> Result<Vec<Touched>, AllocError>
     ensures { IfOk result (λ v. v.items ≡ read_by_list conds.now) }
 {
@@ -105,13 +112,13 @@ fn changed_by_effect(effect: &Effect) -> Touched
     ensures { result ≡ changed_by_effect effect.now }
 {
     match effect {
-        Effect::Add(lifted) | Effect::Delete(lifted) => Touched::Fact(lifted.ground()),
-        Effect::Number(_, lifted, _) => Touched::Value(lifted.ground()),
+        Effect::Add(lifted) | Effect::Delete(lifted) => Touched::fact_of(lifted),
+        Effect::Number(_, lifted, _) => Touched::value_at(lifted),
     }
 }
 
-/// What a list of effects changes: each fact that it adds or deletes, and each function term that it gives a value. One thing may
-/// be named twice.
+/// What a list of effects changes: each fact that it adds or deletes, and each function term that it gives a value, or its place where a
+/// variable stands. One thing may be named twice.
 pub fn changed_by(alloc: Global, effects: &[Effect]) -> Result<Vec<Touched>, AllocError>
     ensures { IfOk result (λ v. v.items ≡ map changed_by_effect effects.now) }
 {

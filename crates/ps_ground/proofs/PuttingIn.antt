@@ -7,7 +7,7 @@ use Rattle.std.proofs.lemmas.List.{drop-map}
 use Rattle.std.proofs.lemmas.List.Folds.{list_all-append}
 use Rattle.ps_world.specs.Bound.{ground_in}
 use Rattle.ps_world.specs.Knowledge.{same_fact}
-use Rattle.ps_world.specs.Trees.{ExprTree, number, value_of, negated, operated, CondTree, CondTrees, all_of, no, holds, same, compares, is_a, none, more}
+use Rattle.ps_world.specs.Trees.{ExprTree, number, value_of, negated, operated, CondTree, CondTrees, all_of, any_of, no, implied, holds, same, compares, is_a, for_some, for_all, none, more}
 use Rattle.ps_world.specs.declared.actions.ActionDef.{ActionDef}
 use Rattle.ps_world.specs.declared.actions.Effect.{Effect}
 use Rattle.ps_world.specs.declared.actions.Effect.TheVariants.{Add, Delete, Number}
@@ -68,11 +68,15 @@ no_effects (e ∷ es) = λ i. no_effect e i ∷ no_effects es i
 mutual
   pub no_cond : (c : CondTree) → put_cond [] c ≡ c
   no_cond (all_of cs) = ap all_of (no_conds cs)
+  no_cond (any_of cs) = ap any_of (no_conds cs)
   no_cond (no c) = ap no (no_cond c)
+  no_cond (implied a b) = λ i. implied (no_cond a i) (no_cond b i)
   no_cond (holds l) = ap holds (no_lifted l)
   no_cond (same s t) = λ i. same (no_term s i) (no_term t i)
   no_cond (compares rel x y) = λ i. compares rel (no_tree x i) (no_tree y i)
   no_cond (is_a t kind) = λ i. is_a (no_term t i) kind
+  no_cond (for_some ps c) = ap (for_some ps) (no_cond c)
+  no_cond (for_all ps c) = ap (for_all ps) (no_cond c)
 
   no_conds : (cs : CondTrees) → put_conds [] cs ≡ cs
   no_conds none = refl

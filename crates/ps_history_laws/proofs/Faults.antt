@@ -1,15 +1,15 @@
 -- Of all names, the refusal of an edit has such alone as the edit has; and instances keep their names in the table.
-use Rattle.std.proofs.Common.{ℕ, ◌+◌, ◌==◌, not, if◌then◌else◌, true, false, Option, Some, None, is_none, is_some, Result, Ok, Err, List, [], ◌∷◌, All, IfSome, MatchResult, filter, fold, length, map, nat_le, arith}
+use Rattle.std.proofs.Common.{ℕ, ◌+◌, ◌==◌, not, if◌then◌else◌, true, false, Option, Some, None, is_none, is_some, Result, Ok, Err, List, [], ◌∷◌, ◌++◌, All, IfSome, list_all, slice_index_or, MatchResult, filter, fold, length, map, nat_le, arith}
 use Rattle.std.specs.BTreeMap.{insert_entry}
 use Rattle.std.specs.BTreeSet.{insert_key}
 use Rattle.std.specs.Map.{keys_of}
 use Rattle.std.proofs.lemmas.List.Elements.{All-nil, All-head, All-tail, All-cons}
 use Rattle.std.proofs.lemmas.Map.Views.{All-keys-insert_entry}
-use Rattle.ps_world.specs.Names.{Table, same_name, name_cmp}
+use Rattle.ps_world.specs.Names.{Table, same_name, name_cmp, object}
 use Rattle.ps_world.specs.Facts.{fact_cmp}
-use Rattle.ps_world.specs.Trees.{ExprTree, number, value_of, negated, operated, CondTree, CondTrees, all_of, no, holds, same, compares, is_a, none, more}
+use Rattle.ps_world.specs.Trees.{ExprTree, number, value_of, negated, operated, CondTree, CondTrees, all_of, any_of, no, implied, holds, same, compares, is_a, for_some, for_all, none, more}
 use Rattle.ps_world.specs.CondViews.{cond_tree}
-use Rattle.ps_world.specs.Knowledge.{is_type, is_below, predicate_of, function_of, constant_of, kind_of, or_else, misfit, first_misfit, unsuited, fault_of_fact, fault_of_value, name_of, ground, fault_of_expr, fault_of_name, fault_of_cond, fault_of_conds, without, most_instances, with_instance, without_instance, unless, same_fact, is_known, value_in, without_fact, without_value, without_goal, edited, with_constant, opening}
+use Rattle.ps_world.specs.Knowledge.{is_type, is_below, predicate_of, function_of, constant_of, kind_of, or_else, misfit, misfit_of_term, first_fault, unsuited_by, fault_of_fact, fault_of_value, fault_of_atom, fault_of_call, fault_of_expr, fault_of_side, fault_of_bound, kinds_of, fault_of_cond, fault_of_conds, without, most_instances, with_instance, without_instance, unless, same_fact, is_known, value_in, without_fact, without_value, without_goal, edited, with_constant, opening}
 use Rattle.ps_world.specs.Tables.{IsOf, IsEditRefusalOf}
 use Rattle.ps_world.specs.declared.names.Name.{Name}
 use Rattle.ps_world.specs.declared.facts.Fact.{Fact}
@@ -47,61 +47,75 @@ module _ (count : ℕ) (d : Domain) (k : Knowledge) where
   or_else-named None b p q = q
   or_else-named (Some r) b p q = p
 
-  first_misfit-named : (ps : List Param) (ns : List Name) (at : ℕ) → All (IsOf count) ns → IsNamed (first_misfit d k ps ns at)
-  first_misfit-named [] ns at h = tt
-  first_misfit-named (p ∷ ps) [] at h = tt
-  first_misfit-named (p ∷ ps) (n ∷ ns) at h =
-      or_else-named (misfit d (kind_of k n) p.kind n at) (first_misfit d k ps ns (at + 1))
-      (misfit-named (kind_of k n) p.kind n at (All-head (IsOf count) n ns h))
-      (first_misfit-named ps ns (at + 1) (All-tail (IsOf count) n ns h))
+  -- of what stands at the places of parameters, where the fault of each has such names
+  first_fault-named : {A : Type 0} (P : A → Type 0) (fault : A → Name → ℕ → Option EditRefusal) → ((x : A) (want : Name) (at : ℕ) → P x → IsNamed (fault x want at)) → (ps : List Param) (xs : List A) (at : ℕ) → All P xs → IsNamed (first_fault fault ps xs at)
+  first_fault-named P fault each [] xs at h = tt
+  first_fault-named P fault each (p ∷ ps) [] at h = tt
+  first_fault-named P fault each (p ∷ ps) (x ∷ xs) at h =
+      or_else-named (fault x p.kind at) (first_fault fault ps xs (at + 1))
+      (each x p.kind at (All-head P x xs h)) (first_fault-named P fault each ps xs (at + 1) (All-tail P x xs h))
 
-  unsuited-named : (missing : EditRefusal) (decl : Option Decl) (ns : List Name) → IsEditRefusalOf count missing → All (IsOf count) ns → IsNamed (unsuited missing d k decl ns)
-  unsuited-named missing None ns m h = m
-  unsuited-named missing (Some decl) ns m h =
-      elim (length decl.params == length ns) as (λ b. IsNamed (if b then first_misfit d k decl.params ns 0 else Some (Arity (length decl.params) (length ns)))) [
-        | true ↦ first_misfit-named decl.params ns 0 h
+  unsuited-named : {A : Type 0} (P : A → Type 0) (fault : A → Name → ℕ → Option EditRefusal) → ((x : A) (want : Name) (at : ℕ) → P x → IsNamed (fault x want at)) → (missing : EditRefusal) (decl : Option Decl) (xs : List A) → IsEditRefusalOf count missing → All P xs → IsNamed (unsuited_by fault missing decl xs)
+  unsuited-named P fault each missing None xs m h = m
+  unsuited-named P fault each missing (Some decl) xs m h =
+      elim (length decl.params == length xs) as (λ b. IsNamed (if b then first_fault fault decl.params xs 0 else Some (Arity (length decl.params) (length xs)))) [
+        | true ↦ first_fault-named P fault each decl.params xs 0 h
         | false ↦ tt
       ]
 
   fact-named : (f : Fact) → All (IsOf count) f.args → IsNamed (fault_of_fact d k f)
-  fact-named f h = unsuited-named NoPredicate (predicate_of d f.head) f.args tt h
+  fact-named f h = unsuited-named (IsOf count) (λ n want at. misfit d (kind_of k n) want n at) (λ n want at p. misfit-named (kind_of k n) want n at p) NoPredicate (predicate_of d f.head) f.args tt h
 
   value-named : (f : Fact) → All (IsOf count) f.args → IsNamed (fault_of_value d k f)
-  value-named f h = unsuited-named NoFunction (function_of d f.head) f.args tt h
+  value-named f h = unsuited-named (IsOf count) (λ n want at. misfit d (kind_of k n) want n at) (λ n want at p. misfit-named (kind_of k n) want n at p) NoFunction (function_of d f.head) f.args tt h
 
-  name-named : (n : Name) → IsOf count n → IsNamed (fault_of_name k n)
-  name-named n h = elim (is_none (kind_of k n)) as (λ b. IsNamed (if b then Some (NoInstance n) else None)) [ true ↦ h | false ↦ tt ]
+  -- ---- goals, where these are the types of the variables in force
 
-  term-named : (t : Term) → IsTermOf count 0 t → IsOf count (name_of t)
-  term-named (Var i) h = absurd (omega (arith, h))
-  term-named (Const n) h = h
+  there-named : (kind want n : Name) (at : ℕ) → IsNamed (misfit d (Some kind) want n at)
+  there-named kind want n at = elim (is_below d kind want) as (λ b. IsNamed (if b then None else Some (WrongType at))) [ true ↦ tt | false ↦ tt ]
 
-  terms-named : (ts : List Term) → All (IsTermOf count 0) ts → All (IsOf count) (map name_of ts)
-  terms-named [] h = All-nil (IsOf count)
-  terms-named (t ∷ ts) h =
-      All-cons (IsOf count) (name_of t) (map name_of ts) (term-named t (All-head (IsTermOf count 0) t ts h)) (terms-named ts (All-tail (IsTermOf count 0) t ts h))
+  side-named : (vars : ℕ) (t : Term) → IsTermOf count vars t → IsNamed (fault_of_side k t)
+  side-named vars (Var i) h = tt
+  side-named vars (Const n) h = elim (is_none (kind_of k n)) as (λ b. IsNamed (if b then Some (NoInstance n) else None)) [ true ↦ h | false ↦ tt ]
 
-  expr-named : (x : ExprTree) → IsExprOf count 0 x → IsNamed (fault_of_expr d k x)
-  expr-named (number n) h = tt
-  expr-named (value_of l) h = value-named (ground l) (terms-named l.terms h.1)
-  expr-named (negated x) h = expr-named x h
-  expr-named (operated op x y) h = or_else-named (fault_of_expr d k x) (fault_of_expr d k y) (expr-named x h.0) (expr-named y h.1)
+  bound-named : (qs : List Param) → IsNamed (fault_of_bound d qs)
+  bound-named qs = elim (list_all (λ p. is_type d p.kind) qs) as (λ b. IsNamed (if b then None else Some NoType)) [ true ↦ tt | false ↦ tt ]
+
+  module _ (kinds : List Name) (vars : ℕ) where
+    term-named : (t : Term) (want : Name) (at : ℕ) → IsTermOf count vars t → IsNamed (misfit_of_term d k kinds t want at)
+    term-named (Var i) want at h = there-named (slice_index_or kinds i object) want object at
+    term-named (Const n) want at h = misfit-named (kind_of k n) want n at h
+
+    atom-named : (l : Lifted) → All (IsTermOf count vars) l.terms → IsNamed (fault_of_atom d k kinds l)
+    atom-named l h = unsuited-named (IsTermOf count vars) (misfit_of_term d k kinds) term-named NoPredicate (predicate_of d l.head) l.terms tt h
+
+    call-named : (l : Lifted) → All (IsTermOf count vars) l.terms → IsNamed (fault_of_call d k kinds l)
+    call-named l h = unsuited-named (IsTermOf count vars) (misfit_of_term d k kinds) term-named NoFunction (function_of d l.head) l.terms tt h
+
+    expr-named : (x : ExprTree) → IsExprOf count vars x → IsNamed (fault_of_expr d k kinds x)
+    expr-named (number n) h = tt
+    expr-named (value_of l) h = call-named l h.1
+    expr-named (negated x) h = expr-named x h
+    expr-named (operated op x y) h = or_else-named (fault_of_expr d k kinds x) (fault_of_expr d k kinds y) (expr-named x h.0) (expr-named y h.1)
 
   mutual
-    cond-named : (c : CondTree) → IsCondOf count 0 c → IsNamed (fault_of_cond d k c)
-    cond-named (all_of cs) h = conds-named cs h
-    cond-named (no c) h = cond-named c h
-    cond-named (holds l) h = fact-named (ground l) (terms-named l.terms h.1)
-    cond-named (same s t) h =
-        or_else-named (fault_of_name k (name_of s)) (fault_of_name k (name_of t))
-        (name-named (name_of s) (term-named s h.0))
-        (name-named (name_of t) (term-named t h.1))
-    cond-named (compares rel x y) h = or_else-named (fault_of_expr d k x) (fault_of_expr d k y) (expr-named x h.0) (expr-named y h.1)
-    cond-named (is_a t kind) h = absurd h
+    cond-named : (kinds : List Name) (ps : List Param) (c : CondTree) → IsCondOf count ps c → IsNamed (fault_of_cond d k kinds c)
+    cond-named kinds ps (all_of cs) h = conds-named kinds ps cs h
+    cond-named kinds ps (any_of cs) h = conds-named kinds ps cs h.1
+    cond-named kinds ps (no c) h = cond-named kinds ps c h
+    cond-named kinds ps (implied a b) h = or_else-named (fault_of_cond d k kinds a) (fault_of_cond d k kinds b) (cond-named kinds ps a h.1.0) (cond-named kinds ps b h.1.1)
+    cond-named kinds ps (holds l) h = atom-named kinds (length ps) l h.1
+    cond-named kinds ps (same s t) h = or_else-named (fault_of_side k s) (fault_of_side k t) (side-named (length ps) s h.0) (side-named (length ps) t h.1)
+    cond-named kinds ps (compares rel x y) h = or_else-named (fault_of_expr d k kinds x) (fault_of_expr d k kinds y) (expr-named kinds (length ps) x h.0) (expr-named kinds (length ps) y h.1)
+    cond-named kinds ps (is_a t kind) h = absurd h
+    cond-named kinds ps (for_some qs c) h =
+        or_else-named (fault_of_bound d qs) (fault_of_cond d k (kinds ++ kinds_of qs) c) (bound-named qs) (cond-named (kinds ++ kinds_of qs) (ps ++ qs) c h.1)
+    cond-named kinds ps (for_all qs c) h =
+        or_else-named (fault_of_bound d qs) (fault_of_cond d k (kinds ++ kinds_of qs) c) (bound-named qs) (cond-named (kinds ++ kinds_of qs) (ps ++ qs) c h.1)
 
-    conds-named : (cs : CondTrees) → AreCondsOf count 0 cs → IsNamed (fault_of_conds d k cs)
-    conds-named none h = tt
-    conds-named (more c cs) h = or_else-named (fault_of_cond d k c) (fault_of_conds d k cs) (cond-named c h.0) (conds-named cs h.1)
+    conds-named : (kinds : List Name) (ps : List Param) (cs : CondTrees) → AreCondsOf count ps cs → IsNamed (fault_of_conds d k kinds cs)
+    conds-named kinds ps none h = tt
+    conds-named kinds ps (more c cs) h = or_else-named (fault_of_cond d k kinds c) (fault_of_conds d k kinds cs) (cond-named kinds ps c h.0) (conds-named kinds ps cs h.1)
 
   -- ---- what an edit gives
 
@@ -155,7 +169,7 @@ edited-gives names d k (SetValue f x) p h =
 edited-gives names d k (RemoveValue f) p h =
     unless-gives (length names) d k (fault_of_value d k f) (without_value k f) (value-named (length names) d k f p.args) (without_value-gives (length names) d k f h)
 edited-gives names d k (SetGoal goal) p h =
-    unless-gives (length names) d k (fault_of_cond d k (cond_tree goal)) (Ok (record k { goal = Some goal })) (cond-named (length names) d k (cond_tree goal) p.known) h
+    unless-gives (length names) d k (fault_of_cond d k [] (cond_tree goal)) (Ok (record k { goal = Some goal })) (cond-named (length names) d k [] [] (cond_tree goal) p.known) h
 edited-gives names d k RemoveGoal p h = without_goal-gives (length names) d k k.goal h
 
 -- ---- what a session opens with

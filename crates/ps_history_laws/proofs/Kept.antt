@@ -1,12 +1,12 @@
 -- What can be said with a table can be said with each table that keeps its names.
-use Rattle.std.proofs.Common.{◌≡◌, ℕ, ◌<◌, true, Ok, Err, List, [], All, Some, length, sym, ◌∙◌, subst}
+use Rattle.std.proofs.Common.{◌≡◌, ℕ, ◌<◌, true, Ok, Err, List, [], ◌++◌, All, Some, length, sym, ◌∙◌, subst}
 use Rattle.std.proofs.lemmas.List.Elements.{All-weaker}
 use Rattle.std.proofs.lemmas.Option.{same_Some, slice_get_within, slice_get-get_or}
 use Rattle.std.specs.List.{slice_get}
 use Rattle.ps_world.specs.CondViews.{cond_tree}
 use Rattle.ps_world.specs.Names.{Table, name_text}
 use Rattle.ps_world.specs.Tables.{IsOf}
-use Rattle.ps_world.specs.Trees.{ExprTree, number, value_of, negated, operated, CondTree, CondTrees, all_of, no, holds, same, compares, is_a, none, more}
+use Rattle.ps_world.specs.Trees.{ExprTree, number, value_of, negated, operated, CondTree, CondTrees, all_of, any_of, no, implied, holds, same, compares, is_a, for_some, for_all, none, more}
 use Rattle.ps_world.specs.declared.actions.ActionDef.{ActionDef}
 use Rattle.ps_world.specs.declared.conditions.Cond.{Cond}
 use Rattle.ps_world.specs.declared.domains.Domain.{Domain}
@@ -36,7 +36,7 @@ use Rattle.ps_shape.specs.Marks.{is_goal_name}
 use Rattle.ps_text.specs.Names.{Keeps}
 use Rattle.ps_text.specs.declared.lexing.Class.TheVariants as class
 use Rattle.ps_forms.specs.Lexemes.{mark_of}
-use Rattle.ps_print.specs.CanonicalWords.{AreCondsOf, IsCondOf, IsExprOf, IsLiftedOf, IsTermOf}
+use Rattle.ps_print.specs.CanonicalWords.{AreCondsOf, IsCondOf, IsExprOf, IsLiftedOf, IsParamOf, IsTermOf}
 use Rattle.ps_script_laws.specs.Sayable.{HasGoalHeads, HaveGoalHeads, IsEditOf, IsFactOf, IsGoalHead, IsGoalOf, IsQueryOf}
 use Rattle.ps_history_laws.specs.Inputs.{IsSayableAction, IsSayableDomain, IsSayableLine, IsSayableMember, IsSayableObserver, IsSayablePerformer, IsSayableUnit}
 use Rattle.ps_history_laws.specs.Laws.{SayableInputsStaySo}
@@ -58,50 +58,66 @@ module _ (t u : Table) (keeps : Keeps t u) where
 
   -- ---- goals
 
-  term-in : (x : Term) → IsTermOf (length t) 0 x → IsTermOf (length u) 0 x
-  term-in (Var i) h = h
-  term-in (Const n) h = name-in n h
+  param-in : (p : Param) → IsParamOf (length t) p → IsParamOf (length u) p
+  param-in p h = (name-in p.name h.0, name-in p.kind h.1)
 
-  lifted-in : (l : Lifted) → IsLiftedOf (length t) 0 l → IsLiftedOf (length u) 0 l
-  lifted-in l h = (name-in l.head h.0, All-weaker (IsTermOf (length t) 0) (IsTermOf (length u) 0) term-in l.terms h.1)
+  -- where so many variables are in force
+  module _ (vars : ℕ) where
+    term-in : (x : Term) → IsTermOf (length t) vars x → IsTermOf (length u) vars x
+    term-in (Var i) h = h
+    term-in (Const n) h = name-in n h
 
-  expr-in : (x : ExprTree) → IsExprOf (length t) 0 x → IsExprOf (length u) 0 x
-  expr-in (number n) h = h
-  expr-in (value_of l) h = lifted-in l h
-  expr-in (negated x) h = expr-in x h
-  expr-in (operated op x y) h = (expr-in x h.0, expr-in y h.1)
+    lifted-in : (l : Lifted) → IsLiftedOf (length t) vars l → IsLiftedOf (length u) vars l
+    lifted-in l h = (name-in l.head h.0, All-weaker (IsTermOf (length t) vars) (IsTermOf (length u) vars) term-in l.terms h.1)
+
+    expr-in : (x : ExprTree) → IsExprOf (length t) vars x → IsExprOf (length u) vars x
+    expr-in (number n) h = h
+    expr-in (value_of l) h = lifted-in l h
+    expr-in (negated x) h = expr-in x h
+    expr-in (operated op x y) h = (expr-in x h.0, expr-in y h.1)
+
+  params-in : (qs : List Param) → All (IsParamOf (length t)) qs → All (IsParamOf (length u)) qs
+  params-in qs h = All-weaker (IsParamOf (length t)) (IsParamOf (length u)) param-in qs h
 
   mutual
-    cond-in : (c : CondTree) → IsCondOf (length t) 0 c → IsCondOf (length u) 0 c
-    cond-in (all_of cs) h = conds-in cs h
-    cond-in (no c) h = cond-in c h
-    cond-in (holds l) h = lifted-in l h
-    cond-in (same x y) h = (term-in x h.0, term-in y h.1)
-    cond-in (compares rel x y) h = (expr-in x h.0, expr-in y h.1)
-    cond-in (is_a x kind) h = h
+    cond-in : (ps : List Param) (c : CondTree) → IsCondOf (length t) ps c → IsCondOf (length u) ps c
+    cond-in ps (all_of cs) h = conds-in ps cs h
+    cond-in ps (any_of cs) h = (h.0, conds-in ps cs h.1)
+    cond-in ps (no c) h = cond-in ps c h
+    cond-in ps (implied a b) h = (h.0, (cond-in ps a h.1.0, cond-in ps b h.1.1))
+    cond-in ps (holds l) h = lifted-in (length ps) l h
+    cond-in ps (same x y) h = (term-in (length ps) x h.0, term-in (length ps) y h.1)
+    cond-in ps (compares rel x y) h = (expr-in (length ps) x h.0, expr-in (length ps) y h.1)
+    cond-in ps (is_a x kind) h = h
+    cond-in ps (for_some qs c) h = (params-in qs h.0, cond-in (ps ++ qs) c h.1)
+    cond-in ps (for_all qs c) h = (params-in qs h.0, cond-in (ps ++ qs) c h.1)
 
-    conds-in : (cs : CondTrees) → AreCondsOf (length t) 0 cs → AreCondsOf (length u) 0 cs
-    conds-in none h = h
-    conds-in (more c cs) h = (cond-in c h.0, conds-in cs h.1)
+    conds-in : (ps : List Param) (cs : CondTrees) → AreCondsOf (length t) ps cs → AreCondsOf (length u) ps cs
+    conds-in ps none h = h
+    conds-in ps (more c cs) h = (cond-in ps c h.0, conds-in ps cs h.1)
 
   head-in : (n : Name) → IsOf (length t) n → IsGoalHead t n → IsGoalHead u n
   head-in n lt h = subst (λ (text : List ℕ). is_goal_name (mark_of class.Name text) ≡ true) (sym (text-same n lt)) h
 
   mutual
-    heads-in : (c : CondTree) → IsCondOf (length t) 0 c → HasGoalHeads t c → HasGoalHeads u c
+    heads-in : (c : CondTree) → IsCondOf (length t) [] c → HasGoalHeads t c → HasGoalHeads u c
     heads-in (all_of cs) k h = all-heads-in cs k h
     heads-in (no c) k h = heads-in c k h
     heads-in (holds l) k h = (h.0, head-in l.head k.0 h.1)
     heads-in (same x y) k h = h
     heads-in (compares rel x y) k h = h
     heads-in (is_a x kind) k h = h
+    heads-in (any_of cs) k h = absurd h.0
+    heads-in (implied a b) k h = absurd h.0
+    heads-in (for_some qs c) k h = absurd h.0
+    heads-in (for_all qs c) k h = absurd h.0
 
-    all-heads-in : (cs : CondTrees) → AreCondsOf (length t) 0 cs → HaveGoalHeads t cs → HaveGoalHeads u cs
+    all-heads-in : (cs : CondTrees) → AreCondsOf (length t) [] cs → HaveGoalHeads t cs → HaveGoalHeads u cs
     all-heads-in none k h = h
     all-heads-in (more c cs) k h = (heads-in c k.0 h.0, all-heads-in cs k.1 h.1)
 
   goal-in : (goal : Cond) → IsGoalOf t goal → IsGoalOf u goal
-  goal-in goal h = record { known = cond-in (cond_tree goal) h.known; heads = heads-in (cond_tree goal) h.known h.heads; shallow = h.shallow }
+  goal-in goal h = record { known = cond-in [] (cond_tree goal) h.known; heads = heads-in (cond_tree goal) h.known h.heads; shallow = h.shallow }
 
   -- ---- lines
 

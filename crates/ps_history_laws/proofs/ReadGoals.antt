@@ -134,7 +134,7 @@ module _ (after : Table) (first : 0 < length after) where
   -- ---- conditions
 
   abbrev IsCondHere : Cond → Type 0
-  IsCondHere c = IsCondOf (length after) 0 (cond_tree c) × HasGoalHeads after (cond_tree c)
+  IsCondHere c = IsCondOf (length after) [] (cond_tree c) × HasGoalHeads after (cond_tree c)
 
   holds_here : (l : Lexeme) (ts : Nesteds) → IsTold after l → AreTold after ts → is_goal_name l.mark ≡ true → IsCondHere (cond.Holds (lifted l ts))
   holds_here l ts h told e =
@@ -181,7 +181,7 @@ module _ (after : Table) (first : 0 < length after) where
     negation_here none h e = (tt, tt)
     negation_here (more c ts) h e = condition_here c h.0 e
 
-    conditions_here : (ts : Nesteds) → AreTold after ts → are_formed ts ≡ true → AreCondsOf (length after) 0 (cond_trees (each line_words ts)) × HaveGoalHeads after (cond_trees (each line_words ts))
+    conditions_here : (ts : Nesteds) → AreTold after ts → are_formed ts ≡ true → AreCondsOf (length after) [] (cond_trees (each line_words ts)) × HaveGoalHeads after (cond_trees (each line_words ts))
     conditions_here none h e = (tt, tt)
     conditions_here (more c cs) h e =
         let parts = and_parts (is_formed c) (are_formed cs) e in
@@ -190,6 +190,6 @@ module _ (after : Table) (first : 0 < length after) where
         ((one.0, later.0), (one.1, later.1))
 
   -- the first condition, where its list is formed
-  pub first_here : (ts : Nesteds) → AreTold after ts → begins_formed ts ≡ true → IsCondOf (length after) 0 (cond_tree (first_condition ts)) × HasGoalHeads after (cond_tree (first_condition ts))
+  pub first_here : (ts : Nesteds) → AreTold after ts → begins_formed ts ≡ true → IsCondOf (length after) [] (cond_tree (first_condition ts)) × HasGoalHeads after (cond_tree (first_condition ts))
   first_here none h e = (tt, tt)
   first_here (more t ts) h e = condition_here t h.0 e

@@ -1,8 +1,10 @@
 -- That an input is sound is a proposition, and so is that a domain has few constants, each of them once.
-use Rattle.std.proofs.Common.{Option, Ok, Err, List}
+use Rattle.std.proofs.Common.{Option, Ok, Err, List, ◌++◌}
 use Rattle.std.proofs.Props.{props}
-use Rattle.ps_world.specs.Trees.{CondTree, CondTrees, all_of, no, holds, same, compares, is_a, none, more}
+use Rattle.ps_world.specs.Trees.{CondTree, CondTrees, all_of, any_of, no, implied, holds, same, compares, is_a, for_some, for_all, none, more}
+use Rattle.ps_world.specs.Leaves.{AllIn, AllInEach}
 use Rattle.ps_world.specs.declared.conditions.Cond.{Cond}
+use Rattle.ps_world.specs.declared.domains.Param.{Param}
 use Rattle.ps_world.specs.declared.domains.Domain.{Domain}
 use Rattle.ps_world.specs.declared.edits.Edit.{Edit}
 use Rattle.ps_world.specs.declared.edits.Edit.TheVariants.{AddInstance, RemoveInstance, AddFact, RemoveFact, SetValue, RemoveValue, SetGoal, RemoveGoal}
@@ -15,20 +17,24 @@ use Rattle.ps_machine.specs.declared.members.Unit.{Unit as Task}
 use Rattle.ps_machine.specs.declared.members.Unit.TheVariants as unit
 use Rattle.ps_machine.specs.declared.members.Performer.{Performer}
 use Rattle.ps_machine.specs.declared.members.Observer.{Observer}
-use Rattle.ps_rules.specs.Sound.{AreGroundConds, IsGroundCond, IsScriptCond, IsScriptEdit, IsSound, IsSoundItem, IsSoundJob, IsSoundLine, IsSoundObserver, IsSoundPerformer, IsSoundUnit}
+use Rattle.ps_rules.specs.Sound.{ground_leaves, IsScriptCond, IsScriptEdit, IsSound, IsSoundItem, IsSoundJob, IsSoundLine, IsSoundObserver, IsSoundPerformer, IsSoundUnit}
 
 mutual
-  ground-prop : (c : CondTree) → IsProp (IsGroundCond c)
-  ground-prop (all_of cs) = grounds-prop cs
-  ground-prop (no c) = ground-prop c
-  ground-prop (holds l) = hlevel props
-  ground-prop (same s t) = hlevel props
-  ground-prop (compares rel x y) = hlevel props
-  ground-prop (is_a t kind) = hlevel props
+  ground-prop : (ps : List Param) (c : CondTree) → IsProp (AllIn ground_leaves ps c)
+  ground-prop ps (all_of cs) = grounds-prop ps cs
+  ground-prop ps (any_of cs) = hlevel (props, grounds-prop ps cs)
+  ground-prop ps (no c) = ground-prop ps c
+  ground-prop ps (implied a b) = hlevel (props, ground-prop ps a, ground-prop ps b)
+  ground-prop ps (holds l) = hlevel props
+  ground-prop ps (same s t) = hlevel props
+  ground-prop ps (compares rel x y) = hlevel props
+  ground-prop ps (is_a t kind) = hlevel props
+  ground-prop ps (for_some qs c) = hlevel (props, ground-prop (ps ++ qs) c)
+  ground-prop ps (for_all qs c) = hlevel (props, ground-prop (ps ++ qs) c)
 
-  grounds-prop : (cs : CondTrees) → IsProp (AreGroundConds cs)
-  grounds-prop none = hlevel props
-  grounds-prop (more c cs) = hlevel (props, ground-prop c, grounds-prop cs)
+  grounds-prop : (ps : List Param) (cs : CondTrees) → IsProp (AllInEach ground_leaves ps cs)
+  grounds-prop ps none = hlevel props
+  grounds-prop ps (more c cs) = hlevel (props, ground-prop ps c, grounds-prop ps cs)
 
 written-cond-prop : (c : Cond) → IsProp (IsScriptCond c)
 written-cond-prop c = hlevel (props, ground-prop)

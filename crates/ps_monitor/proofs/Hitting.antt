@@ -6,14 +6,15 @@ use Rattle.std.proofs.lemmas.Bool.{or_right, false_from_ne_true, or_parts, or_fr
 use Rattle.ps_world.specs.Trees.{CondTree, cond_trees}
 use Rattle.ps_world.specs.declared.domains.Domain.{Domain}
 use Rattle.ps_world.specs.declared.known.Knowledge.{Knowledge}
-use Rattle.ps_action.specs.Arcs.{meet, same_thing}
+use Rattle.ps_action.specs.Arcs.{meet, meets}
 use Rattle.ps_action.specs.Touching.{read_by_list}
 use Rattle.ps_action.specs.declared.touched.Touched.{Touched}
 use Rattle.ps_action.proofs.ArcTables.{true_false}
 use Rattle.ps_eval.specs.Laws.{Agree}
 use Rattle.ps_eval.proofs.Reading.{truth_reads_what_is_named}
 use Rattle.ps_users.specs.Users.{Users, uses}
-use Rattle.ps_users.proofs.Things.{all_so, thing_itself, thing_same}
+use Rattle.ps_action.proofs.Meeting.{meets_turned}
+use Rattle.ps_users.proofs.Things.{all_so}
 use Rattle.ps_monitor.specs.Hits.{but_for, HeldBefore, is_hit, is_started}
 use Rattle.ps_monitor.specs.Indexed.{IsIndexed, is_read, watch_at}
 use Rattle.ps_monitor.specs.Naming.{NamesChange, has, is_named}
@@ -22,16 +23,16 @@ use Rattle.ps_monitor.proofs.Naming.{unnamed_conds}
 
 -- ---- what isn't in a list
 
-apart : (s t : Touched) → same_thing s t ≡ false → same_thing t s ≡ false
-apart s t e = false_from_ne_true (same_thing t s) (λ h. true_false (same_thing s t) (ap (same_thing s) (thing_same t s h) ∙ thing_itself s) e)
+apart : (s t : Touched) → meets s t ≡ false → meets t s ≡ false
+apart s t e = false_from_ne_true (meets t s) (λ h. true_false (meets s t) (meets_turned t s h) e)
 
-split : (t : Touched) (xs ys : List Touched) → meet xs (t ∷ ys) ≡ false → (list_any (same_thing t) xs ≡ false) × (meet xs ys ≡ false)
+split : (t : Touched) (xs ys : List Touched) → meet xs (t ∷ ys) ≡ false → (list_any (meets t) xs ≡ false) × (meet xs ys ≡ false)
 split t [] ys e = (refl, refl)
 split t (x ∷ xs) ys e =
-    let parts = or_parts (same_thing x t || list_any (same_thing x) ys) (meet xs (t ∷ ys)) e in
-    let here = or_parts (same_thing x t) (list_any (same_thing x) ys) parts.0 in
+    let parts = or_parts (meets x t || list_any (meets x) ys) (meet xs (t ∷ ys)) e in
+    let here = or_parts (meets x t) (list_any (meets x) ys) parts.0 in
     let rest = split t xs ys parts.1 in
-    (or_from (same_thing t x) (list_any (same_thing t) xs) (apart x t here.0) rest.0, or_from (list_any (same_thing x) ys) (meet xs ys) here.1 rest.1)
+    (or_from (meets t x) (list_any (meets t) xs) (apart x t here.0) rest.0, or_from (list_any (meets x) ys) (meet xs ys) here.1 rest.1)
 
 -- no read thing is in the list
 all_absent : (xs ys : List Touched) → meet xs ys ≡ false → All (λ t. has xs t ≡ false) ys
@@ -69,11 +70,11 @@ found_at : (used rest read others : Bool) → (read ≡ true → used ≡ true) 
 found_at used rest true others here there e = rw (here refl) refl
 found_at used rest false others here there e = or_right used rest (there e)
 
-found_by : (users : Users) (act : ℕ) (changed reads : List Touched) → ((t : Touched) → list_any (same_thing t) reads ≡ true → uses users t act ≡ true)
+found_by : (users : Users) (act : ℕ) (changed reads : List Touched) → ((t : Touched) → list_any (meets t) reads ≡ true → uses users t act ≡ true)
     → meet changed reads ≡ true → list_any (λ t. uses users t act) changed ≡ true
 found_by users act [] reads h e = e
 found_by users act (t ∷ ts) reads h e =
-    found_at (uses users t act) (list_any (λ s. uses users s act) ts) (list_any (same_thing t) reads) (meet ts reads) (h t) (found_by users act ts reads h) e
+    found_at (uses users t act) (list_any (λ s. uses users s act) ts) (list_any (meets t) reads) (meet ts reads) (h t) (found_by users act ts reads h) e
 
 hit_at : (users : Users) (changed : List Touched) (act : ℕ) (over : Option (List CondTree)) → ((t : Touched) → is_read t over ≡ true → uses users t act ≡ true)
     → is_hit changed over ≡ true → list_any (λ t. uses users t act) changed ≡ true

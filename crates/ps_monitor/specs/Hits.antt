@@ -11,7 +11,8 @@ use Rattle.ps_action.specs.declared.touched.Touched.{Touched}
 use Rattle.ps_monitor.specs.Naming.{NamesChange}
 use Rattle.ps_monitor.specs.Watched.{is_false}
 
--- Whether something in a list hits a watched condition: a fact or a value that it reads, or an instance that it names.
+-- Whether something in a list hits a watched condition: a fact or a value that it reads, or that stands where a variable of it may lead, or
+-- an instance that it names, or any instance where it binds variables.
 abbrev pub is_hit : List Touched → Option (List CondTree) → Bool
 is_hit changed over = option_map_or (λ cs. meet changed (read_by_list cs)) over false
 

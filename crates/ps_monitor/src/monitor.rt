@@ -92,8 +92,8 @@ impl Monitor {
         all
     }
 
-    /// Whether an act is watched and something in a list hits it: a fact or a value that its condition reads, or an instance that it
-    /// names.
+    /// Whether an act is watched and something in a list hits it: a fact or a value that its condition reads, or that stands where a
+    /// variable of it may lead, or an instance that it names, or any instance where it binds variables.
     pub fn is_hit(&self, changed: &[Touched], act: u32) -> bool
         ensures { result ≡ is_hit changed.now (watched self.now act) }
     {

@@ -1,7 +1,7 @@
 //! Watched conditions.
 ghost use Rattle.std.specs.Prelude.{◌≡◌, IfOk};
 ghost use Rattle.std.specs.List.{list_any};
-ghost use Rattle.ps_action.specs.Arcs.{meet, same_thing};
+ghost use Rattle.ps_action.specs.Arcs.{meet, meets};
 ghost use Rattle.ps_action.specs.Touching.{read_by_list};
 
 use ps_action::Touched;
@@ -57,29 +57,17 @@ impl Watch {
         &self.reads
     }
 
-    /// Whether it reads one of these things.
+    /// Whether it reads something that meets one of these.
     pub fn is_hit(&self, changed: &[Touched]) -> bool
         ensures { result ≡ meet changed.now (read_by_list self.now) }
     {
-        changed.iter().any(|thing| is_among(&self.reads, thing))
+        changed.iter().any(|one| is_among(&self.reads, one))
     }
 }
 
-/// Whether two things are the same.
-fn is_same(one: &Touched, other: &Touched) -> bool
-    ensures { result ≡ same_thing one.now other.now }
+/// Whether one of these meets a thing.
+fn is_among(touched: &[Touched], one: &Touched) -> bool
+    ensures { result ≡ list_any (meets one.now) touched.now }
 {
-    match (one, other) {
-        (Touched::Fact(f), Touched::Fact(g)) => f.cmp(g).is_eq(),
-        (Touched::Value(f), Touched::Value(g)) => f.cmp(g).is_eq(),
-        (Touched::Instance(m), Touched::Instance(n)) => m == n,
-        _ => false,
-    }
-}
-
-/// Whether a thing is one of these.
-fn is_among(things: &[Touched], thing: &Touched) -> bool
-    ensures { result ≡ list_any (same_thing thing.now) things.now }
-{
-    things.iter().any(|there| is_same(thing, there))
+    touched.iter().any(|there| one.meets(there))
 }

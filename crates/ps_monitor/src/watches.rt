@@ -1,7 +1,5 @@
 //! Watched conditions, found by what they read.
-ghost use Rattle.std.specs.Prelude.{◌≡◌, ◌≢◌, ℕ, ◌+◌, ◌<◌, ◌≤◌, [], nat_eq, is_some, length, Some, None, false, true, All, slice_index_or, OnOk, OnErr};
-ghost use Rattle.std.specs.List.{list_any};
-ghost use Rattle.ps_users.specs.Users.{AreWithin, Marks, uses};
+ghost use Rattle.std.specs.Prelude.{◌≡◌, ◌≢◌, ℕ, ◌+◌, ◌<◌, ◌≤◌, [], is_some, length, Some, None, false, true, slice_index_or, OnOk, OnErr};
 ghost use Rattle.ps_monitor.specs.Indexed.{watch_at};
 ghost use Rattle.ps_monitor.specs.Watched.{is_false};
 ghost use Rattle.ps_monitor.specs.Hits.{is_hit};
@@ -18,7 +16,7 @@ use std::marker::Model;
 #[derive(Drop)]
 pub struct Watches {
     places: Vec<Option<Watch>>,
-    /// The acts that read each thing: all that do, and perhaps some that did.
+    /// The acts that read each thing and place: all that do, and perhaps some that did.
     readers: Users,
 }
 
@@ -35,28 +33,6 @@ impl Model for Watches {
     ghost view = { λ w. w.places.items };
 
     ghost invariant = { λ w. IsIndexed w.places.items w.readers };
-}
-
-/// Puts the acts at these places in.
-fn mark(acts: &mut Acts, places: &[u32])
-    requires low { All (λ i. i < 256) places.now }
-    requires many { length acts.old.marks ≡ 256 }
-    ensures { Marks acts.old.marks (λ j. list_any (nat_eq j) places.now) acts.new.marks }
-{
-    for place in places {
-        acts.add(*place);
-    }
-}
-
-/// Puts the acts in that use one of these things.
-fn mark_all(acts: &mut Acts, things: &[Touched], users: &Users)
-    requires within { AreWithin 256 users.now }
-    requires many { length acts.old.marks ≡ 256 }
-    ensures { Marks acts.old.marks (λ j. list_any (λ t. uses users.now t j) things.now) acts.new.marks }
-{
-    for thing in things {
-        mark(acts, users.of(thing));
-    }
 }
 
 /// Makes sure that there is a place. The only error is running out of memory.
@@ -139,7 +115,7 @@ impl Watches {
             → slice_index_or result.marks act false ≡ true }
     {
         let mut acts = Acts::none();
-        mark_all(&mut acts, changed, &self.readers);
+        self.readers.mark_all(changed, &mut acts.marks);
         acts
     }
 

@@ -1,7 +1,7 @@
 -- The nested lists of a domain's canonical text, wherever its words stand.
-use Rattle.std.proofs.Common.{◌≡◌, ℕ, ℤ, List, [], ◌∷◌, slice_index_or}
+use Rattle.std.proofs.Common.{◌≡◌, ℕ, ℤ, List, [], ◌∷◌, ◌++◌, slice_index_or}
 use Rattle.ps_world.specs.Names.{Table, object, name_text}
-use Rattle.ps_world.specs.Trees.{ExprTree, number, value_of, negated, operated, CondTree, CondTrees, all_of, no, holds, same, compares, is_a}
+use Rattle.ps_world.specs.Trees.{ExprTree, number, value_of, negated, operated, CondTree, CondTrees, all_of, any_of, no, implied, holds, same, compares, is_a, for_some, for_all}
 use Rattle.ps_world.specs.Trees as tree
 use Rattle.ps_world.specs.ExprViews.{expr_tree}
 use Rattle.ps_world.specs.declared.names.Name.{Name}
@@ -77,6 +77,18 @@ pub data IsExprForm (names : Table) (ps : List Param) : ExprTree → Nested → 
   a_negation : (x : ExprTree) (l : Lexeme) (t : Nested) → l.mark ≡ mark.Minus → IsExprForm names ps x t → IsExprForm names ps (negated x) (group (more (word l) (more t none)))
   an_operation : (o : Op) (x y : ExprTree) (l : Lexeme) (t u : Nested) → l.mark ≡ op_mark o → IsExprForm names ps x t → IsExprForm names ps y u → IsExprForm names ps (operated o x y) (group (more (word l) (more t (more u none))))
 
+-- ---- lists of names
+
+-- names, each with - and its type
+pub data AreTypedForms (names : Table) : List Param → Nesteds → Type 0 where
+  no_typed : AreTypedForms names [] none
+  more_typed : (p : Param) (ps : List Param) (l m k : Lexeme) (ts : Nesteds) → IsNamed names p.name l → m.mark ≡ mark.Minus → IsNamed names p.kind k → AreTypedForms names ps ts → AreTypedForms names (p ∷ ps) (more (word l) (more (word m) (more (word k) ts)))
+
+-- the same of variables
+pub data AreParamForms (names : Table) : List Param → Nesteds → Type 0 where
+  no_params : AreParamForms names [] none
+  more_params : (p : Param) (ps : List Param) (l m k : Lexeme) (ts : Nesteds) → IsVariable p.name l → m.mark ≡ mark.Minus → IsNamed names p.kind k → AreParamForms names ps ts → AreParamForms names (p ∷ ps) (more (word l) (more (word m) (more (word k) ts)))
+
 -- ---- conditions
 
 abbrev pub rel_mark : Rel → Mark
@@ -87,18 +99,22 @@ rel_mark rel.Ge = mark.GreaterEqual
 rel_mark rel.Gt = mark.Greater
 
 mutual
-  -- C
-  pub data IsCondForm (names : Table) (ps : List Param) : CondTree → Nested → Type 0 where
-    all_form : (cs : CondTrees) (l : Lexeme) (ts : Nesteds) → l.mark ≡ mark.And → AreCondForms names ps cs ts → IsCondForm names ps (all_of cs) (group (more (word l) ts))
-    not_form : (c : CondTree) (l : Lexeme) (t : Nested) → l.mark ≡ mark.Not → IsCondForm names ps c t → IsCondForm names ps (no c) (group (more (word l) (more t none)))
-    fact_form : (f : Lifted) (t : Nested) → IsLiftedForm names ps f t → IsCondForm names ps (holds f) t
-    same_form : (a b : Term) (l m n : Lexeme) → l.mark ≡ mark.Equal → IsTermWord names ps a m → IsTermWord names ps b n → IsCondForm names ps (same a b) (group (more (word l) (more (word m) (more (word n) none))))
-    comparison_form : (r : Rel) (x y : ExprTree) (l : Lexeme) (t u : Nested) → l.mark ≡ rel_mark r → IsExprForm names ps x t → IsExprForm names ps y u → IsCondForm names ps (compares r x y) (group (more (word l) (more t (more u none))))
+  -- C, where these variables are in force
+  pub data IsCondForm (names : Table) : List Param → CondTree → Nested → Type 0 where
+    all_form : (ps : List Param) (cs : CondTrees) (l : Lexeme) (ts : Nesteds) → l.mark ≡ mark.And → AreCondForms names ps cs ts → IsCondForm names ps (all_of cs) (group (more (word l) ts))
+    any_form : (ps : List Param) (cs : CondTrees) (l : Lexeme) (ts : Nesteds) → l.mark ≡ mark.Or → AreCondForms names ps cs ts → IsCondForm names ps (any_of cs) (group (more (word l) ts))
+    not_form : (ps : List Param) (c : CondTree) (l : Lexeme) (t : Nested) → l.mark ≡ mark.Not → IsCondForm names ps c t → IsCondForm names ps (no c) (group (more (word l) (more t none)))
+    imply_form : (ps : List Param) (a b : CondTree) (l : Lexeme) (t u : Nested) → l.mark ≡ mark.Imply → IsCondForm names ps a t → IsCondForm names ps b u → IsCondForm names ps (implied a b) (group (more (word l) (more t (more u none))))
+    fact_form : (ps : List Param) (f : Lifted) (t : Nested) → IsLiftedForm names ps f t → IsCondForm names ps (holds f) t
+    same_form : (ps : List Param) (a b : Term) (l m n : Lexeme) → l.mark ≡ mark.Equal → IsTermWord names ps a m → IsTermWord names ps b n → IsCondForm names ps (same a b) (group (more (word l) (more (word m) (more (word n) none))))
+    comparison_form : (ps : List Param) (r : Rel) (x y : ExprTree) (l : Lexeme) (t u : Nested) → l.mark ≡ rel_mark r → IsExprForm names ps x t → IsExprForm names ps y u → IsCondForm names ps (compares r x y) (group (more (word l) (more t (more u none))))
+    some_form : (ps qs : List Param) (c : CondTree) (l : Lexeme) (vs : Nesteds) (t : Nested) → l.mark ≡ mark.Exists → AreParamForms names qs vs → IsCondForm names (ps ++ qs) c t → IsCondForm names ps (for_some qs c) (group (more (word l) (more (group vs) (more t none))))
+    each_form : (ps qs : List Param) (c : CondTree) (l : Lexeme) (vs : Nesteds) (t : Nested) → l.mark ≡ mark.Forall → AreParamForms names qs vs → IsCondForm names (ps ++ qs) c t → IsCondForm names ps (for_all qs c) (group (more (word l) (more (group vs) (more t none))))
 
   -- C*
-  pub data AreCondForms (names : Table) (ps : List Param) : CondTrees → Nesteds → Type 0 where
-    no_forms : AreCondForms names ps tree.none none
-    more_forms : (c : CondTree) (cs : CondTrees) (t : Nested) (ts : Nesteds) → IsCondForm names ps c t → AreCondForms names ps cs ts → AreCondForms names ps (tree.more c cs) (more t ts)
+  pub data AreCondForms (names : Table) : List Param → CondTrees → Nesteds → Type 0 where
+    no_forms : (ps : List Param) → AreCondForms names ps tree.none none
+    more_forms : (ps : List Param) (c : CondTree) (cs : CondTrees) (t : Nested) (ts : Nesteds) → IsCondForm names ps c t → AreCondForms names ps cs ts → AreCondForms names ps (tree.more c cs) (more t ts)
 
 -- a form after two words with these marks
 pub data IsTimed (first second : Mark) (P : Nested → Type 0) : Nested → Type 0 where
@@ -154,23 +170,11 @@ IsEndEffect names ps e = IsTimed mark.At mark.End (IsEffectForm names ps e)
 pub data AreEffectParts (names : Table) (a : ActionDef) : Nesteds → Type 0 where
   effect_parts : (starts ends : Nesteds) → AreForms (IsStartEffect names a.params) a.effects.at_start starts → AreForms (IsEndEffect names a.params) a.effects.at_end ends → AreEffectParts names a (joined starts ends)
 
--- ---- lists of names
-
--- names, each with - and its type
-pub data AreTypedForms (names : Table) : List Param → Nesteds → Type 0 where
-  no_typed : AreTypedForms names [] none
-  more_typed : (p : Param) (ps : List Param) (l m k : Lexeme) (ts : Nesteds) → IsNamed names p.name l → m.mark ≡ mark.Minus → IsNamed names p.kind k → AreTypedForms names ps ts → AreTypedForms names (p ∷ ps) (more (word l) (more (word m) (more (word k) ts)))
-
--- the same of variables
-pub data AreParamForms (names : Table) : List Param → Nesteds → Type 0 where
-  no_params : AreParamForms names [] none
-  more_params : (p : Param) (ps : List Param) (l m k : Lexeme) (ts : Nesteds) → IsVariable p.name l → m.mark ≡ mark.Minus → IsNamed names p.kind k → AreParamForms names ps ts → AreParamForms names (p ∷ ps) (more (word l) (more (word m) (more (word k) ts)))
+-- ---- the domain
 
 -- (NAME VLIST)
 pub data IsDeclForm (names : Table) : Decl → Nested → Type 0 where
   decl_form : (decl : Decl) (l : Lexeme) (ts : Nesteds) → IsNamed names decl.name l → AreParamForms names decl.params ts → IsDeclForm names decl (group (more (word l) ts))
-
--- ---- the domain
 
 -- an action
 pub data IsActionForm (names : Table) : ActionDef → Nested → Type 0 where

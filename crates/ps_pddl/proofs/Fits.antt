@@ -4,6 +4,7 @@ use Rattle.std.specs.List.{All}
 use Rattle.ps_world.specs.Names.{Table, name_text}
 use Rattle.ps_world.specs.Trees.{ExprTree, number, value_of, negated, operated, CondTree, CondTrees, all_of, no, holds, same, compares}
 use Rattle.ps_world.specs.Trees as tree
+use Rattle.ps_world.specs.Leaves.{Leaves, AllIn, AllInEach}
 use Rattle.ps_world.specs.ExprViews.{expr_tree}
 use Rattle.ps_world.specs.declared.names.Name.{Name}
 use Rattle.ps_world.specs.declared.schemas.Term.{Term}
@@ -28,6 +29,28 @@ use Rattle.ps_pddl.proofs.CanonicalForms.{name_mark}
 abbrev pub IsVariableName : Table → Name → Type 0
 IsVariableName names n = mark_of class.Variable (codes "?" ++ name_text names n) ≡ mark.Variable
 
+-- parameters that may be variables
+abbrev pub FitParams : Table → List Param → Type 0
+FitParams names ps = All (λ p. IsVariableName names p.name) ps
+
+-- each variable that a quantifier binds may be one
+abbrev pub free_leaves : Table → Leaves
+free_leaves names = record {
+  atom = λ ps l. Unit {0};
+  term = λ ps t. Unit {0};
+  value = λ ps x. Unit {0};
+  kind = λ ps kind. Unit {0};
+  bound = λ ps qs. FitParams names qs;
+  either = Unit {0};
+}
+
+-- the same of a condition where these variables are in force
+abbrev pub BindsFree : Table → List Param → CondTree → Type 0
+BindsFree names ps c = AllIn (free_leaves names) ps c
+
+abbrev pub BindFree : Table → List Param → CondTrees → Type 0
+BindFree names ps cs = AllInEach (free_leaves names) ps cs
+
 -- an expression with at most so many levels
 pub data FitsExpr : ℕ → ExprTree → Type 0 where
   fits_number : (room : ℕ) (n : ℤ) → FitsExpr room (number n)
@@ -49,15 +72,24 @@ mutual
     fit_none : (room : ℕ) → FitConds names room tree.none
     fit_more : (room : ℕ) (c : CondTree) (cs : CondTrees) → FitsCond names room c → FitConds names room cs → FitConds names room (tree.more c cs)
 
+mutual
+  -- a condition that fits binds what may be a variable
+  pub fits_free : (names : Table) (room : ℕ) (ps : List Param) (c : CondTree) → FitsCond names room c → BindsFree names ps c
+  fits_free names _ ps _ (fits_all room cs h) = fit_free names room ps cs h
+  fits_free names _ ps _ (fits_not room c h) = fits_free names room ps c h
+  fits_free names _ ps _ (fits_fact room f h) = tt
+  fits_free names _ ps _ (fits_same room a b) = (tt, tt)
+  fits_free names _ ps _ (fits_comparison room r x y h k) = (tt, tt)
+
+  fit_free : (names : Table) (room : ℕ) (ps : List Param) (cs : CondTrees) → FitConds names room cs → BindFree names ps cs
+  fit_free names _ ps _ (fit_none room) = tt
+  fit_free names _ ps _ (fit_more room c cs h k) = (fits_free names room ps c h, fit_free names room ps cs k)
+
 -- an effect with at most so many levels
 pub data FitsEffect (names : Table) : ℕ → Effect → Type 0 where
   fits_addition : (room : ℕ) (f : Lifted) → is_predicate_name (name_mark names f.head) ≡ true → FitsEffect names (suc room) (Add f)
   fits_deletion : (room : ℕ) (f : Lifted) → FitsEffect names (suc (suc room)) (Delete f)
   fits_change : (room : ℕ) (how : NumOp) (f : Lifted) (x : Expr) → FitsExpr (suc room) (expr_tree x) → FitsEffect names (suc (suc room)) (Number how f x)
-
--- parameters that may be variables
-abbrev pub FitParams : Table → List Param → Type 0
-FitParams names ps = All (λ p. IsVariableName names p.name) ps
 
 -- an action: its duration stands under 3 levels, each condition and effect under 4
 pub record FitsAction (names : Table) (a : ActionDef) : Type 0 where

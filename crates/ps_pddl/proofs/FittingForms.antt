@@ -90,16 +90,16 @@ module _ (names : Table) where
 
   mutual
     condition_grammatical : (ps : List Param) (room : ℕ) (c : CondTree) (t : Nested) → FitsCond names room c → IsCondForm names ps c t → IsCondition room t
-    condition_grammatical ps _ _ _ (fits_all room cs fit) (all_form _ l ts m h) = written.all_of room l ts m (conditions_grammatical ps room cs ts fit h)
-    condition_grammatical ps _ _ _ (fits_not room c fit) (not_form _ l t m h) = written.not_so room l t m (condition_grammatical ps room c t fit h)
-    condition_grammatical ps _ _ _ (fits_fact room f fit) (fact_form _ t h) = fact_grammatical ps room f t fit h
-    condition_grammatical ps _ _ _ (fits_same room a b) (same_form _ _ l m n e h k) = written.same room l m n e (term_word ps a m h) (term_word ps b n k)
-    condition_grammatical ps _ _ _ (fits_comparison room r x y fit also) (comparison_form _ _ _ l t u m h k) =
+    condition_grammatical ps _ _ _ (fits_all room cs fit) (all_form _ _ l ts m h) = written.all_of room l ts m (conditions_grammatical ps room cs ts fit h)
+    condition_grammatical ps _ _ _ (fits_not room c fit) (not_form _ _ l t m h) = written.not_so room l t m (condition_grammatical ps room c t fit h)
+    condition_grammatical ps _ _ _ (fits_fact room f fit) (fact_form _ _ t h) = fact_grammatical ps room f t fit h
+    condition_grammatical ps _ _ _ (fits_same room a b) (same_form _ _ _ l m n e h k) = written.same room l m n e (term_word ps a m h) (term_word ps b n k)
+    condition_grammatical ps _ _ _ (fits_comparison room r x y fit also) (comparison_form _ _ _ _ l t u m h k) =
         written.comparison room l t u (ap is_relation m ∙ rel_mark-is_relation r) (value_grammatical ps room x t fit h) (value_grammatical ps room y u also k)
 
     conditions_grammatical : (ps : List Param) (room : ℕ) (cs : CondTrees) (ts : Nesteds) → FitConds names room cs → AreCondForms names ps cs ts → AreConditions room ts
-    conditions_grammatical ps _ _ _ (fit_none room) no_forms = written.no_condition room
-    conditions_grammatical ps _ _ _ (fit_more room c cs fit fits) (more_forms _ _ t ts h k) =
+    conditions_grammatical ps _ _ _ (fit_none room) (no_forms _) = written.no_condition room
+    conditions_grammatical ps _ _ _ (fit_more room c cs fit fits) (more_forms _ _ _ t ts h k) =
         written.one_condition room t ts (condition_grammatical ps room c t fit h) (conditions_grammatical ps room cs ts fits k)
 
   parts_joined : (room : ℕ) (ts us : Nesteds) → AreParts room ts → AreParts room us → AreParts room (joined ts us)

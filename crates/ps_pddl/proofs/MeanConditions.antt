@@ -5,7 +5,7 @@ use Rattle.std.proofs.lemmas.List.Elements.{All-head, All-tail}
 use Rattle.ps_world.specs.CondViews.{cond_tree}
 use Rattle.ps_world.specs.Knowledge.{predicate_of}
 use Rattle.ps_world.specs.Names.{Table, same_name}
-use Rattle.ps_world.specs.Trees.{ExprTree, CondTree, CondTrees, all_of, no, holds, same, compares, is_a, cond_trees, list_of}
+use Rattle.ps_world.specs.Trees.{ExprTree, CondTree, CondTrees, all_of, any_of, no, implied, holds, same, compares, is_a, for_some, for_all, cond_trees, list_of}
 use Rattle.ps_world.specs.Trees as tree
 use Rattle.ps_world.specs.declared.domains.Param.{Param}
 use Rattle.ps_world.specs.declared.domains.Decl.{Decl}
@@ -29,7 +29,7 @@ use Rattle.ps_pddl.specs.Steps.{Read, reads}
 use Rattle.ps_pddl.specs.Words.{condition, words}
 use Rattle.ps_pddl.specs.WellFormed.{AreApart, AreConds, IsApplied, IsCond, IsExpr, IsFactOf}
 use Rattle.ps_world.specs.declared.actions.Conditions.{Conditions}
-use Rattle.ps_pddl.proofs.CanonicalForms.{name_mark, rel_mark, joined, IsTermWord, IsExprForm, a_number, a_value, a_negation, an_operation, IsCondForm, all_form, not_form, fact_form, same_form, comparison_form, AreCondForms, no_forms, more_forms, timed, AreForms, no_items, more_items, IsStartCond, IsOverCond, IsEndCond}
+use Rattle.ps_pddl.proofs.CanonicalForms.{name_mark, rel_mark, joined, IsTermWord, IsExprForm, a_number, a_value, a_negation, an_operation, IsCondForm, all_form, any_form, not_form, imply_form, fact_form, same_form, comparison_form, some_form, each_form, AreCondForms, no_forms, more_forms, timed, AreForms, no_items, more_items, IsStartCond, IsOverCond, IsEndCond}
 use Rattle.ps_pddl.proofs.CanonicalForms as form
 use Rattle.ps_pddl.proofs.MeanMarks.{name-isnt, predicate-isnt, rel_of-name}
 use Rattle.ps_pddl.proofs.MeanTerms.{TakeFew, found_all, named-is_name, resolved-means, fact-means, untree, expr_tree-untree, value-means}
@@ -39,11 +39,15 @@ use Rattle.ps_pddl.proofs.SoundTerms.{acting}
 
 abbrev pub uncond : CondTree → Cond
 uncond (all_of cs) = cond.And (list_of cs)
+uncond (any_of cs) = cond.Or (list_of cs)
 uncond (no c) = cond.Not c
+uncond (implied a b) = cond.Imply a b
 uncond (holds f) = cond.Holds f
 uncond (same a b) = cond.Same a b
 uncond (compares r x y) = cond.Cmp r (untree x) (untree y)
 uncond (is_a t kind) = cond.IsA t kind
+uncond (for_some ps c) = cond.ForSome ps c
+uncond (for_all ps c) = cond.ForAll ps c
 
 cond_trees-list_of : (cs : CondTrees) → cond_trees (list_of cs) ≡ cs
 cond_trees-list_of tree.none = refl
@@ -51,11 +55,15 @@ cond_trees-list_of (tree.more c cs) = ap (λ more. tree.more c more) (cond_trees
 
 pub cond_tree-uncond : (c : CondTree) → cond_tree (uncond c) ≡ c
 cond_tree-uncond (all_of cs) = ap all_of (cond_trees-list_of cs)
+cond_tree-uncond (any_of cs) = ap any_of (cond_trees-list_of cs)
 cond_tree-uncond (no c) = refl
+cond_tree-uncond (implied a b) = refl
 cond_tree-uncond (holds f) = refl
 cond_tree-uncond (same a b) = refl
 cond_tree-uncond (compares r x y) = rw (expr_tree-untree x, expr_tree-untree y) refl
 cond_tree-uncond (is_a t kind) = refl
+cond_tree-uncond (for_some ps c) = refl
+cond_tree-uncond (for_all ps c) = refl
 
 -- ---- heads
 
@@ -131,22 +139,27 @@ module _ (names : Table) (d : Domain) (acts : List ActionDef) (ps : List Param) 
 
   mutual
     condition-means : (c : CondTree) (t : Nested) → IsCond d ps c → IsCondForm names ps c t → condition (acting d acts) ps t ≡ Ok (uncond c)
-    condition-means _ _ h (all_form cs l ts m k) = rw (m, conditions-mean cs ts [] h k) refl
-    condition-means _ _ h (not_form c l t m k) = rw (m, condition-means c t h k, cond_tree-uncond c) refl
-    condition-means _ _ h (fact_form f _ (form.lifted _ l ts w u)) =
+    condition-means _ _ h (all_form _ cs l ts m k) = rw (m, conditions-mean cs ts [] h k) refl
+    condition-means _ _ h (not_form _ c l t m k) = rw (m, condition-means c t h k, cond_tree-uncond c) refl
+    condition-means _ _ h (fact_form _ f _ (form.lifted _ l ts w u)) =
         let head : is_predicate_name l.mark ≡ true = rw w.mark (fact-head names d ps f heads h) in
         rw (predicate-isnt mark.And l.mark head refl, predicate-isnt mark.Not l.mark head refl, stated-name l ts (named-is_name names f.head l w), fact-means names d acts ps apart f l ts predicates h w u) refl
-    condition-means _ _ h (same_form a b l m n e v w) =
+    condition-means _ _ h (same_form _ a b l m n e v w) =
         rw (e, term-isnt_number names ps a m v, resolved-means names d acts ps apart a m h.0.0 h.0.1 v, term-isnt_number names ps b n w, resolved-means names d acts ps apart b n h.1.0 h.1.1 w) refl
-    condition-means _ _ h (comparison_form r x y l t u m j k) =
+    condition-means _ _ h (comparison_form _ r x y l t u m j k) =
         let no_and : is mark.And l.mark ≡ false = rw m (rel-isnt_and r) in
         let no_not : is mark.Not l.mark ≡ false = rw m (rel-isnt_not r) in
         let rel : rel_of l.mark ≡ Some r = rw m (rel_of-rel r) in
         rw (no_and, no_not, rel, related-means r x t u (meant.stated reads (words (acting d acts) ps) l (more t (more u none))) j, comparison-means r x y t u h.0 h.1 j k) refl
 
+    condition-means _ _ h (any_form _ cs l ts m k) = absurd h.0
+    condition-means _ _ h (imply_form _ a b l t u m j k) = absurd h.0
+    condition-means _ _ h (some_form _ qs c l vs t m v k) = absurd h.0
+    condition-means _ _ h (each_form _ qs c l vs t m v k) = absurd h.0
+
     conditions-mean : (cs : CondTrees) (ts : Nesteds) (before : List CondTree) → AreConds d ps cs → AreCondForms names ps cs ts → meant.conditions reads (words (acting d acts) ps) ts before ≡ Ok (before ++ list_of cs)
-    conditions-mean _ _ before h no_forms = rw append-nil refl
-    conditions-mean _ _ before h (more_forms c cs t ts k rest) =
+    conditions-mean _ _ before h (no_forms _) = rw append-nil refl
+    conditions-mean _ _ before h (more_forms _ c cs t ts k rest) =
         rw (condition-means c t h.0 k, cond_tree-uncond c, conditions-mean cs ts (before ++ c ∷ []) h.1 rest, append_assoc before (c ∷ []) (list_of cs)) refl
 
   -- ---- the parts of an action's condition

@@ -137,7 +137,7 @@ module _ (after : Table) (first : 0 < length after) (d : Domain) where
       let form = at (place.after mark.ConditionKey ts) 0 in
       let change = at (place.after mark.EffectKey ts) 0 in
       let IsTree = IsTreeHere after first d ps 60 in
-      let IsCond : CondTree → Type 0 = λ c. IsCondOf (length after) (length ps) c in
+      let IsCond : CondTree → Type 0 = λ c. IsCondOf (length after) ps c in
       let IsLow : CondTree → Type 0 = λ c. FitsCond after 60 c in
       let IsDone = IsEffectHere after first d ps 60 in
       let IsAct : Effect → Type 0 = λ e. IsEffectOf (length after) (length ps) e in

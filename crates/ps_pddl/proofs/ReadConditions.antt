@@ -77,15 +77,15 @@ module _ (after : Table) (first : 0 < length after) (d : Domain) (ps : List Para
 
   -- a condition of what is there, with at most so many levels
   abbrev pub IsTreeHere : ℕ → CondTree → Type 0
-  IsTreeHere room c = IsCondOf (length after) (length ps) c × FitsCond after room c
+  IsTreeHere room c = IsCondOf (length after) ps c × FitsCond after room c
 
   abbrev IsCondHere : ℕ → Cond → Type 0
   IsCondHere room c = IsTreeHere room (cond_tree c)
 
   abbrev AreCondsHere : ℕ → List CondTree → Type 0
-  AreCondsHere room cs = AreCondsOf (length after) (length ps) (cond_trees cs) × FitConds after room (cond_trees cs)
+  AreCondsHere room cs = AreCondsOf (length after) ps (cond_trees cs) × FitConds after room (cond_trees cs)
 
-  conds_push : (cs : List CondTree) (c : CondTree) → AreCondsOf (length after) (length ps) (cond_trees cs) → IsCondOf (length after) (length ps) c → AreCondsOf (length after) (length ps) (cond_trees (cs ++ c ∷ []))
+  conds_push : (cs : List CondTree) (c : CondTree) → AreCondsOf (length after) ps (cond_trees cs) → IsCondOf (length after) ps c → AreCondsOf (length after) ps (cond_trees (cs ++ c ∷ []))
   conds_push [] c h k = (k, tt)
   conds_push (x ∷ cs) c h k = (h.0, conds_push cs c h.1 k)
 

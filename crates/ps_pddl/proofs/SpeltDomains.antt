@@ -26,14 +26,13 @@ use Rattle.ps_pddl.proofs.CanonicalForms.AreForms.{no_items, more_items}
 use Rattle.ps_pddl.proofs.CanonicalForms.AreConditionParts.{condition_parts}
 use Rattle.ps_pddl.proofs.CanonicalForms.AreEffectParts.{effect_parts}
 use Rattle.ps_pddl.proofs.CanonicalForms.AreTypedForms.{no_typed, more_typed}
-use Rattle.ps_pddl.proofs.CanonicalForms.AreParamForms.{no_params, more_params}
 use Rattle.ps_pddl.proofs.CanonicalForms.IsDeclForm.{decl_form}
 use Rattle.ps_pddl.proofs.CanonicalForms.IsActionForm.{action_form}
 use Rattle.ps_pddl.proofs.CanonicalForms.IsSectionForm.{no_section, section}
 use Rattle.ps_pddl.proofs.CanonicalForms.AreSectionForms.{sections}
 use Rattle.ps_pddl.proofs.CanonicalForms.IsDomainForm.{domain_form}
-use Rattle.ps_pddl.proofs.Fits.{FitParams, FitsAction, FitsDomain}
-use Rattle.ps_pddl.proofs.SpeltParts.{name_first, variable_first, spelt_expr, spelt_cond, spelt_effect}
+use Rattle.ps_pddl.proofs.Fits.{FitParams, FitsCond, FitsAction, FitsDomain, fits_free}
+use Rattle.ps_pddl.proofs.SpeltParts.{name_first, spelt_params, spelt_expr, spelt_cond, spelt_effect}
 use Rattle.ps_pddl.proofs.SpeltWords.{Spelt, AllSpelt, is_plain, word_first, nothing_spelt, one_first, all_first, one_last, all_last, group_spelt, group_first, group_last}
 
 both : {X : Type 0} (P Q : X → Type 0) (xs : List X) → All P xs → All Q xs → All (λ x. P x × Q x) xs
@@ -119,17 +118,8 @@ module _ (names : Table) (good : AreNames names) where
       name_first names good p.kind here.1 (λ k kind.
       all_last (spelt_typed ps (All-tail (IsParamOf count) p ps h)) (λ ts forms. more_typed p ps l m k ts is (minus.mark class.Sign refl) kind forms))))
 
-  spelt_params : (ps : List Param) → All (IsParamOf count) ps → FitParams names ps → AllSpelt names (flat_map (param_words names) ps) (AreParamForms names ps)
-  spelt_params [] h free = nothing_spelt no_params
-  spelt_params (p ∷ ps) h free =
-      let here = All-head (IsParamOf count) p ps h in
-      variable_first names good p.name here.0 (free 0 p (omega arith)) (λ l is.
-      word_first (codes "-") class.Sign refl refl (λ m minus.
-      name_first names good p.kind here.1 (λ k kind.
-      all_last (spelt_params ps (All-tail (IsParamOf count) p ps h) (λ j d lt. free (suc j) d (omega arith))) (λ ts forms. more_params p ps l m k ts is (minus.mark class.Sign refl) kind forms))))
-
   spelt_decl : (decl : Decl) → IsDeclOf count decl → FitParams names decl.params → Spelt names (decl_words names decl) (IsDeclForm names decl)
-  spelt_decl decl h free = group_spelt (name_first names good decl.name h.0 (λ l is. all_last (spelt_params decl.params h.1 free) (λ ts forms. decl_form decl l ts is forms)))
+  spelt_decl decl h free = group_spelt (name_first names good decl.name h.0 (λ l is. all_last (spelt_params names good decl.params h.1 free) (λ ts forms. decl_form decl l ts is forms)))
 
   -- ---- parts with their times
 
@@ -150,11 +140,13 @@ module _ (names : Table) (good : AreNames names) where
   module _ (a : ActionDef) (h : IsActionOf count a) (fits : FitsAction names a) where
     spelt_conditions : AllSpelt names (conditions_words names a) (AreConditionParts names a)
     spelt_conditions =
-        let R : CondTree → Type 0 = IsCondOf count (length a.params) in
-        let each = spelt_cond names good a.params h.params fits.params in
-        all_first (spelt_timed (codes "at") (codes "start") mark.At mark.Start refl refl refl refl refl refl R (cond_words names a.params) (IsCondForm names a.params) each a.conditions.at_start h.conditions_at_start) (λ starts s.
-        all_first (spelt_timed (codes "over") (codes "all") mark.Over mark.All refl refl refl refl refl refl R (cond_words names a.params) (IsCondForm names a.params) each a.conditions.over_all h.conditions_over_all) (λ overs o.
-        all_last (spelt_timed (codes "at") (codes "end") mark.At mark.End refl refl refl refl refl refl R (cond_words names a.params) (IsCondForm names a.params) each a.conditions.at_end h.conditions_at_end) (λ ends e. condition_parts starts overs ends s o e)))
+        let R : CondTree → Type 0 = λ c. IsCondOf count a.params c × FitsCond names 60 c in
+        let each : (c : CondTree) → R c → Spelt names (cond_words names a.params c) (IsCondForm names a.params c) =
+        λ c r. spelt_cond names good a.params h.params fits.params c r.0 (fits_free names 60 a.params c r.1) in
+        let are = both (IsCondOf count a.params) (FitsCond names 60) in
+        all_first (spelt_timed (codes "at") (codes "start") mark.At mark.Start refl refl refl refl refl refl R (cond_words names a.params) (IsCondForm names a.params) each a.conditions.at_start (are a.conditions.at_start h.conditions_at_start fits.start)) (λ starts s.
+        all_first (spelt_timed (codes "over") (codes "all") mark.Over mark.All refl refl refl refl refl refl R (cond_words names a.params) (IsCondForm names a.params) each a.conditions.over_all (are a.conditions.over_all h.conditions_over_all fits.over)) (λ overs o.
+        all_last (spelt_timed (codes "at") (codes "end") mark.At mark.End refl refl refl refl refl refl R (cond_words names a.params) (IsCondForm names a.params) each a.conditions.at_end (are a.conditions.at_end h.conditions_at_end fits.end)) (λ ends e. condition_parts starts overs ends s o e)))
 
     spelt_effects : AllSpelt names (effects_words names a) (AreEffectParts names a)
     spelt_effects =
@@ -181,7 +173,7 @@ module _ (names : Table) (good : AreNames names) where
         (word_first (codes ":durative-action") class.Keyword refl refl (λ k action.
         name_first names good a.name h.name (λ n named.
         word_first (codes ":parameters") class.Keyword refl refl (λ p parameters.
-        group_first (spelt_params a.params h.params fits.params) (λ ps forms.
+        group_first (spelt_params names good a.params h.params fits.params) (λ ps forms.
         word_first (codes ":duration") class.Keyword refl refl (λ d duration.
         group_first spelt_duration (λ ds length.
         word_first (codes ":condition") class.Keyword refl refl (λ c condition.

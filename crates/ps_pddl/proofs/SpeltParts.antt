@@ -1,12 +1,12 @@
 -- The words of names, terms, values, conditions and effects spell the forms of these.
-use Rattle.std.proofs.Common.{◌≡◌, ℕ, ℤ, true, Some, pos, List, [], ◌∷◌, ◌++◌, codes, length, refl, ap, ◌∙◌}
-use Rattle.std.proofs.lemmas.List.Elements.{All-head, All-tail}
+use Rattle.std.proofs.Common.{◌≡◌, ℕ, ℤ, suc, true, Some, pos, List, [], ◌∷◌, ◌++◌, codes, length, arith, refl, ap, ◌∙◌}
+use Rattle.std.proofs.lemmas.List.Elements.{All-head, All-tail, All-append}
 use Rattle.std.specs.List.{All, flat_map}
 use Rattle.std.specs.Result.{result_unwrap_or}
 use Rattle.ps_world.specs.Names.{Table, object, name_text}
 use Rattle.ps_world.specs.Numbers.{IsCount, number_text}
 use Rattle.ps_world.specs.DomainTexts.{term_text, op_text, rel_text, num_op_text}
-use Rattle.ps_world.specs.Trees.{ExprTree, number, value_of, negated, operated, CondTree, CondTrees, all_of, no, holds, same, compares, is_a}
+use Rattle.ps_world.specs.Trees.{ExprTree, number, value_of, negated, operated, CondTree, CondTrees, all_of, any_of, no, implied, holds, same, compares, is_a, for_some, for_all}
 use Rattle.ps_world.specs.Trees as tree
 use Rattle.ps_world.specs.ExprViews.{expr_tree}
 use Rattle.ps_world.specs.declared.names.Name.{Name}
@@ -30,17 +30,18 @@ use Rattle.ps_shape.specs.declared.marks.Mark.TheVariants as mark
 use Rattle.ps_forms.specs.Lexemes.{fixed_names, mark_of}
 use Rattle.ps_forms.specs.Nested.{Nesteds, word, more}
 use Rattle.ps_forms.specs.declared.lexemes.Lexeme.{Lexeme}
-use Rattle.ps_print.specs.CanonicalWords.{term_words, lifted_words, expr_words, cond_words, conds_words, effect_words, IsNameOf, IsParamOf, IsTermOf, IsLiftedOf, IsExprOf, IsCondOf, AreCondsOf, IsEffectOf}
-use Rattle.ps_pddl.proofs.CanonicalForms.{name_mark, IsNamed, IsVariable, param_name, IsTermWord, AreTermForms, IsLiftedForm, op_mark, IsExprForm, rel_mark, IsCondForm, AreCondForms, num_op_mark, IsEffectForm}
+use Rattle.ps_print.specs.CanonicalWords.{param_words, term_words, lifted_words, expr_words, cond_words, conds_words, effect_words, IsNameOf, IsParamOf, IsTermOf, IsLiftedOf, IsExprOf, IsCondOf, AreCondsOf, IsEffectOf}
+use Rattle.ps_pddl.proofs.CanonicalForms.{name_mark, IsNamed, IsVariable, param_name, IsTermWord, AreTermForms, IsLiftedForm, op_mark, IsExprForm, rel_mark, AreParamForms, IsCondForm, AreCondForms, num_op_mark, IsEffectForm}
 use Rattle.ps_pddl.proofs.CanonicalForms.AreTermForms.{no_terms, more_terms}
 use Rattle.ps_pddl.proofs.CanonicalForms.IsLiftedForm.{lifted}
 use Rattle.ps_pddl.proofs.CanonicalForms.IsExprForm.{a_number, a_value, a_negation, an_operation}
-use Rattle.ps_pddl.proofs.CanonicalForms.IsCondForm.{all_form, not_form, fact_form, same_form, comparison_form}
+use Rattle.ps_pddl.proofs.CanonicalForms.AreParamForms.{no_params, more_params}
+use Rattle.ps_pddl.proofs.CanonicalForms.IsCondForm.{all_form, any_form, not_form, imply_form, fact_form, same_form, comparison_form, some_form, each_form}
 use Rattle.ps_pddl.proofs.CanonicalForms.AreCondForms.{no_forms, more_forms}
 use Rattle.ps_pddl.proofs.CanonicalForms.IsEffectForm.{an_addition, a_deletion, a_change}
-use Rattle.ps_pddl.proofs.Fits.{IsVariableName, FitParams}
+use Rattle.ps_pddl.proofs.Fits.{IsVariableName, FitParams, BindsFree, BindFree}
 use Rattle.ps_pddl.proofs.NameMarks.{mark_in-all}
-use Rattle.ps_pddl.proofs.SpeltWords.{Spelt, AllSpelt, is_plain, word_alone, word_first, nothing_spelt, one_as, one_first, one_last, all_last, group_spelt}
+use Rattle.ps_pddl.proofs.SpeltWords.{Spelt, AllSpelt, is_plain, word_alone, word_first, nothing_spelt, one_as, one_first, one_last, all_last, group_first, group_spelt}
 use Rattle.ps_pddl.proofs.WordClasses.{class_of-name, class_of-variable, class_of-number}
 use Rattle.ps_pddl.proofs.WordLexemes.{IsLexemeOf}
 
@@ -168,27 +169,6 @@ module _ (names : Table) (good : AreNames names) where
         one_first (spelt_expr x h.0) (λ t first.
         one_last (spelt_expr y h.1) (λ u second. an_operation o x y l t u (is.mark class.Sign (op_class o) ∙ op_mark-text o) first second))))
 
-    -- ---- conditions
-
-    mutual
-      pub spelt_cond : (c : CondTree) → IsCondOf count (length ps) c → Spelt names (cond_words names ps c) (IsCondForm names ps c)
-      spelt_cond (all_of cs) h = group_spelt (word_first (codes "and") class.Name refl refl (λ l is. all_last (spelt_conds cs h) (λ ts forms. all_form cs l ts (is.mark class.Name refl) forms)))
-      spelt_cond (no c) h = group_spelt (word_first (codes "not") class.Name refl refl (λ l is. one_last (spelt_cond c h) (λ t form. not_form c l t (is.mark class.Name refl) form)))
-      spelt_cond (holds f) h = one_as (spelt_lifted f h) (λ t form. fact_form f t form)
-      spelt_cond (same s t) h =
-          group_spelt (word_first (codes "=") class.Sign refl refl (λ l is.
-          term_first s h.0 (λ m first.
-          term_first t h.1 (λ n second. nothing_spelt (same_form s t l m n (is.mark class.Sign refl) first second)))))
-      spelt_cond (compares r x y) h =
-          group_spelt (word_first (rel_text r) class.Sign (rel_class r) (rel_plain r) (λ l is.
-          one_first (spelt_expr x h.0) (λ t first.
-          one_last (spelt_expr y h.1) (λ u second. comparison_form r x y l t u (is.mark class.Sign (rel_class r) ∙ rel_mark-text r) first second))))
-      spelt_cond (is_a t k) h = absurd h
-
-      spelt_conds : (cs : CondTrees) → AreCondsOf count (length ps) cs → AllSpelt names (conds_words names ps cs) (AreCondForms names ps cs)
-      spelt_conds tree.none h = nothing_spelt no_forms
-      spelt_conds (tree.more c cs) h = one_first (spelt_cond c h.0) (λ t form. all_last (spelt_conds cs h.1) (λ ts forms. more_forms c cs t ts form forms))
-
     -- ---- effects
 
     pub spelt_effect : (e : Effect) → IsEffectOf count (length ps) e → Spelt names (effect_words names ps e) (IsEffectForm names ps e)
@@ -198,3 +178,49 @@ module _ (names : Table) (good : AreNames names) where
         group_spelt (word_first (num_op_text how) class.Name (num_op_class how) (num_op_plain how) (λ l is.
         one_first (spelt_lifted f h.0) (λ t first.
         one_last (spelt_expr (expr_tree x) h.1) (λ u second. a_change how f x l t u (is.mark class.Name (num_op_class how) ∙ num_op_mark-text how) first second))))
+
+  -- ---- conditions
+
+  pub spelt_params : (ps : List Param) → All (IsParamOf count) ps → FitParams names ps → AllSpelt names (flat_map (param_words names) ps) (AreParamForms names ps)
+  spelt_params [] h free = nothing_spelt no_params
+  spelt_params (p ∷ ps) h free =
+      let here = All-head (IsParamOf count) p ps h in
+      variable_first p.name here.0 (free 0 p (omega arith)) (λ l is.
+      word_first (codes "-") class.Sign refl refl (λ m minus.
+      name_first p.kind here.1 (λ k kind.
+      all_last (spelt_params ps (All-tail (IsParamOf count) p ps h) (λ j d lt. free (suc j) d (omega arith))) (λ ts forms. more_params p ps l m k ts is (minus.mark class.Sign refl) kind forms))))
+
+  both_free : (ps qs : List Param) → FitParams names ps → FitParams names qs → FitParams names (ps ++ qs)
+  both_free ps qs h k = All-append (λ p. IsVariableName names p.name) ps qs h k
+
+  mutual
+    pub spelt_cond : (ps : List Param) → All (IsParamOf count) ps → FitParams names ps → (c : CondTree) → IsCondOf count ps c → BindsFree names ps c → Spelt names (cond_words names ps c) (IsCondForm names ps c)
+    spelt_cond ps known free (all_of cs) h b = group_spelt (word_first (codes "and") class.Name refl refl (λ l is. all_last (spelt_conds ps known free cs h b) (λ ts forms. all_form ps cs l ts (is.mark class.Name refl) forms)))
+    spelt_cond ps known free (any_of cs) h b = group_spelt (word_first (codes "or") class.Name refl refl (λ l is. all_last (spelt_conds ps known free cs h.1 b.1) (λ ts forms. any_form ps cs l ts (is.mark class.Name refl) forms)))
+    spelt_cond ps known free (no c) h b = group_spelt (word_first (codes "not") class.Name refl refl (λ l is. one_last (spelt_cond ps known free c h b) (λ t form. not_form ps c l t (is.mark class.Name refl) form)))
+    spelt_cond ps known free (implied x y) h b =
+        group_spelt (word_first (codes "imply") class.Name refl refl (λ l is.
+        one_first (spelt_cond ps known free x h.1.0 b.1.0) (λ t first.
+        one_last (spelt_cond ps known free y h.1.1 b.1.1) (λ u second. imply_form ps x y l t u (is.mark class.Name refl) first second))))
+    spelt_cond ps known free (holds f) h b = one_as (spelt_lifted ps known free f h) (λ t form. fact_form ps f t form)
+    spelt_cond ps known free (same s t) h b =
+        group_spelt (word_first (codes "=") class.Sign refl refl (λ l is.
+        term_first ps known free s h.0 (λ m first.
+        term_first ps known free t h.1 (λ n second. nothing_spelt (same_form ps s t l m n (is.mark class.Sign refl) first second)))))
+    spelt_cond ps known free (compares r x y) h b =
+        group_spelt (word_first (rel_text r) class.Sign (rel_class r) (rel_plain r) (λ l is.
+        one_first (spelt_expr ps known free x h.0) (λ t first.
+        one_last (spelt_expr ps known free y h.1) (λ u second. comparison_form ps r x y l t u (is.mark class.Sign (rel_class r) ∙ rel_mark-text r) first second))))
+    spelt_cond ps known free (is_a t k) h b = absurd h
+    spelt_cond ps known free (for_some qs c) h b =
+        group_spelt (word_first (codes "exists") class.Name refl refl (λ l is.
+        group_first (spelt_params qs h.0 b.0) (λ vs variables.
+        one_last (spelt_cond (ps ++ qs) (All-append (IsParamOf count) ps qs known h.0) (both_free ps qs free b.0) c h.1 b.1) (λ t form. some_form ps qs c l vs t (is.mark class.Name refl) variables form))))
+    spelt_cond ps known free (for_all qs c) h b =
+        group_spelt (word_first (codes "forall") class.Name refl refl (λ l is.
+        group_first (spelt_params qs h.0 b.0) (λ vs variables.
+        one_last (spelt_cond (ps ++ qs) (All-append (IsParamOf count) ps qs known h.0) (both_free ps qs free b.0) c h.1 b.1) (λ t form. each_form ps qs c l vs t (is.mark class.Name refl) variables form))))
+
+    spelt_conds : (ps : List Param) → All (IsParamOf count) ps → FitParams names ps → (cs : CondTrees) → AreCondsOf count ps cs → BindFree names ps cs → AllSpelt names (conds_words names ps cs) (AreCondForms names ps cs)
+    spelt_conds ps known free tree.none h b = nothing_spelt (no_forms ps)
+    spelt_conds ps known free (tree.more c cs) h b = one_first (spelt_cond ps known free c h.0 b.0) (λ t form. all_last (spelt_conds ps known free cs h.1 b.1) (λ ts forms. more_forms ps c cs t ts form forms))

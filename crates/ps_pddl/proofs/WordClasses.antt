@@ -11,7 +11,7 @@ use Rattle.ps_world.specs.Lines.{same_text}
 use Rattle.ps_world.specs.Names.{Table, object, name_text}
 use Rattle.ps_world.specs.Numbers.{IsCount, decimals_text, magnitude_text, number_text}
 use Rattle.ps_world.specs.DomainTexts.{op_text, rel_text, num_op_text}
-use Rattle.ps_world.specs.Trees.{ExprTree, number, value_of, negated, operated, CondTree, CondTrees, all_of, no, holds, same, compares, is_a}
+use Rattle.ps_world.specs.Trees.{ExprTree, number, value_of, negated, operated, CondTree, CondTrees, all_of, any_of, no, implied, holds, same, compares, is_a, for_some, for_all}
 use Rattle.ps_world.specs.Trees as tree
 use Rattle.ps_world.specs.ExprViews.{expr_tree}
 use Rattle.ps_world.specs.declared.names.Name.{Name}
@@ -37,7 +37,7 @@ use Rattle.ps_text.specs.declared.lexing.Class.{Class}
 use Rattle.ps_text.specs.declared.lexing.Class.TheVariants as class
 use Rattle.ps_text.proofs.Printed.{number_of-printed, no_minus, is_digit}
 use Rattle.ps_forms.proofs.ClassNumbers.{first_number, minus_class}
-use Rattle.ps_print.specs.CanonicalWords.{grouped, typed_words, param_words, decl_words, term_words, lifted_words, expr_words, cond_words, conds_words, effect_words, timed_words, at_start, over_all, at_end, conditions_words, effects_words, action_words, section_words, domain_words, IsNameOf, IsParamOf, IsDeclOf, IsTermOf, IsLiftedOf, IsExprOf, IsCondOf, AreCondsOf, IsEffectOf, IsActionOf, IsDomainOf}
+use Rattle.ps_print.specs.CanonicalWords.{grouped, typed_words, param_words, decl_words, term_words, lifted_words, expr_words, bound_words, cond_words, conds_words, effect_words, timed_words, at_start, over_all, at_end, conditions_words, effects_words, action_words, section_words, domain_words, IsNameOf, IsParamOf, IsDeclOf, IsTermOf, IsLiftedOf, IsExprOf, IsCondOf, AreCondsOf, IsEffectOf, IsActionOf, IsDomainOf}
 use Rattle.ps_pddl.proofs.CanonicalForms.{param_name}
 
 -- ---- the class of a name
@@ -238,23 +238,31 @@ module _ (names : Table) (good : AreNames names) where
     classed_expr (negated x) h = classed_group (classed_more (codes "-") refl (classed_expr x h))
     classed_expr (operated o x y) h = classed_group (classed_more (op_text o) (classed_op o) (classed_parts (classed_expr x h.0) (classed_expr y h.1)))
 
-    mutual
-      classed_cond : (c : CondTree) → IsCondOf count (length ps) c → Classed (cond_words names ps c)
-      classed_cond (all_of cs) h = classed_group (classed_more (codes "and") refl (classed_conds cs h))
-      classed_cond (no c) h = classed_group (classed_more (codes "not") refl (classed_cond c h))
-      classed_cond (holds f) h = classed_lifted f h
-      classed_cond (same s t) h = classed_group (classed_more (codes "=") refl (classed_parts (classed_term s h.0) (classed_term t h.1)))
-      classed_cond (compares r x y) h = classed_group (classed_more (rel_text r) (classed_rel r) (classed_parts (classed_expr x h.0) (classed_expr y h.1)))
-      classed_cond (is_a t k) h = absurd h
-
-      classed_conds : (cs : CondTrees) → AreCondsOf count (length ps) cs → Classed (conds_words names ps cs)
-      classed_conds tree.none h = classed_none
-      classed_conds (tree.more c cs) h = classed_parts (classed_cond c h.0) (classed_conds cs h.1)
-
     classed_effect : (e : Effect) → IsEffectOf count (length ps) e → Classed (effect_words names ps e)
     classed_effect (Add f) h = classed_lifted f h
     classed_effect (Delete f) h = classed_group (classed_more (codes "not") refl (classed_lifted f h))
     classed_effect (Number how f x) h = classed_group (classed_more (num_op_text how) (classed_num_op how) (classed_parts (classed_lifted f h.0) (classed_expr (expr_tree x) h.1)))
+
+  -- the variables of a quantifier, and its condition
+  classed_bound : (w : List ℕ) (qs : List Param) {ws : List (List ℕ)} → IsSome (class_of w) → All (IsParamOf count) qs → Classed ws → Classed (grouped (w ∷ (bound_words names qs ++ ws)))
+  classed_bound w qs some h rest = classed_group (classed_more w some (classed_parts (classed_group (classed_params qs h)) rest))
+
+  mutual
+    pub classed_cond : (ps : List Param) → All (IsParamOf count) ps → (c : CondTree) → IsCondOf count ps c → Classed (cond_words names ps c)
+    classed_cond ps known (all_of cs) h = classed_group (classed_more (codes "and") refl (classed_conds ps known cs h))
+    classed_cond ps known (any_of cs) h = classed_group (classed_more (codes "or") refl (classed_conds ps known cs h.1))
+    classed_cond ps known (no c) h = classed_group (classed_more (codes "not") refl (classed_cond ps known c h))
+    classed_cond ps known (implied a b) h = classed_group (classed_more (codes "imply") refl (classed_parts (classed_cond ps known a h.1.0) (classed_cond ps known b h.1.1)))
+    classed_cond ps known (holds f) h = classed_lifted ps known f h
+    classed_cond ps known (same s t) h = classed_group (classed_more (codes "=") refl (classed_parts (classed_term ps known s h.0) (classed_term ps known t h.1)))
+    classed_cond ps known (compares r x y) h = classed_group (classed_more (rel_text r) (classed_rel r) (classed_parts (classed_expr ps known x h.0) (classed_expr ps known y h.1)))
+    classed_cond ps known (is_a t k) h = absurd h
+    classed_cond ps known (for_some qs c) h = classed_bound (codes "exists") qs refl h.0 (classed_cond (ps ++ qs) (All-append (IsParamOf count) ps qs known h.0) c h.1)
+    classed_cond ps known (for_all qs c) h = classed_bound (codes "forall") qs refl h.0 (classed_cond (ps ++ qs) (All-append (IsParamOf count) ps qs known h.0) c h.1)
+
+    classed_conds : (ps : List Param) → All (IsParamOf count) ps → (cs : CondTrees) → AreCondsOf count ps cs → Classed (conds_words names ps cs)
+    classed_conds ps known tree.none h = classed_none
+    classed_conds ps known (tree.more c cs) h = classed_parts (classed_cond ps known c h.0) (classed_conds ps known cs h.1)
 
   -- parts with the same time
   classed_timed : {X : Type 0} (P : X → Type 0) (f : X → List (List ℕ)) → ((x : X) → P x → Classed (f x)) → (time : List (List ℕ)) → Classed time → (xs : List X) → All P xs → Classed (timed_words time (map f xs))
@@ -269,7 +277,7 @@ module _ (names : Table) (good : AreNames names) where
     classed_conditions : Classed (conditions_words names a)
     classed_conditions =
         let each = classed_cond a.params h.params in
-        let P : CondTree → Type 0 = IsCondOf count (length a.params) in
+        let P : CondTree → Type 0 = IsCondOf count a.params in
         classed_parts (classed_timed P (cond_words names a.params) each at_start (classed_two (codes "at") (codes "start") refl refl) a.conditions.at_start h.conditions_at_start)
         (classed_parts (classed_timed P (cond_words names a.params) each over_all (classed_two (codes "over") (codes "all") refl refl) a.conditions.over_all h.conditions_over_all)
         (classed_timed P (cond_words names a.params) each at_end (classed_two (codes "at") (codes "end") refl refl) a.conditions.at_end h.conditions_at_end))

@@ -80,9 +80,10 @@ IsExpr d ps (operated op x y) = IsExpr d ps x × IsExpr d ps y
 abbrev pub IsTerm : Domain → List Param → Term → Type 0
 IsTerm d ps t = (kind : Name) × HasKind d ps t kind
 
--- what a condition's leaves are: of predicates, functions and terms that are declared, and no type is asked for
+-- what a condition's leaves are: of predicates, functions and terms that are declared, no type is asked for, and nothing is quantified, any
+-- of several or implied, which isn't read
 abbrev pub declared_leaves : Domain → Leaves
-declared_leaves d = record { atom = IsFactOf d; term = IsTerm d; value = IsExpr d; kind = λ ps kind. ⊥ }
+declared_leaves d = record { atom = IsFactOf d; term = IsTerm d; value = IsExpr d; kind = λ ps kind. ⊥; bound = λ ps qs. ⊥; either = ⊥ }
 
 -- a condition of such leaves
 abbrev pub IsCond : Domain → List Param → CondTree → Type 0

@@ -19,12 +19,17 @@ impl Types for NoTypes {
 
     ghost types = { λ t. no_domain };
 
+    fn is_type(&self, name: Name) -> bool {
+        name == Name::OBJECT
+    }
+
     fn is_subtype(&self, low: Name, high: Name) -> bool {
         low == high
     }
 }
 
-/// Whether a condition holds that doesn't say of an instance that it has a type. A variable counts as `object`. It takes no memory.
+/// Whether a condition holds that doesn't say of an instance that it has a type, and has no quantifier. A variable counts as `object`. It
+/// takes no memory.
 pub fn holds_plain(known: &Knowledge, cond: &Cond) -> bool
     requires { HasNoType (cond_tree cond.now) }
     ensures { (d : DomainView) → result ≡ is_true d known.now (cond_tree cond.now) }

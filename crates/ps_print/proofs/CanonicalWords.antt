@@ -3,7 +3,7 @@ use Rattle.std.proofs.Common.{◌≡◌, ℕ, suc, ◌+◌, ◌/◌, ◌%◌, �
 use Rattle.std.proofs.lemmas.Bool.{and_from, cases_Bool}
 use Rattle.std.proofs.lemmas.Bool.Decides.{nat_tests}
 use Rattle.std.proofs.lemmas.Fmt.{decimal_by_steps}
-use Rattle.std.proofs.lemmas.List.Elements.{All-head, All-tail}
+use Rattle.std.proofs.lemmas.List.Elements.{All-head, All-tail, All-append}
 use Rattle.std.proofs.lemmas.List.Folds.{list_all-append, flat_map-map}
 use Rattle.std.specs.Fmt.{decimal}
 use Rattle.std.specs.List.{All, flat_map, list_all, position_or_len}
@@ -11,7 +11,7 @@ use Rattle.ps_world.specs.Names.{Table, object, name_text}
 use Rattle.ps_world.specs.Numbers.{IsCount, decimals_text, magnitude_text, number_text}
 use Rattle.ps_world.specs.DomainTexts as text
 use Rattle.ps_world.specs.DomainTexts.{domain_text}
-use Rattle.ps_world.specs.Trees.{ExprTree, number, value_of, negated, operated, CondTree, CondTrees, all_of, no, holds, same, compares, is_a, none, more}
+use Rattle.ps_world.specs.Trees.{ExprTree, number, value_of, negated, operated, CondTree, CondTrees, all_of, any_of, no, implied, holds, same, compares, is_a, for_some, for_all, none, more}
 use Rattle.ps_world.specs.ExprViews.{expr_tree}
 use Rattle.ps_world.specs.declared.names.Name.{Name}
 use Rattle.ps_world.specs.declared.schemas.Term.{Term}
@@ -131,6 +131,18 @@ open_not = record { whole = λ rest. refl }
 pub open_and : Writes (codes "(and") (codes "(" ∷ codes "and" ∷ [])
 open_and = whole_writes open_paren (one_word (codes "and") refl)
 
+open_or : Writes (codes "(or") (codes "(" ∷ codes "or" ∷ [])
+open_or = whole_writes open_paren (one_word (codes "or") refl)
+
+open_imply : Whole (codes "(imply ") (codes "(" ∷ codes "imply" ∷ [])
+open_imply = record { whole = λ rest. refl }
+
+open_exists : Whole (codes "(exists ") (codes "(" ∷ codes "exists" ∷ [])
+open_exists = record { whole = λ rest. refl }
+
+open_forall : Whole (codes "(forall ") (codes "(" ∷ codes "forall" ∷ [])
+open_forall = record { whole = λ rest. refl }
+
 at : Whole (codes "at ") (codes "at" ∷ [])
 at = record { whole = λ rest. refl }
 
@@ -224,30 +236,45 @@ module _ (names : Table) (good : AreNames names) where
     expr (negated x) h = writes_of (whole_whole open_minus (writes_ending (expr x h) close_paren))
     expr (operated op x y) h = writes_of (two_parts (op_word op) (expr x h.0) (expr y h.1))
 
-    mutual
-      condition : (c : CondTree) → IsCondOf count (length ps) c → Writes (text.cond_text names ps c) (canonical.cond_words names ps c)
-      condition (all_of cs) h = writes_of (writes_ending open_and (later_ending (conditions cs h) close_paren))
-      condition (no c) h = writes_of (whole_whole open_not (writes_ending (condition c h) close_paren))
-      condition (holds l) h = writes_of (lifted l h)
-      condition (same s t) h = writes_of (whole_whole open_same (writes_ending (term s h.0) (ending_blank (writes_ending (term t h.1) close_paren))))
-      condition (compares rel x y) h = writes_of (two_parts (rel_word rel) (expr x h.0) (expr y h.1))
-      condition (is_a t k) h = absurd h
-
-      conditions : (cs : CondTrees) → AreCondsOf count (length ps) cs → Later (text.conds_text names ps cs) (canonical.conds_words names ps cs)
-      conditions none h = record { writes = λ rest e. refl; apart = λ rest e. e }
-      conditions (more c cs) h = later_blank (writes_later (condition c h.0) (conditions cs h.1))
-
     one_effect : (e : Effect) → IsEffectOf count (length ps) e → Writes (text.effect_text names ps e) (canonical.effect_words names ps e)
     one_effect (effect.Add l) h = writes_of (lifted l h)
     one_effect (effect.Delete l) h = writes_of (whole_whole open_not (writes_ending (writes_of (lifted l h)) close_paren))
     one_effect (effect.Number how l x) h = writes_of (two_parts (num_op_word how) (writes_of (lifted l h.0)) (expr (expr_tree x) h.1))
 
+  -- the variables of a quantifier
+  bound : (qs : List Param) → All (IsParamOf count) qs → Whole (text.bound_text names qs) (canonical.bound_words names qs)
+  bound qs h = whole_whole open_paren (writes_ending (each_spaced (IsParamOf count) (text.param_text names) (canonical.param_words names) param qs h) close_paren)
+
+  -- two parts after the start of a form
+  after_start : {start part rest : List ℕ} {first : List ℕ} {ws us : List (List ℕ)} → Whole start (codes "(" ∷ first ∷ []) → Writes part ws → Writes rest us
+      → Whole (start ++ (part ++ (codes " " ++ (rest ++ codes ")")))) (canonical.grouped (first ∷ (ws ++ us)))
+  after_start {start} {part} {rest} {first} {ws} {us} s p q =
+      let last : Whole (rest ++ codes ")") (us ++ codes ")" ∷ []) = writes_ending q close_paren in
+      whole_is (close_two first ws us) (whole_whole s (writes_ending p (ending_blank last)))
+
+  mutual
+    pub condition : (ps : List Param) → All (IsParamOf count) ps → (c : CondTree) → IsCondOf count ps c → Writes (text.cond_text names ps c) (canonical.cond_words names ps c)
+    condition ps known (all_of cs) h = writes_of (writes_ending open_and (later_ending (conditions ps known cs h) close_paren))
+    condition ps known (any_of cs) h = writes_of (writes_ending open_or (later_ending (conditions ps known cs h.1) close_paren))
+    condition ps known (no c) h = writes_of (whole_whole open_not (writes_ending (condition ps known c h) close_paren))
+    condition ps known (implied a b) h = writes_of (after_start open_imply (condition ps known a h.1.0) (condition ps known b h.1.1))
+    condition ps known (holds l) h = writes_of (lifted ps known l h)
+    condition ps known (same s t) h = writes_of (whole_whole open_same (writes_ending (term ps known s h.0) (ending_blank (writes_ending (term ps known t h.1) close_paren))))
+    condition ps known (compares rel x y) h = writes_of (two_parts (rel_word rel) (expr ps known x h.0) (expr ps known y h.1))
+    condition ps known (is_a t k) h = absurd h
+    condition ps known (for_some qs c) h = writes_of (after_start open_exists (writes_of (bound qs h.0)) (condition (ps ++ qs) (All-append (IsParamOf count) ps qs known h.0) c h.1))
+    condition ps known (for_all qs c) h = writes_of (after_start open_forall (writes_of (bound qs h.0)) (condition (ps ++ qs) (All-append (IsParamOf count) ps qs known h.0) c h.1))
+
+    conditions : (ps : List Param) → All (IsParamOf count) ps → (cs : CondTrees) → AreCondsOf count ps cs → Later (text.conds_text names ps cs) (canonical.conds_words names ps cs)
+    conditions ps known none h = record { writes = λ rest e. refl; apart = λ rest e. e }
+    conditions ps known (more c cs) h = later_blank (writes_later (condition ps known c h.0) (conditions ps known cs h.1))
+
   -- ---- actions
 
   module _ (a : ActionDef) (h : IsActionOf count a) where
-    timed_condition : (time : List ℕ) (ts : List (List ℕ)) → Writes time ts → (cs : List CondTree) → All (IsCondOf count (length a.params)) cs
+    timed_condition : (time : List ℕ) (ts : List (List ℕ)) → Writes time ts → (cs : List CondTree) → All (IsCondOf count a.params) cs
         → Later (text.timed_text time (map (text.cond_text names a.params) cs)) (canonical.timed_words ts (map (canonical.cond_words names a.params) cs))
-    timed_condition time ts w = each_timed (IsCondOf count (length a.params)) (text.cond_text names a.params) (canonical.cond_words names a.params) (condition a.params h.params) time ts w
+    timed_condition time ts w = each_timed (IsCondOf count a.params) (text.cond_text names a.params) (canonical.cond_words names a.params) (condition a.params h.params) time ts w
 
     timed_effect : (time : List ℕ) (ts : List (List ℕ)) → Writes time ts → (es : List Effect) → All (IsEffectOf count (length a.params)) es
         → Later (text.timed_text time (map (text.effect_text names a.params) es)) (canonical.timed_words ts (map (canonical.effect_words names a.params) es))

@@ -4,8 +4,9 @@ use Rattle.std.specs.List.{flat_map}
 use Rattle.ps_world.specs.Names.{Table, name_text}
 use Rattle.ps_world.specs.Numbers.{IsCount, number_text}
 use Rattle.ps_world.specs.DomainTexts.{term_text, op_text, rel_text, num_op_text}
-use Rattle.ps_world.specs.Trees.{ExprTree, number, value_of, negated, operated, CondTree, CondTrees, all_of, no, holds, same, compares, is_a, none, more}
-use Rattle.ps_world.specs.Leaves.{Leaves, AllIn, AllInEach}
+use Rattle.ps_world.specs.Trees.{ExprTree, number, value_of, negated, operated, CondTree, CondTrees, all_of, any_of, no, implied, holds, same, compares, is_a, for_some, for_all, none, more}
+use Rattle.ps_world.specs.Leaves.{AllIn, AllInEach}
+use Rattle.ps_world.specs.Tables.{goal_leaves}
 use Rattle.ps_world.specs.ExprViews.{expr_tree}
 use Rattle.ps_world.specs.declared.names.Name.{Name}
 use Rattle.ps_world.specs.declared.schemas.Term.{Term}
@@ -51,15 +52,23 @@ expr_words names ps (value_of l) = lifted_words names ps l
 expr_words names ps (negated x) = grouped (codes "-" ∷ expr_words names ps x)
 expr_words names ps (operated op x y) = grouped (op_text op ∷ (expr_words names ps x ++ expr_words names ps y))
 
+-- the variables of a quantifier
+abbrev pub bound_words : Table → List Param → List (List ℕ)
+bound_words names qs = grouped (flat_map (param_words names) qs)
+
 abbrev mutual
-  -- (and C*) | (not C) | (NAME TERM*) | (= TERM TERM) | (REL X X)
+  -- (and C*) | (or C*) | (not C) | (imply C C) | (exists (VLIST) C) | (forall (VLIST) C) | (NAME TERM*) | (= TERM TERM) | (REL X X)
   pub cond_words : Table → List Param → CondTree → List (List ℕ)
   cond_words names ps (all_of cs) = grouped (codes "and" ∷ conds_words names ps cs)
+  cond_words names ps (any_of cs) = grouped (codes "or" ∷ conds_words names ps cs)
   cond_words names ps (no c) = grouped (codes "not" ∷ cond_words names ps c)
+  cond_words names ps (implied a b) = grouped (codes "imply" ∷ (cond_words names ps a ++ cond_words names ps b))
   cond_words names ps (holds l) = lifted_words names ps l
   cond_words names ps (same s t) = grouped (codes "=" ∷ (term_words names ps s ++ term_words names ps t))
   cond_words names ps (compares rel x y) = grouped (rel_text rel ∷ (expr_words names ps x ++ expr_words names ps y))
   cond_words names ps (is_a t kind) = []
+  cond_words names ps (for_some qs c) = grouped (codes "exists" ∷ (bound_words names qs ++ cond_words names (ps ++ qs) c))
+  cond_words names ps (for_all qs c) = grouped (codes "forall" ∷ (bound_words names qs ++ cond_words names (ps ++ qs) c))
 
   -- conditions, one after another
   pub conds_words : Table → List Param → CondTrees → List (List ℕ)
@@ -155,22 +164,13 @@ IsExprOf count params (value_of l) = IsLiftedOf count params l
 IsExprOf count params (negated x) = IsExprOf count params x
 IsExprOf count params (operated op x y) = IsExprOf count params x × IsExprOf count params y
 
--- the same of a condition's leaves, where no type is asked for
-abbrev pub numbered_leaves : ℕ → ℕ → Leaves
-numbered_leaves count params = record {
-  atom = λ ps l. IsLiftedOf count params l;
-  term = λ ps t. IsTermOf count params t;
-  value = λ ps x. IsExprOf count params x;
-  kind = λ ps kind. ⊥;
-}
-
--- the same of a condition
-abbrev pub IsCondOf : ℕ → ℕ → CondTree → Type 0
-IsCondOf count params c = AllIn (numbered_leaves count params) [] c
+-- the same of a condition with the variables in force
+abbrev pub IsCondOf : ℕ → List Param → CondTree → Type 0
+IsCondOf count ps c = AllIn (goal_leaves count) ps c
 
 -- the same of each of these conditions
-abbrev pub AreCondsOf : ℕ → ℕ → CondTrees → Type 0
-AreCondsOf count params cs = AllInEach (numbered_leaves count params) [] cs
+abbrev pub AreCondsOf : ℕ → List Param → CondTrees → Type 0
+AreCondsOf count ps cs = AllInEach (goal_leaves count) ps cs
 
 -- the same of an effect
 abbrev pub IsEffectOf : ℕ → ℕ → Effect → Type 0
@@ -183,13 +183,13 @@ pub record IsActionOf (count : ℕ) (a : ActionDef) : Type 0 where
   pub name : IsNameOf count a.name
   pub params : All (IsParamOf count) a.params
   pub duration : IsExprOf count (length a.params) (expr_tree a.duration)
-  pub conditions_at_start : All (IsCondOf count (length a.params)) a.conditions.at_start
-  pub conditions_over_all : All (IsCondOf count (length a.params)) a.conditions.over_all
-  pub conditions_at_end : All (IsCondOf count (length a.params)) a.conditions.at_end
+  pub conditions_at_start : All (IsCondOf count a.params) a.conditions.at_start
+  pub conditions_over_all : All (IsCondOf count a.params) a.conditions.over_all
+  pub conditions_at_end : All (IsCondOf count a.params) a.conditions.at_end
   pub effects_at_start : All (IsEffectOf count (length a.params)) a.effects.at_start
   pub effects_at_end : All (IsEffectOf count (length a.params)) a.effects.at_end
 
--- each name of a domain is one of so many, each variable one of the parameters, and no condition says that an instance has a type
+-- each name of a domain is one of so many, each variable one of those in force, and no condition says that an instance has a type
 pub record IsDomainOf (count : ℕ) (d : Domain) : Type 0 where
   pub name : IsNameOf count d.name
   pub types : All (IsParamOf count) d.types

@@ -1,16 +1,17 @@
 //! Printing conditions.
-ghost use Rattle.std.specs.Prelude.{◌≡◌, ◌++◌, OnOk};
+ghost use Rattle.std.specs.Prelude.{◌≡◌, ◌++◌, codes, IfOk, OnOk};
 ghost use Rattle.ps_world.specs.Trees.{compares, same, cond_trees};
 ghost use Rattle.ps_world.specs.CondViews.{cond_tree};
 ghost use Rattle.ps_world.specs.ExprViews.{expr_tree};
-ghost use Rattle.ps_world.specs.DomainTexts.{rel_text, cond_text, conds_text};
+ghost use Rattle.ps_world.specs.DomainTexts.{rel_text, bound_text, cond_text, conds_text};
 
+use super::declared::write_params;
 use super::expressions::write_expression;
 use super::terms::{write_lifted, write_term};
 use super::writer::Writer;
 use ps_text::Names;
-use ps_world::{BoxedCond, Cond, Conds, Expr, Param, Rel, Term};
-use std::alloc::AllocError;
+use ps_world::{BoxedCond, Cond, Conds, Expr, Param, Params, Rel, Term};
+use std::alloc::{AllocError, Global};
 
 /// Adds the sign of a comparison.
 fn write_rel(text: &mut Writer, rel: Rel) -> Result<(), AllocError>
@@ -69,7 +70,27 @@ fn write_same(
     Ok(())
 }
 
-/// Writes a condition, where these are the parameters. That an instance has a type adds nothing.
+/// Adds the variables of a quantifier, each with its type.
+fn write_bound(text: &mut Writer, names: &Names, bound: &[Param]) -> Result<(), AllocError>
+    ensures { OnOk result (text.new ≡ text.old ++ bound_text names.now bound.now) }
+{
+    text.push(b'(')?;
+    write_params(text, names, bound)?;
+    text.push(b')')?;
+    Ok(())
+}
+
+/// The variables in force below a quantifier: these, and then its own.
+fn in_force(alloc: Global, params: &[Param], bound: &[Param]) -> Result<Vec<Param>, AllocError>
+    ensures { IfOk result (λ all. all.items ≡ params.now ++ bound.now) }
+{
+    let mut all = Vec::new(alloc);
+    all.extend_from_slice(params)?;
+    all.extend_from_slice(bound)?;
+    Ok(all)
+}
+
+/// Writes a condition, where these variables are in force. That an instance has a type adds nothing.
 #[cycle(write_condition)]
 pub fn write_condition(
     text: &mut Writer,
@@ -87,9 +108,23 @@ pub fn write_condition(
             text.push(b')')?;
             Ok(())
         }
+        Cond::Or(parts) => {
+            text.extend_from_slice(b"(or")?;
+            write_conditions(text, names, params, parts)?;
+            text.push(b')')?;
+            Ok(())
+        }
         Cond::Not(inner) => {
             text.extend_from_slice(b"(not ")?;
             write_boxed_condition(text, names, params, inner)?;
+            text.push(b')')?;
+            Ok(())
+        }
+        Cond::Imply(one, other) => {
+            text.extend_from_slice(b"(imply ")?;
+            write_boxed_condition(text, names, params, one)?;
+            text.push(b' ')?;
+            write_boxed_condition(text, names, params, other)?;
             text.push(b')')?;
             Ok(())
         }
@@ -106,7 +141,38 @@ pub fn write_condition(
             Ok(())
         }
         Cond::IsA(..) => Ok(()),
+        Cond::ForSome(bound, inner) => {
+            text.extend_from_slice(b"(exists ")?;
+            write_quantified(text, names, params, bound, inner)?;
+            text.push(b')')?;
+            Ok(())
+        }
+        Cond::ForAll(bound, inner) => {
+            text.extend_from_slice(b"(forall ")?;
+            write_quantified(text, names, params, bound, inner)?;
+            text.push(b')')?;
+            Ok(())
+        }
     }
+}
+
+/// Adds the variables of a quantifier and its condition, where these variables are in force outside.
+#[cycle(write_condition)]
+fn write_quantified(
+    text: &mut Writer,
+    names: &Names,
+    params: &[Param],
+    bound: &Params,
+    inner: &BoxedCond,
+) -> Result<(), AllocError>
+    ensures { OnOk result (text.new ≡ text.old ++ (bound_text names.now bound.now
+        ++ (codes " " ++ cond_text names.now (params.now ++ bound.now) inner.now))) }
+{
+    let all = in_force(text.allocator(), params, bound.as_slice())?;
+    write_bound(text, names, bound.as_slice())?;
+    text.push(b' ')?;
+    write_boxed_condition(text, names, &all, inner)?;
+    Ok(())
 }
 
 #[cycle(write_condition)]
@@ -141,7 +207,7 @@ fn write_conditions(
     Ok(())
 }
 
-/// Adds a condition, where these are the parameters. That an instance has a type adds nothing.
+/// Adds a condition, where these variables are in force. That an instance has a type adds nothing.
 pub fn push_condition(
     text: &mut Vec<u8>,
     names: &Names,

@@ -2,7 +2,7 @@
 ghost use Rattle.std.specs.Prelude.{◌≡◌, ◌≤◌, ℕ, List, [], ◌∷◌, ◌++◌, length, take, IsOk, OnOk};
 ghost use Rattle.ps_print.specs.declared.writer.TheConstants.{HELD};
 
-use std::alloc::AllocError;
+use std::alloc::{AllocError, Global};
 use std::marker::Model;
 use std::mem;
 
@@ -55,6 +55,11 @@ impl Writer {
         *text = whole;
         written?;
         text.extend_from_slice(&held[..count])
+    }
+
+    /// Where the text takes its memory.
+    pub fn allocator(&self) -> Global {
+        *self.text.allocator()
     }
 
     /// Adds a byte.

@@ -1,5 +1,5 @@
 -- What an accepted edit made of what was known.
-use Rattle.std.proofs.Common.{◌≡◌, ◌⊎◌, ◌<◌, ℕ, Bool, true, false, not, if◌then◌else◌, Option, Some, None, is_none, is_some, Result, Ok, Err, filter, length, inl, inr, refl, ap, ◌∙◌, nat_le, arith}
+use Rattle.std.proofs.Common.{◌≡◌, ◌⊎◌, ◌<◌, ℕ, Bool, true, false, not, if◌then◌else◌, Option, Some, None, is_none, is_some, [], Result, Ok, Err, filter, length, inl, inr, refl, ap, ◌∙◌, nat_le, arith}
 use Rattle.std.specs.BTreeMap.{insert_entry}
 use Rattle.std.specs.BTreeSet.{insert_key}
 use Rattle.std.proofs.lemmas.Bool.Decides.{nat_tests}
@@ -31,7 +31,7 @@ Accepted d k (AddFact f) new = (fault_of_fact d k f ≡ None) × (new ≡ record
 Accepted d k (RemoveFact f) new = new ≡ record k { facts = filter (λ g. not (same_fact f g)) k.facts }
 Accepted d k (SetValue f x) new = (fault_of_value d k f ≡ None) × (new ≡ record k { values = insert_entry fact_cmp k.values f x })
 Accepted d k (RemoveValue f) new = new ≡ record k { values = filter (λ v. not (same_fact f v.0)) k.values }
-Accepted d k (SetGoal goal) new = (fault_of_cond d k (cond_tree goal) ≡ None) × (new ≡ record k { goal = Some goal })
+Accepted d k (SetGoal goal) new = (fault_of_cond d k [] (cond_tree goal) ≡ None) × (new ≡ record k { goal = Some goal })
 Accepted d k RemoveGoal new = new ≡ record k { goal = None }
 
 -- what a test lets through
@@ -89,5 +89,5 @@ accepted d k (RemoveValue f) new e =
     let h = unfaulted (fault_of_value d k f) (without_value k f) new e in
     (passed (is_some (value_in k f)) (record k { values = filter (λ v. not (same_fact f v.0)) k.values }) NoValue new h.1).1
 accepted d k (SetGoal goal) new e =
-    let h = unfaulted (fault_of_cond d k (cond_tree goal)) (Ok (record k { goal = Some goal })) new e in (h.0, cc)
+    let h = unfaulted (fault_of_cond d k [] (cond_tree goal)) (Ok (record k { goal = Some goal })) new e in (h.0, cc)
 accepted d k RemoveGoal new e = goal_gone k new k.goal e

@@ -47,7 +47,7 @@ opening_well_known d h = record {
 
 -- the goal could be set
 abbrev pub CanBeGoal : Domain → Knowledge → Option Cond → Type 0
-CanBeGoal d k goal = IfSome goal (λ goal. fault_of_cond d k (cond_tree goal) ≡ None)
+CanBeGoal d k goal = IfSome goal (λ goal. fault_of_cond d k [] (cond_tree goal) ≡ None)
 
 module _ (d : Domain) (old new : Knowledge) (w : IsWellKnown d old) (keeps : (n t : Name) → kind_of old n ≡ Some t → kind_of new n ≡ Some t) where
   -- any name serves, since all stay
@@ -107,7 +107,7 @@ module _ (d : Domain) (old new : Knowledge) (n : Name) (a : Accepted d old (Remo
   still m t (inl s) e = (change.kinds m t).1 (e, λ same. let yes : same_name n m ≡ true = same_name-refl n m (sym same) in absurd (cc))
   still m t (inr none) e = absurd none
 
-  goal_spared : (goal : Cond) (b : Bool) → cond_names n (cond_tree goal) ≡ b → fault_of_cond d old (cond_tree goal) ≡ None → CanBeGoal d new (if b then None else Some goal)
+  goal_spared : (goal : Cond) (b : Bool) → cond_names n (cond_tree goal) ≡ b → fault_of_cond d old [] (cond_tree goal) ≡ None → CanBeGoal d new (if b then None else Some goal)
   goal_spared goal true s h = tt
   goal_spared goal false s h = cond_stays d old new n ⊥ still (cond_tree goal) (inl s) h
 

@@ -1,5 +1,5 @@
 -- That what is known suits the domain.
-use Rattle.std.specs.Prelude.{◌≡◌, ◌≤◌, false, true, Option, None, Some, Ok, List, filter_map, length, All, IfSome}
+use Rattle.std.specs.Prelude.{◌≡◌, ◌≤◌, false, true, Option, None, Some, Ok, List, [], filter_map, length, All, IfSome}
 use Rattle.std.specs.List.{AllPairs, AllZip, Contains}
 use Rattle.ps_world.specs.Names.{same_name}
 use Rattle.ps_world.specs.CondViews.{cond_tree}
@@ -34,7 +34,7 @@ pub record IsWellKnown (d : Domain) (k : Knowledge) : Type 0 where
   pub facts : (f : Fact) → Contains k.facts f → Suits d k (predicate_of d f.head) f.args
   pub values : (f : Fact) (x : Num) → value_in k f ≡ Some x → Suits d k (function_of d f.head) f.args
   -- the goal, where there is one, is one that could be set now
-  pub goal : IfSome k.goal (λ goal. fault_of_cond d k (cond_tree goal) ≡ None)
+  pub goal : IfSome k.goal (λ goal. fault_of_cond d k [] (cond_tree goal) ≡ None)
 
 -- at most 1,000 constants, none twice, and each of a declared type
 pub record HasConstants (d : Domain) : Type 0 where

@@ -57,8 +57,8 @@ module _ (names : Table) where
 
   -- ---- actions
 
-  conds_fit : (params : ℕ) (cs : List CondTree) → All (IsCondOf (length names) params) cs → All (IsWritableCond names) cs → All (FitsCond names 60) cs
-  conds_fit params = each_by_two (IsCondOf (length names) params) (IsWritableCond names) (FitsCond names 60) (λ c known written. cond_fits names (length names) params 60 c known written.0 (omega (arith, written.1)))
+  conds_fit : (ps : List Param) (cs : List CondTree) → All (IsCondOf (length names) ps) cs → All (IsWritableCond names) cs → All (FitsCond names 60) cs
+  conds_fit ps = each_by_two (IsCondOf (length names) ps) (IsWritableCond names) (FitsCond names 60) (λ c known written. cond_fits names (length names) ps 60 c known written.0 (omega (arith, written.1)))
 
   conds_written : (cs : List CondTree) → All (FitsCond names 60) cs → All (IsWritableCond names) cs
   conds_written = All-weaker (FitsCond names 60) (IsWritableCond names) (λ c fit. (cond_heads names 60 c fit, omega (arith, cond_opens_few names 60 c fit)))
@@ -73,9 +73,9 @@ module _ (names : Table) where
   action_fits good d heads a known sound written = record {
     params = params_fit good a.params known.params written.params;
     duration = expr_fits 61 (expr_tree a.duration) (omega (arith, written.duration));
-    start = conds_fit (length a.params) a.conditions.at_start known.conditions_at_start written.start;
-    over = conds_fit (length a.params) a.conditions.over_all known.conditions_over_all written.over;
-    end = conds_fit (length a.params) a.conditions.at_end known.conditions_at_end written.end;
+    start = conds_fit a.params a.conditions.at_start known.conditions_at_start written.start;
+    over = conds_fit a.params a.conditions.over_all known.conditions_over_all written.over;
+    end = conds_fit a.params a.conditions.at_end known.conditions_at_end written.end;
     at_start = effects_fit d a.params heads a.effects.at_start sound.at_start written.at_start;
     at_end = effects_fit d a.params heads a.effects.at_end sound.at_end written.at_end;
   }

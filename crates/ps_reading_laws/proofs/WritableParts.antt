@@ -1,7 +1,7 @@
 -- A condition, an effect or an expression fits the grammar's levels exactly where its text has few enough parentheses open at one place.
 use Rattle.std.proofs.Common.{ℕ, zero, suc, ◌≤◌, List, arith}
 use Rattle.ps_world.specs.Names.{Table}
-use Rattle.ps_world.specs.Trees.{ExprTree, number, value_of, negated, operated, CondTree, CondTrees, all_of, no, holds, same, compares, is_a}
+use Rattle.ps_world.specs.Trees.{ExprTree, number, value_of, negated, operated, CondTree, CondTrees, all_of, any_of, no, implied, holds, same, compares, is_a, for_some, for_all}
 use Rattle.ps_world.specs.Trees as tree
 use Rattle.ps_world.specs.ExprViews.{expr_tree}
 use Rattle.ps_world.specs.declared.actions.Effect.{Effect}
@@ -44,10 +44,14 @@ expr_opens_few _ _ (fits_operation room o x y fit also) =
 -- ---- conditions
 
 module _ (names : Table) where
-  module _ (count params : ℕ) where
+  module _ (count : ℕ) (ps : List Param) where
     mutual
-      pub cond_fits : (room : ℕ) (c : CondTree) → IsCondOf count params c → HasFactHeads names c → cond_opens c ≤ room → FitsCond names room c
+      pub cond_fits : (room : ℕ) (c : CondTree) → IsCondOf count ps c → HasFactHeads names c → cond_opens c ≤ room → FitsCond names room c
       cond_fits room (is_a t kind) known heads few = absurd known
+      cond_fits room (any_of cs) known heads few = absurd heads.0
+      cond_fits room (implied a b) known heads few = absurd heads.0
+      cond_fits room (for_some qs c) known heads few = absurd heads.0
+      cond_fits room (for_all qs c) known heads few = absurd heads.0
       cond_fits zero (all_of cs) known heads few = absurd (omega (arith, few))
       cond_fits zero (no c) known heads few = absurd (omega (arith, few))
       cond_fits zero (holds l) known heads few = absurd (omega (arith, few))
@@ -59,7 +63,7 @@ module _ (names : Table) where
       cond_fits (suc room) (same s t) known heads few = fits_same room s t
       cond_fits (suc room) (compares rel x y) known heads few = fits_comparison room rel x y (expr_fits room x (omega (arith, few))) (expr_fits room y (omega (arith, few)))
 
-      conds_fit : (room : ℕ) (cs : CondTrees) → AreCondsOf count params cs → HaveFactHeads names cs → conds_open cs ≤ room → FitConds names room cs
+      conds_fit : (room : ℕ) (cs : CondTrees) → AreCondsOf count ps cs → HaveFactHeads names cs → conds_open cs ≤ room → FitConds names room cs
       conds_fit room tree.none known heads few = fit_none room
       conds_fit room (tree.more c cs) known heads few =
           fit_more room c cs (cond_fits room c known.0 heads.0 (omega (arith, few))) (conds_fit room cs known.1 heads.1 (omega (arith, few)))

@@ -36,13 +36,15 @@ AreParamNames names ps = All (λ p. name_text names p.name ≡ codes "duration" 
 
 -- ---- conditions and effects
 
--- what is said of a condition's leaves here: each fact has a head that may stand there
+-- what is said of a condition's leaves here: each fact has a head that may stand there, and nothing is quantified, any of several or implied
 abbrev pub headed_leaves : Table → Leaves
 headed_leaves names = record {
   atom = λ ps l. IsFactHead names l.head;
   term = λ ps t. Unit {0};
   value = λ ps x. Unit {0};
   kind = λ ps kind. Unit {0};
+  bound = λ ps qs. ⊥;
+  either = ⊥;
 }
 
 -- a condition of such leaves

@@ -4,7 +4,7 @@ use Rattle.std.specs.Prelude.{◌≡◌, ℕ, suc, ◌≤◌, max, Bool, true, f
 use Rattle.std.specs.List.{AllPairs, list_all}
 use Rattle.std.specs.Option.{IsSomeAnd}
 use Rattle.ps_world.specs.Names.{same_name}
-use Rattle.ps_world.specs.Trees.{ExprTree, number, value_of, negated, operated, CondTree, CondTrees, all_of, no, holds, same, compares, is_a, none, more}
+use Rattle.ps_world.specs.Trees.{ExprTree, number, value_of, negated, operated, CondTree, CondTrees, all_of, any_of, no, implied, holds, same, compares, is_a, for_some, for_all, none, more}
 use Rattle.ps_world.specs.Leaves.{Leaves, AllIn, AllInEach}
 use Rattle.ps_world.specs.CondViews.{cond_tree}
 use Rattle.ps_world.specs.Knowledge.{action_of}
@@ -47,13 +47,15 @@ is_ground_expr (value_of l) = are_named l
 is_ground_expr (negated x) = is_ground_expr x
 is_ground_expr (operated op x y) = is_ground_expr x && is_ground_expr y
 
--- what a condition's leaves are in a script: no variable stands there, and no type is asked for
+-- what a condition's leaves are in a script: no variable stands there, no type is asked for, and nothing is quantified, any of several or implied
 abbrev pub ground_leaves : Leaves
 ground_leaves = record {
   atom = λ ps l. IsTrue (are_named l);
   term = λ ps t. IsTrue (is_named t);
   value = λ ps x. IsTrue (is_ground_expr x);
   kind = λ ps kind. ⊥;
+  bound = λ ps qs. ⊥;
+  either = ⊥;
 }
 
 -- a condition of such leaves
@@ -75,11 +77,15 @@ expr_opens (operated op x y) = suc (max (expr_opens x) (expr_opens y))
 abbrev mutual
   pub cond_opens : CondTree → ℕ
   cond_opens (all_of cs) = suc (conds_open cs)
+  cond_opens (any_of cs) = suc (conds_open cs)
   cond_opens (no c) = suc (cond_opens c)
+  cond_opens (implied a b) = suc (max (cond_opens a) (cond_opens b))
   cond_opens (holds l) = 1
   cond_opens (same s t) = 1
   cond_opens (compares rel x y) = suc (max (expr_opens x) (expr_opens y))
   cond_opens (is_a t kind) = 0
+  cond_opens (for_some ps c) = suc (max 1 (cond_opens c))
+  cond_opens (for_all ps c) = suc (max 1 (cond_opens c))
 
   pub conds_open : CondTrees → ℕ
   conds_open none = 0

@@ -32,7 +32,7 @@ use Rattle.ps_pddl.proofs.CanonicalForms.{IsNamed, IsTermWord, AreTermForms, IsL
 use Rattle.ps_pddl.proofs.CanonicalForms.AreTermForms.{no_terms, more_terms}
 use Rattle.ps_pddl.proofs.CanonicalForms.IsLiftedForm.{lifted}
 use Rattle.ps_pddl.proofs.CanonicalForms.IsExprForm.{a_number, a_value, a_negation, an_operation}
-use Rattle.ps_pddl.proofs.CanonicalForms.IsCondForm.{all_form, not_form, fact_form, same_form, comparison_form}
+use Rattle.ps_pddl.proofs.CanonicalForms.IsCondForm.{all_form, any_form, not_form, imply_form, fact_form, same_form, comparison_form, some_form, each_form}
 use Rattle.ps_pddl.proofs.CanonicalForms.AreCondForms.{no_forms, more_forms}
 use Rattle.ps_pddl.proofs.NameMarks.{name_mark-is_name}
 use Rattle.ps_script_laws.specs.Sayable.{IsShort, IsShortExpr, HasGoalHeads, HaveGoalHeads}
@@ -151,25 +151,29 @@ module _ (names : Table) (count : ℕ) where
   -- ---- conditions
 
   mutual
-    pub condition_taken : (c : CondTree) (t : Nested) → IsCondOf count 0 c → HasGoalHeads names c → IsCondForm names [] c t → (st : List Symbol) (After : List Symbol → Type 0) → cond_opens c + level st ≤ 64 → After st → Takes t After (InGoal goal.Condition ∷ st)
-    condition_taken _ _ known heads (all_form cs l ts m forms) st After room h =
+    pub condition_taken : (c : CondTree) (t : Nested) → IsCondOf count [] c → HasGoalHeads names c → IsCondForm names [] c t → (st : List Symbol) (After : List Symbol → Type 0) → cond_opens c + level st ≤ 64 → After st → Takes t After (InGoal goal.Condition ∷ st)
+    condition_taken _ _ known heads (all_form _ cs l ts m forms) st After room h =
         (omega (arith, room), one.at_mark st (TakesAll ts After) (InGoal goal.Head) l.mark mark.And m (conditions_taken cs ts known heads forms st After (omega (arith, room)) h))
-    condition_taken _ _ known heads (not_form c l t m form) st After room h =
+    condition_taken _ _ known heads (not_form _ c l t m form) st After room h =
         (omega (arith, room), one.at_mark st (TakesAll (more t none) After) (InGoal goal.Head) l.mark mark.Not m (condition_taken c t known heads form (The mark.Close ∷ st) (TakesAll none After) (omega (arith, room)) h))
-    condition_taken _ _ known heads (fact_form _ _ (lifted f l ts w us)) st After room h =
+    condition_taken _ _ known heads (fact_form _ _ _ (lifted f l ts w us)) st After room h =
         (omega (arith, room), fact_fits st (TakesAll ts After) l.mark (ap is_goal_name w.mark ∙ heads.1) (terms_taken 6 f.terms ts heads.0 known.1 us st After h))
-    condition_taken _ _ known heads (same_form a b l m n e v w) st After room h = (
+    condition_taken _ _ known heads (same_form _ a b l m n e v w) st After room h = (
       omega (arith, room),
       one.at_mark st (TakesAll (more (word m) (more (word n) none)) After) (InGoal goal.Head) l.mark mark.Equal e
           (operand_name_fits st (TakesAll (more (word n) none) After) m.mark (term-is_name a m known.0 v)
           (one.name_fits (The mark.Close ∷ st) (TakesAll none After) n.mark (term-is_name b n known.1 w) h)),
     )
-    condition_taken _ _ known heads (comparison_form r x y l t u m first second) st After room h =
+    condition_taken _ _ known heads (comparison_form _ r x y l t u m first second) st After room h =
         let last : Takes u (TakesAll none After) (InGoal goal.Value ∷ The mark.Close ∷ st) = value_taken y u known.1 heads.1 second (The mark.Close ∷ st) (TakesAll none After) (omega (arith, room)) h in
         let both : Takes t (TakesAll (more u none) After) (InGoal goal.Value ∷ InGoal goal.Value ∷ The mark.Close ∷ st) = value_taken x t known.0 heads.0 first (InGoal goal.Value ∷ The mark.Close ∷ st) (TakesAll (more u none) After) (omega (arith, room)) last in
         (omega (arith, room), relation_fits st (TakesAll (more t (more u none)) After) r l.mark m (taken_first t st (TakesAll (more u none) After) both) both)
+    condition_taken _ _ known heads (any_form _ cs l ts m k) st After room h = absurd heads.0
+    condition_taken _ _ known heads (imply_form _ a b l t u m j k) st After room h = absurd heads.0
+    condition_taken _ _ known heads (some_form _ qs c l vs t m v k) st After room h = absurd heads.0
+    condition_taken _ _ known heads (each_form _ qs c l vs t m v k) st After room h = absurd heads.0
 
-    conditions_taken : (cs : CondTrees) (ts : Nesteds) → AreCondsOf count 0 cs → HaveGoalHeads names cs → AreCondForms names [] cs ts → (st : List Symbol) (After : List Symbol → Type 0) → suc (conds_open cs) + level st ≤ 64 → After st → TakesAll ts After (InGoal goal.Conditions ∷ st)
-    conditions_taken _ _ known heads no_forms st After room h = h
-    conditions_taken _ _ known heads (more_forms c cs t ts form forms) st After room h =
+    conditions_taken : (cs : CondTrees) (ts : Nesteds) → AreCondsOf count [] cs → HaveGoalHeads names cs → AreCondForms names [] cs ts → (st : List Symbol) (After : List Symbol → Type 0) → suc (conds_open cs) + level st ≤ 64 → After st → TakesAll ts After (InGoal goal.Conditions ∷ st)
+    conditions_taken _ _ known heads (no_forms _) st After room h = h
+    conditions_taken _ _ known heads (more_forms _ c cs t ts form forms) st After room h =
         taken_among t st (TakesAll ts After) (condition_taken c t known.0 heads.0 form (InGoal goal.Conditions ∷ st) (TakesAll ts After) (omega (arith, room)) (conditions_taken cs ts known.1 heads.1 forms st After (omega (arith, room)) h))

@@ -29,7 +29,7 @@ use Rattle.ps_conditions.specs.Steps.{certain}
 use Rattle.ps_conditions.specs.Values as worth
 use Rattle.ps_conditions.proofs.Certain.{conditions-each, each}
 use Rattle.ps_script.specs.Goals.{condition, fact_of, lifted, line_words, names_of}
-use Rattle.ps_pddl.proofs.CanonicalForms.{IsNamed, AreTermForms, no_terms, more_terms, IsLiftedForm, op_mark, IsExprForm, a_number, a_value, a_negation, an_operation, rel_mark, IsCondForm, all_form, not_form, fact_form, same_form, comparison_form, AreCondForms, no_forms, more_forms}
+use Rattle.ps_pddl.proofs.CanonicalForms.{IsNamed, AreTermForms, no_terms, more_terms, IsLiftedForm, op_mark, IsExprForm, a_number, a_value, a_negation, an_operation, rel_mark, IsCondForm, all_form, any_form, not_form, imply_form, fact_form, same_form, comparison_form, some_form, each_form, AreCondForms, no_forms, more_forms}
 use Rattle.ps_pddl.proofs.CanonicalForms as form
 use Rattle.ps_pddl.proofs.MeanConditions.{uncond, cond_tree-uncond, rel_of-rel, rel-isnt_and, rel-isnt_not}
 use Rattle.ps_pddl.proofs.MeanMarks.{isnt-by, name-isnt, operator_of-name, rel_of-name}
@@ -45,11 +45,15 @@ lifted_fact f = record { head = f.head; terms = map Const f.args }
 
 pub uncond-cond_tree : (c : Cond) → uncond (cond_tree c) ≡ c
 uncond-cond_tree (cond.And cs) = ap cond.And (list_of-cond_trees cs)
+uncond-cond_tree (cond.Or cs) = ap cond.Or (list_of-cond_trees cs)
 uncond-cond_tree (cond.Not c) = refl
+uncond-cond_tree (cond.Imply a b) = refl
 uncond-cond_tree (cond.Holds f) = refl
 uncond-cond_tree (cond.Same a b) = refl
 uncond-cond_tree (cond.Cmp r x y) = rw (untree-expr_tree x, untree-expr_tree y) refl
 uncond-cond_tree (cond.IsA t kind) = refl
+uncond-cond_tree (cond.ForSome ps c) = refl
+uncond-cond_tree (cond.ForAll ps c) = refl
 
 names_again : (ns : List Name) → map name_of (map Const ns) ≡ ns
 names_again [] = refl
@@ -127,27 +131,31 @@ module _ (names : Table) (count : ℕ) where
   related-means Gt x t u other k = refl
 
   mutual
-    pub condition-means : (c : CondTree) (t : Nested) → IsCondOf count 0 c → HasGoalHeads names c → IsCondForm names [] c t → condition t ≡ uncond c
-    condition-means _ _ known heads (all_form cs l ts m k) = rw (m, conditions-each line_words ts [], conditions-mean cs ts known heads k) refl
-    condition-means _ _ known heads (not_form c l t m k) = rw (m, condition-means c t known heads k, cond_tree-uncond c) refl
-    condition-means _ _ known heads (fact_form f _ (form.lifted _ l ts w us)) =
+    pub condition-means : (c : CondTree) (t : Nested) → IsCondOf count [] c → HasGoalHeads names c → IsCondForm names [] c t → condition t ≡ uncond c
+    condition-means _ _ known heads (all_form _ cs l ts m k) = rw (m, conditions-each line_words ts [], conditions-mean cs ts known heads k) refl
+    condition-means _ _ known heads (not_form _ c l t m k) = rw (m, condition-means c t known heads k, cond_tree-uncond c) refl
+    condition-means _ _ known heads (fact_form _ f _ (form.lifted _ l ts w us)) =
         let head : is_goal_name l.mark ≡ true = ap is_goal_name w.mark ∙ heads.1 in
         rw (goal_name-isnt mark.And l.mark head refl, goal_name-isnt mark.Not l.mark head refl, plain-name l ts (named-is_name names count f.head l w), lifted-means f l ts known heads.0 w us) refl
-    condition-means _ _ known heads (same_form (Const a) (Const b) l m n e v w) =
+    condition-means _ _ known heads (same_form _ (Const a) (Const b) l m n e v w) =
         rw (e, name-isnt mark.Number m.mark (named-is_name names count a m v) refl, v.name, w.name) refl
-    condition-means _ _ known heads (same_form (Var i) b l m n e v w) = absurd (omega (arith, known.0))
-    condition-means _ _ known heads (same_form (Const a) (Var i) l m n e v w) = absurd (omega (arith, known.1))
-    condition-means _ _ known heads (comparison_form r x y l t u m j k) =
+    condition-means _ _ known heads (same_form _ (Var i) b l m n e v w) = absurd (omega (arith, known.0))
+    condition-means _ _ known heads (same_form _ (Const a) (Var i) l m n e v w) = absurd (omega (arith, known.1))
+    condition-means _ _ known heads (comparison_form _ r x y l t u m j k) =
         let no_and : is mark.And l.mark ≡ false = rw m (rel-isnt_and r) in
         let no_not : is mark.Not l.mark ≡ false = rw m (rel-isnt_not r) in
         let sign : rel_of l.mark ≡ Some r = rw m (rel_of-rel r) in
         rw (no_and, no_not, sign, related-means r x t u (cond.Holds (lifted l (more t (more u none)))) j, value-means x t known.0 heads.0 j, value-means y u known.1 heads.1 k) refl
+    condition-means _ _ known heads (any_form _ cs l ts m k) = absurd heads.0
+    condition-means _ _ known heads (imply_form _ a b l t u m j k) = absurd heads.0
+    condition-means _ _ known heads (some_form _ qs c l vs t m v k) = absurd heads.0
+    condition-means _ _ known heads (each_form _ qs c l vs t m v k) = absurd heads.0
 
-    conditions-mean : (cs : CondTrees) (ts : Nesteds) → AreCondsOf count 0 cs → HaveGoalHeads names cs → AreCondForms names [] cs ts → each line_words ts ≡ list_of cs
-    conditions-mean _ _ known heads no_forms = refl
-    conditions-mean _ _ known heads (more_forms c cs t ts k rest) =
+    conditions-mean : (cs : CondTrees) (ts : Nesteds) → AreCondsOf count [] cs → HaveGoalHeads names cs → AreCondForms names [] cs ts → each line_words ts ≡ list_of cs
+    conditions-mean _ _ known heads (no_forms _) = refl
+    conditions-mean _ _ known heads (more_forms _ c cs t ts k rest) =
         rw (condition-means c t known.0 heads.0 k, cond_tree-uncond c, conditions-mean cs ts known.1 heads.1 rest) refl
 
   -- the list of a goal means it
-  pub goal-means : (goal : Cond) (t : Nested) → IsCondOf count 0 (cond_tree goal) → HasGoalHeads names (cond_tree goal) → IsCondForm names [] (cond_tree goal) t → condition t ≡ goal
+  pub goal-means : (goal : Cond) (t : Nested) → IsCondOf count [] (cond_tree goal) → HasGoalHeads names (cond_tree goal) → IsCondForm names [] (cond_tree goal) t → condition t ≡ goal
   goal-means goal t known heads h = condition-means (cond_tree goal) t known heads h ∙ uncond-cond_tree goal

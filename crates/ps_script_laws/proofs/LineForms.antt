@@ -2,7 +2,8 @@
 use Rattle.std.proofs.Common.{◌≡◌, ℕ, zero, suc, true, Some, List, [], ◌∷◌, length, refl, ap, ◌∙◌}
 use Rattle.std.proofs.lemmas.List.Elements.{All-nil}
 use Rattle.ps_world.specs.Names.{Table, name_text}
-use Rattle.ps_world.specs.Trees.{CondTree}
+use Rattle.ps_world.specs.Trees.{CondTree, CondTrees, all_of, any_of, no, implied, holds, same, compares, is_a, for_some, for_all}
+use Rattle.ps_world.specs.Trees as tree
 use Rattle.ps_world.specs.declared.domains.Param.{Param}
 use Rattle.ps_world.specs.declared.names.Name.{Name}
 use Rattle.ps_text.specs.Names.{AreNames}
@@ -17,11 +18,12 @@ use Rattle.ps_forms.specs.Places.{rest}
 use Rattle.ps_forms.proofs.OneWord as one
 use Rattle.ps_print.specs.CanonicalWords.{cond_words, IsCondOf, IsNameOf, IsParamOf}
 use Rattle.ps_pddl.proofs.CanonicalForms.{IsNamed, IsCondForm}
-use Rattle.ps_pddl.proofs.Fits.{IsVariableName}
+use Rattle.ps_pddl.proofs.Fits.{BindsFree, BindFree, IsVariableName}
 use Rattle.ps_pddl.proofs.NameMarks.{name_mark-is_name}
 use Rattle.ps_pddl.proofs.SpeltParts.{name_first, spelt_cond}
 use Rattle.ps_pddl.proofs.SpeltWords.{AllSpelt, all_last, is_plain, nothing_spelt, one_last, word_first}
 use Rattle.ps_forms.proofs.TakenLines.{TakesLine}
+use Rattle.ps_script_laws.specs.Sayable.{HasGoalHeads, HaveGoalHeads}
 
 -- so many fixed words, which are names, and then lists with this property
 abbrev pub Fixed : ℕ → (Nesteds → Type 0) → Nesteds → Type 0
@@ -41,6 +43,26 @@ abbrev pub IsOneCond : Table → CondTree → Nesteds → Type 0
 IsOneCond names c (more t none) = IsCondForm names [] c t
 IsOneCond names c ts = ⊥
 
+-- ---- variables
+
+mutual
+  -- a goal that can be said binds what may be a variable
+  pub heads_free : (names : Table) (c : CondTree) → HasGoalHeads names c → BindsFree names [] c
+  heads_free names (all_of cs) h = all_heads_free names cs h
+  heads_free names (any_of cs) h = absurd h.0
+  heads_free names (no c) h = heads_free names c h
+  heads_free names (implied a b) h = absurd h.0
+  heads_free names (holds l) h = tt
+  heads_free names (same s t) h = (tt, tt)
+  heads_free names (compares rel x y) h = (tt, tt)
+  heads_free names (is_a t kind) h = tt
+  heads_free names (for_some qs c) h = absurd h.0
+  heads_free names (for_all qs c) h = absurd h.0
+
+  all_heads_free : (names : Table) (cs : CondTrees) → HaveGoalHeads names cs → BindFree names [] cs
+  all_heads_free names tree.none h = tt
+  all_heads_free names (tree.more c cs) h = (heads_free names c h.0, all_heads_free names cs h.1)
+
 -- ---- words
 
 -- a fixed word before others
@@ -57,8 +79,8 @@ module _ (names : Table) (good : AreNames names) where
   pub two_names_spelt : (m n : Name) → IsNameOf (length names) m → IsNameOf (length names) n → AllSpelt names (name_text names m ∷ name_text names n ∷ []) (AreNamed names (m ∷ n ∷ []))
   two_names_spelt m n g h = name_first names good m g (λ k was. name_first names good n h (λ l is. nothing_spelt (was, (is, tt))))
 
-  pub cond_spelt : (c : CondTree) → IsCondOf (length names) 0 c → AllSpelt names (cond_words names [] c) (IsOneCond names c)
-  cond_spelt c h = one_last (spelt_cond names good [] (All-nil (IsParamOf (length names))) (All-nil (λ (p : Param). IsVariableName names p.name)) c h) (λ t form. form)
+  pub cond_spelt : (c : CondTree) → IsCondOf (length names) [] c → BindsFree names [] c → AllSpelt names (cond_words names [] c) (IsOneCond names c)
+  cond_spelt c h free = one_last (spelt_cond names good [] (All-nil (IsParamOf (length names))) (All-nil (λ (p : Param). IsVariableName names p.name)) c h free) (λ t form. form)
 
 -- ---- what is taken
 

@@ -46,6 +46,7 @@ use Rattle.ps_script.proofs.LineReads.{fits_form, marks_same}
 use Rattle.ps_pddl.proofs.CanonicalForms.{IsCondForm, IsLiftedForm}
 use Rattle.ps_pddl.proofs.CanonicalForms.IsCondForm.{comparison_form, fact_form}
 use Rattle.ps_pddl.proofs.CanonicalForms.IsExprForm.{a_number, a_value}
+use Rattle.ps_pddl.proofs.Fits.{BindsFree}
 use Rattle.ps_pddl.proofs.SpeltWords.{AllSpelt, is_plain}
 use Rattle.ps_pddl.proofs.WordLexemes.{AreLexemes, are_lexemes}
 use Rattle.ps_pddl.proofs.WordClasses.{Classed, classed_more, classed_none}
@@ -54,7 +55,7 @@ use Rattle.ps_script_laws.specs.Sayable.{IsFactOf, IsGoalOf, IsShort}
 use Rattle.ps_script_laws.specs.WordNames.{with_words}
 use Rattle.ps_script_laws.proofs.GoalMarks.{atom_taken, condition_taken}
 use Rattle.ps_script_laws.proofs.GoalMeanings.{fact-means, goal-means, lifted_fact}
-use Rattle.ps_script_laws.proofs.LineForms.{AreNamed, Fixed, IsOneCond, cond_spelt, fixed_first, fixed_rest, fixed_taken, named_taken, no_names_spelt, one_name_spelt, two_names_spelt}
+use Rattle.ps_script_laws.proofs.LineForms.{AreNamed, Fixed, IsOneCond, cond_spelt, fixed_first, fixed_rest, fixed_taken, heads_free, named_taken, no_names_spelt, one_name_spelt, two_names_spelt}
 use Rattle.ps_script_laws.proofs.LineLexing.{after_text, lexemes_kept}
 use Rattle.ps_forms.proofs.TakenLines.{TakesLine, judged_of_line}
 use Rattle.ps_script_laws.proofs.LineWords.{classed_cond, classed_name, condition, fact-text, name, words-written}
@@ -95,10 +96,10 @@ fact-short count f h = (let few = h.few in omega (arith, few, length-map f.args 
 
 module _ (names : Table) where
   fact_taken : (f : Lifted) (t : Nested) → IsLiftedOf (length names) 0 f → IsShort f → IsCondForm names [] (holds f) t → Takes t IsDone (InGoal goal.Atom ∷ [])
-  fact_taken _ _ all few (fact_form f t k) = atom_taken names (length names) f t all few k [] IsDone (omega arith) refl
+  fact_taken _ _ all few (fact_form _ f t k) = atom_taken names (length names) f t all few k [] IsDone (omega arith) refl
 
   fact_told : (f : Fact) (g : Lifted) (t : Nested) → g ≡ lifted_fact f → IsLiftedOf (length names) 0 g → IsShort g → IsCondForm names [] (holds g) t → fact_of (items t) ≡ f
-  fact_told f _ _ e all few (fact_form g t k) =
+  fact_told f _ _ e all few (fact_form _ g t k) =
       fact-means names (length names) f t (subst (IsLiftedOf (length names) 0) e all) (subst IsShort e few) (subst (λ (l : Lifted). IsLiftedForm names [] l t) e k)
 
   -- ---- values
@@ -108,7 +109,7 @@ module _ (names : Table) where
 
   value_line_taken : (f : Lifted) (n : ℤ) (t : Nested) → IsLiftedOf (length names) 0 f → IsShort f → IsCondForm names [] (compares rel.Eq (value_of f) (number n)) t
       → Takes t IsDone (The mark.Open ∷ The mark.Equal ∷ InGoal goal.Atom ∷ The mark.Number ∷ The mark.Close ∷ [])
-  value_line_taken _ _ _ all few (comparison_form _ _ _ l _ _ m (a_value f t k) (a_number n w number_mark e)) = (
+  value_line_taken _ _ _ all few (comparison_form _ _ _ _ l _ _ m (a_value f t k) (a_number n w number_mark e)) = (
     omega arith,
     one.at_mark (InGoal goal.Atom ∷ The mark.Number ∷ The mark.Close ∷ []) (TakesAll (more t (more (word w) none)) IsDone) (The mark.Equal) l.mark mark.Equal m
         (atom_taken names (length names) f t all few k (The mark.Number ∷ The mark.Close ∷ []) (TakesAll (more (word w) none) IsDone) (omega arith)
@@ -116,8 +117,8 @@ module _ (names : Table) where
   )
 
   value_line_told : (f : Fact) (g : Lifted) (n : ℤ) (t : Nested) → g ≡ lifted_fact f → IsLiftedOf (length names) 0 g → IsShort g → IsCondForm names [] (compares rel.Eq (value_of g) (number n)) t → valued (items_at (more t none)) ≡ command.Edit (edit.SetValue f n)
-  value_line_told f _ _ _ e all few (comparison_form _ _ _ l _ _ m (a_value g t k) (a_number n w number_mark is)) =
-      let fact : fact_of (items t) ≡ f = fact_told f g t e all few (fact_form g t k) in
+  value_line_told f _ _ _ e all few (comparison_form _ _ _ _ l _ _ m (a_value g t k) (a_number n w number_mark is)) =
+      let fact : fact_of (items t) ≡ f = fact_told f g t e all few (fact_form [] g t k) in
       rw (fact, is) refl
 
 -- ---- lines
@@ -150,12 +151,12 @@ module _ (names table : Table) (named : AreNames names) (known : AreNames table)
   cond_means c F d means (more t (more u us)) h = absurd h
 
   cond_line : (prefix v w : List ℕ) (f : Form) (st : List Symbol) (F : Nesteds → Command) (c : CondTree) (d : Command) → IsPlain (prefix ++ cond_text names [] c) → Whole prefix (v ∷ w ∷ []) → IsFixed v → IsFixed w → form_of (v ∷ w ∷ cond_words names [] c) ≡ Some f
-      → AnyName ∷ AnyName ∷ st ≡ start_of f → ((ts : Nesteds) → command_of f ts ≡ F (rest (rest ts))) → IsCondOf count 0 c → ((t : Nested) → IsCondForm names [] c t → Takes t IsDone st) → ((t : Nested) → IsCondForm names [] c t → F (more t none) ≡ d) → IsReadAs table (prefix ++ cond_text names [] c) d
-  cond_line prefix v w f st F c d plain whole first second is start of all takes means =
+      → AnyName ∷ AnyName ∷ st ≡ start_of f → ((ts : Nesteds) → command_of f ts ≡ F (rest (rest ts))) → IsCondOf count [] c → BindsFree names [] c → ((t : Nested) → IsCondForm names [] c t → Takes t IsDone st) → ((t : Nested) → IsCondForm names [] c t → F (more t none) ≡ d) → IsReadAs table (prefix ++ cond_text names [] c) d
+  cond_line prefix v w f st F c d plain whole first second is start of all free takes means =
       line_read (prefix ++ cond_text names [] c) (v ∷ w ∷ cond_words names [] c) f d (Fixed 2 (IsOneCond names c)) plain
       (words-written (whole_writes whole (condition names named c all)))
       (classed_more v (fixed_class first) (classed_more w (fixed_class second) (classed_cond names named c all))) is
-      (fixed_first 1 (IsOneCond names c) v first.of_class first.no_paren first.of_name (fixed_first 0 (IsOneCond names c) w second.of_class second.no_paren second.of_name (cond_spelt names named c all)))
+      (fixed_first 1 (IsOneCond names c) v first.of_class first.no_paren first.of_name (fixed_first 0 (IsOneCond names c) w second.of_class second.no_paren second.of_name (cond_spelt names named c all free)))
       (λ ts h. subst (TakesLine ts) start (fixed_taken 2 (IsOneCond names c) ts st h (cond_taken c st takes)))
       (λ ts h. of ts ∙ cond_means c F d means (rest (rest ts)) (fixed_rest 2 (IsOneCond names c) ts h))
 
@@ -166,7 +167,7 @@ module _ (names table : Table) (named : AreNames names) (known : AreNames table)
       let all = fact-known count x h in
       let few = fact-short count x h in
       subst (λ text. IsReadAs table (prefix ++ text) (G x)) (sym (fact-text names x))
-      (cond_line prefix v w f (InGoal goal.Atom ∷ []) (λ us. G (fact_of (items_at us))) (holds (lifted_fact x)) (G x) plain whole first second is start of all
+      (cond_line prefix v w f (InGoal goal.Atom ∷ []) (λ us. G (fact_of (items_at us))) (holds (lifted_fact x)) (G x) plain whole first second is start of all tt
       (λ t k. fact_taken names (lifted_fact x) t all few k) (λ t k. ap G (fact_told names x (lifted_fact x) t refl all few k)))
 
   value_line : (x : Fact) (n : ℤ) → IsFactOf count x → IsCount n → IsReadAs table (codes "set function " ++ value_text names x n) (command.Edit (edit.SetValue x n))
@@ -175,14 +176,14 @@ module _ (names table : Table) (named : AreNames names) (known : AreNames table)
       let few = fact-short count x h in
       subst (λ text. IsReadAs table (codes "set function " ++ text) (command.Edit (edit.SetValue x n))) (sym (value_as names x n))
       (cond_line (codes "set function ") (codes "set") (codes "function") form.SetFunction (The mark.Open ∷ The mark.Equal ∷ InGoal goal.Atom ∷ The mark.Number ∷ The mark.Close ∷ []) (λ us. valued (items_at us)) (compares rel.Eq (value_of (lifted_fact x)) (number n)) (command.Edit (edit.SetValue x n))
-      (record { something = refl; no_source = refl; no_plan = refl }) (record { whole = λ rest. refl }) (record { of_class = refl; no_paren = refl; of_name = refl }) (record { of_class = refl; no_paren = refl; of_name = refl }) refl refl (λ ts. refl) (all, number_known)
+      (record { something = refl; no_source = refl; no_plan = refl }) (record { whole = λ rest. refl }) (record { of_class = refl; no_paren = refl; of_name = refl }) (record { of_class = refl; no_paren = refl; of_name = refl }) refl refl (λ ts. refl) (all, number_known) (tt, tt)
       (λ t k. value_line_taken names (lifted_fact x) n t all few k) (λ t k. value_line_told names x (lifted_fact x) n t refl all few k))
 
   goal_line : (g : Cond) → IsGoalOf names g → IsReadAs table (codes "set goal " ++ cond_text names [] (cond_tree g)) (command.Edit (edit.SetGoal g))
   goal_line g h =
       let shallow = h.shallow in
       cond_line (codes "set goal ") (codes "set") (codes "goal") form.SetGoal (InGoal goal.Condition ∷ []) (λ us. command.Edit (edit.SetGoal (first_condition us))) (cond_tree g) (command.Edit (edit.SetGoal g))
-      (record { something = refl; no_source = refl; no_plan = refl }) (record { whole = λ rest. refl }) (record { of_class = refl; no_paren = refl; of_name = refl }) (record { of_class = refl; no_paren = refl; of_name = refl }) refl refl (λ ts. refl) h.known
+      (record { something = refl; no_source = refl; no_plan = refl }) (record { whole = λ rest. refl }) (record { of_class = refl; no_paren = refl; of_name = refl }) (record { of_class = refl; no_paren = refl; of_name = refl }) refl refl (λ ts. refl) h.known (heads_free names (cond_tree g) h.heads)
       (λ t k. condition_taken names count (cond_tree g) t h.known h.heads k [] IsDone (omega (arith, shallow)) refl) (λ t k. ap (λ c. command.Edit (edit.SetGoal c)) (goal-means names count g t h.known h.heads k))
 
   -- ---- fixed words and names

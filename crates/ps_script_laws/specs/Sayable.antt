@@ -53,13 +53,16 @@ IsShortExpr (value_of l) = IsShort l
 IsShortExpr (negated x) = IsShortExpr x
 IsShortExpr (operated op x y) = IsShortExpr x × IsShortExpr y
 
--- what is said of a goal's leaves here: each fact and function has at most 6 arguments, and each fact a head that may stand there
+-- what is said of a goal's leaves here: each fact and function has at most 6 arguments, each fact a head that may stand there, and nothing is
+-- quantified, any of several or implied
 abbrev pub sayable_leaves : Table → Leaves
 sayable_leaves names = record {
   atom = λ ps l. IsShort l × IsGoalHead names l.head;
   term = λ ps t. Unit {0};
   value = λ ps x. IsShortExpr x;
   kind = λ ps kind. Unit {0};
+  bound = λ ps qs. ⊥;
+  either = ⊥;
 }
 
 -- a condition of such leaves
@@ -73,7 +76,7 @@ HaveGoalHeads names cs = AllInEach (sayable_leaves names) [] cs
 -- A goal that a line can say: its names stand in the table, its numbers are in range, no variable stands in it and none in it says that
 -- an instance has a type, its heads may stand where they do, and at most 64 parentheses are open at one place.
 pub record IsGoalOf (names : Table) (goal : Cond) : Type 0 where
-  pub known : IsCondOf (length names) 0 (cond_tree goal)
+  pub known : IsCondOf (length names) [] (cond_tree goal)
   pub heads : HasGoalHeads names (cond_tree goal)
   pub shallow : cond_opens (cond_tree goal) ≤ 64
 

@@ -2,6 +2,7 @@ pub mod Entries
 pub mod Backs
 pub mod CallsOfRuns
 pub mod Edits
+mod Faultless
 pub mod Gathering
 pub mod LineOrders
 pub mod Parts

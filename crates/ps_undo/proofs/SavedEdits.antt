@@ -39,10 +39,11 @@ use Rattle.ps_problem.proofs.Filters.{insert_entry-same, keys-filter, sorted-fil
 use Rattle.ps_problem.proofs.Opening.{kind_opened, length-insert_entry, sorted_opened}
 use Rattle.ps_problem.proofs.PutFacts.{facts_same, known-inserted}
 use Rattle.ps_problem.proofs.Removals.{tests_agree}
-use Rattle.ps_problem.proofs.Suits.{cond_stays, no_fault}
+use Rattle.ps_problem.proofs.Suits.{cond_stays}
 use Rattle.ps_undo.specs.Saved.{SavedGiveIt, edited_by, edited_next, is_new, set_goal, set_instance, set_value}
 use Rattle.ps_undo.proofs.Entries.{put, same_entries, sorted-put}
 use Rattle.ps_undo.proofs.Parts.{Are, all_found, at-put}
+use Rattle.ps_undo.proofs.Faultless.{no_fault}
 
 -- ---- edits one after another
 
@@ -271,8 +272,8 @@ module _ (d : Domain) (k : Knowledge) (w : IsWellKnown d k) where
       let back = sym e in λ i. Ok (record { instances = k.instances; facts = k.facts; values = k.values; goal = back i })
   goal_made (Some goal) e =
       let back = sym e in
-      let could : fault_of_cond d k (cond_tree goal) ≡ None = subst (λ g. IfSome g (λ goal. fault_of_cond d k (cond_tree goal) ≡ None)) e w.goal in
-      let fine : fault_of_cond d (with_values k.values) (cond_tree goal) ≡ None = cond_stays d k (with_values k.values) (record { 0 = 0 }) (Unit {0}) (λ m t s h. h) (cond_tree goal) (inr tt) could in
+      let could : fault_of_cond d k [] (cond_tree goal) ≡ None = subst (λ g. IfSome g (λ goal. fault_of_cond d k [] (cond_tree goal) ≡ None)) e w.goal in
+      let fine : fault_of_cond d (with_values k.values) [] (cond_tree goal) ≡ None = cond_stays d k (with_values k.values) (record { 0 = 0 }) (Unit {0}) (λ m t s h. h) (cond_tree goal) (inr tt) could in
       ap (λ (o : Option EditRefusal). edited_on d (unless o (Ok (record (with_values k.values) { goal = Some goal }))) []) fine
       ∙ (λ i. Ok (record { instances = k.instances; facts = k.facts; values = k.values; goal = back i }))
 

@@ -1,3 +1,4 @@
+pub mod Found
 pub mod Growing
 pub mod Noted
 pub mod Things

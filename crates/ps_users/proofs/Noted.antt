@@ -1,90 +1,18 @@
--- Things that are found with the acts that use them, and one more that is noted.
-use Rattle.std.proofs.Common.{◌≡◌, ℕ, ◌+◌, ◌<◌, ◌≤◌, nat_eq, Bool, true, false, ◌&&◌, ◌||◌, cond, List, [], ◌∷◌, ◌++◌, All, Some, None, get_or, length, take, refl, ap, sym, ◌∙◌, arith}
-use Rattle.std.specs.BTreeMap.{is_at}
-use Rattle.std.specs.List.{list_any}
-use Rattle.std.specs.Map.{lookup}
-use Rattle.std.specs.Option.{option_map_or}
-use Rattle.std.proofs.lemmas.Bool.Decides.{nat_tests}
-use Rattle.std.proofs.lemmas.List.{take_all, take_more}
-use Rattle.std.proofs.lemmas.List.Elements.{All-cons, All-nil}
+-- Several things that are noted or marked one after another.
+use Rattle.std.proofs.Common.{◌≡◌, ℕ, zero, suc, ◌+◌, ◌<◌, ◌≤◌, nat_eq, Bool, true, false, ◌&&◌, ◌||◌, List, [], ◌∷◌, ◌++◌, Some, map, drop, get_or, length, take, refl, ap, sym, ◌∙◌, arith}
+use Rattle.std.specs.Cmp.{first_so, second_so}
+use Rattle.std.specs.List.{list_all, list_any}
+use Rattle.std.proofs.lemmas.List.{take_all, take_more, take-append-drop}
 use Rattle.std.proofs.lemmas.List.Folds.{list_any-append}
-use Rattle.std.proofs.lemmas.Bool.{or_right, false_from_ne_true}
-use Rattle.ps_world.proofs.Truths.{or_false}
+use Rattle.ps_world.proofs.Truths.{or_false, or_more}
 use Rattle.ps_action.specs.declared.touched.Touched.{Touched}
-use Rattle.ps_action.specs.declared.touched.Touched.TheVariants.{Fact, Value, Instance}
-use Rattle.ps_action.specs.contracts.touched.TouchedOrd.TheImpl.{cmp-value}
-use Rattle.ps_action.specs.Arcs.{same_thing}
-use Rattle.ps_action.proofs.ArcTables.{true_false}
-use Rattle.ps_users.specs.Users.{ArePlaces, AreWithin, Enters, Users, uses}
-use Rattle.ps_users.proofs.Things.{thing_itself, thing_same}
-
--- ---- things in their order
-
--- things tie where they are the same
-pub thing_at : (s t : Touched) → is_at (cmp-value.it s) t ≡ same_thing s t
-thing_at (Fact f) (Fact g) = refl
-thing_at (Fact f) (Value g) = refl
-thing_at (Fact f) (Instance n) = refl
-thing_at (Value f) (Fact g) = refl
-thing_at (Value f) (Value g) = refl
-thing_at (Value f) (Instance n) = refl
-thing_at (Instance m) (Fact g) = refl
-thing_at (Instance m) (Value g) = refl
-thing_at (Instance m) (Instance n) = grind (arith, nat_tests)
-
-pub lookup_at : (t : Touched) (users : Users) → lookup (is_at (cmp-value.it t)) users ≡ lookup (same_thing t) users
-lookup_at t users = λ i. lookup (λ s. thing_at t s i) users
-
--- ---- or_false more thing that is noted
-
-and_true : (a b : Bool) → b ≡ true → a ≡ (a && (b || false))
-and_true true b e = rw e refl
-and_true false b e = refl
-
-or_none : (a b c : Bool) → c ≡ false → a ≡ (a || (b && (c || false)))
-or_none true b c e = refl
-or_none false true c e = rw e refl
-or_none false false c e = refl
-
--- a thing has these places afterwards, and every other thing those from before
-module _ (old new : Users) (thing : Touched) (act : ℕ) (places : List ℕ)
-    (put : (t : Touched) → lookup (is_at (cmp-value.it t)) new ≡ cond (is_at (cmp-value.it thing) t) (Some places) (lookup (is_at (cmp-value.it t)) old))
-    (are : ArePlaces places (λ i. uses old thing i || nat_eq i act)) where
-  found : (t : Touched) (b : Bool) → same_thing thing t ≡ b → lookup (same_thing t) new ≡ cond b (Some places) (lookup (same_thing t) old)
-  found t b e =
-      sym (lookup_at t new) ∙ put t ∙ (λ i. cond ((thing_at thing t ∙ e) i) (Some places) (lookup_at t old i))
-
-  noted_at : (t : Touched) (i : ℕ) (b : Bool) → same_thing thing t ≡ b → uses new t i ≡ (uses old t i || (nat_eq i act && (same_thing t thing || false)))
-  noted_at t i true e =
-      let same : thing ≡ t = thing_same thing t e in
-      let back : same_thing t thing ≡ true = ap (same_thing t) same ∙ thing_itself t in
-      ap (λ o. option_map_or (list_any (nat_eq i)) o false) (found t true e) ∙ are i
-      ∙ (λ k. uses old (same k) i || and_true (nat_eq i act) (same_thing t thing) back k)
-  noted_at t i false e =
-      let away : same_thing t thing ≡ false =
-      false_from_ne_true (same_thing t thing)
-      (λ h. true_false (same_thing thing t) (ap (same_thing thing) (thing_same t thing h) ∙ thing_itself thing) e) in
-      ap (λ o. option_map_or (list_any (nat_eq i)) o false) (found t false e) ∙ or_none (uses old t i) (nat_eq i act) (same_thing t thing) away
-
-  pub noted : Enters old (thing ∷ []) act new
-  noted t i = noted_at t i (same_thing thing t) refl
-
--- a thing that no act used has the or_false place
-pub noted_first : (old mid new : Users) (thing : Touched) (act : ℕ) (places : List ℕ) → mid ≡ old → places ≡ act ∷ [] → lookup (is_at (cmp-value.it thing)) old ≡ None
-    → ((t : Touched) → lookup (is_at (cmp-value.it t)) new ≡ cond (is_at (cmp-value.it thing) t) (Some places) (lookup (is_at (cmp-value.it t)) mid))
-    → Enters old (thing ∷ []) act new
-noted_first old mid new thing act places same is none put =
-    noted old new thing act places (λ t. put t ∙ (λ k. cond (is_at (cmp-value.it thing) t) (Some places) (lookup (is_at (cmp-value.it t)) (same k))))
-    (λ i. ap (list_any (nat_eq i)) is ∙ or_false (nat_eq i act)
-    ∙ ap (λ b. b || nat_eq i act) (sym (ap (λ o. option_map_or (list_any (nat_eq i)) o false) (sym (lookup_at thing old) ∙ none))))
-
--- a thing that acts used has or_false place more
-pub noted_more : (old new : Users) (thing : Touched) (act : ℕ) (before after : List ℕ) → Some before ≡ lookup (is_at (cmp-value.it thing)) old
-    → ((t : Touched) → lookup (is_at (cmp-value.it t)) new ≡ cond (is_at (cmp-value.it thing) t) (Some after) (lookup (is_at (cmp-value.it t)) old))
-    → ArePlaces after (λ i. list_any (nat_eq i) before || nat_eq i act) → Enters old (thing ∷ []) act new
-noted_more old new thing act before after some put are =
-    noted old new thing act after put
-    (λ i. are i ∙ ap (λ o. option_map_or (list_any (nat_eq i)) o false || nat_eq i act) (some ∙ lookup_at thing old))
+use Rattle.ps_action.specs.Arcs.{meets}
+use Rattle.ps_action.specs.declared.touched.Touched.TheVariants.{Fact, Value, Instance, Facts, Values, Instances}
+use Rattle.ps_users.specs.Singles.{single_of, touched_of}
+use Rattle.ps_users.specs.Users.{Enters, IsSame, Marks, Users, uses}
+use Rattle.ps_users.specs.declared.single.Single.{Single}
+use Rattle.ps_users.specs.declared.single.Single.TheVariants as one
+use Rattle.ps_users.proofs.Found.{uses-append}
 
 -- ---- several things
 
@@ -105,21 +33,98 @@ pub one_entered : (old mid new : Users) (things : List Touched) (k act : ℕ) (x
     → Enters old (take k things) act mid → Enters mid (x ∷ []) act new → Enters old (take (k + 1) things) act new
 one_entered old mid new things k act x within is before or_false t i =
     let more : take k things ++ x ∷ [] ≡ take (k + 1) things = ap (λ y. take k things ++ y ∷ []) is ∙ sym (take_more things k x within) in
-    or_false t i ∙ ap (λ b. b || (nat_eq i act && (same_thing t x || false))) (before t i)
-    ∙ or_and (uses old t i) (nat_eq i act) (list_any (same_thing t) (take k things)) (same_thing t x)
-    ∙ ap (λ b. uses old t i || (nat_eq i act && b)) (sym (list_any-append (same_thing t) (take k things) (x ∷ [])) ∙ ap (list_any (same_thing t)) more)
+    or_false t i ∙ ap (λ b. b || (nat_eq i act && (meets t x || false))) (before t i)
+    ∙ or_and (uses old t i) (nat_eq i act) (list_any (meets t) (take k things)) (meets t x)
+    ∙ ap (λ b. uses old t i || (nat_eq i act && b)) (sym (list_any-append (meets t) (take k things) (x ∷ [])) ∙ ap (list_any (meets t)) more)
 
 pub all_entered : (old new : Users) (things : List Touched) (k act : ℕ) → length things ≤ k → Enters old (take k things) act new → Enters old things act new
 all_entered old new things k act all are t i =
-    are t i ∙ ap (λ l. uses old t i || (nat_eq i act && list_any (same_thing t) l)) (take_all k things all)
+    are t i ∙ ap (λ l. uses old t i || (nat_eq i act && list_any (meets t) l)) (take_all k things all)
 
--- what is so of each place that passes is so of each of the places
-each_place : (P : ℕ → Type 0) (places : List ℕ) → ((i : ℕ) → list_any (nat_eq i) places ≡ true → P i) → All P places
-each_place P [] so = All-nil P
-each_place P (x ∷ xs) so =
-    let here : nat_eq x x ≡ true = grind (arith, nat_tests) in
-    All-cons P x xs (so x (rw here refl)) (each_place P xs (λ i e. so i (or_right (nat_eq i x) (list_any (nat_eq i) xs) e)))
+-- ---- flags
 
-pub places_within : (places : List ℕ) (users : Users) (t : Touched) (n m : ℕ) → m ≡ n → ArePlaces places (uses users t) → AreWithin n users → All (λ i. i < m) places
-places_within places users t n m same are within =
-    each_place (λ i. i < m) places (λ i e. omega (arith, same, within t i (sym (are i) ∙ e)))
+or_three : (a b c : Bool) → ((a || b) || c) ≡ (a || (b || c))
+or_three true b c = refl
+or_three false b c = refl
+
+-- what is marked after more is what either marks
+pub marked_on : (p q : ℕ → Bool) (old mid new : List Bool) → Marks old p mid → Marks mid q new → Marks old (λ j. p j || q j) new
+marked_on p q old mid new first then = (
+  then.0 ∙ first.0,
+  λ j within.
+      then.1 j (omega (arith, within, first.0)) ∙ ap (λ b. b || q j) (first.1 j within) ∙ or_three (get_or old j false) (p j) (q j),
+)
+
+-- where two tests say the same, the same is marked
+pub marked_as : (p q : ℕ → Bool) (old new : List Bool) → ((j : ℕ) → p j ≡ q j) → Marks old p new → Marks old q new
+marked_as p q old new same h = (h.0, λ j within. h.1 j within ∙ ap (λ b. get_or old j false || b) (same j))
+
+-- nothing is marked where no place passes
+pub none_marked : (old : List Bool) (p : ℕ → Bool) → ((j : ℕ) → p j ≡ false) → Marks old p old
+none_marked old p none = (refl, λ j within. sym (or_false (get_or old j false)) ∙ ap (λ b. get_or old j false || b) (sym (none j)))
+
+-- one more of a list is marked
+pub marked_more : {X : Type 0} (p : X → ℕ → Bool) (xs : List X) (x : X) (old mid new : List Bool) → Marks old (λ j. list_any (λ y. p y j) xs) mid → Marks mid (p x) new
+    → Marks old (λ j. list_any (λ y. p y j) (xs ++ x ∷ [])) new
+marked_more p xs x old mid new first then =
+    marked_as _ _ old new (λ j. ap (λ b. list_any (λ y. p y j) xs || b) (sym (or_false (p x j))) ∙ sym (list_any-append (λ y. p y j) xs (x ∷ [])))
+    (marked_on (λ j. list_any (λ y. p y j) xs) (p x) old mid new first then)
+
+-- what a list passes through a change of its items
+pub any-map : {X Y : Type 0} (f : X → Y) (p : Y → Bool) (xs : List X) → list_any p (map f xs) ≡ list_any (λ x. p (f x)) xs
+any-map f p [] = refl
+any-map f p (x ∷ xs) = ap (λ b. p (f x) || b) (any-map f p xs)
+
+-- ---- flags that are all set
+
+each_set : (flags : List Bool) → list_all (λ flag. flag) flags ≡ true → (j : ℕ) → j < length flags → get_or flags j false ≡ true
+each_set [] e j h = absurd (omega (arith, h))
+each_set (flag ∷ flags) e zero h = first_so flag (list_all (λ flag. flag) flags) e
+each_set (flag ∷ flags) e (suc j) h = each_set flags (second_so flag (list_all (λ flag. flag) flags) e) j (omega (arith, h))
+
+-- what passes among the first passes among all
+more_pass : (p : Touched → Bool) (things : List Touched) (k : ℕ) → list_any p (take k things) ≡ true → list_any p things ≡ true
+more_pass p things k e =
+    ap (list_any p) (sym (take-append-drop k things)) ∙ list_any-append p (take k things) (drop k things)
+    ∙ ap (λ b. b || list_any p (drop k things)) e
+
+-- once all flags are set, what is left sets none
+pub all_marked : (users : Users) (things : List Touched) (k : ℕ) (old new : List Bool) → list_all (λ flag. flag) new ≡ true
+    → Marks old (λ j. list_any (λ t. uses users t j) (take k things)) new → Marks old (λ j. list_any (λ t. uses users t j) things) new
+all_marked users things k old new set marks = (
+  marks.0,
+  λ j within.
+      let on : get_or new j false ≡ true = each_set new set j (omega (arith, within, marks.0)) in
+      on ∙ sym (or_more (get_or old j false) (list_any (λ t. uses users t j) (take k things)) (list_any (λ t. uses users t j) things) (sym (marks.1 j within) ∙ on) (more_pass (λ t. uses users t j) things k)),
+)
+
+-- what two lists in a row use is marked one after the other
+pub marked_both : (xs ys : Users) (t : Touched) (old mid new : List Bool) → Marks old (uses xs t) mid → Marks mid (uses ys t) new → Marks old (uses (xs ++ ys) t) new
+marked_both xs ys t old mid new first then =
+    marked_as _ _ old new (λ j. sym (uses-append xs ys t j)) (marked_on (uses xs t) (uses ys t) old mid new first then)
+
+-- ---- one more in front of others
+
+or_mid : (a b c : Bool) → ((a || c) || b) ≡ ((a || b) || c)
+or_mid true b c = refl
+or_mid false true true = refl
+or_mid false true false = refl
+or_mid false false true = refl
+or_mid false false false = refl
+
+pub entered_front : (old new ys : Users) (things : List Touched) (act : ℕ) → Enters old things act new → Enters (old ++ ys) things act (new ++ ys)
+entered_front old new ys things act h t i =
+    uses-append new ys t i ∙ ap (λ b. b || uses ys t i) (h t i) ∙ or_mid (uses old t i) (uses ys t i) (nat_eq i act && list_any (meets t) things)
+    ∙ ap (λ b. b || (nat_eq i act && list_any (meets t) things)) (sym (uses-append old ys t i))
+
+pub same_front : (old new ys : Users) → IsSame old new → IsSame (old ++ ys) (new ++ ys)
+same_front old new ys h t i = uses-append new ys t i ∙ ap (λ b. b || uses ys t i) (h t i) ∙ sym (uses-append old ys t i)
+
+-- a single thing is told by what is touched
+pub single_told : (t : Touched) (s : Single) → single_of t ≡ Some s → touched_of s ≡ t
+single_told (Fact f) s e = let same : one.Fact f ≡ s = cc in ap touched_of (sym same)
+single_told (Value f) s e = let same : one.Value f ≡ s = cc in ap touched_of (sym same)
+single_told (Instance n) s e = let same : one.Instance n ≡ s = cc in ap touched_of (sym same)
+single_told (Facts p) s e = absurd (cc)
+single_told (Values p) s e = absurd (cc)
+single_told Instances s e = absurd (cc)

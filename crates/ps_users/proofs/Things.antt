@@ -1,55 +1,36 @@
--- Things that are the same, and what lists of things contain.
-use Rattle.std.proofs.Common.{◌≡◌, true, false, List, [], ◌∷◌, ◌++◌, All, map, refl, ap, sym, ◌∙◌, inl, inr}
-use Rattle.std.specs.List.{Contains, list_any}
+-- What meets itself, and what holds of each of several.
+use Rattle.std.proofs.Common.{◌≡◌, true, List, [], ◌∷◌, ◌++◌, All, Option, Some, None, refl}
 use Rattle.std.proofs.lemmas.List.Elements.{All-nil, All-cons, All-head, All-tail}
-use Rattle.std.proofs.lemmas.Bool.{false_from_ne_true, or_right}
+use Rattle.std.proofs.lemmas.Bool.{and_from}
+use Rattle.ps_world.specs.declared.names.Name.{Name}
 use Rattle.ps_world.proofs.SameTexts.{name_itself}
-use Rattle.ps_action.proofs.Contained.{contains_cases, contains_first, contains_later, contains_none, fact_itself, fact_same}
+use Rattle.ps_action.proofs.Contained.{fact_itself}
+use Rattle.ps_action.specs.declared.places.Place.{Place}
 use Rattle.ps_action.specs.declared.touched.Touched.{Touched}
-use Rattle.ps_action.specs.declared.touched.Touched.TheVariants.{Fact, Value, Instance}
-use Rattle.ps_action.specs.Arcs.{same_thing}
-use Rattle.ps_action.proofs.Facts.{same_name-is}
+use Rattle.ps_action.specs.declared.touched.Touched.TheVariants.{Fact, Value, Instance, Facts, Values, Instances}
+use Rattle.ps_action.specs.Arcs.{meets}
+use Rattle.ps_action.specs.Places.{hole_meets, holes_meet, places_meet}
 
--- ---- the same things
+-- ---- meeting itself
 
-pub thing_same : (s t : Touched) → same_thing s t ≡ true → s ≡ t
-thing_same (Fact f) (Fact g) e = ap Fact (fact_same f g e)
-thing_same (Value f) (Value g) e = ap Value (fact_same f g e)
-thing_same (Instance m) (Instance n) e = ap Instance (same_name-is m n e)
-thing_same s t e = absurd (cc)
+hole_itself : (h : Option Name) → hole_meets h h ≡ true
+hole_itself None = refl
+hole_itself (Some n) = name_itself n
 
-pub thing_itself : (t : Touched) → same_thing t t ≡ true
-thing_itself (Fact f) = fact_itself f
-thing_itself (Value f) = fact_itself f
-thing_itself (Instance n) = name_itself n
+holes_itself : (hs : List (Option Name)) → holes_meet hs hs ≡ true
+holes_itself [] = refl
+holes_itself (h ∷ hs) = and_from _ _ (hole_itself h) (holes_itself hs)
 
--- ---- what lists contain
+place_itself : (p : Place) → places_meet p p ≡ true
+place_itself p = and_from _ _ (name_itself p.head) (holes_itself p.args)
 
--- what a list contains is found there
-pub among : (t : Touched) (ts : List Touched) → Contains ts t → list_any (same_thing t) ts ≡ true
-among t [] c = absurd (contains_none t c)
-among t (x ∷ xs) c =
-    elim (contains_cases x t xs c) [
-      | inl s ↦
-          let here : same_thing t x ≡ true = ap (same_thing t) s ∙ thing_itself t in
-          rw here refl
-      | inr later ↦ or_right (same_thing t x) (list_any (same_thing t) xs) (among t xs later)
-    ]
-
--- and what it doesn't contain isn't
-pub absent : (t : Touched) (ts : List Touched) → (¬ (Contains ts t)) → list_any (same_thing t) ts ≡ false
-absent t [] n = refl
-absent t (x ∷ xs) n =
-    let away : same_thing t x ≡ false = false_from_ne_true (same_thing t x) (λ e. n (contains_first x t xs (sym (thing_same t x e)))) in
-    rw away (absent t xs (λ c. n (contains_later x t xs c)))
-
-pub contains_map : {X Y : Type 0} (h : X → Y) (xs : List X) (x : X) → Contains xs x → Contains (map h xs) (h x)
-contains_map h [] x c = absurd (contains_none x c)
-contains_map h (y ∷ ys) x c =
-    elim (contains_cases y x ys c) [
-      | inl s ↦ contains_first (h y) (h x) (map h ys) (ap h s)
-      | inr later ↦ contains_later (h y) (h x) (map h ys) (contains_map h ys x later)
-    ]
+pub meets_itself : (t : Touched) → meets t t ≡ true
+meets_itself (Fact f) = fact_itself f
+meets_itself (Value f) = fact_itself f
+meets_itself (Instance n) = name_itself n
+meets_itself (Facts p) = place_itself p
+meets_itself (Values p) = place_itself p
+meets_itself Instances = refl
 
 -- ---- what holds of each
 

@@ -7,10 +7,10 @@ use Rattle.std.proofs.lemmas.Bool.Decides.{nat_tests}
 use Rattle.ps_world.specs.Names.{Table, object, name_text}
 use Rattle.ps_world.specs.Numbers.{decimals_text, magnitude_text, number_text}
 use Rattle.ps_world.specs.Lines.{AreLines, is_line}
-use Rattle.ps_world.specs.Trees.{ExprTree, number, value_of, negated, operated, CondTree, CondTrees, all_of, no, holds, same, compares, is_a, none, more}
+use Rattle.ps_world.specs.Trees.{ExprTree, number, value_of, negated, operated, CondTree, CondTrees, all_of, any_of, no, implied, holds, same, compares, is_a, for_some, for_all, none, more}
 use Rattle.ps_world.specs.ExprViews.{expr_tree}
 use Rattle.ps_world.specs.CondViews.{cond_tree}
-use Rattle.ps_world.specs.DomainTexts.{after_spaces, spaced, typed_text, param_text, decl_text, term_text, lifted_text, op_text, expr_text, rel_text, cond_text, conds_text, num_op_text, effect_text, timed_text, conditions_text, effects_text, action_lines, section_lines, domain_lines}
+use Rattle.ps_world.specs.DomainTexts.{after_spaces, spaced, typed_text, param_text, decl_text, term_text, lifted_text, op_text, expr_text, rel_text, bound_text, cond_text, conds_text, num_op_text, effect_text, timed_text, conditions_text, effects_text, action_lines, section_lines, domain_lines}
 use Rattle.ps_world.specs.Texts.{args_text, fact_text, value_text, goal_text, edit_text, edit_refusal_text}
 use Rattle.ps_world.specs.declared.names.Name.{Name}
 use Rattle.ps_world.specs.declared.numbers.Num.{Num}
@@ -175,10 +175,18 @@ module _ (names : Table) (named : AreLines names) where
   is_line-expr ps (operated op x y) =
       is_line-pair (op_text op) (expr_text names ps x) (expr_text names ps y) (is_line-op op) (is_line-expr ps x) (is_line-expr ps y)
 
+  is_line-bound : (qs : List Param) → is_line (bound_text names qs) ≡ true
+  is_line-bound qs =
+      is_line-append (spaced (map (param_text names) qs)) (codes ")") (is_line-spaced (param_text names) qs is_line-param) refl
+
   mutual
     is_line-cond : (ps : List Param) (c : CondTree) → is_line (cond_text names ps c) ≡ true
     is_line-cond ps (all_of cs) = is_line-append (conds_text names ps cs) (codes ")") (is_line-conds ps cs) refl
+    is_line-cond ps (any_of cs) = is_line-append (conds_text names ps cs) (codes ")") (is_line-conds ps cs) refl
     is_line-cond ps (no c) = is_line-append (cond_text names ps c) (codes ")") (is_line-cond ps c) refl
+    is_line-cond ps (implied a b) =
+        is_line-append (cond_text names ps a) (codes " " ++ (cond_text names ps b ++ codes ")")) (is_line-cond ps a)
+        (is_line-append (cond_text names ps b) (codes ")") (is_line-cond ps b) refl)
     is_line-cond ps (holds l) = is_line-lifted ps l
     is_line-cond ps (same s t) =
         is_line-append (term_text names ps s) (codes " " ++ (term_text names ps t ++ codes ")")) (is_line-term ps s)
@@ -186,6 +194,12 @@ module _ (names : Table) (named : AreLines names) where
     is_line-cond ps (compares rel x y) =
         is_line-pair (rel_text rel) (expr_text names ps x) (expr_text names ps y) (is_line-rel rel) (is_line-expr ps x) (is_line-expr ps y)
     is_line-cond ps (is_a t kind) = refl
+    is_line-cond ps (for_some qs c) =
+        is_line-append (bound_text names qs) (codes " " ++ (cond_text names (ps ++ qs) c ++ codes ")")) (is_line-bound qs)
+        (is_line-append (cond_text names (ps ++ qs) c) (codes ")") (is_line-cond (ps ++ qs) c) refl)
+    is_line-cond ps (for_all qs c) =
+        is_line-append (bound_text names qs) (codes " " ++ (cond_text names (ps ++ qs) c ++ codes ")")) (is_line-bound qs)
+        (is_line-append (cond_text names (ps ++ qs) c) (codes ")") (is_line-cond (ps ++ qs) c) refl)
 
     is_line-conds : (ps : List Param) (cs : CondTrees) → is_line (conds_text names ps cs) ≡ true
     is_line-conds ps none = refl

@@ -1,5 +1,5 @@
 -- Values that may be missing, and lists of them.
-use Rattle.std.proofs.Common.{◌≡◌, Bool, true, false, Option, Some, None, is_some, is_none, List, [], option_map, option_to_list, refl}
+use Rattle.std.proofs.Common.{◌≡◌, Bool, true, false, Option, Some, None, is_some, is_none, [], option_map, option_to_list, refl}
 use Rattle.std.specs.List.{cons_option}
 use Rattle.std.specs.Option.{option_or, option_map_or}
 

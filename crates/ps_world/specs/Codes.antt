@@ -12,6 +12,7 @@ use Rattle.ps_world.specs.declared.names.Name.{Name}
 use Rattle.ps_world.specs.declared.numbers.Num.{Num}
 use Rattle.ps_world.specs.declared.expressions.Op.{Op}
 use Rattle.ps_world.specs.declared.conditions.Rel.{Rel}
+use Rattle.ps_world.specs.declared.domains.Param.{Param}
 use Rattle.ps_world.specs.declared.schemas.Lifted.{Lifted}
 use Rattle.ps_world.specs.declared.schemas.Term.{Term}
 use Rattle.ps_world.specs.declared.schemas.Term.TheVariants.{Var, Const}
@@ -57,3 +58,11 @@ op_code = record { code = λ o. gnum (tag_of op.the_type o); inj = λ x y p. tag
 -- a relation is told by its place among the relations
 abbrev pub rel_code : Coded Rel
 rel_code = record { code = λ r. gnum (tag_of rel.the_type r); inj = λ x y p. tag_one rel.the_type tt x y (ap num p) }
+
+-- a parameter is told by its name and its type
+abbrev pub param_code : Coded Param
+param_code = code_by (Name × Name) (coded× name_code name_code) (λ p. (p.name, p.kind)) (λ w. record { name = w.0; kind = w.1 }) (λ _. refl)
+
+-- parameters are told by each of them
+abbrev pub params_code : Coded (List Param)
+params_code = code_of_list param_code

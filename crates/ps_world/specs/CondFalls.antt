@@ -5,16 +5,20 @@ use denote.Param.Weighed.{most}
 use Rattle.ps_world.specs.Trees.{cond_rank, conds_rank}
 use Rattle.ps_world.specs.CondViews.{cond_tree}
 use Rattle.ps_world.specs.declared.conditions.Cond.{Cond}
-use Rattle.ps_world.specs.declared.conditions.Cond.TheVariants.{And, Not, Holds, Same, Cmp, IsA}
+use Rattle.ps_world.specs.declared.conditions.Cond.TheVariants.{And, Or, Not, Imply, Holds, Same, Cmp, IsA, ForSome, ForAll}
 use Rattle.ps_world.specs.declared.conditions.BoxedCond.TheDeep.{deep-Cond}
 
 deep_le-rank : (c : Cond) → deep-Cond c ≤ cond_rank (cond_tree c)
 deep_le-rank (And cs) = omega arith
+deep_le-rank (Or cs) = omega arith
 deep_le-rank (Not c) = omega arith
+deep_le-rank (Imply a b) = omega arith
 deep_le-rank (Holds l) = omega arith
 deep_le-rank (Same s t) = omega arith
 deep_le-rank (Cmp r a b) = omega arith
 deep_le-rank (IsA t k) = omega arith
+deep_le-rank (ForSome ps c) = omega arith
+deep_le-rank (ForAll ps c) = omega arith
 
 pub cond_falls : (c : Cond) → max (deep-Cond c) 0 ≤ cond_rank (cond_tree c)
 cond_falls c = omega (arith, deep_le-rank c)

@@ -4,7 +4,7 @@ use Rattle.std.specs.List.{flat_map}
 use Rattle.ps_world.specs.Lines.{line_end}
 use Rattle.ps_world.specs.Names.{Table, object, name_text}
 use Rattle.ps_world.specs.Numbers.{number_text}
-use Rattle.ps_world.specs.Trees.{ExprTree, number, value_of, negated, operated, CondTree, CondTrees, all_of, no, holds, same, compares, is_a, none, more}
+use Rattle.ps_world.specs.Trees.{ExprTree, number, value_of, negated, operated, CondTree, CondTrees, all_of, any_of, no, implied, holds, same, compares, is_a, for_some, for_all, none, more}
 use Rattle.ps_world.specs.ExprViews.{expr_tree}
 use Rattle.ps_world.specs.declared.schemas.Term.{Term}
 use Rattle.ps_world.specs.declared.schemas.Term.TheVariants.{Var, Const}
@@ -46,9 +46,9 @@ abbrev pub decl_text : Table → Decl → List ℕ
 decl_text names decl =
     codes "(" ++ (name_text names decl.name ++ (after_spaces (map (param_text names) decl.params) ++ codes ")"))
 
--- ---- terms and expressions, where these are the parameters
+-- ---- terms and expressions, where these are the variables in force
 
--- a parameter by its name, or a constant
+-- a variable by its name, or a constant
 abbrev pub term_text : Table → List Param → Term → List ℕ
 term_text names ps (Var i) = codes "?" ++ name_text names (slice_index_or ps i (record { name = object; kind = object })).name
 term_text names ps (Const n) = name_text names n
@@ -83,17 +83,29 @@ rel_text Eq = codes "="
 rel_text Ge = codes ">="
 rel_text Gt = codes ">"
 
+-- the variables of a quantifier, as (?r - robot ?ro - room)
+abbrev pub bound_text : Table → List Param → List ℕ
+bound_text names qs = codes "(" ++ (spaced (map (param_text names) qs) ++ codes ")")
+
 abbrev mutual
-  -- (and C*) | (not C) | (NAME TERM*) | (= TERM TERM) | (REL X X); that an instance has a type is never written
+  -- (and C*) | (or C*) | (not C) | (imply C C) | (exists (VLIST) C) | (forall (VLIST) C) | (NAME TERM*) | (= TERM TERM) | (REL X X), where each
+  -- variable of a list stands with its type; that an instance has a type is never written
   pub cond_text : Table → List Param → CondTree → List ℕ
   cond_text names ps (all_of cs) = codes "(and" ++ (conds_text names ps cs ++ codes ")")
+  cond_text names ps (any_of cs) = codes "(or" ++ (conds_text names ps cs ++ codes ")")
   cond_text names ps (no c) = codes "(not " ++ (cond_text names ps c ++ codes ")")
+  cond_text names ps (implied a b) =
+      codes "(imply " ++ (cond_text names ps a ++ (codes " " ++ (cond_text names ps b ++ codes ")")))
   cond_text names ps (holds l) = lifted_text names ps l
   cond_text names ps (same s t) =
       codes "(= " ++ (term_text names ps s ++ (codes " " ++ (term_text names ps t ++ codes ")")))
   cond_text names ps (compares rel x y) =
       codes "(" ++ (rel_text rel ++ (codes " " ++ (expr_text names ps x ++ (codes " " ++ (expr_text names ps y ++ codes ")")))))
   cond_text names ps (is_a t kind) = []
+  cond_text names ps (for_some qs c) =
+      codes "(exists " ++ (bound_text names qs ++ (codes " " ++ (cond_text names (ps ++ qs) c ++ codes ")")))
+  cond_text names ps (for_all qs c) =
+      codes "(forall " ++ (bound_text names qs ++ (codes " " ++ (cond_text names (ps ++ qs) c ++ codes ")")))
 
   -- conditions, each after a space
   pub conds_text : Table → List Param → CondTrees → List ℕ

@@ -1,6 +1,6 @@
 -- What is known, and how an edit changes it.
-use Rattle.std.specs.Prelude.{ℕ, Bool, false, not, ◌||◌, ◌==◌, ◌+◌, suc, zero, nat_le, if◌then◌else◌, Option, Some, None, is_none, is_some, Result, Ok, Err, List, [], ◌∷◌, filter, length, find, fold, map}
-use Rattle.std.specs.List.{list_any}
+use Rattle.std.specs.Prelude.{ℕ, Bool, false, not, ◌||◌, ◌==◌, ◌+◌, suc, zero, nat_le, if◌then◌else◌, Option, Some, None, is_none, is_some, Result, Ok, Err, List, [], ◌∷◌, ◌++◌, filter, length, find, fold, map, slice_index_or}
+use Rattle.std.specs.List.{list_all, list_any}
 use Rattle.std.specs.Option.{option_map, option_map_or, option_or}
 use Rattle.std.specs.BTreeMap.{insert_entry}
 use Rattle.std.specs.BTreeSet.{insert_key}
@@ -8,7 +8,7 @@ use Rattle.std.specs.Map.{lookup}
 use Rattle.std.specs.Ordering.{is_eq}
 use Rattle.ps_world.specs.Names.{same_name, name_cmp, object}
 use Rattle.ps_world.specs.Facts.{fact_cmp}
-use Rattle.ps_world.specs.Trees.{ExprTree, number, value_of, negated, operated, CondTree, CondTrees, all_of, no, holds, same, compares, is_a, none, more}
+use Rattle.ps_world.specs.Trees.{ExprTree, number, value_of, negated, operated, CondTree, CondTrees, all_of, any_of, no, implied, holds, same, compares, is_a, for_some, for_all, none, more}
 use Rattle.ps_world.specs.CondViews.{cond_tree}
 use Rattle.ps_world.specs.declared.names.Name.{Name}
 use Rattle.ps_world.specs.declared.numbers.Num.{Num}
@@ -71,12 +71,17 @@ abbrev pub misfit_by : {R : Type 0} → (Name → R) → (ℕ → R) → Domain 
 misfit_by unknown unfit d None want n at = Some (unknown n)
 misfit_by unknown unfit d (Some kind) want n at = if is_below d kind want then None else Some (unfit at)
 
+-- the first fault of what stands at the places of parameters, counted from this place on, where this is the fault of one at a place where a
+-- type is wanted
+abbrev pub first_fault : {A R : Type 0} → (A → Name → ℕ → Option R) → List Param → List A → ℕ → Option R
+first_fault fault [] xs at = None
+first_fault fault (p ∷ ps) [] at = None
+first_fault fault (p ∷ ps) (x ∷ xs) at = option_or (fault x p.kind at) (first_fault fault ps xs (at + 1))
+
 -- the first argument that is no instance, or that doesn't fit its parameter, counted from this place on, as a refusal says it
 abbrev pub first_misfit_by : {R : Type 0} → (Name → R) → (ℕ → R) → Domain → List (Name × Name) → List Param → List Name → ℕ → Option R
-first_misfit_by unknown unfit d instances [] ns at = None
-first_misfit_by unknown unfit d instances (p ∷ ps) [] at = None
-first_misfit_by unknown unfit d instances (p ∷ ps) (n ∷ ns) at =
-    option_or (misfit_by unknown unfit d (lookup (same_name n) instances) p.kind n at) (first_misfit_by unknown unfit d instances ps ns (at + 1))
+first_misfit_by unknown unfit d instances ps ns at =
+    first_fault (λ n want i. misfit_by unknown unfit d (lookup (same_name n) instances) want n i) ps ns at
 
 -- the first refusal, if there is one, else the second
 abbrev pub or_else : Option EditRefusal → Option EditRefusal → Option EditRefusal
@@ -89,12 +94,17 @@ misfit d kind want n at = misfit_by NoInstance WrongType d kind want n at
 abbrev pub first_misfit : Domain → Knowledge → List Param → List Name → ℕ → Option EditRefusal
 first_misfit d k ps ns at = first_misfit_by NoInstance WrongType d k.instances ps ns at
 
--- why arguments don't suit a declaration, if they don't; this is the refusal where there is none
+-- why arguments don't suit a declaration, if they don't, where this is the fault of one at a place where a type is wanted; the refusal is the
+-- one where there is no declaration
+abbrev pub unsuited_by : {A : Type 0} → (A → Name → ℕ → Option EditRefusal) → EditRefusal → Option Decl → List A → Option EditRefusal
+unsuited_by fault missing None xs = Some missing
+unsuited_by fault missing (Some decl) xs =
+    if length decl.params == length xs then first_fault fault decl.params xs 0
+    else Some (Arity (length decl.params) (length xs))
+
+-- why names don't suit a declaration, if they don't
 abbrev pub unsuited : EditRefusal → Domain → Knowledge → Option Decl → List Name → Option EditRefusal
-unsuited missing d k None ns = Some missing
-unsuited missing d k (Some decl) ns =
-    if length decl.params == length ns then first_misfit d k decl.params ns 0
-    else Some (Arity (length decl.params) (length ns))
+unsuited missing d k decl ns = unsuited_by (λ n want at. misfit d (kind_of k n) want n at) missing decl ns
 
 -- why a fact can't be spoken of, if it can't
 abbrev pub fault_of_fact : Domain → Knowledge → Fact → Option EditRefusal
@@ -104,7 +114,7 @@ fault_of_fact d k f = unsuited NoPredicate d k (predicate_of d f.head) f.args
 abbrev pub fault_of_value : Domain → Knowledge → Fact → Option EditRefusal
 fault_of_value d k f = unsuited NoFunction d k (function_of d f.head) f.args
 
--- ---- goals, in which every term is a name
+-- ---- heads in which every term is a name
 
 -- the name that a term is
 abbrev pub name_of : Term → Name
@@ -115,42 +125,79 @@ name_of (Const n) = n
 abbrev pub ground : Lifted → Fact
 ground l = record { head = l.head; args = map name_of l.terms }
 
--- why a number can't be asked for, if it can't: the first fault in the order of the text
-abbrev pub fault_of_expr : Domain → Knowledge → ExprTree → Option EditRefusal
-fault_of_expr d k (number n) = None
-fault_of_expr d k (value_of l) = fault_of_value d k (ground l)
-fault_of_expr d k (negated x) = fault_of_expr d k x
-fault_of_expr d k (operated op x y) = or_else (fault_of_expr d k x) (fault_of_expr d k y)
+-- ---- goals, in which a variable stands for each instance of its type; these are the types of the variables in force, outer ones first
 
--- why a name is no instance, if it is none
-abbrev pub fault_of_name : Knowledge → Name → Option EditRefusal
-fault_of_name k n = if is_none (kind_of k n) then Some (NoInstance n) else None
+-- why a term can't stand at a place where that type is wanted, if it can't: a variable has its own type
+abbrev pub misfit_of_term : Domain → Knowledge → List Name → Term → Name → ℕ → Option EditRefusal
+misfit_of_term d k kinds (Var i) want at = misfit d (Some (slice_index_or kinds i object)) want object at
+misfit_of_term d k kinds (Const n) want at = misfit d (kind_of k n) want n at
+
+-- why a predicate can't be asked for at these terms, if it can't
+abbrev pub fault_of_atom : Domain → Knowledge → List Name → Lifted → Option EditRefusal
+fault_of_atom d k kinds l = unsuited_by (misfit_of_term d k kinds) NoPredicate (predicate_of d l.head) l.terms
+
+-- why a function's value can't be asked for at these terms, if it can't
+abbrev pub fault_of_call : Domain → Knowledge → List Name → Lifted → Option EditRefusal
+fault_of_call d k kinds l = unsuited_by (misfit_of_term d k kinds) NoFunction (function_of d l.head) l.terms
+
+-- why a number can't be asked for, if it can't: the first fault in the order of the text
+abbrev pub fault_of_expr : Domain → Knowledge → List Name → ExprTree → Option EditRefusal
+fault_of_expr d k kinds (number n) = None
+fault_of_expr d k kinds (value_of l) = fault_of_call d k kinds l
+fault_of_expr d k kinds (negated x) = fault_of_expr d k kinds x
+fault_of_expr d k kinds (operated op x y) = or_else (fault_of_expr d k kinds x) (fault_of_expr d k kinds y)
+
+-- why a side of a (= a b) is no instance, if it is none: a variable stands for one
+abbrev pub fault_of_side : Knowledge → Term → Option EditRefusal
+fault_of_side k (Var i) = None
+fault_of_side k (Const n) = if is_none (kind_of k n) then Some (NoInstance n) else None
+
+-- why variables can't be bound, if they can't: the type of one isn't declared
+abbrev pub fault_of_bound : Domain → List Param → Option EditRefusal
+fault_of_bound d ps = if list_all (λ p. is_type d p.kind) ps then None else Some NoType
+
+-- the types of variables
+abbrev pub kinds_of : List Param → List Name
+kinds_of ps = map (λ p. p.kind) ps
 
 abbrev mutual
   -- why a condition can't be a goal, if it can't: the first fault in the order of the text
-  pub fault_of_cond : Domain → Knowledge → CondTree → Option EditRefusal
-  fault_of_cond d k (all_of cs) = fault_of_conds d k cs
-  fault_of_cond d k (no c) = fault_of_cond d k c
-  fault_of_cond d k (holds l) = fault_of_fact d k (ground l)
-  fault_of_cond d k (same s t) = or_else (fault_of_name k (name_of s)) (fault_of_name k (name_of t))
-  fault_of_cond d k (compares rel x y) = or_else (fault_of_expr d k x) (fault_of_expr d k y)
-  fault_of_cond d k (is_a t kind) = None
+  pub fault_of_cond : Domain → Knowledge → List Name → CondTree → Option EditRefusal
+  fault_of_cond d k kinds (all_of cs) = fault_of_conds d k kinds cs
+  fault_of_cond d k kinds (any_of cs) = fault_of_conds d k kinds cs
+  fault_of_cond d k kinds (no c) = fault_of_cond d k kinds c
+  fault_of_cond d k kinds (implied a b) = or_else (fault_of_cond d k kinds a) (fault_of_cond d k kinds b)
+  fault_of_cond d k kinds (holds l) = fault_of_atom d k kinds l
+  fault_of_cond d k kinds (same s t) = or_else (fault_of_side k s) (fault_of_side k t)
+  fault_of_cond d k kinds (compares rel x y) = or_else (fault_of_expr d k kinds x) (fault_of_expr d k kinds y)
+  fault_of_cond d k kinds (is_a t kind) = None
+  fault_of_cond d k kinds (for_some ps c) = or_else (fault_of_bound d ps) (fault_of_cond d k (kinds ++ kinds_of ps) c)
+  fault_of_cond d k kinds (for_all ps c) = or_else (fault_of_bound d ps) (fault_of_cond d k (kinds ++ kinds_of ps) c)
 
   -- the same of several, one after another
-  pub fault_of_conds : Domain → Knowledge → CondTrees → Option EditRefusal
-  fault_of_conds d k none = None
-  fault_of_conds d k (more c cs) = or_else (fault_of_cond d k c) (fault_of_conds d k cs)
+  pub fault_of_conds : Domain → Knowledge → List Name → CondTrees → Option EditRefusal
+  fault_of_conds d k kinds none = None
+  fault_of_conds d k kinds (more c cs) = or_else (fault_of_cond d k kinds c) (fault_of_conds d k kinds cs)
 
--- ---- what names an instance: a head and a type name none
+-- ---- what names an instance: a head, a type and a variable name none
 
 -- whether the name is among these arguments
 abbrev pub is_among : Name → List Name → Bool
 is_among n ns = list_any (same_name n) ns
 
+-- whether a term is this name
+abbrev pub term_names : Name → Term → Bool
+term_names n (Var i) = false
+term_names n (Const m) = same_name n m
+
+-- whether one of several is
+abbrev pub terms_name : Name → List Term → Bool
+terms_name n ts = list_any (term_names n) ts
+
 -- whether an expression names it
 abbrev pub expr_names : Name → ExprTree → Bool
 expr_names n (number m) = false
-expr_names n (value_of l) = is_among n (ground l).args
+expr_names n (value_of l) = terms_name n l.terms
 expr_names n (negated x) = expr_names n x
 expr_names n (operated op x y) = expr_names n x || expr_names n y
 
@@ -158,11 +205,15 @@ abbrev mutual
   -- whether a condition names it, as an argument or in a (= a b)
   pub cond_names : Name → CondTree → Bool
   cond_names n (all_of cs) = conds_name n cs
+  cond_names n (any_of cs) = conds_name n cs
   cond_names n (no c) = cond_names n c
-  cond_names n (holds l) = is_among n (ground l).args
-  cond_names n (same s t) = same_name n (name_of s) || same_name n (name_of t)
+  cond_names n (implied a b) = cond_names n a || cond_names n b
+  cond_names n (holds l) = terms_name n l.terms
+  cond_names n (same s t) = term_names n s || term_names n t
   cond_names n (compares rel x y) = expr_names n x || expr_names n y
-  cond_names n (is_a t kind) = same_name n (name_of t)
+  cond_names n (is_a t kind) = term_names n t
+  cond_names n (for_some ps c) = cond_names n c
+  cond_names n (for_all ps c) = cond_names n c
 
   -- whether one of several does
   pub conds_name : Name → CondTrees → Bool
@@ -241,7 +292,7 @@ edited d k (AddFact f) = unless (fault_of_fact d k f) (Ok (record k { facts = in
 edited d k (RemoveFact f) = unless (fault_of_fact d k f) (without_fact k f)
 edited d k (SetValue f x) = unless (fault_of_value d k f) (Ok (record k { values = insert_entry fact_cmp k.values f x }))
 edited d k (RemoveValue f) = unless (fault_of_value d k f) (without_value k f)
-edited d k (SetGoal c) = unless (fault_of_cond d k (cond_tree c)) (Ok (record k { goal = Some c }))
+edited d k (SetGoal c) = unless (fault_of_cond d k [] (cond_tree c)) (Ok (record k { goal = Some c }))
 edited d k RemoveGoal = without_goal k k.goal
 
 -- instances with a constant put in, with its type

@@ -1,5 +1,5 @@
 -- What can be printed with a table of so many names: all of whose names the table has.
-use Rattle.std.specs.Prelude.{ℕ, ◌<◌, All, []}
+use Rattle.std.specs.Prelude.{ℕ, ◌<◌, All, [], length}
 use Rattle.ps_world.specs.Numbers.{IsCount}
 use Rattle.ps_world.specs.Trees.{ExprTree, number, value_of, negated, operated, CondTree}
 use Rattle.ps_world.specs.Leaves.{Leaves, AllIn}
@@ -9,6 +9,7 @@ use Rattle.ps_world.specs.declared.schemas.Term.{Term}
 use Rattle.ps_world.specs.declared.schemas.Term.TheVariants.{Var, Const}
 use Rattle.ps_world.specs.declared.schemas.Lifted.{Lifted}
 use Rattle.ps_world.specs.declared.facts.Fact.{Fact}
+use Rattle.ps_world.specs.declared.domains.Param.{Param}
 use Rattle.ps_world.specs.declared.edits.Edit.{Edit}
 use Rattle.ps_world.specs.declared.edits.Edit.TheVariants.{AddInstance, RemoveInstance, AddFact, RemoveFact, SetValue, RemoveValue, SetGoal, RemoveGoal}
 use Rattle.ps_world.specs.declared.edits.EditRefusal.{EditRefusal}
@@ -22,29 +23,35 @@ IsOf count n = n.0 < count
 abbrev pub IsFactOf : ℕ → Fact → Type 0
 IsFactOf count f = IsOf count f.head × All (IsOf count) f.args
 
--- a term is such a name, and no variable
-abbrev pub IsGroundTermOf : ℕ → Term → Type 0
-IsGroundTermOf count (Var i) = ⊥
-IsGroundTermOf count (Const n) = IsOf count n
+-- the names of a variable and of its type are
+abbrev pub IsParamOf : ℕ → Param → Type 0
+IsParamOf count p = IsOf count p.name × IsOf count p.kind
+
+-- a term is such a name, or one of so many variables
+abbrev pub IsBoundTermOf : ℕ → ℕ → Term → Type 0
+IsBoundTermOf count vars (Var i) = i < vars
+IsBoundTermOf count vars (Const n) = IsOf count n
 
 -- a head and its arguments are
-abbrev pub IsGroundOf : ℕ → Lifted → Type 0
-IsGroundOf count l = IsOf count l.head × All (IsGroundTermOf count) l.terms
+abbrev pub IsBoundOf : ℕ → ℕ → Lifted → Type 0
+IsBoundOf count vars l = IsOf count l.head × All (IsBoundTermOf count vars) l.terms
 
--- an expression's names are, and its numbers are in range
-abbrev pub IsGroundExprOf : ℕ → ExprTree → Type 0
-IsGroundExprOf count (number n) = IsCount n
-IsGroundExprOf count (value_of l) = IsGroundOf count l
-IsGroundExprOf count (negated x) = IsGroundExprOf count x
-IsGroundExprOf count (operated op x y) = IsGroundExprOf count x × IsGroundExprOf count y
+-- an expression's names are, where so many variables are in force, and its numbers are in range
+abbrev pub IsBoundExprOf : ℕ → ℕ → ExprTree → Type 0
+IsBoundExprOf count vars (number n) = IsCount n
+IsBoundExprOf count vars (value_of l) = IsBoundOf count vars l
+IsBoundExprOf count vars (negated x) = IsBoundExprOf count vars x
+IsBoundExprOf count vars (operated op x y) = IsBoundExprOf count vars x × IsBoundExprOf count vars y
 
--- what a goal's leaves are: of such names, with no variable, and no type is asked for
+-- what a goal's leaves are: of such names, with no variable but those that a quantifier binds, and no type is asked for
 abbrev pub goal_leaves : ℕ → Leaves
 goal_leaves count = record {
-  atom = λ ps l. IsGroundOf count l;
-  term = λ ps t. IsGroundTermOf count t;
-  value = λ ps x. IsGroundExprOf count x;
+  atom = λ ps l. IsBoundOf count (length ps) l;
+  term = λ ps t. IsBoundTermOf count (length ps) t;
+  value = λ ps x. IsBoundExprOf count (length ps) x;
   kind = λ ps kind. ⊥;
+  bound = λ ps qs. All (IsParamOf count) qs;
+  either = Unit {0};
 }
 
 -- a goal of such leaves

@@ -27,7 +27,7 @@ fact_text names f = codes "(" ++ (name_text names f.head ++ (args_text names f.a
 abbrev pub value_text : Table → Fact → Num → List ℕ
 value_text names f x = codes "(= " ++ (fact_text names f ++ (codes " " ++ (number_text x ++ codes ")")))
 
--- a goal, in which every term is a name
+-- a goal, in which no variable stands but those that its quantifiers bind
 abbrev pub goal_text : Table → Cond → List ℕ
 goal_text names goal = cond_text names [] (cond_tree goal)
 

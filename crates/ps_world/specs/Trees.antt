@@ -3,13 +3,14 @@ use Rattle.std.specs.Prelude.{◌≡◌, ℕ, suc, max, List, [], ◌∷◌, ref
 use Rattle.std.specs.Coded.{Coded, code_by}
 use Rattle.std.proofs.Common.{ap}
 use base.Stored.{Gv, gnil, gnum, gcons}
-use Rattle.ps_world.specs.Codes.{name_code, term_code, lifted_code, num_code, op_code, rel_code}
+use Rattle.ps_world.specs.Codes.{name_code, term_code, lifted_code, num_code, op_code, rel_code, params_code}
 use Rattle.ps_world.specs.declared.names.Name.{Name}
 use Rattle.ps_world.specs.declared.numbers.Num.{Num}
 use Rattle.ps_world.specs.declared.schemas.Term.{Term}
 use Rattle.ps_world.specs.declared.schemas.Lifted.{Lifted}
 use Rattle.ps_world.specs.declared.expressions.Op.{Op}
 use Rattle.ps_world.specs.declared.conditions.Rel.{Rel}
+use Rattle.ps_world.specs.declared.domains.Param.{Param}
 
 -- a number, the value of a function, an expression with the other sign, an operation on two
 pub data ExprTree : Type 0 where
@@ -47,15 +48,20 @@ expr_code_one x y p = absurd (cc)
 abbrev pub expr_tree_code : Coded ExprTree
 expr_tree_code = record { code = expr_code; inj = expr_code_one }
 
--- all of these, not this, a fact is known, two terms are the same, two numbers compare so, an instance has a type
+-- All of these, any of these, not this, the second where the first holds, a fact is known, two terms are the same, two numbers compare so, an
+-- instance has a type; for some choice of instances that fit these variables, and for each choice.
 mutual
   pub data CondTree : Type 0 where
     all_of : CondTrees → CondTree
+    any_of : CondTrees → CondTree
     no : CondTree → CondTree
+    implied : CondTree → CondTree → CondTree
     holds : Lifted → CondTree
     same : Term → Term → CondTree
     compares : Rel → ExprTree → ExprTree → CondTree
     is_a : Term → Name → CondTree
+    for_some : List Param → CondTree → CondTree
+    for_all : List Param → CondTree → CondTree
 
   pub data CondTrees : Type 0 where
     none : CondTrees
@@ -79,11 +85,15 @@ list_of-cond_trees (c ∷ cs) = ap (λ more. c ∷ more) (list_of-cond_trees cs)
 abbrev mutual
   pub cond_rank : CondTree → ℕ
   cond_rank (all_of cs) = suc (cond_ranks cs)
+  cond_rank (any_of cs) = suc (cond_ranks cs)
   cond_rank (no c) = suc (cond_rank c)
+  cond_rank (implied a b) = suc (max (cond_rank a) (cond_rank b))
   cond_rank (holds l) = 0
   cond_rank (same s t) = 0
   cond_rank (compares r a b) = 0
   cond_rank (is_a t k) = 0
+  cond_rank (for_some ps c) = suc (cond_rank c)
+  cond_rank (for_all ps c) = suc (cond_rank c)
 
   pub cond_ranks : CondTrees → ℕ
   cond_ranks none = 0
@@ -102,6 +112,10 @@ abbrev mutual
   cond_code (same s t) = gcons (gnum 3) (gcons (term_code.code s) (term_code.code t))
   cond_code (compares r a b) = gcons (gnum 4) (gcons (rel_code.code r) (gcons (expr_code a) (expr_code b)))
   cond_code (is_a t k) = gcons (gnum 5) (gcons (term_code.code t) (name_code.code k))
+  cond_code (any_of cs) = gcons (gnum 6) (cond_codes cs)
+  cond_code (implied a b) = gcons (gnum 7) (gcons (cond_code a) (cond_code b))
+  cond_code (for_some ps c) = gcons (gnum 8) (gcons (params_code.code ps) (cond_code c))
+  cond_code (for_all ps c) = gcons (gnum 9) (gcons (params_code.code ps) (cond_code c))
 
   pub cond_codes : CondTrees → Gv
   cond_codes none = gnil
@@ -124,6 +138,19 @@ mutual
   cond_code_one (is_a t k) (is_a u l) p =
       let term : t ≡ u = term_code.inj t u (cc) in
       let kind : k ≡ l = name_code.inj k l (cc) in
+      cc
+  cond_code_one (any_of cs) (any_of ds) p = ap any_of (cond_codes_one cs ds (cc))
+  cond_code_one (implied a b) (implied c d) p =
+      let left : a ≡ c = cond_code_one a c (cc) in
+      let right : b ≡ d = cond_code_one b d (cc) in
+      cc
+  cond_code_one (for_some ps c) (for_some qs d) p =
+      let params : ps ≡ qs = params_code.inj ps qs (cc) in
+      let part : c ≡ d = cond_code_one c d (cc) in
+      cc
+  cond_code_one (for_all ps c) (for_all qs d) p =
+      let params : ps ≡ qs = params_code.inj ps qs (cc) in
+      let part : c ≡ d = cond_code_one c d (cc) in
       cc
   cond_code_one x y p = absurd (cc)
 

@@ -1,9 +1,11 @@
 //! Conditions. Contracts see a boxed condition as its tree, `CondTree` of specs/Trees.antt, and a list of conditions as the list of their trees.
 ghost use Rattle.std.specs.Prelude.{◌≡◌, ◌==◌, [], ◌∷◌, ◌++◌, length, map, IfOk, OnOk, OnErr};
 ghost use Rattle.ps_world.specs.Same.{is_same};
+ghost use Rattle.ps_world.specs.Codes.{params_code};
 ghost use Rattle.ps_world.specs.Trees.{cond_tree_code, conds_code};
 ghost use Rattle.ps_world.specs.CondViews.{cond_tree};
 
+use super::domains::{Param, Params};
 use super::expressions::Expr;
 use super::lists::Duplicate;
 use super::names::Name;
@@ -27,7 +29,11 @@ pub enum Rel {
 pub enum Cond {
     /// All of these.
     And(Conds),
+    /// Any of these.
+    Or(Conds),
     Not(BoxedCond),
+    /// The second, where the first holds.
+    Imply(BoxedCond, BoxedCond),
     /// The fact is known.
     Holds(Lifted),
     /// Both are the same.
@@ -36,6 +42,10 @@ pub enum Cond {
     Cmp(Rel, Expr, Expr),
     /// The instance has this type or one below it.
     IsA(Term, Name),
+    /// Some choice of instances that fit these variables makes it true. In it they are numbered after the variables outside.
+    ForSome(Params, BoxedCond),
+    /// Each choice of instances that fit these variables makes it true. In it they are numbered after the variables outside.
+    ForAll(Params, BoxedCond),
 }
 
 /// A list of conditions, which contracts see as the list of their trees.
@@ -161,7 +171,13 @@ fn copy_cond(alloc: Global, cond: &Cond) -> Result<Cond, AllocError>
 {
     match cond {
         Cond::And(parts) => Ok(Cond::And(copy_conds(alloc, parts)?)),
+        Cond::Or(parts) => Ok(Cond::Or(copy_conds(alloc, parts)?)),
         Cond::Not(inner) => Ok(Cond::Not(copy_boxed_cond(alloc, inner)?)),
+        Cond::Imply(one, other) => {
+            let one = copy_boxed_cond(alloc, one)?;
+            let other = copy_boxed_cond(alloc, other)?;
+            Ok(Cond::Imply(one, other))
+        }
         Cond::Holds(lifted) => Ok(Cond::Holds(*lifted)),
         Cond::Same(one, other) => Ok(Cond::Same(*one, *other)),
         Cond::Cmp(rel, left, right) => {
@@ -170,6 +186,14 @@ fn copy_cond(alloc: Global, cond: &Cond) -> Result<Cond, AllocError>
             Ok(Cond::Cmp(*rel, left, right))
         }
         Cond::IsA(term, kind) => Ok(Cond::IsA(*term, *kind)),
+        Cond::ForSome(params, inner) => {
+            let params = params.copy(alloc)?;
+            Ok(Cond::ForSome(params, copy_boxed_cond(alloc, inner)?))
+        }
+        Cond::ForAll(params, inner) => {
+            let params = params.copy(alloc)?;
+            Ok(Cond::ForAll(params, copy_boxed_cond(alloc, inner)?))
+        }
     }
 }
 
@@ -212,19 +236,44 @@ impl Duplicate for Conds {
     }
 }
 
+/// Whether two lists of variables are the same.
+fn is_same_params(a: &[Param], b: &[Param]) -> bool
+    ensures { result ≡ is_same params_code a.now b.now }
+{
+    match (a.split_first(), b.split_first()) {
+        (None, None) => true,
+        (Some((one, rest)), Some((other, others))) => {
+            one.name == other.name && one.kind == other.kind && is_same_params(rest, others)
+        }
+        _ => false,
+    }
+}
+
 #[cycle(same_cond)]
 fn is_same_cond(a: &Cond, b: &Cond) -> bool
     ensures { result ≡ is_same cond_tree_code (cond_tree a.now) (cond_tree b.now) }
 {
     match (a, b) {
         (Cond::And(a), Cond::And(b)) => is_same_conds(a, b),
+        (Cond::Or(a), Cond::Or(b)) => is_same_conds(a, b),
         (Cond::Not(a), Cond::Not(b)) => is_same_boxed_cond(a, b),
+        (Cond::Imply(one, other), Cond::Imply(one_b, other_b)) => {
+            is_same_boxed_cond(one, one_b) && is_same_boxed_cond(other, other_b)
+        }
         (Cond::Holds(a), Cond::Holds(b)) => a == b,
         (Cond::Same(one, other), Cond::Same(one_b, other_b)) => one == one_b && other == other_b,
         (Cond::Cmp(rel, left, right), Cond::Cmp(rel_b, left_b, right_b)) => {
             rel == rel_b && left == left_b && right == right_b
         }
         (Cond::IsA(term, kind), Cond::IsA(term_b, kind_b)) => term == term_b && kind == kind_b,
+        (Cond::ForSome(params, inner), Cond::ForSome(params_b, inner_b)) => {
+            is_same_params(params.as_slice(), params_b.as_slice())
+                && is_same_boxed_cond(inner, inner_b)
+        }
+        (Cond::ForAll(params, inner), Cond::ForAll(params_b, inner_b)) => {
+            is_same_params(params.as_slice(), params_b.as_slice())
+                && is_same_boxed_cond(inner, inner_b)
+        }
         _ => false,
     }
 }

@@ -1,13 +1,14 @@
-//! Which instances are named: as an argument or in a `(= a b)`. A head and a type name none.
+//! Which instances are named: as an argument or in a `(= a b)`. A head, a type and a variable name none.
 ghost use Rattle.std.specs.Prelude.{◌≡◌};
 ghost use Rattle.ps_world.specs.Trees.{cond_trees};
 ghost use Rattle.ps_world.specs.ExprViews.{expr_tree};
 ghost use Rattle.ps_world.specs.CondViews.{cond_tree};
-ghost use Rattle.ps_world.specs.Knowledge.{is_among, expr_names, cond_names, conds_name};
+ghost use Rattle.ps_world.specs.Knowledge.{is_among, term_names, terms_name, expr_names, cond_names, conds_name};
 
 use super::conditions::{BoxedCond, Cond, Conds};
 use super::expressions::{BoxedExpr, Expr};
 use super::names::{Args, Name};
+use super::schemas::{Term, Terms};
 
 impl Args {
     /// Whether the name is one of these.
@@ -15,6 +16,27 @@ impl Args {
         ensures { result ≡ is_among name self.now }
     {
         self.as_slice().iter().any(|there| name == *there)
+    }
+}
+
+impl Term {
+    /// Whether the term is this name, which a variable never is.
+    pub fn names(&self, name: Name) -> bool
+        ensures { result ≡ term_names name self.now }
+    {
+        match self {
+            Term::Var(_) => false,
+            Term::Const(there) => name == *there,
+        }
+    }
+}
+
+impl Terms {
+    /// Whether one of the terms is this name.
+    pub fn contains(&self, name: Name) -> bool
+        ensures { result ≡ terms_name name self.now }
+    {
+        self.as_slice().iter().any(|term| term.names(name))
     }
 }
 
@@ -42,7 +64,7 @@ fn is_in_expr(name: Name, expr: &Expr) -> bool
 {
     match expr {
         Expr::Num(_) => false,
-        Expr::Fun(lifted) => lifted.terms.names().contains(name),
+        Expr::Fun(lifted) => lifted.terms.contains(name),
         Expr::Neg(inner) => is_in_boxed_expr(name, inner),
         Expr::Bin(_, left, right) => is_in_boxed_expr(name, left) || is_in_boxed_expr(name, right),
     }
@@ -60,12 +82,14 @@ fn is_in_cond(name: Name, cond: &Cond) -> bool
     ensures { result ≡ cond_names name (cond_tree cond.now) }
 {
     match cond {
-        Cond::And(parts) => is_in_conds(name, parts),
+        Cond::And(parts) | Cond::Or(parts) => is_in_conds(name, parts),
         Cond::Not(inner) => is_in_boxed_cond(name, inner),
-        Cond::Holds(lifted) => lifted.terms.names().contains(name),
-        Cond::Same(one, other) => name == one.name() || name == other.name(),
+        Cond::Imply(one, other) => is_in_boxed_cond(name, one) || is_in_boxed_cond(name, other),
+        Cond::Holds(lifted) => lifted.terms.contains(name),
+        Cond::Same(one, other) => one.names(name) || other.names(name),
         Cond::Cmp(_, left, right) => left.names(name) || right.names(name),
-        Cond::IsA(term, _) => name == term.name(),
+        Cond::IsA(term, _) => term.names(name),
+        Cond::ForSome(_, inner) | Cond::ForAll(_, inner) => is_in_boxed_cond(name, inner),
     }
 }
 

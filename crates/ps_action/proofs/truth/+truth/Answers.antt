@@ -7,3 +7,8 @@ pub all_true_with-is_true_with-requires : goal.all_true_with-is_true_with-requir
 all_true_with-is_true_with-requires g t c κs within =
     let slice = c.as_slice-cond-items in
     (omega (arith, rank_in slice.result.now c.loop-cond.cond-index c.cond-item.result (omega arith) c.cond-item.is, ap conds_rank slice.ensures), within)
+
+pub any_true_with-is_true_with-requires : goal.any_true_with-is_true_with-requires
+any_true_with-is_true_with-requires g t c κs within =
+    let slice = c.as_slice-cond-items in
+    (omega (arith, rank_in slice.result.now c.loop-cond.cond-index c.cond-item.result (omega arith) c.cond-item.is, ap conds_rank slice.ensures), within)

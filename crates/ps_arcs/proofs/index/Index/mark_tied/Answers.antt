@@ -1,28 +1,9 @@
-use Rattle.std.proofs.Common.{List, length, ap, sym, ◌∙◌, subst}
+use Rattle.std.proofs.Common.{subst}
 use Rattle.std.specs.List.{list_any}
-use Rattle.ps_action.specs.declared.acts.GroundAction.{GroundAction}
-use Rattle.ps_action.specs.Arcs.{changes, reads}
 use Rattle.ps_users.specs.Users.{Marks, uses}
 use Rattle.ps_arcs.specs.Indexed.{is_tied}
-use Rattle.ps_arcs.proofs.Noted.{users_within}
 use Rattle.ps_arcs.proofs.Tied.{tied_marked}
 use Rattle.ps_arcs.proofs.index.Index.mark_tied.Goals as goal
-
-pub mark_all-requires : goal.mark_all-requires
-mark_all-requires c =
-    let gs = c.self.inside.actions.now in
-    users_within changes gs c.self.inside.changers (length c.args.flags.now) (c.requires ∙ ap (λ (l : List GroundAction). length l) (sym c.self.view_is)) c.self.invariant.changed
-
-pub mark_all-requires-2 : goal.mark_all-requires-2
-mark_all-requires-2 c =
-    let gs = c.self.inside.actions.now in
-    users_within reads gs c.self.inside.readers (length c.mark_all.new.flags) (c.mark_all.ensures.0 ∙ c.requires ∙ ap (λ (l : List GroundAction). length l) (sym c.self.view_is)) c.self.invariant.read
-
-pub mark_all-requires-3 : goal.mark_all-requires-3
-mark_all-requires-3 c =
-    let gs = c.self.inside.actions.now in
-    users_within changes gs c.self.inside.changers (length c.mark_all-2.new.flags)
-    (c.mark_all-2.ensures.0 ∙ c.mark_all.ensures.0 ∙ c.requires ∙ ap (λ (l : List GroundAction). length l) (sym c.self.view_is)) c.self.invariant.changed
 
 pub returns : goal.returns
 returns c =
