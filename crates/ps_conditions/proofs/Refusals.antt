@@ -4,6 +4,7 @@ use Rattle.std.specs.Bool.{if◌then◌else◌}
 use Rattle.ps_world.specs.CondViews.{cond_tree}
 use Rattle.ps_world.specs.ExprViews.{expr_tree}
 use Rattle.ps_world.specs.Trees.{CondTree}
+use Rattle.ps_world.specs.declared.domains.Param.{Param}
 use Rattle.ps_world.specs.declared.conditions.Cond.{Cond}
 use Rattle.ps_world.specs.declared.conditions.Cond.TheVariants as cond
 use Rattle.ps_world.specs.declared.conditions.Rel.{Rel}
@@ -14,13 +15,15 @@ use Rattle.ps_world.specs.declared.expressions.Op.{Op}
 use Rattle.ps_shape.specs.Marks.{is}
 use Rattle.ps_shape.specs.declared.marks.Mark.TheVariants as mark
 use Rattle.ps_forms.specs.Nested.{Nested, Nesteds, word, group, none, more}
-use Rattle.ps_forms.specs.Places.{word_of}
+use Rattle.ps_forms.specs.Places.{items, word_of}
 use Rattle.ps_forms.specs.declared.lexemes.Lexeme.{Lexeme}
-use Rattle.ps_conditions.specs.Conditions.{comparison, condition, conditions, equality, form, negation, plain_condition, related, same_as, stated}
-use Rattle.ps_conditions.specs.Signs.{operator_of, rel_of}
+use Rattle.ps_conditions.specs.Conditions.{comparison, condition, conditions, equality, form, implication, negation, plain_condition, quantified, quantifier, related, same_as, stated}
+use Rattle.ps_conditions.specs.Signs.{Forms, by_head, head_of, operator_of, rel_of}
+use Rattle.ps_conditions.specs.declared.signs.Head.{Head}
+use Rattle.ps_conditions.specs.declared.signs.Head.TheVariants as the
 use Rattle.ps_conditions.specs.Steps.{◌>>=◌, refusable}
 use Rattle.ps_conditions.specs.Values.{function_value, operated, operation, value}
-use Rattle.ps_conditions.specs.Words.{Words}
+use Rattle.ps_conditions.specs.Words.{Scopes, Words}
 
 -- what is read, or a refusal of this kind
 abbrev pub Refuses : {A R : Type 0} → (R → Type 0) → Result A R → Type 0
@@ -105,25 +108,55 @@ module _ (R : Type 0) (Q : R → Type 0) (w : Words (refusable R)) (words : AreR
   plain_refuses l (more a (more b ts)) =
       related_refuses (rel_of l.mark) a b (stated (refusable R) w l (more a (more b ts))) (stated_refuses l (more a (more b ts)))
 
+pub by_head_refuses : {A R : Type 0} (Q : R → Type 0) (h : Head) (p : Forms (Result A R)) → Refuses Q p.all → Refuses Q p.any → Refuses Q p.no → Refuses Q p.implied → Refuses Q p.for_some → Refuses Q p.for_all → Refuses Q p.plain → Refuses Q (by_head h p)
+by_head_refuses Q the.All p all any deny implied some each plain = all
+by_head_refuses Q the.Any p all any deny implied some each plain = any
+by_head_refuses Q the.No p all any deny implied some each plain = deny
+by_head_refuses Q the.Implied p all any deny implied some each plain = implied
+by_head_refuses Q the.ForSome p all any deny implied some each plain = some
+by_head_refuses Q the.ForAll p all any deny implied some each plain = each
+by_head_refuses Q the.Plain p all any deny implied some each plain = plain
+
+-- words and lists of variables are refused so
+pub record ScopesAreRefused {R : Type 0} (Q : R → Type 0) (w : Scopes (refusable R)) : Type 0 where
+  pub words : (ps : List Param) → AreRefused Q (w.words ps)
+  pub bound : (ps : List Param) (ts : Nesteds) → Refuses Q (w.bound ps ts)
+
+module _ (R : Type 0) (Q : R → Type 0) (w : Scopes (refusable R)) (scopes : ScopesAreRefused Q w) where
   mutual
-    pub condition_refuses : (t : Nested) → Refuses Q (condition (refusable R) w t)
-    condition_refuses (word l) = tt
-    condition_refuses (group ts) = form_refuses ts
+    pub condition_refuses : (ps : List Param) (t : Nested) → Refuses Q (condition (refusable R) w ps t)
+    condition_refuses ps (word l) = tt
+    condition_refuses ps (group ts) = form_refuses ps ts
 
-    form_refuses : (ts : Nesteds) → Refuses Q (form (refusable R) w ts)
-    form_refuses none = tt
-    form_refuses (more f ts) =
-        either_refuses Q (is mark.And (word_of f).mark) (conditions (refusable R) w ts [] >>= λ cs. Ok (cond.And cs))
-        (if is mark.Not (word_of f).mark then negation (refusable R) w ts else plain_condition (refusable R) w (word_of f) ts)
-        (then_refuses Q (conditions (refusable R) w ts []) (λ cs. Ok (cond.And cs)) (conditions_refuse ts []) (λ cs. tt))
-        (either_refuses Q (is mark.Not (word_of f).mark) (negation (refusable R) w ts) (plain_condition (refusable R) w (word_of f) ts) (negation_refuses ts) (plain_refuses (word_of f) ts))
+    form_refuses : (ps : List Param) (ts : Nesteds) → Refuses Q (form (refusable R) w ps ts)
+    form_refuses ps none = tt
+    form_refuses ps (more f ts) =
+        by_head_refuses Q (head_of (word_of f).mark) _
+        (then_refuses Q (conditions (refusable R) w ps ts []) (λ cs. Ok (cond.And cs)) (conditions_refuse ps ts []) (λ cs. tt))
+        (then_refuses Q (conditions (refusable R) w ps ts []) (λ cs. Ok (cond.Or cs)) (conditions_refuse ps ts []) (λ cs. tt))
+        (negation_refuses ps ts) (implication_refuses ps ts) (quantified_refuses ps false ts) (quantified_refuses ps true ts)
+        (plain_refuses R Q (w.words ps) (scopes.words ps) (word_of f) ts)
 
-    negation_refuses : (ts : Nesteds) → Refuses Q (negation (refusable R) w ts)
-    negation_refuses none = tt
-    negation_refuses (more c ts) = then_refuses Q (condition (refusable R) w c) (λ x. Ok (cond.Not (cond_tree x))) (condition_refuses c) (λ x. tt)
+    negation_refuses : (ps : List Param) (ts : Nesteds) → Refuses Q (negation (refusable R) w ps ts)
+    negation_refuses ps none = tt
+    negation_refuses ps (more c ts) = then_refuses Q (condition (refusable R) w ps c) (λ x. Ok (cond.Not (cond_tree x))) (condition_refuses ps c) (λ x. tt)
 
-    conditions_refuse : (ts : Nesteds) (before : List CondTree) → Refuses Q (conditions (refusable R) w ts before)
-    conditions_refuse none before = tt
-    conditions_refuse (more c cs) before =
-        then_refuses Q (condition (refusable R) w c) (λ x. conditions (refusable R) w cs (before ++ cond_tree x ∷ [])) (condition_refuses c)
-        (λ x. conditions_refuse cs (before ++ cond_tree x ∷ []))
+    implication_refuses : (ps : List Param) (ts : Nesteds) → Refuses Q (implication (refusable R) w ps ts)
+    implication_refuses ps none = tt
+    implication_refuses ps (more a none) = tt
+    implication_refuses ps (more a (more b ts)) =
+        then_refuses Q (condition (refusable R) w ps a) (λ x. condition (refusable R) w ps b >>= λ y. Ok (cond.Imply (cond_tree x) (cond_tree y))) (condition_refuses ps a)
+        (λ x. then_refuses Q (condition (refusable R) w ps b) (λ y. Ok (cond.Imply (cond_tree x) (cond_tree y))) (condition_refuses ps b) (λ y. tt))
+
+    quantified_refuses : (ps : List Param) (each : Bool) (ts : Nesteds) → Refuses Q (quantified (refusable R) w ps each ts)
+    quantified_refuses ps each none = tt
+    quantified_refuses ps each (more vs none) = tt
+    quantified_refuses ps each (more vs (more c ts)) =
+        then_refuses Q (w.bound ps (items vs)) (λ qs. condition (refusable R) w (ps ++ qs) c >>= λ x. Ok (quantifier each qs (cond_tree x))) (scopes.bound ps (items vs))
+        (λ qs. then_refuses Q (condition (refusable R) w (ps ++ qs) c) (λ x. Ok (quantifier each qs (cond_tree x))) (condition_refuses (ps ++ qs) c) (λ x. tt))
+
+    conditions_refuse : (ps : List Param) (ts : Nesteds) (before : List CondTree) → Refuses Q (conditions (refusable R) w ps ts before)
+    conditions_refuse ps none before = tt
+    conditions_refuse ps (more c cs) before =
+        then_refuses Q (condition (refusable R) w ps c) (λ x. conditions (refusable R) w ps cs (before ++ cond_tree x ∷ [])) (condition_refuses ps c)
+        (λ x. conditions_refuse ps cs (before ++ cond_tree x ∷ []))

@@ -1,20 +1,21 @@
 -- What a condition means.
-use Rattle.std.specs.Prelude.{if◌then◌else◌, Option, Some, None, List, [], ◌∷◌, ◌++◌}
+use Rattle.std.specs.Prelude.{if◌then◌else◌, Bool, true, false, Option, Some, None, List, [], ◌∷◌, ◌++◌}
 use Rattle.ps_world.specs.Trees.{CondTree}
 use Rattle.ps_world.specs.CondViews.{cond_tree}
+use Rattle.ps_world.specs.declared.domains.Param.{Param}
 use Rattle.ps_world.specs.declared.conditions.Rel.{Rel}
 use Rattle.ps_world.specs.declared.conditions.Rel.TheVariants.{Eq}
 use Rattle.ps_world.specs.declared.conditions.Cond.{Cond}
 use Rattle.ps_world.specs.declared.conditions.Cond.TheVariants as cond
 use Rattle.ps_shape.specs.Marks.{is}
-use Rattle.ps_shape.specs.declared.marks.Mark.TheVariants.{Number, And, Not}
+use Rattle.ps_shape.specs.declared.marks.Mark.TheVariants.{Number}
 use Rattle.ps_forms.specs.Nested.{Nested, Nesteds, word, group, none, more}
-use Rattle.ps_forms.specs.Places.{word_of}
+use Rattle.ps_forms.specs.Places.{items, word_of}
 use Rattle.ps_forms.specs.declared.lexemes.Lexeme.{Lexeme}
-use Rattle.ps_conditions.specs.Signs.{rel_of}
+use Rattle.ps_conditions.specs.Signs.{by_head, head_of, rel_of}
 use Rattle.ps_conditions.specs.Steps.{Steps}
 use Rattle.ps_conditions.specs.Values.{value}
-use Rattle.ps_conditions.specs.Words.{Words}
+use Rattle.ps_conditions.specs.Words.{Scopes, Words}
 
 -- the empty condition, which is true
 abbrev pub nothing : Cond
@@ -49,26 +50,51 @@ plain_condition s w l none = stated s w l none
 plain_condition s w l (more a none) = stated s w l (more a none)
 plain_condition s w l (more a (more b ts)) = related s w (rel_of l.mark) a b (stated s w l (more a (more b ts)))
 
+-- a quantifier with its variables and its condition: of each choice, or of some
+abbrev pub quantifier : Bool → List Param → CondTree → Cond
+quantifier true qs c = cond.ForAll qs c
+quantifier false qs c = cond.ForSome qs c
+
 abbrev mutual
-  -- C: (and C*) | (not C) | (NAME TERM*) | (= TERM TERM) | (REL X X)
-  pub condition : (s : Steps) → Words s → Nested → s.Step Cond
-  condition s w (word l) = s.done nothing
-  condition s w (group ts) = form s w ts
+  -- C: (and C*) | (or C*) | (not C) | (imply C C) | (exists (VLIST) C) | (forall (VLIST) C) | (NAME TERM*) | (= TERM TERM) | (REL X X), where these
+  -- variables are in force
+  pub condition : (s : Steps) → Scopes s → List Param → Nested → s.Step Cond
+  condition s w ps (word l) = s.done nothing
+  condition s w ps (group ts) = form s w ps ts
 
   -- a head and what follows it
-  pub form : (s : Steps) → Words s → Nesteds → s.Step Cond
-  form s w none = s.done nothing
-  form s w (more f ts) =
-      if is And (word_of f).mark then s.then (conditions s w ts []) (λ cs. s.done (cond.And cs))
-      else (if is Not (word_of f).mark then negation s w ts
-      else plain_condition s w (word_of f) ts)
+  pub form : (s : Steps) → Scopes s → List Param → Nesteds → s.Step Cond
+  form s w ps none = s.done nothing
+  form s w ps (more f ts) = by_head (head_of (word_of f).mark) (record {
+    all = s.then (conditions s w ps ts []) (λ cs. s.done (cond.And cs));
+    any = s.then (conditions s w ps ts []) (λ cs. s.done (cond.Or cs));
+    no = negation s w ps ts;
+    implied = implication s w ps ts;
+    for_some = quantified s w ps false ts;
+    for_all = quantified s w ps true ts;
+    plain = plain_condition s (w.words ps) (word_of f) ts;
+  })
 
   -- not the first of these
-  pub negation : (s : Steps) → Words s → Nesteds → s.Step Cond
-  negation s w none = s.done nothing
-  negation s w (more c ts) = s.then (condition s w c) (λ c. s.done (cond.Not (cond_tree c)))
+  pub negation : (s : Steps) → Scopes s → List Param → Nesteds → s.Step Cond
+  negation s w ps none = s.done nothing
+  negation s w ps (more c ts) = s.then (condition s w ps c) (λ c. s.done (cond.Not (cond_tree c)))
+
+  -- the second of these, where the first holds
+  pub implication : (s : Steps) → Scopes s → List Param → Nesteds → s.Step Cond
+  implication s w ps none = s.done nothing
+  implication s w ps (more a none) = s.done nothing
+  implication s w ps (more a (more b ts)) =
+      s.then (condition s w ps a) (λ a. s.then (condition s w ps b) (λ b. s.done (cond.Imply (cond_tree a) (cond_tree b))))
+
+  -- the variables of a quantifier, and its condition, in which they are in force too
+  pub quantified : (s : Steps) → Scopes s → List Param → Bool → Nesteds → s.Step Cond
+  quantified s w ps each none = s.done nothing
+  quantified s w ps each (more vs none) = s.done nothing
+  quantified s w ps each (more vs (more c ts)) =
+      s.then (w.bound ps (items vs)) (λ qs. s.then (condition s w (ps ++ qs) c) (λ c. s.done (quantifier each qs (cond_tree c))))
 
   -- these conditions, after others
-  pub conditions : (s : Steps) → Words s → Nesteds → List CondTree → s.Step (List CondTree)
-  conditions s w none before = s.done before
-  conditions s w (more c cs) before = s.then (condition s w c) (λ c. conditions s w cs (before ++ cond_tree c ∷ []))
+  pub conditions : (s : Steps) → Scopes s → List Param → Nesteds → List CondTree → s.Step (List CondTree)
+  conditions s w ps none before = s.done before
+  conditions s w ps (more c cs) before = s.then (condition s w ps c) (λ c. conditions s w ps cs (before ++ cond_tree c ∷ []))

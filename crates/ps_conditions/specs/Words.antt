@@ -1,5 +1,6 @@
 -- What words mean where a condition stands.
-use Rattle.std.specs.Prelude.{Ok}
+use Rattle.std.specs.Prelude.{Ok, List}
+use Rattle.ps_world.specs.declared.domains.Param.{Param}
 use Rattle.ps_world.specs.declared.schemas.Term.{Term}
 use Rattle.ps_world.specs.declared.schemas.Lifted.{Lifted}
 use Rattle.ps_world.specs.declared.expressions.Expr.{Expr}
@@ -25,3 +26,12 @@ unrefused R w = record {
   fact = λ l ts. Ok (w.fact l ts);
   function = λ l ts. Ok (w.function l ts);
 }
+
+-- What words mean where these variables are in force, outer ones first, and the variables that a list binds there.
+pub record Scopes (s : Steps) : Type 0 where
+  pub words : List Param → Words s
+  pub bound : List Param → Nesteds → s.Step (List Param)
+
+-- the same, where reading may be refused, but not by them
+abbrev pub unrefused_scopes : (R : Type 0) → Scopes certain → Scopes (refusable R)
+unrefused_scopes R w = record { words = λ ps. unrefused R (w.words ps); bound = λ ps ts. Ok (w.bound ps ts) }

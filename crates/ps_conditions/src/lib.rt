@@ -7,6 +7,6 @@ mod signs;
 mod values;
 
 pub use conditions::{add_condition, condition};
-pub use scopes::Scope;
+pub use scopes::{MOST_IN_FORCE, Scope};
 pub use signs::{is_and, is_not, is_number};
 pub use values::value;

@@ -2,10 +2,44 @@
 ghost use Rattle.std.specs.Prelude.{◌≡◌};
 ghost use Rattle.ps_shape.specs.Marks.{is};
 ghost use Rattle.ps_shape.specs.declared.marks.Mark.TheVariants.{And, Minus, Not, Number};
-ghost use Rattle.ps_conditions.specs.Signs.{operator_of, rel_of};
+ghost use Rattle.ps_conditions.specs.Signs.{head_of, operator_of, rel_of};
 
 use ps_shape::Mark;
 use ps_world::{Op, Rel};
+
+/// The forms of conditions, by the words that they begin with.
+#[derive(Clone, Copy, PartialEq, Eq, Debug)]
+pub enum Head {
+    /// `and`
+    All,
+    /// `or`
+    Any,
+    /// `not`
+    No,
+    /// `imply`
+    Implied,
+    /// `exists`
+    ForSome,
+    /// `forall`
+    ForAll,
+    /// A predicate or the sign of a comparison.
+    Plain,
+}
+
+/// The form of a condition that begins with this word.
+pub(crate) fn head_of(mark: Mark) -> Head
+    ensures { result ≡ head_of mark }
+{
+    match mark {
+        Mark::And => Head::All,
+        Mark::Or => Head::Any,
+        Mark::Not => Head::No,
+        Mark::Imply => Head::Implied,
+        Mark::Exists => Head::ForSome,
+        Mark::Forall => Head::ForAll,
+        _ => Head::Plain,
+    }
+}
 
 /// The comparison with this sign.
 pub(crate) fn rel_of(mark: Mark) -> Option<Rel>

@@ -73,7 +73,7 @@ goes_read t bytes _ _ (run_nothing e s p f) = goes_nowhere t
 goes_read t bytes _ _ (without_class at plain x) = goes_nowhere t
 goes_read t bytes _ _ (without_number at plain x) = goes_nowhere t
 goes_read t bytes _ _ (without_form tokens plain x e) = goes_nowhere t
-goes_read t bytes _ _ (without_shape f tokens i plain x e y) = goes_nowhere t
+goes_read t bytes _ _ (without_shape f tokens ls after at is w x) = goes_nowhere t
 goes_read t bytes _ _ (good f tokens ls after ts command is w p m) =
     subst (Goes t) (ap (λ x. x.1) w) (goes_lexemes bytes t tokens (are_tokens_of bytes tokens is.are_tokens))
 

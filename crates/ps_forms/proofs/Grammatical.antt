@@ -11,9 +11,10 @@ use Rattle.ps_shape.specs.declared.symbols.TextPart.TheVariants.{Title, TitleWor
 use Rattle.ps_shape.specs.declared.symbols.ListPart.TheVariants as list
 use Rattle.ps_shape.specs.declared.symbols.ActionPart.TheVariants.{AfterName, Parameters, AfterParameters, Duration, DurationHead, AfterDuration, AfterCondition}
 use Rattle.ps_shape.specs.declared.symbols.ValuePart.TheVariants as value
-use Rattle.ps_forms.specs.Grammar.{IsTypedList, IsRun, AreKeywords, IsDecl, ArePredicates, AreFunctions, IsActionEnd, IsDuration, IsActionBody, AreSections, IsText, is_variable}
-use Rattle.ps_forms.specs.Grammar.IsTypedList.{no_name, first_name}
-use Rattle.ps_forms.specs.Grammar.IsRun.{run_end, next_name, type_name}
+use Rattle.ps_forms.specs.Grammar.{AreKeywords, IsDecl, ArePredicates, AreFunctions, IsActionEnd, IsDuration, IsActionBody, AreSections, IsText}
+use Rattle.ps_forms.specs.TypedLists.{IsTypedList, IsRun}
+use Rattle.ps_forms.specs.TypedLists.IsTypedList.{no_name, first_name}
+use Rattle.ps_forms.specs.TypedLists.IsRun.{run_end, next_name, type_name}
 use Rattle.ps_forms.specs.Grammar.AreKeywords.{no_keyword, one_keyword}
 use Rattle.ps_forms.specs.Grammar.IsDecl.{decl}
 use Rattle.ps_forms.specs.Grammar.ArePredicates.{no_predicate, one_predicate}
@@ -30,6 +31,7 @@ use Rattle.ps_forms.specs.Spelling.{SpellAll}
 use Rattle.ps_forms.specs.declared.lexemes.Lexeme.{Lexeme}
 use Rattle.ps_forms.proofs.GrammaticalForms.{condition_form_taken, effect_form_taken, value_taken}
 use Rattle.ps_forms.proofs.OneWord as one
+use Rattle.ps_forms.proofs.VariableLists.{variables_taken}
 use Rattle.ps_forms.proofs.Taking.{IsDone, Takes, TakesAll, judged_of_taken}
 
 -- ---- lists of names
@@ -48,17 +50,6 @@ mutual
   run_of_names_taken _ (next_name _ l ts is later) st After k = one.next_name_fits st (TakesAll ts After) l.mark is (run_of_names_taken ts later st After k)
   run_of_names_taken _ (type_name _ l m ts minus name later) st After k =
       one.at_mark st (TakesAll (more (word m) ts) After) (InList list.NameRun) l.mark mark.Minus minus (one.type_fits (InList list.Names ∷ st) (TakesAll ts After) m.mark name (names_taken ts later st After k))
-
-mutual
-  variables_taken : (ts : Nesteds) → IsTypedList is_variable ts → (st : List Symbol) (After : List Symbol → Type 0) → After st → TakesAll ts After (InList list.Variables ∷ st)
-  variables_taken _ (no_name _) st After k = k
-  variables_taken _ (first_name _ l ts is later) st After k = one.first_variable_fits st (TakesAll ts After) l.mark is (run_of_variables_taken ts later st After k)
-
-  run_of_variables_taken : (ts : Nesteds) → IsRun is_variable ts → (st : List Symbol) (After : List Symbol → Type 0) → After st → TakesAll ts After (InList list.VariableRun ∷ st)
-  run_of_variables_taken _ (run_end _) st After k = k
-  run_of_variables_taken _ (next_name _ l ts is later) st After k = one.next_variable_fits st (TakesAll ts After) l.mark is (run_of_variables_taken ts later st After k)
-  run_of_variables_taken _ (type_name _ l m ts minus name later) st After k =
-      one.at_mark st (TakesAll (more (word m) ts) After) (InList list.VariableRun) l.mark mark.Minus minus (one.type_fits (InList list.Variables ∷ st) (TakesAll ts After) m.mark name (variables_taken ts later st After k))
 
 predicate_taken : (t : Nested) → IsDecl is_predicate_name t → (st : List Symbol) (After : List Symbol → Type 0) → suc (level st) < deepest → After (InList list.Predicates ∷ st) → Takes t After (InList list.Predicates ∷ st)
 predicate_taken _ (decl _ l ts is all) st After e k =

@@ -1,10 +1,11 @@
 -- Each value, condition and effect is taken where one is wanted.
-use Rattle.std.proofs.Common.{◌≡◌, ℕ, suc, ◌+◌, List, ◌∷◌, true, refl, ap, arith}
+use Rattle.std.proofs.Common.{◌≡◌, ℕ, suc, ◌+◌, ◌≤◌, List, ◌∷◌, true, refl, ap, arith}
 use Rattle.ps_shape.specs.Shape.{deepest}
 use Rattle.ps_shape.specs.Symbols.{level}
 use Rattle.ps_shape.specs.declared.marks.Mark.TheVariants as mark
 use Rattle.ps_shape.specs.declared.symbols.Symbol.{Symbol}
-use Rattle.ps_shape.specs.declared.symbols.Symbol.TheVariants.{The, InCondition, InEffect, InValue}
+use Rattle.ps_shape.specs.declared.symbols.Symbol.TheVariants.{The, InAction, InCondition, InEffect, InValue}
+use Rattle.ps_shape.specs.declared.symbols.ActionPart.TheVariants.{Parameters}
 use Rattle.ps_shape.specs.declared.symbols.ConditionPart.TheVariants as condition
 use Rattle.ps_shape.specs.declared.symbols.EffectPart.TheVariants as effect
 use Rattle.ps_shape.specs.declared.symbols.ValuePart.TheVariants as value
@@ -12,7 +13,7 @@ use Rattle.ps_forms.specs.Conditions.{is_relation}
 use Rattle.ps_forms.specs.Conditions.AreArguments.{no_argument, one_argument}
 use Rattle.ps_forms.specs.Conditions.AreConditionsOf.{no_condition, one_condition}
 use Rattle.ps_forms.specs.Conditions.IsAtomOf.{atom}
-use Rattle.ps_forms.specs.Conditions.IsConditionOf.{all_of, not_so, a_fact, same, comparison}
+use Rattle.ps_forms.specs.Conditions.IsConditionOf.{all_of, any_of, not_so, implication, some_choice, each_choice, a_fact, same, comparison}
 use Rattle.ps_forms.specs.Conditions.IsValueOf.{a_number, an_argument, an_atom, negation, operation}
 use Rattle.ps_forms.specs.Grammar.{AreTerms, IsAtom, IsValue, IsCondition, AreConditions, IsTimedCondition, IsPart, AreParts, IsConditionForm, IsEffect, AreEffects, IsTimedEffect, IsChange, AreChanges, IsEffectForm}
 use Rattle.ps_forms.specs.Grammar.IsTimedCondition.{at_moment, over_all}
@@ -30,6 +31,8 @@ use Rattle.ps_forms.specs.declared.lexemes.Lexeme.{Lexeme}
 use Rattle.ps_forms.proofs.OneWord as one
 use Rattle.ps_forms.proofs.OneWord.{no_word}
 use Rattle.ps_forms.proofs.Taking.{Takes, TakesAll}
+use Rattle.ps_forms.proofs.VariableLists.{bound_taken}
+use Rattle.ps_forms.specs.TypedLists.{IsTypedList, is_variable}
 
 -- ---- terms and values
 
@@ -74,12 +77,38 @@ comparison_taken : (room : ℕ) (l : Lexeme) (x y : Nested) → is_relation l.ma
 comparison_taken room l x y is v w st After e k =
     (omega arith, one.relation_fits st (TakesAll (more x (more y none)) After) l.mark is (value_taken room x v (InValue value.Value ∷ The mark.Close ∷ st) (TakesAll (more y none) After) (omega arith) (value_taken room y w (The mark.Close ∷ st) (TakesAll none After) (omega arith) k)))
 
+-- a condition opens a parenthesis at least
+pub condition_opens : (room : ℕ) (t : Nested) → IsCondition room t → 1 ≤ room
+condition_opens _ _ (all_of room l ts is all) = omega arith
+condition_opens _ _ (any_of room l ts is all) = omega arith
+condition_opens _ _ (not_so room l c is other) = omega arith
+condition_opens _ _ (implication room l a b is first second) = omega arith
+condition_opens _ _ (some_choice room l vs c is typed own) = omega arith
+condition_opens _ _ (each_choice room l vs c is typed own) = omega arith
+condition_opens _ _ (a_fact room l ts is all few) = omega arith
+condition_opens _ _ (same room l m n is first second) = omega arith
+condition_opens _ _ (comparison room l x y is v w) = omega arith
+
+-- the variables of a quantifier and its condition are taken, where the condition is
+quantified_taken : (room : ℕ) (vs : Nesteds) (c : Nested) → IsTypedList is_variable vs → 1 ≤ room → (st : List Symbol) (After : List Symbol → Type 0) → suc room + level st ≡ deepest → Takes c (TakesAll none After) (InCondition condition.Condition ∷ The mark.Close ∷ st)
+    → TakesAll (more (group vs) (more c none)) After (InAction Parameters ∷ InCondition condition.Condition ∷ The mark.Close ∷ st)
+quantified_taken room vs c typed some st After e own = bound_taken vs typed (InCondition condition.Condition ∷ The mark.Close ∷ st) (TakesAll (more c none) After) (omega (arith, some)) own
+
 mutual
   condition_taken : (room : ℕ) (t : Nested) → IsCondition room t → (st : List Symbol) (After : List Symbol → Type 0) → room + level st ≡ deepest → After st → Takes t After (InCondition condition.Condition ∷ st)
   condition_taken _ _ (all_of room l ts is all) st After e k =
       (omega arith, one.at_mark st (TakesAll ts After) (InCondition condition.Head) l.mark mark.And is (conditions_taken room ts all st After e k))
   condition_taken _ _ (not_so room l c is other) st After e k =
       (omega arith, one.at_mark st (TakesAll (more c none) After) (InCondition condition.Head) l.mark mark.Not is (condition_taken room c other (The mark.Close ∷ st) (TakesAll none After) (omega arith) k))
+  condition_taken _ _ (any_of room l ts is all) st After e k =
+      (omega arith, one.at_mark st (TakesAll ts After) (InCondition condition.Head) l.mark mark.Or is (conditions_taken room ts all st After e k))
+  condition_taken _ _ (implication room l a b is first second) st After e k =
+      let last : Takes b (TakesAll none After) (InCondition condition.Condition ∷ The mark.Close ∷ st) = condition_taken room b second (The mark.Close ∷ st) (TakesAll none After) (omega arith) k in
+      (omega arith, one.at_mark st (TakesAll (more a (more b none)) After) (InCondition condition.Head) l.mark mark.Imply is (condition_taken room a first (InCondition condition.Condition ∷ The mark.Close ∷ st) (TakesAll (more b none) After) (omega arith) last))
+  condition_taken _ _ (some_choice room l vs c is typed own) st After e k =
+      (omega arith, one.at_mark st (TakesAll (more (group vs) (more c none)) After) (InCondition condition.Head) l.mark mark.Exists is (quantified_taken room vs c typed (condition_opens room c own) st After e (condition_taken room c own (The mark.Close ∷ st) (TakesAll none After) (omega arith) k)))
+  condition_taken _ _ (each_choice room l vs c is typed own) st After e k =
+      (omega arith, one.at_mark st (TakesAll (more (group vs) (more c none)) After) (InCondition condition.Head) l.mark mark.Forall is (quantified_taken room vs c typed (condition_opens room c own) st After e (condition_taken room c own (The mark.Close ∷ st) (TakesAll none After) (omega arith) k)))
   condition_taken _ _ (a_fact room l ts is all few) st After e k =
       (omega arith, one.fact_fits st (TakesAll ts After) l.mark is (terms_taken ts all st After k))
   condition_taken _ _ (same room l m n is first second) st After e k =

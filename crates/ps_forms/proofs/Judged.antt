@@ -12,9 +12,10 @@ use Rattle.ps_shape.specs.declared.symbols.ListPart.TheVariants as list
 use Rattle.ps_shape.specs.declared.symbols.ActionPart.TheVariants.{AfterName, Parameters, AfterParameters, Duration, AfterDuration, AfterCondition}
 use Rattle.ps_shape.specs.declared.symbols.ValuePart.TheVariants as value
 use Rattle.ps_shape.specs.Shape.{text_start}
-use Rattle.ps_forms.specs.Grammar.{IsConditionForm, IsTypedList, IsRun, AreKeywords, IsDecl, ArePredicates, AreFunctions, IsActionEnd, IsDuration, IsActionBody, AreSections, IsText, is_variable}
-use Rattle.ps_forms.specs.Grammar.IsTypedList.{no_name, first_name}
-use Rattle.ps_forms.specs.Grammar.IsRun.{run_end, next_name, type_name}
+use Rattle.ps_forms.specs.Grammar.{IsConditionForm, AreKeywords, IsDecl, ArePredicates, AreFunctions, IsActionEnd, IsDuration, IsActionBody, AreSections, IsText}
+use Rattle.ps_forms.specs.TypedLists.{IsTypedList, IsRun, is_variable}
+use Rattle.ps_forms.specs.TypedLists.IsTypedList.{no_name, first_name}
+use Rattle.ps_forms.specs.TypedLists.IsRun.{run_end, next_name, type_name}
 use Rattle.ps_forms.specs.Grammar.AreKeywords.{no_keyword, one_keyword}
 use Rattle.ps_forms.specs.Grammar.IsDecl.{decl}
 use Rattle.ps_forms.specs.Grammar.ArePredicates.{no_predicate, one_predicate}
@@ -30,6 +31,7 @@ use Rattle.ps_forms.specs.declared.lexemes.Lexeme.{Lexeme}
 use Rattle.ps_forms.proofs.JudgedForms.{condition_form_of_taken, effect_form_of_taken, only_close, value_of_taken}
 use Rattle.ps_forms.proofs.OneWord as one
 use Rattle.ps_forms.proofs.OneWord.{no_word}
+use Rattle.ps_forms.proofs.VariableLists.{variables_of_taken}
 use Rattle.ps_forms.proofs.Taking.{Takes, TakesAll, taken_of_judged}
 
 -- ---- lists of names
@@ -73,37 +75,6 @@ mutual
       let first = one.type_told (InList list.Names ∷ st) (TakesAll ts After) m.mark h in
       let later = names_of_taken ts st After first.1 in
       (λ l minus. type_name is_name l m ts minus first.0 later.0, later.1)
-
-mutual
-  -- what is taken where a list of variables is wanted is one
-  variables_of_taken : (ts : Nesteds) (st : List Symbol) (After : List Symbol → Type 0) → TakesAll ts After (InList list.Variables ∷ st) → IsTypedList is_variable ts × After st
-  variables_of_taken none st After h = (no_name is_variable, h)
-  variables_of_taken (more (group us) ts) st After h = absurd h.1
-  variables_of_taken (more (word l) ts) st After h =
-      let first = one.first_variable_told st (TakesAll ts After) l.mark h in
-      let later = run_of_taken_variables ts st After first.1 in
-      (first_name is_variable l ts first.0 later.0, later.1)
-
-  run_of_taken_variables : (ts : Nesteds) (st : List Symbol) (After : List Symbol → Type 0) → TakesAll ts After (InList list.VariableRun ∷ st) → IsRun is_variable ts × After st
-  run_of_taken_variables none st After h = (run_end is_variable, h)
-  run_of_taken_variables (more (group us) ts) st After h = absurd h.1
-  run_of_taken_variables (more (word l) ts) st After h =
-      elim (one.next_variable_told st (TakesAll ts After) l.mark h) [
-        | inl minus ↦
-            let later = type_of_taken_variables ts st After minus.1 in
-            (later.0 l minus.0, later.1)
-        | inr name ↦
-            let later = run_of_taken_variables ts st After name.1 in
-            (next_name is_variable l ts name.0 later.0, later.1)
-      ]
-
-  type_of_taken_variables : (ts : Nesteds) (st : List Symbol) (After : List Symbol → Type 0) → TakesAll ts After (InList list.TypeName ∷ InList list.Variables ∷ st) → ((l : Lexeme) → l.mark ≡ mark.Minus → IsRun is_variable (more (word l) ts)) × After st
-  type_of_taken_variables none st After h = absurd h
-  type_of_taken_variables (more (group us) ts) st After h = absurd h.1
-  type_of_taken_variables (more (word m) ts) st After h =
-      let first = one.type_told (InList list.Variables ∷ st) (TakesAll ts After) m.mark h in
-      let later = variables_of_taken ts st After first.1 in
-      (λ l minus. type_name is_variable l m ts minus first.0 later.0, later.1)
 
 -- a predicate's name and its variables are its declaration
 predicate_of_taken : (ts : Nesteds) (st : List Symbol) (After : List Symbol → Type 0) → TakesAll ts After (InList list.PredicateHead ∷ InList list.Variables ∷ st) → IsDecl is_predicate_name (group ts) × After st

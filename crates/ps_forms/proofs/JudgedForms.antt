@@ -1,5 +1,5 @@
 -- What is taken where a value, a condition or an effect is wanted is one.
-use Rattle.std.proofs.Common.{◌≡◌, ℕ, zero, suc, ◌+◌, List, ◌∷◌, true, refl, ap, inl, inr, arith}
+use Rattle.std.proofs.Common.{◌≡◌, ℕ, zero, suc, ◌+◌, List, ◌∷◌, true, refl, ap, subst, ◌⊎◌, inl, inr, arith}
 use Rattle.ps_shape.specs.Shape.{deepest}
 use Rattle.ps_shape.specs.Symbols.{level}
 use Rattle.ps_shape.specs.Marks.{is_name, is_change, is_fact_name}
@@ -13,7 +13,7 @@ use Rattle.ps_forms.specs.Conditions.{is_operator, is_relation}
 use Rattle.ps_forms.specs.Conditions.AreArguments.{no_argument, one_argument}
 use Rattle.ps_forms.specs.Conditions.AreConditionsOf.{no_condition, one_condition}
 use Rattle.ps_forms.specs.Conditions.IsAtomOf.{atom}
-use Rattle.ps_forms.specs.Conditions.IsConditionOf.{all_of, not_so, a_fact, comparison}
+use Rattle.ps_forms.specs.Conditions.IsConditionOf.{all_of, any_of, not_so, implication, some_choice, each_choice, a_fact, comparison}
 use Rattle.ps_forms.specs.Conditions.IsValueOf.{a_number, an_argument, an_atom, negation, operation}
 use Rattle.ps_forms.specs.Grammar.{AreTerms, IsAtom, IsValue, IsCondition, AreConditions, IsTimedCondition, IsPart, AreParts, IsConditionForm, IsEffect, AreEffects, IsTimedEffect, IsChange, AreChanges, IsEffectForm}
 use Rattle.ps_forms.specs.Grammar.IsTimedCondition.{at_moment, over_all}
@@ -31,6 +31,8 @@ use Rattle.ps_forms.specs.declared.lexemes.Lexeme.{Lexeme}
 use Rattle.ps_forms.proofs.OneWord as one
 use Rattle.ps_forms.proofs.OneWord.{no_word}
 use Rattle.ps_forms.proofs.Taking.{Takes, TakesAll}
+use Rattle.ps_forms.proofs.VariableLists.{bound_of_taken}
+use Rattle.ps_forms.specs.TypedLists.{IsTypedList, is_variable}
 
 -- ---- what ends a list
 
@@ -148,6 +150,11 @@ fact_of_taken l ts room st After e h =
     let all = terms_of_taken ts st After h in
     (a_fact room l ts e all.0 tt, all.1)
 
+-- a quantifier by its word
+choice_of : (room : ℕ) (l : Lexeme) (vs : Nesteds) (c : Nested) → (l.mark ≡ mark.Exists) ⊎ (l.mark ≡ mark.Forall) → IsTypedList is_variable vs → IsCondition room c → IsCondition (suc room) (group (more (word l) (more (group vs) (more c none))))
+choice_of room l vs c (inl is) typed own = some_choice room l vs c is typed own
+choice_of room l vs c (inr is) typed own = each_choice room l vs c is typed own
+
 mutual
   -- what is taken where a condition is wanted is one
   condition_of_taken : (t : Nested) (room : ℕ) (st : List Symbol) (After : List Symbol → Type 0) → room + level st ≡ deepest → Takes t After (InCondition condition.Condition ∷ st) → IsCondition room t × After st
@@ -157,26 +164,57 @@ mutual
   condition_of_taken (group (more (group us) ts)) (suc room) st After e h = absurd h.1.1
   condition_of_taken (group (more (word l) none)) (suc room) st After e h =
       elim (one.condition_head_told st (TakesAll none After) l.mark h.1) [
-        | inl (inl all) ↦ (all_of room l none all.0 (no_condition room), all.1)
-        | inl (inr denied) ↦ absurd denied.1
-        | inr (inl two) ↦ absurd two.1
-        | inr (inr name) ↦ fact_of_taken l none room st After name.0 name.1
+        | inl (inl (inl all)) ↦ (all_of room l none all.0 (no_condition room), all.1)
+        | inl (inl (inr any)) ↦ (any_of room l none any.0 (no_condition room), any.1)
+        | inl (inr (inl denied)) ↦ absurd denied.1
+        | inl (inr (inr implied)) ↦ absurd implied.1
+        | inr (inl choice) ↦ absurd choice.1
+        | inr (inr (inl two)) ↦ absurd two.1
+        | inr (inr (inr name)) ↦ fact_of_taken l none room st After name.0 name.1
       ]
   condition_of_taken (group (more (word l) (more c ts))) (suc room) st After e h =
       elim (one.condition_head_told st (TakesAll (more c ts) After) l.mark h.1) [
-        | inl (inl all) ↦
+        | inl (inl (inl all)) ↦
             let first = condition_of_taken c room (InCondition condition.Conditions ∷ st) (TakesAll ts After) (omega arith) (as_condition c st (TakesAll ts After) all.1) in
             let later = conditions_of_taken ts room st After e first.1 in
             (all_of room l (more c ts) all.0 (one_condition room c ts first.0 later.0), later.1)
-        | inl (inr denied) ↦
+        | inl (inl (inr any)) ↦
+            let first = condition_of_taken c room (InCondition condition.Conditions ∷ st) (TakesAll ts After) (omega arith) (as_condition c st (TakesAll ts After) any.1) in
+            let later = conditions_of_taken ts room st After e first.1 in
+            (any_of room l (more c ts) any.0 (one_condition room c ts first.0 later.0), later.1)
+        | inl (inr (inr implied)) ↦
+            let first = condition_of_taken c room (InCondition condition.Condition ∷ The mark.Close ∷ st) (TakesAll ts After) (omega arith) implied.1 in
+            let later = implied_of_taken ts room st After e first.1 in
+            (later.0 l c implied.0 first.0, later.1)
+        | inr (inl choice) ↦
+            let bound = bound_of_taken c (InCondition condition.Condition ∷ The mark.Close ∷ st) (TakesAll ts After) choice.1 in
+            let later = quantified_of_taken ts room st After e bound.after in
+            (subst (λ (t : Nested). IsCondition (suc room) (group (more (word l) (more t ts)))) bound.is (later.0 l bound.inside choice.0 bound.typed), later.1)
+        | inl (inr (inl denied)) ↦
             let first = condition_of_taken c room (The mark.Close ∷ st) (TakesAll ts After) (omega arith) denied.1 in
             let end = only_close ts st After first.1 in
             (rw end.0 (not_so room l c denied.0 first.0), end.1)
-        | inr (inl two) ↦
+        | inr (inr (inl two)) ↦
             let both = comparison_of_taken (more c ts) room st After e two.1 in
             (both.0 l two.0, both.1)
-        | inr (inr name) ↦ fact_of_taken l (more c ts) room st After name.0 name.1
+        | inr (inr (inr name)) ↦ fact_of_taken l (more c ts) room st After name.0 name.1
       ]
+
+  -- what follows the first condition of an implication
+  implied_of_taken : (ts : Nesteds) (room : ℕ) (st : List Symbol) (After : List Symbol → Type 0) → suc room + level st ≡ deepest → TakesAll ts After (InCondition condition.Condition ∷ The mark.Close ∷ st) → ((l : Lexeme) (a : Nested) → l.mark ≡ mark.Imply → IsCondition room a → IsCondition (suc room) (group (more (word l) (more a ts)))) × After st
+  implied_of_taken none room st After e h = absurd h
+  implied_of_taken (more b ts) room st After e h =
+      let first = condition_of_taken b room (The mark.Close ∷ st) (TakesAll ts After) (omega arith) h in
+      let end = only_close ts st After first.1 in
+      (λ l a is own. rw end.0 (implication room l a b is own first.0), end.1)
+
+  -- what follows the variables of a quantifier
+  quantified_of_taken : (ts : Nesteds) (room : ℕ) (st : List Symbol) (After : List Symbol → Type 0) → suc room + level st ≡ deepest → TakesAll ts After (InCondition condition.Condition ∷ The mark.Close ∷ st) → ((l : Lexeme) (vs : Nesteds) → (l.mark ≡ mark.Exists) ⊎ (l.mark ≡ mark.Forall) → IsTypedList is_variable vs → IsCondition (suc room) (group (more (word l) (more (group vs) ts)))) × After st
+  quantified_of_taken none room st After e h = absurd h
+  quantified_of_taken (more c ts) room st After e h =
+      let first = condition_of_taken c room (The mark.Close ∷ st) (TakesAll ts After) (omega arith) h in
+      let end = only_close ts st After first.1 in
+      (λ l vs is typed. rw end.0 (choice_of room l vs c is typed first.0), end.1)
 
   conditions_of_taken : (ts : Nesteds) (room : ℕ) (st : List Symbol) (After : List Symbol → Type 0) → suc room + level st ≡ deepest → TakesAll ts After (InCondition condition.Conditions ∷ st) → AreConditions room ts × After st
   conditions_of_taken none room st After e h = (no_condition room, h)

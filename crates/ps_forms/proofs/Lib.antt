@@ -16,3 +16,4 @@ pub mod TakenLines
 pub mod Taking
 pub mod TokenNames
 pub mod Unfinished
+pub mod VariableLists

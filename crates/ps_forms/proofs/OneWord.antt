@@ -4,7 +4,7 @@ use Rattle.std.specs.List.{list_all}
 use Rattle.std.specs.Option.{option_and_then}
 use denote.Enum.Bare.{same_true}
 use Rattle.ps_shape.specs.contracts.marks.Mark.{the_type}
-use Rattle.ps_shape.specs.Marks.{is, is_name, is_keyword, is_change, is_predicate_name, is_fact_name}
+use Rattle.ps_shape.specs.Marks.{is, is_name, is_term, is_keyword, is_change, is_predicate_name, is_fact_name}
 use Rattle.ps_shape.specs.Rules.{where_it_is, once}
 use Rattle.ps_shape.specs.declared.marks.Mark.{Mark}
 use Rattle.ps_shape.specs.declared.marks.Mark.TheVariants as mark
@@ -18,8 +18,9 @@ use Rattle.ps_shape.specs.declared.symbols.ActionPart.TheVariants as action
 use Rattle.ps_shape.specs.declared.symbols.ConditionPart.TheVariants as condition
 use Rattle.ps_shape.specs.declared.symbols.EffectPart.TheVariants as effect
 use Rattle.ps_shape.specs.declared.symbols.ValuePart.TheVariants as value
-use Rattle.ps_forms.specs.Conditions.{is_term, is_operator, is_relation}
-use Rattle.ps_forms.specs.Grammar.{is_moment, is_variable}
+use Rattle.ps_forms.specs.Conditions.{is_operator, is_relation}
+use Rattle.ps_forms.specs.Grammar.{is_moment}
+use Rattle.ps_forms.specs.TypedLists.{is_variable}
 use Rattle.ps_forms.proofs.Balance.{each_mark, every_mark}
 use Rattle.ps_forms.proofs.Taking.{Follows, after_word, word_step}
 
@@ -120,15 +121,24 @@ module _ (st : List Symbol) (After : List Symbol → Type 0) where
 
   -- ---- conditions
 
-  pub condition_head_told : (m : Mark) → Fits st After (InCondition condition.Head) m → ((m ≡ mark.And) × After (InCondition condition.Conditions ∷ st) ⊎ (m ≡ mark.Not) × After (InCondition condition.Condition ∷ The mark.Close ∷ st)) ⊎ ((is_relation m ≡ true) × After (InValue value.Value ∷ InValue value.Value ∷ The mark.Close ∷ st) ⊎ (is_fact_name m ≡ true) × After (InValue value.Terms ∷ st))
-  condition_head_told mark.And h = inl (inl (refl, h))
-  condition_head_told mark.Not h = inl (inr (refl, h))
-  condition_head_told mark.Equal h = inr (inl (refl, h))
-  condition_head_told mark.Less h = inr (inl (refl, h))
-  condition_head_told mark.LessEqual h = inr (inl (refl, h))
-  condition_head_told mark.GreaterEqual h = inr (inl (refl, h))
-  condition_head_told mark.Greater h = inr (inl (refl, h))
-  condition_head_told m h = inr (inr (passed (is_fact_name m) (InValue value.Terms ∷ []) h))
+  -- the head of several conditions, of one or two, of a quantifier, of a comparison, or of a fact
+  pub condition_head_told : (m : Mark) → Fits st After (InCondition condition.Head) m
+      → (((m ≡ mark.And) × After (InCondition condition.Conditions ∷ st) ⊎ (m ≡ mark.Or) × After (InCondition condition.Conditions ∷ st))
+      ⊎ ((m ≡ mark.Not) × After (InCondition condition.Condition ∷ The mark.Close ∷ st) ⊎ (m ≡ mark.Imply) × After (InCondition condition.Condition ∷ InCondition condition.Condition ∷ The mark.Close ∷ st)))
+      ⊎ (((m ≡ mark.Exists) ⊎ (m ≡ mark.Forall)) × After (InAction action.Parameters ∷ InCondition condition.Condition ∷ The mark.Close ∷ st)
+      ⊎ ((is_relation m ≡ true) × After (InValue value.Value ∷ InValue value.Value ∷ The mark.Close ∷ st) ⊎ (is_fact_name m ≡ true) × After (InValue value.Terms ∷ st)))
+  condition_head_told mark.And h = inl (inl (inl (refl, h)))
+  condition_head_told mark.Or h = inl (inl (inr (refl, h)))
+  condition_head_told mark.Not h = inl (inr (inl (refl, h)))
+  condition_head_told mark.Imply h = inl (inr (inr (refl, h)))
+  condition_head_told mark.Exists h = inr (inl (inl refl, h))
+  condition_head_told mark.Forall h = inr (inl (inr refl, h))
+  condition_head_told mark.Equal h = inr (inr (inl (refl, h)))
+  condition_head_told mark.Less h = inr (inr (inl (refl, h)))
+  condition_head_told mark.LessEqual h = inr (inr (inl (refl, h)))
+  condition_head_told mark.GreaterEqual h = inr (inr (inl (refl, h)))
+  condition_head_told mark.Greater h = inr (inr (inl (refl, h)))
+  condition_head_told m h = inr (inr (inr (passed (is_fact_name m) (InValue value.Terms ∷ []) h)))
 
   pub relation_fits : (m : Mark) → is_relation m ≡ true → After (InValue value.Value ∷ InValue value.Value ∷ The mark.Close ∷ st) → Fits st After (InCondition condition.Head) m
   relation_fits mark.Equal e h = h
@@ -141,6 +151,10 @@ module _ (st : List Symbol) (After : List Symbol → Type 0) where
   pub fact_fits : (m : Mark) → is_fact_name m ≡ true → After (InValue value.Terms ∷ st) → Fits st After (InCondition condition.Head) m
   fact_fits mark.And e h = absurd (cc)
   fact_fits mark.Not e h = absurd (cc)
+  fact_fits mark.Or e h = absurd (cc)
+  fact_fits mark.Imply e h = absurd (cc)
+  fact_fits mark.Exists e h = absurd (cc)
+  fact_fits mark.Forall e h = absurd (cc)
   fact_fits mark.Equal e h = absurd (cc)
   fact_fits mark.Less e h = absurd (cc)
   fact_fits mark.LessEqual e h = absurd (cc)

@@ -7,13 +7,14 @@ use Rattle.ps_shape.specs.declared.marks.Mark.TheVariants as mark
 use Rattle.ps_shape.specs.declared.symbols.Seen.{Seen}
 use Rattle.ps_forms.specs.Conditions.{AreArguments, AreConditionsOf, IsAtomOf, IsConditionOf, IsValueOf, domains}
 use Rattle.ps_forms.specs.Nested.{Nested, Nesteds, word, group, none, more}
+use Rattle.ps_forms.specs.TypedLists.{IsTypedList, is_variable}
 use Rattle.ps_forms.specs.declared.lexemes.Lexeme.{Lexeme}
 
 -- ---- conditions of a domain
 
 -- TERM*, where a TERM is a name or a variable
 abbrev pub AreTerms : Nesteds → Type 0
-AreTerms ts = AreArguments domains ts
+AreTerms ts = AreArguments ts
 
 -- (NAME TERM*)
 abbrev pub IsAtom : ℕ → Nested → Type 0
@@ -100,23 +101,6 @@ pub data IsEffectForm : ℕ → Nested → Type 0 where
   lone_effect : (room : ℕ) (t : Nested) → IsTimedEffect room t → IsEffectForm (suc (suc room)) t
 
 -- ---- lists of names
-
-mutual
-  -- TLIST of names with such marks: a run of them may be followed by - NAME
-  pub data IsTypedList : (Mark → Bool) → Nesteds → Type 0 where
-    no_name : (fits : Mark → Bool) → IsTypedList fits none
-    first_name : (fits : Mark → Bool) (l : Lexeme) (ts : Nesteds) → fits l.mark ≡ true → IsRun fits ts → IsTypedList fits (more (word l) ts)
-
-  -- what follows a name of a run
-  pub data IsRun : (Mark → Bool) → Nesteds → Type 0 where
-    run_end : (fits : Mark → Bool) → IsRun fits none
-    next_name : (fits : Mark → Bool) (l : Lexeme) (ts : Nesteds) → fits l.mark ≡ true → IsRun fits ts → IsRun fits (more (word l) ts)
-    type_name : (fits : Mark → Bool) (l m : Lexeme) (ts : Nesteds) → l.mark ≡ mark.Minus → is_name m.mark ≡ true → IsTypedList fits ts → IsRun fits (more (word l) (more (word m) ts))
-
--- the mark of a parameter
-abbrev pub is_variable : Mark → Bool
-is_variable mark.Variable = true
-is_variable m = false
 
 -- KEYWORD*
 pub data AreKeywords : Nesteds → Type 0 where

@@ -7,3 +7,4 @@ pub mod NestedFalls
 pub mod NestedViews
 pub mod Places
 pub mod Spelling
+pub mod TypedLists

@@ -1,32 +1,35 @@
 -- What is taken where a fact, a value or a condition of a goal is wanted is one, and each is taken there.
-use Rattle.std.proofs.Common.{◌≡◌, ℕ, zero, suc, ◌+◌, ◌≤◌, List, ◌∷◌, true, refl, ap, inl, inr, arith}
-use Rattle.ps_shape.specs.Marks.{is_goal_name, is_name}
+use Rattle.std.proofs.Common.{◌≡◌, ℕ, zero, suc, ◌+◌, ◌≤◌, List, ◌∷◌, true, refl, ap, subst, ◌⊎◌, inl, inr, arith}
+use Rattle.ps_shape.specs.Marks.{is_goal_name, is_name, is_term}
 use Rattle.ps_shape.specs.Rules.{most_names}
 use Rattle.ps_shape.specs.Shape.{deepest}
 use Rattle.ps_shape.specs.Symbols.{level}
 use Rattle.ps_shape.specs.declared.marks.Mark.TheVariants as mark
 use Rattle.ps_shape.specs.declared.symbols.Symbol.{Symbol}
-use Rattle.ps_shape.specs.declared.symbols.Symbol.TheVariants.{The, AnyName, InGoal}
+use Rattle.ps_shape.specs.declared.symbols.Symbol.TheVariants.{The, InAction, InGoal}
+use Rattle.ps_shape.specs.declared.symbols.ActionPart.TheVariants.{Parameters}
 use Rattle.ps_shape.specs.declared.symbols.GoalPart.TheVariants as goal
 use Rattle.ps_forms.specs.Conditions.{AreArguments, AreConditionsOf, IsAtomOf, IsConditionOf, IsValueOf, goals, is_operator, is_relation}
 use Rattle.ps_forms.specs.Conditions.AreArguments.{no_argument, one_argument}
 use Rattle.ps_forms.specs.Conditions.AreConditionsOf.{no_condition, one_condition}
 use Rattle.ps_forms.specs.Conditions.IsAtomOf.{atom}
-use Rattle.ps_forms.specs.Conditions.IsConditionOf.{a_fact, all_of, comparison, not_so, same}
+use Rattle.ps_forms.specs.Conditions.IsConditionOf.{a_fact, all_of, any_of, comparison, each_choice, implication, not_so, same, some_choice}
 use Rattle.ps_forms.specs.Conditions.IsValueOf.{a_number, an_argument, an_atom, negation, operation}
 use Rattle.ps_forms.specs.Nested.{Nested, Nesteds, word, group, none, more}
 use Rattle.ps_forms.specs.Places.{count}
+use Rattle.ps_forms.specs.TypedLists.{IsTypedList, is_variable}
 use Rattle.ps_forms.specs.declared.lexemes.Lexeme.{Lexeme}
 use Rattle.ps_forms.proofs.JudgedForms.{only_close}
 use Rattle.ps_forms.proofs.OneWord as one
 use Rattle.ps_forms.proofs.OneWord.{no_word}
 use Rattle.ps_forms.proofs.Taking.{Takes, TakesAll}
+use Rattle.ps_forms.proofs.VariableLists.{bound_of_taken, bound_taken}
 use Rattle.ps_grammar_laws.proofs.GoalWords as here
 
--- ---- names
+-- ---- terms
 
--- what is taken where so many names may stand is as many names at most
-names_of_taken : (ts : Nesteds) (most : ℕ) (st : List Symbol) (After : List Symbol → Type 0) → TakesAll ts After (InGoal (goal.Names most) ∷ st) → AreArguments goals ts × (count ts ≤ most) × After st
+-- what is taken where so many terms may stand is as many at most
+names_of_taken : (ts : Nesteds) (most : ℕ) (st : List Symbol) (After : List Symbol → Type 0) → TakesAll ts After (InGoal (goal.Names most) ∷ st) → AreArguments ts × (count ts ≤ most) × After st
 names_of_taken none most st After h = (no_argument, omega arith, h)
 names_of_taken (more (word l) ts) zero st After h = absurd (no_word (InGoal (goal.Names 0)) refl st (TakesAll ts After) l.mark h)
 names_of_taken (more (word l) ts) (suc most) st After h =
@@ -37,7 +40,7 @@ names_of_taken (more (word l) ts) (suc most) st After h =
 names_of_taken (more (group us) ts) zero st After h = absurd h.1
 names_of_taken (more (group us) ts) (suc most) st After h = absurd h.1
 
-names_taken : (ts : Nesteds) (most : ℕ) → AreArguments goals ts → count ts ≤ most → (st : List Symbol) (After : List Symbol → Type 0) → After st → TakesAll ts After (InGoal (goal.Names most) ∷ st)
+names_taken : (ts : Nesteds) (most : ℕ) → AreArguments ts → count ts ≤ most → (st : List Symbol) (After : List Symbol → Type 0) → After st → TakesAll ts After (InGoal (goal.Names most) ∷ st)
 names_taken _ most no_argument few st After k = k
 names_taken _ zero (one_argument l ts is later) few st After k = absurd (omega (arith, few))
 names_taken _ (suc most) (one_argument l ts is later) few st After k =
@@ -70,7 +73,7 @@ taken_last : (t : Nested) (st : List Symbol) (After : List Symbol → Type 0) �
 taken_last (word l) st After h = here.last_number_fits st After l.mark h
 taken_last (group us) st After h = (omega (arith, h.0), h.1)
 
--- a name and names are a value
+-- a name and terms are a value
 function_of_taken : (l : Lexeme) (ts : Nesteds) (room : ℕ) (st : List Symbol) (After : List Symbol → Type 0) → is_name l.mark ≡ true → TakesAll ts After (InGoal (goal.Names most_names) ∷ st) → IsValueOf goals (suc room) (group (more (word l) ts)) × After st
 function_of_taken l ts room st After e h =
     let all = names_of_taken ts most_names st After h in
@@ -141,14 +144,14 @@ comparison_of_taken (more x (more y ts)) room st After e h =
     let end = only_close ts st After second.1 in
     (λ l relation. rw end.0 (comparison room l x y relation first.0 second.0), end.1)
 
--- one name more and a parenthesis after a name are two names that are compared
-name_of_taken : (l m : Lexeme) (ts : Nesteds) (room : ℕ) (st : List Symbol) (After : List Symbol → Type 0) → l.mark ≡ mark.Equal → is_name m.mark ≡ true → TakesAll ts After (AnyName ∷ The mark.Close ∷ st) → IsConditionOf goals (suc room) (group (more (word l) (more (word m) ts))) × After st
-name_of_taken l m none room st After equal is h = absurd h
-name_of_taken l m (more (group us) ts) room st After equal is h = absurd h.1
-name_of_taken l m (more (word n) ts) room st After equal is h =
-    let name = one.name_told (The mark.Close ∷ st) (TakesAll ts After) n.mark h in
-    let end = only_close ts st After name.1 in
-    (rw end.0 (same room l m n equal is name.0), end.1)
+-- one term more and a parenthesis after a term are two terms that are compared
+term_of_taken : (l m : Lexeme) (ts : Nesteds) (room : ℕ) (st : List Symbol) (After : List Symbol → Type 0) → l.mark ≡ mark.Equal → is_term m.mark ≡ true → TakesAll ts After (InGoal goal.Term ∷ The mark.Close ∷ st) → IsConditionOf goals (suc room) (group (more (word l) (more (word m) ts))) × After st
+term_of_taken l m none room st After equal is h = absurd h
+term_of_taken l m (more (group us) ts) room st After equal is h = absurd h.1
+term_of_taken l m (more (word n) ts) room st After equal is h =
+    let term = here.term_told (The mark.Close ∷ st) (TakesAll ts After) n.mark h in
+    let end = only_close ts st After term.1 in
+    (rw end.0 (same room l m n equal is term.0), end.1)
 
 -- a number or a list where operands are wanted is the first of two values
 first_number : (m : Lexeme) (ts : Nesteds) (st : List Symbol) (After : List Symbol → Type 0) → m.mark ≡ mark.Number → TakesAll ts After (InGoal goal.Value ∷ The mark.Close ∷ st) → TakesAll (more (word m) ts) After (InGoal goal.Value ∷ InGoal goal.Value ∷ The mark.Close ∷ st)
@@ -164,7 +167,7 @@ equality_of_taken l (more (word m) ts) room st After equal e h =
       | inl number ↦
           let both = comparison_of_taken (more (word m) ts) room st After e (first_number m ts st After number.0 number.1) in
           (both.0 l (ap is_relation equal), both.1)
-      | inr name ↦ name_of_taken l m ts room st After equal name.0 name.1
+      | inr term ↦ term_of_taken l m ts room st After equal term.0 term.1
     ]
 
 -- two values are taken where operands are wanted
@@ -176,6 +179,11 @@ operands_taken (group us) y room v st After h = (omega (arith, h.0), h.1)
 
 -- ---- conditions
 
+-- a quantifier by its word
+choice_of : (room : ℕ) (l : Lexeme) (vs : Nesteds) (c : Nested) → (l.mark ≡ mark.Exists) ⊎ (l.mark ≡ mark.Forall) → IsTypedList is_variable vs → IsConditionOf goals room c → IsConditionOf goals (suc room) (group (more (word l) (more (group vs) (more c none))))
+choice_of room l vs c (inl is) typed own = some_choice room l vs c is typed own
+choice_of room l vs c (inr is) typed own = each_choice room l vs c is typed own
+
 -- a condition of several is one
 as_condition : (t : Nested) (st : List Symbol) (After : List Symbol → Type 0) → Takes t After (InGoal goal.Conditions ∷ st) → Takes t After (InGoal goal.Condition ∷ InGoal goal.Conditions ∷ st)
 as_condition (word l) st After h = absurd (no_word (InGoal goal.Conditions) refl st After l.mark h)
@@ -186,7 +194,7 @@ taken_among : (t : Nested) (st : List Symbol) (After : List Symbol → Type 0) �
 taken_among (word l) st After h = absurd (no_word (InGoal goal.Condition) refl (InGoal goal.Conditions ∷ st) After l.mark h)
 taken_among (group ts) st After h = (omega (arith, h.0), h.1)
 
--- a name and names are a fact
+-- a name and terms are a fact
 fact_of_taken : (l : Lexeme) (ts : Nesteds) (room : ℕ) (st : List Symbol) (After : List Symbol → Type 0) → is_goal_name l.mark ≡ true → TakesAll ts After (InGoal (goal.Names most_names) ∷ st) → IsConditionOf goals (suc room) (group (more (word l) ts)) × After st
 fact_of_taken l ts room st After e h =
     let all = names_of_taken ts most_names st After h in
@@ -201,28 +209,59 @@ mutual
   condition_of_taken (group (more (group us) ts)) (suc room) st After e h = absurd h.1.1
   condition_of_taken (group (more (word l) none)) (suc room) st After e h =
       elim (here.goal_head_told st (TakesAll none After) l.mark h.1) [
-        | inl (inl all) ↦ (all_of room l none all.0 (no_condition room), all.1)
-        | inl (inr denied) ↦ absurd denied.1
-        | inr (inl equal) ↦ absurd equal.1
-        | inr (inr (inl two)) ↦ absurd two.1
-        | inr (inr (inr name)) ↦ fact_of_taken l none room st After name.0 name.1
+        | inl (inl (inl all)) ↦ (all_of room l none all.0 (no_condition room), all.1)
+        | inl (inl (inr any)) ↦ (any_of room l none any.0 (no_condition room), any.1)
+        | inl (inr (inl denied)) ↦ absurd denied.1
+        | inl (inr (inr implied)) ↦ absurd implied.1
+        | inr (inl choice) ↦ absurd choice.1
+        | inr (inr (inl equal)) ↦ absurd equal.1
+        | inr (inr (inr (inl two))) ↦ absurd two.1
+        | inr (inr (inr (inr name))) ↦ fact_of_taken l none room st After name.0 name.1
       ]
   condition_of_taken (group (more (word l) (more c ts))) (suc room) st After e h =
       elim (here.goal_head_told st (TakesAll (more c ts) After) l.mark h.1) [
-        | inl (inl all) ↦
+        | inl (inl (inl all)) ↦
             let first = condition_of_taken c room (InGoal goal.Conditions ∷ st) (TakesAll ts After) (omega arith) (as_condition c st (TakesAll ts After) all.1) in
             let later = conditions_of_taken ts room st After e first.1 in
             (all_of room l (more c ts) all.0 (one_condition room c ts first.0 later.0), later.1)
-        | inl (inr denied) ↦
+        | inl (inl (inr any)) ↦
+            let first = condition_of_taken c room (InGoal goal.Conditions ∷ st) (TakesAll ts After) (omega arith) (as_condition c st (TakesAll ts After) any.1) in
+            let later = conditions_of_taken ts room st After e first.1 in
+            (any_of room l (more c ts) any.0 (one_condition room c ts first.0 later.0), later.1)
+        | inl (inr (inl denied)) ↦
             let first = condition_of_taken c room (The mark.Close ∷ st) (TakesAll ts After) (omega arith) denied.1 in
             let end = only_close ts st After first.1 in
             (rw end.0 (not_so room l c denied.0 first.0), end.1)
-        | inr (inl equal) ↦ equality_of_taken l (more c ts) room st After equal.0 e equal.1
-        | inr (inr (inl two)) ↦
+        | inl (inr (inr implied)) ↦
+            let first = condition_of_taken c room (InGoal goal.Condition ∷ The mark.Close ∷ st) (TakesAll ts After) (omega arith) implied.1 in
+            let later = implied_of_taken ts room st After e first.1 in
+            (later.0 l c implied.0 first.0, later.1)
+        | inr (inl choice) ↦
+            let bound = bound_of_taken c (InGoal goal.Condition ∷ The mark.Close ∷ st) (TakesAll ts After) choice.1 in
+            let later = quantified_of_taken ts room st After e bound.after in
+            (subst (λ (t : Nested). IsConditionOf goals (suc room) (group (more (word l) (more t ts)))) bound.is (later.0 l bound.inside choice.0 bound.typed), later.1)
+        | inr (inr (inl equal)) ↦ equality_of_taken l (more c ts) room st After equal.0 e equal.1
+        | inr (inr (inr (inl two))) ↦
             let both = comparison_of_taken (more c ts) room st After e two.1 in
             (both.0 l two.0, both.1)
-        | inr (inr (inr name)) ↦ fact_of_taken l (more c ts) room st After name.0 name.1
+        | inr (inr (inr (inr name))) ↦ fact_of_taken l (more c ts) room st After name.0 name.1
       ]
+
+  -- what follows the first condition of an implication
+  implied_of_taken : (ts : Nesteds) (room : ℕ) (st : List Symbol) (After : List Symbol → Type 0) → suc room + level st ≡ deepest → TakesAll ts After (InGoal goal.Condition ∷ The mark.Close ∷ st) → ((l : Lexeme) (a : Nested) → l.mark ≡ mark.Imply → IsConditionOf goals room a → IsConditionOf goals (suc room) (group (more (word l) (more a ts)))) × After st
+  implied_of_taken none room st After e h = absurd h
+  implied_of_taken (more b ts) room st After e h =
+      let first = condition_of_taken b room (The mark.Close ∷ st) (TakesAll ts After) (omega arith) h in
+      let end = only_close ts st After first.1 in
+      (λ l a is own. rw end.0 (implication room l a b is own first.0), end.1)
+
+  -- what follows the variables of a quantifier
+  quantified_of_taken : (ts : Nesteds) (room : ℕ) (st : List Symbol) (After : List Symbol → Type 0) → suc room + level st ≡ deepest → TakesAll ts After (InGoal goal.Condition ∷ The mark.Close ∷ st) → ((l : Lexeme) (vs : Nesteds) → (l.mark ≡ mark.Exists) ⊎ (l.mark ≡ mark.Forall) → IsTypedList is_variable vs → IsConditionOf goals (suc room) (group (more (word l) (more (group vs) ts)))) × After st
+  quantified_of_taken none room st After e h = absurd h
+  quantified_of_taken (more c ts) room st After e h =
+      let first = condition_of_taken c room (The mark.Close ∷ st) (TakesAll ts After) (omega arith) h in
+      let end = only_close ts st After first.1 in
+      (λ l vs is typed. rw end.0 (choice_of room l vs c is typed first.0), end.1)
 
   conditions_of_taken : (ts : Nesteds) (room : ℕ) (st : List Symbol) (After : List Symbol → Type 0) → suc room + level st ≡ deepest → TakesAll ts After (InGoal goal.Conditions ∷ st) → AreConditionsOf goals room ts × After st
   conditions_of_taken none room st After e h = (no_condition room, h)
@@ -231,17 +270,43 @@ mutual
       let later = conditions_of_taken ts room st After e first.1 in
       (one_condition room c ts first.0 later.0, later.1)
 
+-- a condition opens a parenthesis at least
+condition_opens : (room : ℕ) (t : Nested) → IsConditionOf goals room t → 1 ≤ room
+condition_opens _ _ (all_of room l ts is all) = omega arith
+condition_opens _ _ (any_of room l ts is all) = omega arith
+condition_opens _ _ (not_so room l c is other) = omega arith
+condition_opens _ _ (implication room l a b is first second) = omega arith
+condition_opens _ _ (some_choice room l vs c is typed own) = omega arith
+condition_opens _ _ (each_choice room l vs c is typed own) = omega arith
+condition_opens _ _ (a_fact room l ts is all few) = omega arith
+condition_opens _ _ (same room l m n is first second) = omega arith
+condition_opens _ _ (comparison room l x y is v w) = omega arith
+
+-- the variables of a quantifier and its condition are taken, where the condition is
+quantified_taken : (room : ℕ) (vs : Nesteds) (c : Nested) → IsTypedList is_variable vs → 1 ≤ room → (st : List Symbol) (After : List Symbol → Type 0) → suc room + level st ≡ deepest → Takes c (TakesAll none After) (InGoal goal.Condition ∷ The mark.Close ∷ st)
+    → TakesAll (more (group vs) (more c none)) After (InAction Parameters ∷ InGoal goal.Condition ∷ The mark.Close ∷ st)
+quantified_taken room vs c typed some st After e own = bound_taken vs typed (InGoal goal.Condition ∷ The mark.Close ∷ st) (TakesAll (more c none) After) (omega (arith, some)) own
+
 mutual
   -- each condition is taken where one is wanted
   pub condition_taken : (room : ℕ) (t : Nested) → IsConditionOf goals room t → (st : List Symbol) (After : List Symbol → Type 0) → room + level st ≡ deepest → After st → Takes t After (InGoal goal.Condition ∷ st)
   condition_taken _ _ (all_of room l ts is all) st After e k =
       (omega arith, one.at_mark st (TakesAll ts After) (InGoal goal.Head) l.mark mark.And is (conditions_taken room ts all st After e k))
+  condition_taken _ _ (any_of room l ts is all) st After e k =
+      (omega arith, one.at_mark st (TakesAll ts After) (InGoal goal.Head) l.mark mark.Or is (conditions_taken room ts all st After e k))
   condition_taken _ _ (not_so room l c is other) st After e k =
       (omega arith, one.at_mark st (TakesAll (more c none) After) (InGoal goal.Head) l.mark mark.Not is (condition_taken room c other (The mark.Close ∷ st) (TakesAll none After) (omega arith) k))
+  condition_taken _ _ (implication room l a b is first second) st After e k =
+      let last : Takes b (TakesAll none After) (InGoal goal.Condition ∷ The mark.Close ∷ st) = condition_taken room b second (The mark.Close ∷ st) (TakesAll none After) (omega arith) k in
+      (omega arith, one.at_mark st (TakesAll (more a (more b none)) After) (InGoal goal.Head) l.mark mark.Imply is (condition_taken room a first (InGoal goal.Condition ∷ The mark.Close ∷ st) (TakesAll (more b none) After) (omega arith) last))
+  condition_taken _ _ (some_choice room l vs c is typed own) st After e k =
+      (omega arith, one.at_mark st (TakesAll (more (group vs) (more c none)) After) (InGoal goal.Head) l.mark mark.Exists is (quantified_taken room vs c typed (condition_opens room c own) st After e (condition_taken room c own (The mark.Close ∷ st) (TakesAll none After) (omega arith) k)))
+  condition_taken _ _ (each_choice room l vs c is typed own) st After e k =
+      (omega arith, one.at_mark st (TakesAll (more (group vs) (more c none)) After) (InGoal goal.Head) l.mark mark.Forall is (quantified_taken room vs c typed (condition_opens room c own) st After e (condition_taken room c own (The mark.Close ∷ st) (TakesAll none After) (omega arith) k)))
   condition_taken _ _ (a_fact room l ts is all few) st After e k =
       (omega arith, here.fact_fits st (TakesAll ts After) l.mark is (names_taken ts most_names all few st After k))
   condition_taken _ _ (same room l m n is first second) st After e k =
-      (omega arith, one.at_mark st (TakesAll (more (word m) (more (word n) none)) After) (InGoal goal.Head) l.mark mark.Equal is (here.first_name_fits st (TakesAll (more (word n) none) After) m.mark first (one.name_fits (The mark.Close ∷ st) (TakesAll none After) n.mark second k)))
+      (omega arith, one.at_mark st (TakesAll (more (word m) (more (word n) none)) After) (InGoal goal.Head) l.mark mark.Equal is (here.first_term_fits st (TakesAll (more (word n) none) After) m.mark first (here.term_fits (The mark.Close ∷ st) (TakesAll none After) n.mark second k)))
   condition_taken _ _ (comparison room l x y is v w) st After e k =
       let two : TakesAll (more x (more y none)) After (InGoal goal.Value ∷ InGoal goal.Value ∷ The mark.Close ∷ st) = value_taken room x v (InGoal goal.Value ∷ The mark.Close ∷ st) (TakesAll (more y none) After) (omega arith) (value_taken room y w (The mark.Close ∷ st) (TakesAll none After) (omega arith) k) in
       (omega arith, here.relation_fits st (TakesAll (more x (more y none)) After) l.mark is (operands_taken x y room v st After two) two)

@@ -27,15 +27,15 @@ Names zero Then ts = Then ts
 Names (suc n) Then (more (word l) ts) = (is_name l.mark ≡ true) × Names n Then ts
 Names (suc n) Then ts = ⊥
 
--- FACT: (NAME NAME*)
+-- FACT: (NAME TERM*), where its scope lets no variable stand
 abbrev pub IsFact : Nested → Type 0
 IsFact t = IsAtomOf goals deepest t
 
--- GOAL: a condition of names
+-- GOAL: a condition, where its scope lets no variable stand that no quantifier binds
 abbrev pub IsGoal : Nested → Type 0
 IsGoal t = IsConditionOf goals deepest t
 
--- (= (NAME NAME*) NUMBER)
+-- (= (NAME TERM*) NUMBER)
 pub data IsSetting : ℕ → Nested → Type 0 where
   setting : (room : ℕ) (l n : Lexeme) (a : Nested) → l.mark ≡ mark.Equal → IsAtomOf goals room a → n.mark ≡ mark.Number → IsSetting (suc room) (group (more (word l) (more a (more (word n) none))))
 
@@ -45,7 +45,7 @@ abbrev pub IsLineForm : Form → Nesteds → Type 0
 IsLineForm SetInstance ts = Names 4 IsEnd ts
 -- set predicate FACT
 IsLineForm SetPredicate ts = Names 2 (IsOne IsFact) ts
--- set function (= (NAME NAME*) NUMBER)
+-- set function (= (NAME TERM*) NUMBER)
 IsLineForm SetFunction ts = Names 2 (IsOne (IsSetting deepest)) ts
 -- set goal GOAL
 IsLineForm SetGoal ts = Names 2 (IsOne IsGoal) ts
@@ -81,7 +81,7 @@ IsLineForm Quit ts = Names 1 IsEnd ts
 IsLineForm Tree ts = Names 2 IsEnd ts
 -- run
 IsLineForm Run ts = Names 1 IsEnd ts
--- run action (NAME NAME*)
+-- run action (NAME TERM*)
 IsLineForm RunAction ts = Names 2 (IsOne IsFact) ts
 
 -- The lists of a line whose words fit a form are a line of that form.

@@ -1,10 +1,12 @@
 -- Of all names, the refusal of an edit has such alone as the edit has; and instances keep their names in the table.
-use Rattle.std.proofs.Common.{ℕ, ◌+◌, ◌==◌, not, if◌then◌else◌, true, false, Option, Some, None, is_none, is_some, Result, Ok, Err, List, [], ◌∷◌, ◌++◌, All, IfSome, list_all, slice_index_or, MatchResult, filter, fold, length, map, nat_le, arith}
+use Rattle.std.proofs.Common.{ℕ, ◌+◌, ◌==◌, not, if◌then◌else◌, true, false, Option, Some, None, is_none, is_some, Result, Ok, Err, List, [], ◌∷◌, ◌++◌, All, IfSome, slice_index_or, MatchResult, filter, fold, length, nat_le}
+use Rattle.std.specs.List.{list_all}
 use Rattle.std.specs.BTreeMap.{insert_entry}
 use Rattle.std.specs.BTreeSet.{insert_key}
 use Rattle.std.specs.Map.{keys_of}
-use Rattle.std.proofs.lemmas.List.Elements.{All-nil, All-head, All-tail, All-cons}
+use Rattle.std.proofs.lemmas.List.Elements.{All-nil, All-head, All-tail}
 use Rattle.std.proofs.lemmas.Map.Views.{All-keys-insert_entry}
+use Rattle.ps_world.specs.declared.schemas.Lifted.{Lifted}
 use Rattle.ps_world.specs.Names.{Table, same_name, name_cmp, object}
 use Rattle.ps_world.specs.Facts.{fact_cmp}
 use Rattle.ps_world.specs.Trees.{ExprTree, number, value_of, negated, operated, CondTree, CondTrees, all_of, any_of, no, implied, holds, same, compares, is_a, for_some, for_all, none, more}

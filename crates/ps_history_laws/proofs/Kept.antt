@@ -1,6 +1,6 @@
 -- What can be said with a table can be said with each table that keeps its names.
-use Rattle.std.proofs.Common.{◌≡◌, ℕ, ◌<◌, true, Ok, Err, List, [], ◌++◌, All, Some, length, sym, ◌∙◌, subst}
-use Rattle.std.proofs.lemmas.List.Elements.{All-weaker}
+use Rattle.std.proofs.Common.{◌≡◌, ℕ, ◌<◌, true, Ok, Err, List, [], ◌∷◌, ◌++◌, All, Some, length, sym, ◌∙◌, subst, codes}
+use Rattle.std.proofs.lemmas.List.Elements.{All-weaker, All-nil, All-cons, All-head, All-tail}
 use Rattle.std.proofs.lemmas.Option.{same_Some, slice_get_within, slice_get-get_or}
 use Rattle.std.specs.List.{slice_get}
 use Rattle.ps_world.specs.CondViews.{cond_tree}
@@ -33,11 +33,12 @@ use Rattle.ps_machine.specs.declared.members.Member.TheVariants as member
 use Rattle.ps_machine.specs.declared.members.Observer.{Observer}
 use Rattle.ps_machine.specs.declared.members.Performer.{Performer}
 use Rattle.ps_shape.specs.Marks.{is_goal_name}
+use Rattle.ps_shape.specs.declared.marks.Mark.TheVariants as mark
 use Rattle.ps_text.specs.Names.{Keeps}
 use Rattle.ps_text.specs.declared.lexing.Class.TheVariants as class
 use Rattle.ps_forms.specs.Lexemes.{mark_of}
 use Rattle.ps_print.specs.CanonicalWords.{AreCondsOf, IsCondOf, IsExprOf, IsLiftedOf, IsParamOf, IsTermOf}
-use Rattle.ps_script_laws.specs.Sayable.{HasGoalHeads, HaveGoalHeads, IsEditOf, IsFactOf, IsGoalHead, IsGoalOf, IsQueryOf}
+use Rattle.ps_script_laws.specs.Sayable.{AreBindable, HasGoalHeads, HaveGoalHeads, IsEditOf, IsFactOf, IsGoalHead, IsGoalOf, IsQueryOf}
 use Rattle.ps_history_laws.specs.Inputs.{IsSayableAction, IsSayableDomain, IsSayableLine, IsSayableMember, IsSayableObserver, IsSayablePerformer, IsSayableUnit}
 use Rattle.ps_history_laws.specs.Laws.{SayableInputsStaySo}
 
@@ -99,25 +100,35 @@ module _ (t u : Table) (keeps : Keeps t u) where
   head-in : (n : Name) → IsOf (length t) n → IsGoalHead t n → IsGoalHead u n
   head-in n lt h = subst (λ (text : List ℕ). is_goal_name (mark_of class.Name text) ≡ true) (sym (text-same n lt)) h
 
-  mutual
-    heads-in : (c : CondTree) → IsCondOf (length t) [] c → HasGoalHeads t c → HasGoalHeads u c
-    heads-in (all_of cs) k h = all-heads-in cs k h
-    heads-in (no c) k h = heads-in c k h
-    heads-in (holds l) k h = (h.0, head-in l.head k.0 h.1)
-    heads-in (same x y) k h = h
-    heads-in (compares rel x y) k h = h
-    heads-in (is_a x kind) k h = h
-    heads-in (any_of cs) k h = absurd h.0
-    heads-in (implied a b) k h = absurd h.0
-    heads-in (for_some qs c) k h = absurd h.0
-    heads-in (for_all qs c) k h = absurd h.0
+  free-in : (qs : List Param) → All (IsParamOf (length t)) qs → All (λ q. mark_of class.Variable (codes "?" ++ name_text t q.name) ≡ mark.Variable) qs → All (λ q. mark_of class.Variable (codes "?" ++ name_text u q.name) ≡ mark.Variable) qs
+  free-in [] k h = All-nil (λ (q : Param). mark_of class.Variable (codes "?" ++ name_text u q.name) ≡ mark.Variable)
+  free-in (q ∷ qs) k h =
+      All-cons (λ (q : Param). mark_of class.Variable (codes "?" ++ name_text u q.name) ≡ mark.Variable) q qs
+      (subst (λ (text : List ℕ). mark_of class.Variable (codes "?" ++ text) ≡ mark.Variable) (sym (text-same q.name (All-head (IsParamOf (length t)) q qs k).0)) (All-head (λ (q : Param). mark_of class.Variable (codes "?" ++ name_text t q.name) ≡ mark.Variable) q qs h))
+      (free-in qs (All-tail (IsParamOf (length t)) q qs k) (All-tail (λ (q : Param). mark_of class.Variable (codes "?" ++ name_text t q.name) ≡ mark.Variable) q qs h))
 
-    all-heads-in : (cs : CondTrees) → AreCondsOf (length t) [] cs → HaveGoalHeads t cs → HaveGoalHeads u cs
-    all-heads-in none k h = h
-    all-heads-in (more c cs) k h = (heads-in c k.0 h.0, all-heads-in cs k.1 h.1)
+  bindable-in : (ps qs : List Param) → All (IsParamOf (length t)) qs → AreBindable t ps qs → AreBindable u ps qs
+  bindable-in ps qs k h = record { few = h.few; apart = h.apart; free = free-in qs k h.free }
+
+  mutual
+    heads-in : (ps : List Param) (c : CondTree) → IsCondOf (length t) ps c → HasGoalHeads t ps c → HasGoalHeads u ps c
+    heads-in ps (all_of cs) k h = all-heads-in ps cs k h
+    heads-in ps (no c) k h = heads-in ps c k h
+    heads-in ps (holds l) k h = (h.0, head-in l.head k.0 h.1)
+    heads-in ps (same x y) k h = h
+    heads-in ps (compares rel x y) k h = h
+    heads-in ps (is_a x kind) k h = h
+    heads-in ps (any_of cs) k h = (h.0, all-heads-in ps cs k.1 h.1)
+    heads-in ps (implied a b) k h = (h.0, (heads-in ps a k.1.0 h.1.0, heads-in ps b k.1.1 h.1.1))
+    heads-in ps (for_some qs c) k h = (bindable-in ps qs k.0 h.0, heads-in (ps ++ qs) c k.1 h.1)
+    heads-in ps (for_all qs c) k h = (bindable-in ps qs k.0 h.0, heads-in (ps ++ qs) c k.1 h.1)
+
+    all-heads-in : (ps : List Param) (cs : CondTrees) → AreCondsOf (length t) ps cs → HaveGoalHeads t ps cs → HaveGoalHeads u ps cs
+    all-heads-in ps none k h = h
+    all-heads-in ps (more c cs) k h = (heads-in ps c k.0 h.0, all-heads-in ps cs k.1 h.1)
 
   goal-in : (goal : Cond) → IsGoalOf t goal → IsGoalOf u goal
-  goal-in goal h = record { known = cond-in [] (cond_tree goal) h.known; heads = heads-in (cond_tree goal) h.known h.heads; shallow = h.shallow }
+  goal-in goal h = record { known = cond-in [] (cond_tree goal) h.known; heads = heads-in [] (cond_tree goal) h.known h.heads; shallow = h.shallow }
 
   -- ---- lines
 

@@ -27,7 +27,9 @@ use Rattle.ps_forms.specs.declared.lexemes.Lexeme.{Lexeme}
 use Rattle.ps_pddl.specs.Reading.{HasWords}
 use Rattle.ps_pddl.proofs.ReadNames.{AreTold, first_below, lists_told, names_after, tables_kept}
 use Rattle.ps_script.specs.Files.{first_run, without_end}
-use Rattle.ps_script.specs.Lines.{marks_of}
+use Rattle.ps_script.specs.Judged.{IsJudged}
+use Rattle.ps_script.specs.Scopes.{strays}
+use Rattle.ps_script.proofs.Judgements.{fitting_parts}
 use Rattle.ps_members.specs.Args.{pattern_of, places_of}
 use Rattle.ps_members.specs.Feedback.{feedback_of, note_on, noted, number_on, percent_of}
 use Rattle.ps_members.specs.Forms.{start_of}
@@ -40,7 +42,6 @@ use Rattle.ps_members.specs.declared.forms.Form.TheVariants as form
 use Rattle.ps_members.specs.declared.places.Place.{Place}
 use Rattle.ps_members.specs.declared.places.Said.{Said}
 use Rattle.ps_members.specs.declared.places.Said.TheVariants as says
-use Rattle.ps_sound.proofs.SoundLines.{line_marks}
 use Rattle.ps_history_laws.specs.Inputs.{IsSayableLine, IsSayableUnit}
 use Rattle.ps_history_laws.proofs.ReadGoals.{head_name, rest_told}
 use Rattle.ps_history_laws.proofs.ReadLines.{form_said}
@@ -86,8 +87,8 @@ places_follow table (w ∷ ws) known =
     cases (is_name w) refl
 
 formed_follows : (table : Table) (bytes : List ℕ) (tokens : List Token) (after : Table) (f : Form) (r : Result Said LineCause) → AreNames table → AreTokens (worded bytes) tokens → IsFormed table bytes tokens f r after → Follows table after
-formed_follows table bytes tokens _ _ _ known are (misfit f i p fault) = same_table table known
-formed_follows table bytes tokens _ _ _ known are (meant f ls after ts said p fits ws spelt is) = words_follow table after (worded bytes) tokens ls known are ws
+formed_follows table bytes tokens _ _ _ known are (misfit f ls a at p ws judged) = same_table table known
+formed_follows table bytes tokens _ _ _ known are (meant f ls after ts said p ws judged is) = words_follow table after (worded bytes) tokens ls known are ws
 formed_follows table bytes tokens _ _ _ known are (no_place i e) = same_table table known
 formed_follows table bytes tokens _ _ _ known are (places e) =
     let first : Follows table (interned table (codes "args")) = record {
@@ -114,24 +115,24 @@ IsSayableSaid after (says.Unit u) = IsSayableUnit after u
 IsSayableSaid after s = Unit {0}
 
 says_said : (after : Table) → AreNames after → (f : Form) (ts : Nesteds) (ls : List Lexeme) (ms : List Mark) → SpellAll ts ls → ms ≡ marks ls → Derives (start_of f) ms → IsShallowFrom (start_of f) ms
-    → AreTold after ts → (s : Said) → Says f ts s → IsSayableSaid after s
-says_said after names form.Performer ts ls ms spelt m derived flat told s e =
+    → strays [] ts ≡ None → AreTold after ts → (s : Said) → Says f ts s → IsSayableSaid after s
+says_said after names form.Performer ts ls ms spelt m derived flat stays told s e =
     let first = first_below after names in
     subst (IsSayableSaid after) (sym e) (head_name after first (rest ts) (rest_told after first ts told))
-says_said after names form.Observer ts ls ms spelt m derived flat told s e =
+says_said after names form.Observer ts ls ms spelt m derived flat stays told s e =
     let first = first_below after names in
     subst (IsSayableSaid after) (sym e) (head_name after first (rest ts) (rest_told after first ts told))
-says_said after names form.Action ts ls ms spelt m derived flat told s e = subst (IsSayableSaid after) (sym e) tt
-says_said after names form.Job ts ls ms spelt m derived flat told s e = subst (IsSayableSaid after) (sym e) tt
-says_said after names form.When ts ls ms spelt m derived flat told s e = subst (IsSayableSaid after) (sym e) tt
-says_said after names form.End ts ls ms spelt m derived flat told s e = subst (IsSayableSaid after) (sym e) tt
-says_said after names form.Work ts ls ms spelt m derived flat told s e = subst (IsSayableSaid after) (sym e) tt
-says_said after names form.FinishOk ts ls ms spelt m derived flat told s e = subst (IsSayableSaid after) (sym e) tt
-says_said after names form.FinishFail ts ls ms spelt m derived flat told s e = subst (IsSayableSaid after) (sym e) tt
-says_said after names (form.Edit f) ts ls ms spelt m derived flat told s e =
-    subst (IsSayableSaid after) (sym e.2) (subst (λ x. IsSayableLine after (Good x)) e.1 (form_said after (first_below after names) f ts ls ms spelt m derived flat told))
-says_said after names form.Args ts ls ms spelt m derived flat told s e = absurd e
-says_said after names form.Feedback ts ls ms spelt m derived flat told s e = absurd e
+says_said after names form.Action ts ls ms spelt m derived flat stays told s e = subst (IsSayableSaid after) (sym e) tt
+says_said after names form.Job ts ls ms spelt m derived flat stays told s e = subst (IsSayableSaid after) (sym e) tt
+says_said after names form.When ts ls ms spelt m derived flat stays told s e = subst (IsSayableSaid after) (sym e) tt
+says_said after names form.End ts ls ms spelt m derived flat stays told s e = subst (IsSayableSaid after) (sym e) tt
+says_said after names form.Work ts ls ms spelt m derived flat stays told s e = subst (IsSayableSaid after) (sym e) tt
+says_said after names form.FinishOk ts ls ms spelt m derived flat stays told s e = subst (IsSayableSaid after) (sym e) tt
+says_said after names form.FinishFail ts ls ms spelt m derived flat stays told s e = subst (IsSayableSaid after) (sym e) tt
+says_said after names (form.Edit f) ts ls ms spelt m derived flat stays told s e =
+    subst (IsSayableSaid after) (sym e.2) (subst (λ x. IsSayableLine after (Good x)) e.1 (form_said after (first_below after names) f ts ls ms spelt m derived flat stays told))
+says_said after names form.Args ts ls ms spelt m derived flat stays told s e = absurd e
+says_said after names form.Feedback ts ls ms spelt m derived flat stays told s e = absurd e
 
 by_note : (after : Table) (b : Bool) (n : ℕ) (text : List ℕ) (c : LineCause) → IfOk (if b then Ok (unit.Feedback n text) else Err c) (IsSayableUnit after)
 by_note after true n text c = tt
@@ -144,12 +145,17 @@ noted_said after bytes (Some n) = by_note after (is_note (without_end (note_on b
 feedback_said : (after : Table) (bytes : List ℕ) (u : Task) → feedback_of bytes ≡ Ok u → IsSayableUnit after u
 feedback_said after bytes u e = subst (λ x. IfOk x (IsSayableUnit after)) e (noted_said after bytes (percent_of (first_run (number_on bytes))))
 
+judged_said : (table after : Table) (part : List ℕ) (tokens : List Token) (f : Form) (ls : List Lexeme) (r : Result Nesteds ℕ) → AreNames table → AreTokens part tokens → lexemes_of part table tokens ≡ (ls, after) → IsJudged (start_of f) part tokens ls r
+    → (s : Said) → IfOk r (λ ts. Says f ts s → IsSayableSaid after s)
+judged_said table after part tokens f ls (Err at) known are ws judged s = tt
+judged_said table after part tokens f ls (Ok ts) known are ws judged s =
+    let has : HasWords table part ls after = record { tokens = tokens; are_tokens = are; words = ws } in
+    let fits = fitting_parts (start_of f) part tokens ls (Ok ts) judged in
+    says_said after (names_after table part ls after known has) f ts ls (marks ls) fits.spelt refl fits.derived fits.shallow fits.in_scope (lists_told table part ls after ts known has fits.spelt) s
+
 formed_said : (table : Table) (bytes : List ℕ) (tokens : List Token) (after : Table) (f : Form) (r : Result Said LineCause) → AreNames table → AreTokens (worded bytes) tokens → IsFormed table bytes tokens f r after → IfOk r (IsSayableSaid after)
-formed_said table bytes tokens _ _ _ known are (misfit f i p fault) = tt
-formed_said table bytes tokens _ _ _ known are (meant f ls after ts said p fits ws spelt is) =
-    let has : HasWords table (worded bytes) ls after = record { tokens = tokens; are_tokens = are; words = ws } in
-    says_said after (names_after table (worded bytes) ls after known has) f ts ls (marks_of (worded bytes) tokens) spelt (line_marks table after (worded bytes) tokens ls ws) fits.derived fits.shallow
-    (lists_told table (worded bytes) ls after ts known has spelt) said is
+formed_said table bytes tokens _ _ _ known are (misfit f ls a at p ws judged) = tt
+formed_said table bytes tokens _ _ _ known are (meant f ls after ts said p ws judged is) = judged_said table after (worded bytes) tokens f ls (Ok ts) known are ws judged said is
 formed_said table bytes tokens _ _ _ known are (no_place i e) = tt
 formed_said table bytes tokens _ _ _ known are (places e) = tt
 formed_said table bytes tokens _ _ _ known are (no_note c e) = tt

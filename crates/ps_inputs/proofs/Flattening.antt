@@ -67,7 +67,7 @@ command_read t bytes r after h read =
       | without_class at p f ↦ (_, refl)
       | without_number at p f ↦ (_, refl)
       | without_form tokens p are f ↦ (_, refl)
-      | without_shape form tokens i p are f g ↦ (_, refl)
+      | without_shape form tokens ls after at is words judged ↦ (_, refl)
       | good form tokens ls after ts command is e s c ↦ (_, refl)
     ]
 
@@ -83,7 +83,7 @@ one_read run t bytes r after something no_source read =
       | without_class at p f ↦ refl
       | without_number at p f ↦ refl
       | without_form tokens p are f ↦ refl
-      | without_shape form tokens i p are f g ↦ refl
+      | without_shape form tokens ls after at is words judged ↦ refl
       | good form tokens ls after ts command is e s c ↦ refl
     ]
 

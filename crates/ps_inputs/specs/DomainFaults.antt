@@ -30,6 +30,7 @@ cap_text cap.Predicates = codes "Predicates"
 cap_text cap.Functions = codes "Functions"
 cap_text cap.Actions = codes "Actions"
 cap_text cap.Params = codes "Params"
+cap_text cap.Bound = codes "Bound"
 cap_text cap.Instances = codes "Instances"
 
 -- a fault's word with its byte

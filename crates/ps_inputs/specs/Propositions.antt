@@ -17,27 +17,27 @@ use Rattle.ps_machine.specs.declared.members.Unit.{Unit as Task}
 use Rattle.ps_machine.specs.declared.members.Unit.TheVariants as unit
 use Rattle.ps_machine.specs.declared.members.Performer.{Performer}
 use Rattle.ps_machine.specs.declared.members.Observer.{Observer}
-use Rattle.ps_rules.specs.Sound.{ground_leaves, IsScriptCond, IsScriptEdit, IsSound, IsSoundItem, IsSoundJob, IsSoundLine, IsSoundObserver, IsSoundPerformer, IsSoundUnit}
+use Rattle.ps_rules.specs.Sound.{script_leaves, IsScriptCond, IsScriptEdit, IsSound, IsSoundItem, IsSoundJob, IsSoundLine, IsSoundObserver, IsSoundPerformer, IsSoundUnit}
 
 mutual
-  ground-prop : (ps : List Param) (c : CondTree) → IsProp (AllIn ground_leaves ps c)
-  ground-prop ps (all_of cs) = grounds-prop ps cs
-  ground-prop ps (any_of cs) = hlevel (props, grounds-prop ps cs)
-  ground-prop ps (no c) = ground-prop ps c
-  ground-prop ps (implied a b) = hlevel (props, ground-prop ps a, ground-prop ps b)
-  ground-prop ps (holds l) = hlevel props
-  ground-prop ps (same s t) = hlevel props
-  ground-prop ps (compares rel x y) = hlevel props
-  ground-prop ps (is_a t kind) = hlevel props
-  ground-prop ps (for_some qs c) = hlevel (props, ground-prop (ps ++ qs) c)
-  ground-prop ps (for_all qs c) = hlevel (props, ground-prop (ps ++ qs) c)
+  closed-prop : (ps : List Param) (c : CondTree) → IsProp (AllIn script_leaves ps c)
+  closed-prop ps (all_of cs) = closed-each-prop ps cs
+  closed-prop ps (any_of cs) = hlevel (props, closed-each-prop ps cs)
+  closed-prop ps (no c) = closed-prop ps c
+  closed-prop ps (implied a b) = hlevel (props, closed-prop ps a, closed-prop ps b)
+  closed-prop ps (holds l) = hlevel props
+  closed-prop ps (same s t) = hlevel props
+  closed-prop ps (compares rel x y) = hlevel props
+  closed-prop ps (is_a t kind) = hlevel props
+  closed-prop ps (for_some qs c) = hlevel (props, closed-prop (ps ++ qs) c)
+  closed-prop ps (for_all qs c) = hlevel (props, closed-prop (ps ++ qs) c)
 
-  grounds-prop : (ps : List Param) (cs : CondTrees) → IsProp (AllInEach ground_leaves ps cs)
-  grounds-prop ps none = hlevel props
-  grounds-prop ps (more c cs) = hlevel (props, ground-prop ps c, grounds-prop ps cs)
+  closed-each-prop : (ps : List Param) (cs : CondTrees) → IsProp (AllInEach script_leaves ps cs)
+  closed-each-prop ps none = hlevel props
+  closed-each-prop ps (more c cs) = hlevel (props, closed-prop ps c, closed-each-prop ps cs)
 
 written-cond-prop : (c : Cond) → IsProp (IsScriptCond c)
-written-cond-prop c = hlevel (props, ground-prop)
+written-cond-prop c = hlevel (props, closed-prop)
 
 written-edit-prop : (edit : Edit) → IsProp (IsScriptEdit edit)
 written-edit-prop (AddInstance x t) = hlevel props

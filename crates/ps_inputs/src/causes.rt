@@ -41,6 +41,7 @@ fn cap_text(cap: Cap) -> &'static [u8]
         Cap::Functions => b"Functions",
         Cap::Actions => b"Actions",
         Cap::Params => b"Params",
+        Cap::Bound => b"Bound",
         Cap::Instances => b"Instances",
     }
 }

@@ -16,11 +16,10 @@ use Rattle.ps_text.specs.declared.lexing.LexRefusal.{LexRefusal}
 use Rattle.ps_text.specs.declared.lexing.LexRefusal.TheVariants as lexing
 use Rattle.ps_text.specs.declared.lexing.Token.{Token}
 use Rattle.ps_text.proofs.OneLexing.{tokens_are_one, faults_are_one, tokens_are_faultless}
-use Rattle.ps_shape.proofs.OneFault.{first_faults_are_one, first_faults_are_real}
 use Rattle.ps_forms.specs.Nested.{Nesteds}
-use Rattle.ps_forms.specs.Spelling.{SpellAll}
-use Rattle.ps_forms.proofs.OneSpelling.{one_spelling}
-use Rattle.ps_script.specs.Lines.{cause_of, marks_of, place}
+use Rattle.ps_script.specs.Judged.{place}
+use Rattle.ps_script.specs.Lines.{cause_of}
+use Rattle.ps_script.proofs.OneAnswer.{same_fault, same_lists, words_one}
 use Rattle.ps_members.specs.Forms.{start_of}
 use Rattle.ps_members.specs.Laws.{TextsAreOneMember}
 use Rattle.ps_members.specs.Lines.{IsFormed, IsSaid, Says}
@@ -77,40 +76,41 @@ same_task : (a b : Task) → ◌≡◌ {A = Result Task LineCause} (Ok a) (Ok b)
 same_task a b e = cc
 
 formed_one : (table : Table) (bytes : List ℕ) (tokens : List Token) (f : Form) (r s : Result Said LineCause) (after other : Table) → IsFormed table bytes tokens f r after → IsFormed table bytes tokens f s other → (r ≡ s) × (after ≡ other)
-formed_one table bytes tokens _ _ _ _ _ (misfit f i p x) (misfit _ k q y) =
-    (ap (λ n. shape_at (place (worded bytes) tokens n)) (first_faults_are_one (start_of f) (marks_of (worded bytes) tokens) i k x y), refl)
-formed_one table bytes tokens _ _ _ _ _ (misfit f i p x) (meant _ ls a ts c q h w z m) =
-    absurd (first_faults_are_real (start_of f) (marks_of (worded bytes) tokens) i x h.derived h.shallow)
-formed_one table bytes tokens _ _ _ _ _ (misfit f i p x) (no_place k y) = absurd (cc)
-formed_one table bytes tokens _ _ _ _ _ (misfit f i p x) (places y) = absurd (cc)
-formed_one table bytes tokens _ _ _ _ _ (misfit f i p x) (no_note c y) = absurd (cc)
-formed_one table bytes tokens _ _ _ _ _ (misfit f i p x) (note u y) = absurd (cc)
-formed_one table bytes tokens _ _ _ _ _ (meant f ls a ts c q h w z m) (misfit _ i p x) =
-    absurd (first_faults_are_real (start_of f) (marks_of (worded bytes) tokens) i x h.derived h.shallow)
-formed_one table bytes tokens _ _ _ _ _ (meant f ls a ts c q h w z m) (meant _ ms o us g k l v y n) =
-    let both = sym w ∙ v in
-    let lists : ts ≡ us = one_spelling ts us ms (subst (SpellAll ts) (ap (λ x. x.0) both) z) y in
-    let same : c ≡ g = says_one f us c g (subst (λ (x : Nesteds). Says f x c) lists m) n in
-    (ap (λ (x : Said). ok x) same, ap (λ x. x.1) both)
-formed_one table bytes tokens _ _ _ _ _ (meant f ls a ts c q h w z m) (no_place k y) = absurd (cc)
-formed_one table bytes tokens _ _ _ _ _ (meant f ls a ts c q h w z m) (places y) = absurd (cc)
-formed_one table bytes tokens _ _ _ _ _ (meant f ls a ts c q h w z m) (no_note k y) = absurd (cc)
-formed_one table bytes tokens _ _ _ _ _ (meant f ls a ts c q h w z m) (note u y) = absurd (cc)
-formed_one table bytes tokens _ _ _ _ _ (no_place k y) (misfit f i p x) = absurd (cc)
-formed_one table bytes tokens _ _ _ _ _ (no_place k y) (meant f ls a ts c q h w z m) = absurd (cc)
+formed_one table bytes tokens _ _ _ _ _ (misfit f ls a i p w x) (misfit _ ms o k q v y) =
+    (ap shape_at (same_fault i k (words_one (start_of f) table (worded bytes) tokens ls ms a o (Err i) (Err k) w v x y).0), refl)
+formed_one table bytes tokens _ _ _ _ _ (misfit f ls a i p w x) (meant _ ms o us g q v y n) =
+    let none = (words_one (start_of f) table (worded bytes) tokens ls ms a o (Err i) (Ok us) w v x y).0 in
+    absurd (cc)
+formed_one table bytes tokens _ _ _ _ _ (misfit f ls a i p w x) (no_place k y) = absurd (cc)
+formed_one table bytes tokens _ _ _ _ _ (misfit f ls a i p w x) (places y) = absurd (cc)
+formed_one table bytes tokens _ _ _ _ _ (misfit f ls a i p w x) (no_note c y) = absurd (cc)
+formed_one table bytes tokens _ _ _ _ _ (misfit f ls a i p w x) (note u y) = absurd (cc)
+formed_one table bytes tokens _ _ _ _ _ (meant f ls a ts c q w x m) (misfit _ ms o k p v y) =
+    let none = (words_one (start_of f) table (worded bytes) tokens ls ms a o (Ok ts) (Err k) w v x y).0 in
+    absurd (cc)
+formed_one table bytes tokens _ _ _ _ _ (meant f ls a ts c q w x m) (meant _ ms o us g k v y n) =
+    let one = words_one (start_of f) table (worded bytes) tokens ls ms a o (Ok ts) (Ok us) w v x y in
+    let same : c ≡ g = says_one f us c g (subst (λ (x : Nesteds). Says f x c) (same_lists ts us one.0) m) n in
+    (ap (λ (x : Said). ok x) same, one.1)
+formed_one table bytes tokens _ _ _ _ _ (meant f ls a ts c q w x m) (no_place k y) = absurd (cc)
+formed_one table bytes tokens _ _ _ _ _ (meant f ls a ts c q w x m) (places y) = absurd (cc)
+formed_one table bytes tokens _ _ _ _ _ (meant f ls a ts c q w x m) (no_note k y) = absurd (cc)
+formed_one table bytes tokens _ _ _ _ _ (meant f ls a ts c q w x m) (note u y) = absurd (cc)
+formed_one table bytes tokens _ _ _ _ _ (no_place k y) (misfit f ls a i p w x) = absurd (cc)
+formed_one table bytes tokens _ _ _ _ _ (no_place k y) (meant f ls a ts c q w x m) = absurd (cc)
 formed_one table bytes tokens _ _ _ _ _ (no_place k y) (no_place i x) =
     (ap (λ n. shape_at (place (worded bytes) tokens n)) (same_number k i (sym y ∙ x)), refl)
 formed_one table bytes tokens _ _ _ _ _ (no_place k y) (places x) = absurd (cc)
-formed_one table bytes tokens _ _ _ _ _ (places y) (misfit f i p x) = absurd (cc)
-formed_one table bytes tokens _ _ _ _ _ (places y) (meant f ls a ts c q h w z m) = absurd (cc)
+formed_one table bytes tokens _ _ _ _ _ (places y) (misfit f ls a i p w x) = absurd (cc)
+formed_one table bytes tokens _ _ _ _ _ (places y) (meant f ls a ts c q w x m) = absurd (cc)
 formed_one table bytes tokens _ _ _ _ _ (places y) (no_place i x) = absurd (cc)
 formed_one table bytes tokens _ _ _ _ _ (places y) (places x) = (refl, refl)
-formed_one table bytes tokens _ _ _ _ _ (no_note c y) (misfit f i p x) = absurd (cc)
-formed_one table bytes tokens _ _ _ _ _ (no_note c y) (meant f ls a ts k q h w z m) = absurd (cc)
+formed_one table bytes tokens _ _ _ _ _ (no_note c y) (misfit f ls a i p w x) = absurd (cc)
+formed_one table bytes tokens _ _ _ _ _ (no_note c y) (meant f ls a ts k q w x m) = absurd (cc)
 formed_one table bytes tokens _ _ _ _ _ (no_note c y) (no_note k x) = (ap bad_line (same_bad c k (sym y ∙ x)), refl)
 formed_one table bytes tokens _ _ _ _ _ (no_note c y) (note u x) = absurd (cc)
-formed_one table bytes tokens _ _ _ _ _ (note u y) (misfit f i p x) = absurd (cc)
-formed_one table bytes tokens _ _ _ _ _ (note u y) (meant f ls a ts k q h w z m) = absurd (cc)
+formed_one table bytes tokens _ _ _ _ _ (note u y) (misfit f ls a i p w x) = absurd (cc)
+formed_one table bytes tokens _ _ _ _ _ (note u y) (meant f ls a ts k q w x m) = absurd (cc)
 formed_one table bytes tokens _ _ _ _ _ (note u y) (no_note c x) = absurd (cc)
 formed_one table bytes tokens _ _ _ _ _ (note u y) (note v x) = (ap (λ t. ok (Does t)) (same_task u v (sym y ∙ x)), refl)
 

@@ -1,5 +1,5 @@
 -- What a line says, by what was found out of it.
-use Rattle.std.proofs.Common.{◌≡◌, ℕ, true, List, Option, None, Some, IfSome, IfOk, Result, Ok, Err, sym, ◌∙◌, ap, subst}
+use Rattle.std.proofs.Common.{◌≡◌, ℕ, true, List, Option, None, Some, IfSome, Result, Ok, Err, length, take, sym, ◌∙◌, ap, subst}
 use Rattle.ps_world.specs.Failures.{Gives, refusal_of}
 use Rattle.ps_world.specs.Names.{Table}
 use Rattle.ps_world.specs.declared.names.Name.{Name}
@@ -8,22 +8,23 @@ use Rattle.ps_world.specs.declared.failures.Failure.TheVariants.{Refused, OutOfM
 use Rattle.ps_machine.specs.declared.inputs.LineCause.{LineCause}
 use Rattle.ps_machine.specs.declared.inputs.LineCause.TheVariants as cause
 use Rattle.ps_machine.specs.declared.members.Unit.{Unit as Task}
+use Rattle.ps_text.specs.Names.{Keeps}
+use Rattle.ps_text.proofs.Kept.{kept_front, kept_same}
 use Rattle.ps_text.specs.Tokens.{AreTokens, RefusesText}
 use Rattle.ps_text.specs.Words.{words}
 use Rattle.ps_text.specs.declared.lexing.LexRefusal.{LexRefusal}
 use Rattle.ps_text.specs.declared.lexing.Token.{Token}
-use Rattle.ps_shape.specs.Shape.{Derives, IsFirstFaultFrom, IsShallowFrom}
-use Rattle.ps_shape.specs.declared.marks.Mark.{Mark}
-use Rattle.ps_forms.specs.Lexemes.{lexemes_of}
+use Rattle.ps_shape.specs.declared.symbols.Symbol.{Symbol}
+use Rattle.ps_forms.specs.Lexemes.{lexemes_of, marks}
 use Rattle.ps_forms.specs.Nested.{Nesteds}
-use Rattle.ps_forms.specs.Spelling.{SpellAll}
 use Rattle.ps_forms.specs.declared.lexemes.Lexeme.{Lexeme}
-use Rattle.ps_script.specs.Lines.{cause_of, marks_of, place}
+use Rattle.ps_script.specs.Judged.{Fits, IsJudged, place}
+use Rattle.ps_script.specs.Lines.{cause_of}
 use Rattle.ps_members.specs.Answers.{OnAnswer}
 use Rattle.ps_members.specs.Args.{first_other, pattern_of}
 use Rattle.ps_members.specs.Feedback.{feedback_of}
 use Rattle.ps_members.specs.Forms.{form_at, start_of}
-use Rattle.ps_members.specs.Lines.{Fits, IsFormed, IsSaid, Says, is_plain}
+use Rattle.ps_members.specs.Lines.{IsFormed, IsSaid, Says, is_plain}
 use Rattle.ps_members.specs.Lines.IsFormed.{misfit, meant, no_place, places, no_note, note}
 use Rattle.ps_members.specs.Lines.IsSaid.{without_class, without_form, with_form}
 use Rattle.ps_members.specs.Parts.{worded}
@@ -36,21 +37,29 @@ use Rattle.ps_members.specs.declared.places.Said.TheVariants.{Args, Unit as Does
 abbrev shape_at : ℕ → Result Said LineCause
 shape_at k = Err (cause.Shape k)
 
-pub misfit_said : (table : Table) (bytes part : List ℕ) (f : Form) (tokens : List Token) (ms items : List Mark) (i at : ℕ) (found : Option ℕ) → part ≡ worded bytes → is_plain f ≡ true → ms ≡ items → items ≡ marks_of part tokens → found ≡ Some i → IfSome found (λ at. IsFirstFaultFrom (start_of f) ms at) → at ≡ place part tokens i → IsFormed table bytes tokens f (Err (cause.Shape at)) table
-misfit_said table bytes part f tokens ms items i at found w plain m n is fault p =
-    let here : IsFirstFaultFrom (start_of f) ms i = subst (λ (o : Option ℕ). IfSome o (λ at. IsFirstFaultFrom (start_of f) ms at)) is fault in
-    let marked : ms ≡ marks_of (worded bytes) tokens = m ∙ n ∙ ap (λ x. marks_of x tokens) w in
-    subst (λ (x : Result Said LineCause). IsFormed table bytes tokens f x table) (ap shape_at (sym (p ∙ ap (λ x. place x tokens i) w))) (misfit f i plain (subst (λ (x : List Mark). IsFirstFaultFrom (start_of f) x i) marked here))
+-- a table that is cut back keeps the names before it
+pub names_back : (table now after : Table) (before : ℕ) → before ≡ length table → Keeps table now → after ≡ take before now → Keeps table after
+names_back table now after before count kept cut = kept_same table after (cut ∙ ap (λ k. take k now) count ∙ kept_front table now kept)
 
-pub fits_form : (part : List ℕ) (f : Form) (tokens : List Token) (ms items : List Mark) → ms ≡ items → items ≡ marks_of part tokens → Derives (start_of f) ms × IsShallowFrom (start_of f) ms → Fits part f tokens
-fits_form part f tokens ms items m n fits = record {
-  derived = subst (Derives (start_of f)) (m ∙ n) fits.0;
-  shallow = subst (λ (x : List Mark). IsShallowFrom (start_of f) x) (m ∙ n) fits.1;
-}
+module _ (table now : Table) (bytes part : List ℕ) (f : Form) (tokens : List Token) (ls same : List Lexeme) (found : Option ℕ) (judgement : Result Nesteds ℕ) (w : part ≡ worded bytes) (plain : is_plain f ≡ true) (words : lexemes_of part table tokens ≡ (ls, now)) (e : same ≡ ls) (judged : (start : List Symbol) → Fits start (marks same) found → IsJudged start part tokens same judgement) (fits : Fits (start_of f) (marks same) found) where
+  judged_words : (r : Result Nesteds ℕ) → judgement ≡ r → IsJudged (start_of f) (worded bytes) tokens ls r
+  judged_words r is =
+      subst (λ (x : List ℕ). IsJudged (start_of f) x tokens ls r) w
+      (subst (λ (x : Result Nesteds ℕ). IsJudged (start_of f) part tokens ls x) is
+      (subst (λ (x : List Lexeme). IsJudged (start_of f) part tokens x judgement) e (judged (start_of f) fits)))
 
-pub fit_said : (table after : Table) (bytes part : List ℕ) (f : Form) (tokens : List Token) (ls same : List Lexeme) (ts us : Nesteds) (said : Said) → part ≡ worded bytes → is_plain f ≡ true → Fits part f tokens → lexemes_of part table tokens ≡ (ls, after) → same ≡ ls → SpellAll ts same → us ≡ ts → Says f us said → IsFormed table bytes tokens f (Ok said) after
-fit_said table after bytes part f tokens ls same ts us said w plain fits words e spelt u says =
-    meant f ls after ts said plain (subst (λ (x : List ℕ). Fits x f tokens) w fits) (ap (λ x. lexemes_of x table tokens) (sym w) ∙ words) (subst (SpellAll ts) e spelt) (subst (λ (x : Nesteds). Says f x said) u says)
+  part_words : lexemes_of (worded bytes) table tokens ≡ (ls, now)
+  part_words = ap (λ x. lexemes_of x table tokens) (sym w) ∙ words
+
+  -- a line that fits its form says what its words mean
+  pub fit_said : (ts us : Nesteds) (said : Said) → judgement ≡ Ok ts → us ≡ ts → Says f us said → IsFormed table bytes tokens f (Ok said) now
+  fit_said ts us said is u says = meant f ls now ts said plain part_words (judged_words (Ok ts) is) (subst (λ (x : Nesteds). Says f x said) u says)
+
+  -- a line with a fault puts no name into the table
+  pub misfit_said : (after : Table) (before at : ℕ) → before ≡ length table → Keeps table now → after ≡ take before now → judgement ≡ Err at → IsFormed table bytes tokens f (Err (cause.Shape at)) after
+  misfit_said after before at count kept cut is =
+      let back : after ≡ table = cut ∙ ap (λ k. take k now) count ∙ kept_front table now kept in
+      subst (λ (x : Table). IsFormed table bytes tokens f (Err (cause.Shape at)) x) (sym back) (misfit f ls now at plain part_words (judged_words (Err at) is))
 
 pub no_place_said : (table : Table) (bytes part : List ℕ) (tokens : List Token) (i at : ℕ) (found : Option ℕ) → part ≡ worded bytes → found ≡ first_other tokens → found ≡ Some i → at ≡ place part tokens i → IsFormed table bytes tokens form.Args (Err (cause.Shape at)) table
 no_place_said table bytes part tokens i at found w f is p =
@@ -84,11 +93,6 @@ pub refused_said : {A : Type 0} (at : Place) (table : Table) (bytes part : List 
 refused_said at table bytes part answer failure f g c w fault was is same from =
     let here : RefusesText f part = subst (λ a. IfSome (refusal_of a) (λ x. RefusesText x part)) (was ∙ ap Err is) fault in
     subst (λ (x : LineCause). IsSaid at table bytes (Err x) table) (sym (from ∙ ap cause_of same)) (without_class f (subst (RefusesText f) w here))
-
-pub fit_answer : {E : Type 0} (table after : Table) (bytes part : List ℕ) (f : Form) (tokens : List Token) (ls same : List Lexeme) (ts us : Nesteds) (answer : Result Said E) → part ≡ worded bytes → is_plain f ≡ true → Fits part f tokens → lexemes_of part table tokens ≡ (ls, after) → same ≡ ls → SpellAll ts same → us ≡ ts → IfOk answer (Says f us) → IfOk answer (λ said. IsFormed table bytes tokens f (Ok said) after)
-fit_answer table after bytes part f tokens ls same ts us (Ok said) w plain fits words e spelt u says =
-    fit_said table after bytes part f tokens ls same ts us said w plain fits words e spelt u says
-fit_answer table after bytes part f tokens ls same ts us (Err error) w plain fits words e spelt u says = tt
 
 pub no_note_said : (table : Table) (bytes : List ℕ) (tokens : List Token) (answer : Result Task (Failure LineCause)) (failure : Failure LineCause) → Gives (λ unit. unit) answer (feedback_of bytes) → answer ≡ Err failure → OnAnswer (λ r. IsFormed table bytes tokens form.Feedback r table) (Err failure)
 no_note_said table bytes tokens answer (Refused c) gives is =

@@ -11,15 +11,14 @@ use Rattle.ps_text.specs.Tokens.{AreTokens, RefusesText}
 use Rattle.ps_text.specs.Words.{words}
 use Rattle.ps_text.specs.declared.lexing.LexRefusal.{LexRefusal}
 use Rattle.ps_text.specs.declared.lexing.Token.{Token}
-use Rattle.ps_shape.specs.Shape.{Derives, IsFirstFaultFrom, IsShallowFrom}
 use Rattle.ps_forms.specs.Lexemes.{lexemes_of}
 use Rattle.ps_forms.specs.Nested.{Nesteds}
 use Rattle.ps_forms.specs.Places.{head, rest}
-use Rattle.ps_forms.specs.Spelling.{SpellAll}
 use Rattle.ps_forms.specs.declared.lexemes.Lexeme.{Lexeme}
 use Rattle.ps_script.specs.Commands.{command_of}
 use Rattle.ps_script.specs.Goals.{first_condition}
-use Rattle.ps_script.specs.Lines.{cause_of, marks_of, place}
+use Rattle.ps_script.specs.Judged.{IsJudged, place}
+use Rattle.ps_script.specs.Lines.{cause_of}
 use Rattle.ps_members.specs.Args.{first_other, pattern_of}
 use Rattle.ps_members.specs.Feedback.{feedback_of}
 use Rattle.ps_members.specs.Forms.{form_at, start_of}
@@ -45,11 +44,6 @@ Says (form.Edit f) ts said = (e : Change) × (command_of f ts ≡ command.Edit e
 Says form.Args ts said = ⊥
 Says form.Feedback ts said = ⊥
 
--- all words of a line fit its form, and no parenthesis opens too many levels
-pub record Fits (bytes : List ℕ) (f : Form) (tokens : List Token) : Type 0 where
-  pub derived : Derives (start_of f) (marks_of bytes tokens)
-  pub shallow : IsShallowFrom (start_of f) (marks_of bytes tokens)
-
 -- whether all words of a line of this form are read by the grammar
 abbrev pub is_plain : Form → Bool
 is_plain form.Args = false
@@ -57,10 +51,11 @@ is_plain form.Feedback = false
 is_plain f = true
 
 -- What a line of a form says, or why it's bad, with a table of names before it and the table after it: the first word that doesn't
--- fit, or what its words mean. `bytes` is the line, and these are the tokens of its part that is read as words.
+-- fit or is a variable out of its scope, or what its words mean. `bytes` is the line, and these are the tokens of its part that is read as
+-- words.
 pub data IsFormed (table : Table) (bytes : List ℕ) (tokens : List Token) : Form → Result Said LineCause → Table → Type 0 where
-  misfit : (f : Form) (i : ℕ) → is_plain f ≡ true → IsFirstFaultFrom (start_of f) (marks_of (worded bytes) tokens) i → IsFormed table bytes tokens f (Err (cause.Shape (place (worded bytes) tokens i))) table
-  meant : (f : Form) (ls : List Lexeme) (after : Table) (ts : Nesteds) (said : Said) → is_plain f ≡ true → Fits (worded bytes) f tokens → lexemes_of (worded bytes) table tokens ≡ (ls, after) → SpellAll ts ls → Says f ts said → IsFormed table bytes tokens f (Ok said) after
+  misfit : (f : Form) (ls : List Lexeme) (after : Table) (at : ℕ) → is_plain f ≡ true → lexemes_of (worded bytes) table tokens ≡ (ls, after) → IsJudged (start_of f) (worded bytes) tokens ls (Err at) → IsFormed table bytes tokens f (Err (cause.Shape at)) table
+  meant : (f : Form) (ls : List Lexeme) (after : Table) (ts : Nesteds) (said : Said) → is_plain f ≡ true → lexemes_of (worded bytes) table tokens ≡ (ls, after) → IsJudged (start_of f) (worded bytes) tokens ls (Ok ts) → Says f ts said → IsFormed table bytes tokens f (Ok said) after
   no_place : (i : ℕ) → first_other tokens ≡ Some i → IsFormed table bytes tokens form.Args (Err (cause.Shape (place (worded bytes) tokens i))) table
   places : first_other tokens ≡ None → IsFormed table bytes tokens form.Args (Ok (Args (pattern_of table bytes).0)) (pattern_of table bytes).1
   no_note : (c : LineCause) → feedback_of bytes ≡ Err c → IsFormed table bytes tokens form.Feedback (Err c) table

@@ -1,5 +1,5 @@
 //! What a line of a member script says.
-ghost use Rattle.std.specs.Prelude.{◌≡◌, Ok, IfOk, map, true};
+ghost use Rattle.std.specs.Prelude.{◌≡◌, IfOk, map, true};
 ghost use Rattle.ps_text.specs.Names.{Keeps};
 ghost use Rattle.ps_text.specs.Tokens.{AreTokens};
 ghost use Rattle.ps_text.specs.Words.{words};
@@ -7,7 +7,7 @@ ghost use Rattle.ps_forms.specs.Nested.{nesteds};
 ghost use Rattle.ps_forms.specs.NestedViews.{nested};
 ghost use Rattle.ps_members.specs.Answers.{OnAnswer};
 ghost use Rattle.ps_members.specs.Forms.{form_at, is_edit, may_edit};
-ghost use Rattle.ps_members.specs.Lines.{Fits, IsFormed, IsSaid, Says, is_plain};
+ghost use Rattle.ps_members.specs.Lines.{IsFormed, IsSaid, Says, is_plain};
 ghost use Rattle.ps_members.specs.Parts.{worded};
 ghost use Rattle.ps_script.specs.Commands.{command_of};
 ghost use Rattle.ps_machine.specs.declared.inputs.Command.TheVariants as command;
@@ -18,9 +18,11 @@ use super::feedback::feedback_of;
 use super::forms::{Form, form_at};
 use super::parts::worded;
 use super::places::{Place, Said};
-use ps_forms::{Tree, head, lexemes_of, rest, trees_of};
+use ps_forms::{Tree, head, lexemes_of, rest};
 use ps_machine::{Command, LineCause, Unit};
-use ps_script::{Form as ScriptForm, cause_of, command_of, first_condition, marks_of, place};
+use ps_script::{
+    Form as ScriptForm, cause_of, command_of, first_condition, judged, marks_of_words, place,
+};
 use ps_text::{Names, Token, Words, tokens};
 use ps_world::{Edit, Failure, Name};
 use std::alloc::{AllocError, Global};
@@ -59,30 +61,8 @@ fn said_of(alloc: Global, form: Form, trees: &[Tree]) -> Result<Said, AllocError
     })
 }
 
-/// Reads a line that fits its form. Its names are put into the table.
-fn read_fitting(
-    alloc: Global,
-    names: &mut Names,
-    bytes: &[u8],
-    part: &[u8],
-    form: Form,
-    tokens: &[Token],
-) -> Result<Said, AllocError>
-    requires part { part.now ≡ worded bytes.now }
-    requires plain { is_plain form ≡ true }
-    requires edit { may_edit form ≡ true }
-    requires tokens { AreTokens part.now tokens.now }
-    requires fits { Fits part.now form tokens.now }
-    ensures ok { IfOk result (λ said. IsFormed names.old bytes.now tokens.now form (Ok said)
-        names.new) }
-    ensures kept { Keeps names.old names.new }
-{
-    let words = lexemes_of(alloc, names, part, tokens)?;
-    let trees = trees_of(alloc, &words)?;
-    said_of(alloc, form, trees.as_slice())
-}
-
-/// Reads a line of a form whose words are all read by the grammar.
+/// Reads a line of a form whose words are all read by the grammar. Its names are in the table before it is known whether the line fits, and
+/// are taken back where it doesn't.
 fn read_plain(
     alloc: Global,
     names: &mut Names,
@@ -99,13 +79,17 @@ fn read_plain(
         result }
     ensures kept { Keeps names.old names.new }
 {
-    let marks = marks_of(alloc, part, tokens)?;
-    if let Some(i) = form.first_misfit(alloc, &marks)? {
-        return Err(Failure::Refused(LineCause::Shape {
-            at: place(part, tokens, i),
-        }));
+    let before = names.len();
+    let words = lexemes_of(alloc, names, part, tokens)?;
+    let marks = marks_of_words(alloc, &words)?;
+    let misfit = form.first_misfit(alloc, &marks)?;
+    match judged(alloc, part, tokens, &words, misfit)? {
+        Ok(trees) => Ok(said_of(alloc, form, trees.as_slice())?),
+        Err(at) => {
+            names.cut_back(before);
+            Err(Failure::Refused(LineCause::Shape { at }))
+        }
     }
-    Ok(read_fitting(alloc, names, bytes, part, form, tokens)?)
 }
 
 /// Reads a line of places.

@@ -2,7 +2,7 @@
 use Rattle.std.proofs.Common.{◌≡◌, ℕ, ℤ, suc, true, List, ◌++◌, codes}
 use Rattle.std.specs.List.{All}
 use Rattle.ps_world.specs.Names.{Table, name_text}
-use Rattle.ps_world.specs.Trees.{ExprTree, number, value_of, negated, operated, CondTree, CondTrees, all_of, no, holds, same, compares}
+use Rattle.ps_world.specs.Trees.{ExprTree, number, value_of, negated, operated, CondTree, CondTrees, all_of, any_of, no, implied, holds, same, compares, for_some, for_all}
 use Rattle.ps_world.specs.Trees as tree
 use Rattle.ps_world.specs.Leaves.{Leaves, AllIn, AllInEach}
 use Rattle.ps_world.specs.ExprViews.{expr_tree}
@@ -62,7 +62,11 @@ mutual
   -- a condition with at most so many levels
   pub data FitsCond (names : Table) : ℕ → CondTree → Type 0 where
     fits_all : (room : ℕ) (cs : CondTrees) → FitConds names room cs → FitsCond names (suc room) (all_of cs)
+    fits_any : (room : ℕ) (cs : CondTrees) → FitConds names room cs → FitsCond names (suc room) (any_of cs)
     fits_not : (room : ℕ) (c : CondTree) → FitsCond names room c → FitsCond names (suc room) (no c)
+    fits_implied : (room : ℕ) (a b : CondTree) → FitsCond names room a → FitsCond names room b → FitsCond names (suc room) (implied a b)
+    fits_some : (room : ℕ) (qs : List Param) (c : CondTree) → FitParams names qs → FitsCond names room c → FitsCond names (suc room) (for_some qs c)
+    fits_each : (room : ℕ) (qs : List Param) (c : CondTree) → FitParams names qs → FitsCond names room c → FitsCond names (suc room) (for_all qs c)
     fits_fact : (room : ℕ) (f : Lifted) → is_fact_name (name_mark names f.head) ≡ true → FitsCond names (suc room) (holds f)
     fits_same : (room : ℕ) (a b : Term) → FitsCond names (suc room) (same a b)
     fits_comparison : (room : ℕ) (r : Rel) (x y : ExprTree) → FitsExpr room x → FitsExpr room y → FitsCond names (suc room) (compares r x y)
@@ -77,6 +81,10 @@ mutual
   pub fits_free : (names : Table) (room : ℕ) (ps : List Param) (c : CondTree) → FitsCond names room c → BindsFree names ps c
   fits_free names _ ps _ (fits_all room cs h) = fit_free names room ps cs h
   fits_free names _ ps _ (fits_not room c h) = fits_free names room ps c h
+  fits_free names _ ps _ (fits_any room cs h) = (tt, fit_free names room ps cs h)
+  fits_free names _ ps _ (fits_implied room a b h k) = (tt, (fits_free names room ps a h, fits_free names room ps b k))
+  fits_free names _ ps _ (fits_some room qs c free h) = (free, fits_free names room (ps ++ qs) c h)
+  fits_free names _ ps _ (fits_each room qs c free h) = (free, fits_free names room (ps ++ qs) c h)
   fits_free names _ ps _ (fits_fact room f h) = tt
   fits_free names _ ps _ (fits_same room a b) = (tt, tt)
   fits_free names _ ps _ (fits_comparison room r x y h k) = (tt, tt)

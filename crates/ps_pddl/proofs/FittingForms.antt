@@ -1,5 +1,5 @@
 -- The nested lists of a canonical text are of the grammar, where the domain fits.
-use Rattle.std.proofs.Common.{◌≡◌, ℕ, suc, true, false, List, refl, ap, ◌∙◌}
+use Rattle.std.proofs.Common.{◌≡◌, ℕ, suc, true, false, List, ◌++◌, refl, ap, ◌∙◌}
 use Rattle.std.specs.List.{All}
 use Rattle.std.proofs.lemmas.List.Elements.{All-head, All-tail}
 use Rattle.ps_world.specs.Names.{Table, name_text}
@@ -25,15 +25,18 @@ use Rattle.ps_shape.specs.Marks.{is_name, is_change, is_fact_name, is_predicate_
 use Rattle.ps_shape.specs.Symbols.{none_seen}
 use Rattle.ps_shape.specs.declared.marks.Mark.TheVariants as mark
 use Rattle.ps_shape.specs.declared.symbols.Seen.{Seen}
-use Rattle.ps_forms.specs.Conditions.{is_term, is_operator, is_relation}
+use Rattle.ps_shape.specs.Marks.{is_term}
+use Rattle.ps_forms.specs.Conditions.{is_operator, is_relation}
 use Rattle.ps_forms.specs.Conditions as written
-use Rattle.ps_forms.specs.Grammar.{is_variable, AreTerms, IsAtom, IsValue, IsCondition, AreConditions, AreParts, IsEffect, AreChanges, IsTypedList, ArePredicates, AreFunctions, AreSections, IsText}
+use Rattle.ps_forms.specs.Grammar.{AreTerms, IsAtom, IsValue, IsCondition, AreConditions, AreParts, IsEffect, AreChanges, ArePredicates, AreFunctions, AreSections, IsText}
+use Rattle.ps_forms.specs.TypedLists.{IsTypedList, is_variable}
+use Rattle.ps_forms.specs.TypedLists as list_of_names
 use Rattle.ps_forms.specs.Grammar as grammar
 use Rattle.ps_forms.specs.Lexemes.{fixed_names}
-use Rattle.ps_forms.specs.Nested.{Nested, Nesteds, word, more}
+use Rattle.ps_forms.specs.Nested.{Nested, Nesteds, more}
 use Rattle.ps_forms.specs.declared.lexemes.Lexeme.{Lexeme}
-use Rattle.ps_pddl.proofs.CanonicalForms.{name_mark, op_mark, rel_mark, num_op_mark, joined, IsNamed, IsTermWord, AreTermForms, no_terms, more_terms, IsLiftedForm, lifted, IsExprForm, a_number, a_value, a_negation, an_operation, IsCondForm, all_form, not_form, fact_form, same_form, comparison_form, AreCondForms, no_forms, more_forms, timed, AreForms, no_items, more_items, IsStartCond, IsOverCond, IsEndCond, AreConditionParts, condition_parts, IsEffectForm, an_addition, a_deletion, a_change, IsStartEffect, IsEndEffect, AreEffectParts, effect_parts, AreTypedForms, no_typed, more_typed, AreParamForms, no_params, more_params, IsDeclForm, decl_form, IsActionForm, action_form, IsSectionForm, no_section, section, AreSectionForms, sections, IsDomainForm, domain_form}
-use Rattle.ps_pddl.proofs.Fits.{FitsExpr, fits_number, fits_value, fits_negation, fits_operation, FitsCond, fits_all, fits_not, fits_fact, fits_same, fits_comparison, FitConds, fit_none, fit_more, FitsEffect, fits_addition, fits_deletion, fits_change, FitsAction, FitsPredicate, FitsDomain}
+use Rattle.ps_pddl.proofs.CanonicalForms.{name_mark, op_mark, rel_mark, num_op_mark, joined, IsNamed, IsTermWord, AreTermForms, no_terms, more_terms, IsLiftedForm, lifted, IsExprForm, a_number, a_value, a_negation, an_operation, IsCondForm, all_form, any_form, not_form, imply_form, fact_form, same_form, comparison_form, some_form, each_form, AreCondForms, no_forms, more_forms, timed, AreForms, no_items, more_items, IsStartCond, IsOverCond, IsEndCond, AreConditionParts, condition_parts, IsEffectForm, an_addition, a_deletion, a_change, IsStartEffect, IsEndEffect, AreEffectParts, effect_parts, AreTypedForms, no_typed, more_typed, AreParamForms, no_params, more_params, IsDeclForm, decl_form, IsActionForm, action_form, IsSectionForm, no_section, section, AreSectionForms, sections, IsDomainForm, domain_form}
+use Rattle.ps_pddl.proofs.Fits.{FitsExpr, fits_number, fits_value, fits_negation, fits_operation, FitsCond, fits_all, fits_any, fits_not, fits_implied, fits_some, fits_each, fits_fact, fits_same, fits_comparison, FitConds, fit_none, fit_more, FitsEffect, fits_addition, fits_deletion, fits_change, FitsAction, FitsPredicate, FitsDomain}
 use Rattle.ps_pddl.proofs.NameMarks.{mark_in-all, name_mark-is_name}
 
 -- ---- marks
@@ -82,6 +85,13 @@ module _ (names : Table) where
   value_grammatical ps _ _ _ (fits_operation room o x y fit also) (an_operation _ _ _ l t u m h k) =
       written.operation room l t u (ap is_operator m ∙ op_mark-is_operator o) (value_grammatical ps room x t fit h) (value_grammatical ps room y u also k)
 
+  -- ---- variables
+
+  params_grammatical : (ps : List Param) (ts : Nesteds) → AreParamForms names ps ts → IsTypedList is_variable ts
+  params_grammatical _ _ no_params = list_of_names.no_name is_variable
+  params_grammatical _ _ (more_params p ps l m k ts h e t r) =
+      list_of_names.first_name is_variable l _ (ap is_variable h.mark) (list_of_names.type_name is_variable m k ts e (named_word p.kind k t) (params_grammatical ps ts r))
+
   -- ---- conditions
 
   -- (NAME TERM*) with such a name
@@ -92,6 +102,13 @@ module _ (names : Table) where
     condition_grammatical : (ps : List Param) (room : ℕ) (c : CondTree) (t : Nested) → FitsCond names room c → IsCondForm names ps c t → IsCondition room t
     condition_grammatical ps _ _ _ (fits_all room cs fit) (all_form _ _ l ts m h) = written.all_of room l ts m (conditions_grammatical ps room cs ts fit h)
     condition_grammatical ps _ _ _ (fits_not room c fit) (not_form _ _ l t m h) = written.not_so room l t m (condition_grammatical ps room c t fit h)
+    condition_grammatical ps _ _ _ (fits_any room cs fit) (any_form _ _ l ts m h) = written.any_of room l ts m (conditions_grammatical ps room cs ts fit h)
+    condition_grammatical ps _ _ _ (fits_implied room a b fit also) (imply_form _ _ _ l t u m h k) =
+        written.implication room l t u m (condition_grammatical ps room a t fit h) (condition_grammatical ps room b u also k)
+    condition_grammatical ps _ _ _ (fits_some room qs c free fit) (some_form _ _ _ l vs t m v h) =
+        written.some_choice room l vs t m (params_grammatical qs vs v) (condition_grammatical (ps ++ qs) room c t fit h)
+    condition_grammatical ps _ _ _ (fits_each room qs c free fit) (each_form _ _ _ l vs t m v h) =
+        written.each_choice room l vs t m (params_grammatical qs vs v) (condition_grammatical (ps ++ qs) room c t fit h)
     condition_grammatical ps _ _ _ (fits_fact room f fit) (fact_form _ _ t h) = fact_grammatical ps room f t fit h
     condition_grammatical ps _ _ _ (fits_same room a b) (same_form _ _ _ l m n e h k) = written.same room l m n e (term_word ps a m h) (term_word ps b n k)
     condition_grammatical ps _ _ _ (fits_comparison room r x y fit also) (comparison_form _ _ _ _ l t u m h k) =
@@ -163,14 +180,9 @@ module _ (names : Table) where
   -- ---- lists of names
 
   typed_grammatical : (ps : List Param) (ts : Nesteds) → AreTypedForms names ps ts → IsTypedList is_name ts
-  typed_grammatical _ _ no_typed = grammar.no_name is_name
+  typed_grammatical _ _ no_typed = list_of_names.no_name is_name
   typed_grammatical _ _ (more_typed p ps l m k ts h e t r) =
-      grammar.first_name is_name l _ (named_word p.name l h) (grammar.type_name is_name m k ts e (named_word p.kind k t) (typed_grammatical ps ts r))
-
-  params_grammatical : (ps : List Param) (ts : Nesteds) → AreParamForms names ps ts → IsTypedList is_variable ts
-  params_grammatical _ _ no_params = grammar.no_name is_variable
-  params_grammatical _ _ (more_params p ps l m k ts h e t r) =
-      grammar.first_name is_variable l _ (ap is_variable h.mark) (grammar.type_name is_variable m k ts e (named_word p.kind k t) (params_grammatical ps ts r))
+      list_of_names.first_name is_name l _ (named_word p.name l h) (list_of_names.type_name is_name m k ts e (named_word p.kind k t) (typed_grammatical ps ts r))
 
   predicates_grammatical : (decls : List Decl) (ts : Nesteds) → All (FitsPredicate names) decls → AreForms (IsDeclForm names) decls ts → ArePredicates ts
   predicates_grammatical _ _ fit no_items = grammar.no_predicate

@@ -1,3 +1,4 @@
+pub mod BoundLists
 pub mod CanonicalForms
 pub mod CanonicalLexing
 pub mod ConditionForms

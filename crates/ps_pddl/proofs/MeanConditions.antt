@@ -1,9 +1,12 @@
 -- The words of conditions mean them.
-use Rattle.std.proofs.Common.{◌≡◌, All, true, false, List, [], ◌∷◌, ◌++◌, Option, Some, None, Ok, refl, ap, append_assoc, append-nil}
+use Rattle.std.proofs.Common.{◌≡◌, ◌≤◌, ◌+◌, ℕ, All, true, false, List, [], ◌∷◌, ◌++◌, Option, Some, None, Ok, length, refl, ap, subst, append_assoc, append-nil, arith}
 use Rattle.std.proofs.lemmas.Bool.{eqb-true}
-use Rattle.std.proofs.lemmas.List.Elements.{All-head, All-tail}
+use Rattle.std.proofs.lemmas.List.{length-append}
+use Rattle.std.proofs.lemmas.List.Elements.{All-drop, All-head, All-tail}
+use Rattle.std.proofs.Math.Seq.{drop-append_seam}
 use Rattle.ps_world.specs.CondViews.{cond_tree}
-use Rattle.ps_world.specs.Knowledge.{predicate_of}
+use Rattle.ps_world.specs.Knowledge.{is_type, predicate_of}
+use Rattle.ps_world.specs.Leaves.{AllIn, AllInEach}
 use Rattle.ps_world.specs.Names.{Table, same_name}
 use Rattle.ps_world.specs.Trees.{ExprTree, CondTree, CondTrees, all_of, any_of, no, implied, holds, same, compares, is_a, for_some, for_all, cond_trees, list_of}
 use Rattle.ps_world.specs.Trees as tree
@@ -24,14 +27,19 @@ use Rattle.ps_forms.specs.Nested.{Nested, Nesteds, none, more}
 use Rattle.ps_forms.specs.declared.lexemes.Lexeme.{Lexeme}
 use Rattle.ps_pddl.specs.Conditions as part
 use Rattle.ps_conditions.specs.Conditions as meant
-use Rattle.ps_conditions.specs.Signs.{rel_of}
+use Rattle.ps_conditions.specs.Signs.{head_of, rel_of}
+use Rattle.ps_conditions.specs.declared.signs.Head.TheVariants.{Plain}
+use Rattle.ps_pddl.specs.Lists.{listed}
+use Rattle.ps_pddl.specs.declared.meaning.lists.Listing.{Listing}
+use Rattle.ps_pddl.specs.declared.meaning.lists.Listing.TheVariants.{Bound}
 use Rattle.ps_pddl.specs.Steps.{Read, reads}
-use Rattle.ps_pddl.specs.Words.{condition, words}
-use Rattle.ps_pddl.specs.WellFormed.{AreApart, AreConds, IsApplied, IsCond, IsExpr, IsFactOf}
+use Rattle.ps_pddl.specs.Words.{bound, condition, most_in_force, scopes, words}
+use Rattle.ps_pddl.specs.WellFormed.{AreApart, AreTyped, IsApplied, IsCond, IsExpr, IsFactOf, declared_leaves}
 use Rattle.ps_world.specs.declared.actions.Conditions.{Conditions}
-use Rattle.ps_pddl.proofs.CanonicalForms.{name_mark, rel_mark, joined, IsTermWord, IsExprForm, a_number, a_value, a_negation, an_operation, IsCondForm, all_form, any_form, not_form, imply_form, fact_form, same_form, comparison_form, some_form, each_form, AreCondForms, no_forms, more_forms, timed, AreForms, no_items, more_items, IsStartCond, IsOverCond, IsEndCond}
+use Rattle.ps_pddl.proofs.CanonicalForms.{name_mark, rel_mark, joined, IsTermWord, IsExprForm, a_number, a_value, a_negation, an_operation, IsCondForm, all_form, any_form, not_form, imply_form, fact_form, same_form, comparison_form, some_form, each_form, AreCondForms, no_forms, more_forms, AreParamForms, timed, AreForms, no_items, more_items, IsStartCond, IsOverCond, IsEndCond}
 use Rattle.ps_pddl.proofs.CanonicalForms as form
-use Rattle.ps_pddl.proofs.MeanMarks.{name-isnt, predicate-isnt, rel_of-name}
+use Rattle.ps_pddl.proofs.MeanLists.{listed-means, params_listed}
+use Rattle.ps_pddl.proofs.MeanMarks.{head_of-predicate, name-isnt, rel_of-name}
 use Rattle.ps_pddl.proofs.MeanTerms.{TakeFew, found_all, named-is_name, resolved-means, fact-means, untree, expr_tree-untree, value-means}
 use Rattle.ps_pddl.proofs.SoundTerms.{acting}
 
@@ -74,19 +82,12 @@ rel_of-rel Eq = refl
 rel_of-rel Ge = refl
 rel_of-rel Gt = refl
 
-pub rel-isnt_and : (r : Rel) → is mark.And (rel_mark r) ≡ false
-rel-isnt_and Lt = refl
-rel-isnt_and Le = refl
-rel-isnt_and Eq = refl
-rel-isnt_and Ge = refl
-rel-isnt_and Gt = refl
-
-pub rel-isnt_not : (r : Rel) → is mark.Not (rel_mark r) ≡ false
-rel-isnt_not Lt = refl
-rel-isnt_not Le = refl
-rel-isnt_not Eq = refl
-rel-isnt_not Ge = refl
-rel-isnt_not Gt = refl
+pub head_of-rel : (r : Rel) → head_of (rel_mark r) ≡ Plain
+head_of-rel Lt = refl
+head_of-rel Le = refl
+head_of-rel Eq = refl
+head_of-rel Ge = refl
+head_of-rel Gt = refl
 
 -- a term is no number
 term-isnt_number : (names : Table) (ps : List Param) (t : Term) (l : Lexeme) → IsTermWord names ps t l → is mark.Number l.mark ≡ false
@@ -137,44 +138,63 @@ module _ (names : Table) (d : Domain) (acts : List ActionDef) (ps : List Param) 
   stated-name l (more a none) h = refl
   stated-name l (more a (more b ts)) h = rw (rel_of-name l.mark h) refl
 
+-- the second of two lists, where both are so
+second_half : (P : Param → Type 0) (ps qs : List Param) → All P (ps ++ qs) → All P qs
+second_half P ps qs h = subst (All P) (drop-append_seam ps qs) (All-drop P (length ps) (ps ++ qs) h)
+
+module _ (names : Table) (d : Domain) (acts : List ActionDef) (own : ℕ) (predicates : TakeFew d.predicates) (functions : TakeFew d.functions) (heads : HaveHeads names d.predicates) where
+  -- variables in force, and those of a quantifier after them
+  bound-means : (ps qs : List Param) (vs : Nesteds) → own ≤ length ps → AreTyped d (own + 2) (ps ++ qs) → AreParamForms names qs vs → bound (acting d acts) own ps vs ≡ Ok qs
+  bound-means ps qs vs many h forms =
+      let few = h.few in
+      let listing : Listing = Bound (most_in_force own ps) in
+      let all : listed (acting d acts) listing vs ps ≡ Ok (ps ++ qs) =
+      listed-means (acting d acts) listing qs ps vs (omega (arith, few, many)) h.apart (second_half (λ p. is_type d p.kind ≡ true) ps qs h.kinds) (params_listed names qs vs forms) in
+      rw (all, drop-append_seam ps qs) refl
+
   mutual
-    condition-means : (c : CondTree) (t : Nested) → IsCond d ps c → IsCondForm names ps c t → condition (acting d acts) ps t ≡ Ok (uncond c)
-    condition-means _ _ h (all_form _ cs l ts m k) = rw (m, conditions-mean cs ts [] h k) refl
-    condition-means _ _ h (not_form _ c l t m k) = rw (m, condition-means c t h k, cond_tree-uncond c) refl
-    condition-means _ _ h (fact_form _ f _ (form.lifted _ l ts w u)) =
+    pub condition-means : (ps : List Param) → AreApart (λ p. p.name) ps → own ≤ length ps → (c : CondTree) (t : Nested) → AllIn (declared_leaves d own) ps c → IsCondForm names ps c t → meant.condition reads (scopes (acting d acts) own) ps t ≡ Ok (uncond c)
+    condition-means ps apart many _ _ h (all_form _ cs l ts m k) = rw (m, conditions-mean ps apart many cs ts [] h k) refl
+    condition-means ps apart many _ _ h (any_form _ cs l ts m k) = rw (m, conditions-mean ps apart many cs ts [] h.1 k) refl
+    condition-means ps apart many _ _ h (not_form _ c l t m k) = rw (m, condition-means ps apart many c t h k, cond_tree-uncond c) refl
+    condition-means ps apart many _ _ h (imply_form _ a b l t u m j k) =
+        rw (m, condition-means ps apart many a t h.1.0 j, condition-means ps apart many b u h.1.1 k, cond_tree-uncond a, cond_tree-uncond b) refl
+    condition-means ps apart many _ _ h (some_form _ qs c l vs t m v k) =
+        rw (m, bound-means ps qs vs many h.0 v, condition-means (ps ++ qs) h.0.apart (omega (arith, many, length-append ps qs)) c t h.1 k, cond_tree-uncond c) refl
+    condition-means ps apart many _ _ h (each_form _ qs c l vs t m v k) =
+        rw (m, bound-means ps qs vs many h.0 v, condition-means (ps ++ qs) h.0.apart (omega (arith, many, length-append ps qs)) c t h.1 k, cond_tree-uncond c) refl
+    condition-means ps apart many _ _ h (fact_form _ f _ (form.lifted _ l ts w u)) =
         let head : is_predicate_name l.mark ≡ true = rw w.mark (fact-head names d ps f heads h) in
-        rw (predicate-isnt mark.And l.mark head refl, predicate-isnt mark.Not l.mark head refl, stated-name l ts (named-is_name names f.head l w), fact-means names d acts ps apart f l ts predicates h w u) refl
-    condition-means _ _ h (same_form _ a b l m n e v w) =
+        rw (head_of-predicate l.mark head, stated-name names d acts ps apart predicates functions heads l ts (named-is_name names f.head l w), fact-means names d acts ps apart f l ts predicates h w u) refl
+    condition-means ps apart many _ _ h (same_form _ a b l m n e v w) =
         rw (e, term-isnt_number names ps a m v, resolved-means names d acts ps apart a m h.0.0 h.0.1 v, term-isnt_number names ps b n w, resolved-means names d acts ps apart b n h.1.0 h.1.1 w) refl
-    condition-means _ _ h (comparison_form _ r x y l t u m j k) =
-        let no_and : is mark.And l.mark ≡ false = rw m (rel-isnt_and r) in
-        let no_not : is mark.Not l.mark ≡ false = rw m (rel-isnt_not r) in
+    condition-means ps apart many _ _ h (comparison_form _ r x y l t u m j k) =
+        let plain : head_of l.mark ≡ Plain = rw m (head_of-rel r) in
         let rel : rel_of l.mark ≡ Some r = rw m (rel_of-rel r) in
-        rw (no_and, no_not, rel, related-means r x t u (meant.stated reads (words (acting d acts) ps) l (more t (more u none))) j, comparison-means r x y t u h.0 h.1 j k) refl
+        rw (plain, rel, related-means names d acts ps apart predicates functions heads r x t u (meant.stated reads (words (acting d acts) ps) l (more t (more u none))) j, comparison-means names d acts ps apart predicates functions heads r x y t u h.0 h.1 j k) refl
 
-    condition-means _ _ h (any_form _ cs l ts m k) = absurd h.0
-    condition-means _ _ h (imply_form _ a b l t u m j k) = absurd h.0
-    condition-means _ _ h (some_form _ qs c l vs t m v k) = absurd h.0
-    condition-means _ _ h (each_form _ qs c l vs t m v k) = absurd h.0
+    conditions-mean : (ps : List Param) → AreApart (λ p. p.name) ps → own ≤ length ps → (cs : CondTrees) (ts : Nesteds) (before : List CondTree) → AllInEach (declared_leaves d own) ps cs → AreCondForms names ps cs ts → meant.conditions reads (scopes (acting d acts) own) ps ts before ≡ Ok (before ++ list_of cs)
+    conditions-mean ps apart many _ _ before h (no_forms _) = rw append-nil refl
+    conditions-mean ps apart many _ _ before h (more_forms _ c cs t ts k rest) =
+        rw (condition-means ps apart many c t h.0 k, cond_tree-uncond c, conditions-mean ps apart many cs ts (before ++ c ∷ []) h.1 rest, append_assoc before (c ∷ []) (list_of cs)) refl
 
-    conditions-mean : (cs : CondTrees) (ts : Nesteds) (before : List CondTree) → AreConds d ps cs → AreCondForms names ps cs ts → meant.conditions reads (words (acting d acts) ps) ts before ≡ Ok (before ++ list_of cs)
-    conditions-mean _ _ before h (no_forms _) = rw append-nil refl
-    conditions-mean _ _ before h (more_forms _ c cs t ts k rest) =
-        rw (condition-means c t h.0 k, cond_tree-uncond c, conditions-mean cs ts (before ++ c ∷ []) h.1 rest, append_assoc before (c ∷ []) (list_of cs)) refl
+-- ---- the parts of an action's condition
 
-  -- ---- the parts of an action's condition
+module _ (names : Table) (d : Domain) (acts : List ActionDef) (ps : List Param) (apart : AreApart (λ p. p.name) ps) (predicates : TakeFew d.predicates) (functions : TakeFew d.functions) (heads : HaveHeads names d.predicates) where
+  part-means : (c : CondTree) (t : Nested) → IsCond d ps c → IsCondForm names ps c t → condition (acting d acts) ps t ≡ Ok (uncond c)
+  part-means c t h k = condition-means names d acts (length ps) predicates functions heads ps apart (omega arith) c t h k
 
   pub starts-mean : (cs : List CondTree) (ts us : Nesteds) (parts : Conditions) → All (IsCond d ps) cs → AreForms (IsStartCond names ps) cs ts → part.all_timed (acting d acts) ps (joined ts us) parts ≡ part.all_timed (acting d acts) ps us (record parts { at_start = parts.at_start ++ cs })
   starts-mean _ _ us parts h no_items = rw append-nil refl
   starts-mean _ _ us parts h (more_items c cs _ ts (timed l m u a b k) rest) =
-      rw (a, b, condition-means c u (All-head (IsCond d ps) c cs h) k, cond_tree-uncond c, starts-mean cs ts us (record parts { at_start = parts.at_start ++ c ∷ [] }) (All-tail (IsCond d ps) c cs h) rest, append_assoc parts.at_start (c ∷ []) cs) refl
+      rw (a, b, part-means c u (All-head (IsCond d ps) c cs h) k, cond_tree-uncond c, starts-mean cs ts us (record parts { at_start = parts.at_start ++ c ∷ [] }) (All-tail (IsCond d ps) c cs h) rest, append_assoc parts.at_start (c ∷ []) cs) refl
 
   pub overs-mean : (cs : List CondTree) (ts us : Nesteds) (parts : Conditions) → All (IsCond d ps) cs → AreForms (IsOverCond names ps) cs ts → part.all_timed (acting d acts) ps (joined ts us) parts ≡ part.all_timed (acting d acts) ps us (record parts { over_all = parts.over_all ++ cs })
   overs-mean _ _ us parts h no_items = rw append-nil refl
   overs-mean _ _ us parts h (more_items c cs _ ts (timed l m u a b k) rest) =
-      rw (a, condition-means c u (All-head (IsCond d ps) c cs h) k, cond_tree-uncond c, overs-mean cs ts us (record parts { over_all = parts.over_all ++ c ∷ [] }) (All-tail (IsCond d ps) c cs h) rest, append_assoc parts.over_all (c ∷ []) cs) refl
+      rw (a, part-means c u (All-head (IsCond d ps) c cs h) k, cond_tree-uncond c, overs-mean cs ts us (record parts { over_all = parts.over_all ++ c ∷ [] }) (All-tail (IsCond d ps) c cs h) rest, append_assoc parts.over_all (c ∷ []) cs) refl
 
   pub ends-mean : (cs : List CondTree) (ts us : Nesteds) (parts : Conditions) → All (IsCond d ps) cs → AreForms (IsEndCond names ps) cs ts → part.all_timed (acting d acts) ps (joined ts us) parts ≡ part.all_timed (acting d acts) ps us (record parts { at_end = parts.at_end ++ cs })
   ends-mean _ _ us parts h no_items = rw append-nil refl
   ends-mean _ _ us parts h (more_items c cs _ ts (timed l m u a b k) rest) =
-      rw (a, b, condition-means c u (All-head (IsCond d ps) c cs h) k, cond_tree-uncond c, ends-mean cs ts us (record parts { at_end = parts.at_end ++ c ∷ [] }) (All-tail (IsCond d ps) c cs h) rest, append_assoc parts.at_end (c ∷ []) cs) refl
+      rw (a, b, part-means c u (All-head (IsCond d ps) c cs h) k, cond_tree-uncond c, ends-mean cs ts us (record parts { at_end = parts.at_end ++ c ∷ [] }) (All-tail (IsCond d ps) c cs h) rest, append_assoc parts.at_end (c ∷ []) cs) refl

@@ -4,10 +4,12 @@ use Rattle.std.proofs.lemmas.Bool.{eqb-true, false_from_ne_true}
 use denote.Enum.Bare.{tag_one}
 use denote.Enum.Declared.{tag_of}
 use Rattle.ps_shape.specs.contracts.marks.Mark.{the_type}
-use Rattle.ps_shape.specs.Marks.{is, is_name, is_predicate_name}
+use Rattle.ps_shape.specs.Marks.{is, is_name, is_fact_name, is_predicate_name}
 use Rattle.ps_shape.specs.declared.marks.Mark.{Mark}
 use Rattle.ps_shape.specs.declared.marks.Mark.TheVariants as mark
-use Rattle.ps_conditions.specs.Signs.{rel_of}
+use Rattle.ps_conditions.specs.Signs.{head_of, rel_of}
+use Rattle.ps_conditions.specs.declared.signs.Head.TheVariants.{Plain}
+use Rattle.ps_forms.specs.Conditions.{is_relation}
 use Rattle.ps_pddl.specs.Effects.{change_of}
 use Rattle.ps_conditions.specs.Signs.{operator_of}
 
@@ -52,3 +54,32 @@ change_of-predicate mark.Decrease h = absurd (cc)
 change_of-predicate mark.ScaleUp h = absurd (cc)
 change_of-predicate mark.ScaleDown h = absurd (cc)
 change_of-predicate m h = refl
+
+-- the head of a fact is no form's own word
+pub head_of-fact : (m : Mark) → is_fact_name m ≡ true → head_of m ≡ Plain
+head_of-fact mark.And h = absurd (cc)
+head_of-fact mark.Or h = absurd (cc)
+head_of-fact mark.Not h = absurd (cc)
+head_of-fact mark.Imply h = absurd (cc)
+head_of-fact mark.Exists h = absurd (cc)
+head_of-fact mark.Forall h = absurd (cc)
+head_of-fact m h = refl
+
+-- nor is the name of a predicate
+pub head_of-predicate : (m : Mark) → is_predicate_name m ≡ true → head_of m ≡ Plain
+head_of-predicate mark.And h = absurd (cc)
+head_of-predicate mark.Or h = absurd (cc)
+head_of-predicate mark.Not h = absurd (cc)
+head_of-predicate mark.Imply h = absurd (cc)
+head_of-predicate mark.Exists h = absurd (cc)
+head_of-predicate mark.Forall h = absurd (cc)
+head_of-predicate m h = refl
+
+-- nor the sign of a comparison
+pub head_of-relation : (m : Mark) → is_relation m ≡ true → head_of m ≡ Plain
+head_of-relation mark.Less h = refl
+head_of-relation mark.LessEqual h = refl
+head_of-relation mark.Equal h = refl
+head_of-relation mark.GreaterEqual h = refl
+head_of-relation mark.Greater h = refl
+head_of-relation m h = absurd (cc)

@@ -1,11 +1,8 @@
 -- What lists mean has no fault but that of a meaning.
-use Rattle.std.proofs.Common.{◌≡◌, ◌==◌, nat_le, Bool, true, false, List, [], ◌∷◌, ◌++◌, length, Option, Some, None, Ok, Err, refl, subst}
+use Rattle.std.proofs.Common.{◌≡◌, ◌==◌, ℕ, nat_le, Bool, true, false, List, [], ◌∷◌, ◌++◌, drop, length, Option, Some, None, Ok, Err, refl, subst}
 use Rattle.std.specs.Bool.{if◌then◌else◌}
 use Rattle.std.specs.List.{list_any, find}
 use Rattle.std.specs.Option.{ok_or}
-use Rattle.ps_world.specs.ExprViews.{expr_tree}
-use Rattle.ps_world.specs.CondViews.{cond_tree}
-use Rattle.ps_world.specs.Trees.{CondTree}
 use Rattle.ps_world.specs.Names.{same_name}
 use Rattle.ps_world.specs.Knowledge.{is_type, is_below, predicate_of, function_of}
 use Rattle.ps_world.specs.declared.names.Name.{Name}
@@ -17,13 +14,8 @@ use Rattle.ps_world.specs.declared.actions.ActionDef.{ActionDef}
 use Rattle.ps_world.specs.declared.actions.Effect.{Effect}
 use Rattle.ps_world.specs.declared.actions.Effect.TheVariants as effects
 use Rattle.ps_world.specs.declared.actions.NumOp.{NumOp}
-use Rattle.ps_world.specs.declared.conditions.Cond.{Cond}
-use Rattle.ps_world.specs.declared.conditions.Cond.TheVariants as cond
-use Rattle.ps_world.specs.declared.conditions.Rel.{Rel}
-use Rattle.ps_world.specs.declared.conditions.Rel.TheVariants.{Lt, Le, Eq, Ge, Gt}
 use Rattle.ps_world.specs.declared.expressions.Expr.{Expr}
-use Rattle.ps_world.specs.declared.expressions.Expr.TheVariants.{Num, Fun, Neg, Bin}
-use Rattle.ps_world.specs.declared.expressions.Op.{Op}
+use Rattle.ps_world.specs.declared.expressions.Expr.TheVariants.{Num}
 use Rattle.ps_shape.specs.Marks.{is}
 use Rattle.ps_shape.specs.declared.marks.Mark.{Mark}
 use Rattle.ps_shape.specs.declared.marks.Mark.TheVariants as mark
@@ -39,12 +31,12 @@ use Rattle.ps_conditions.specs.Steps.{◌>>=◌}
 use Rattle.ps_pddl.specs.Steps.{Read, unless}
 use Rattle.ps_pddl.specs.Terms.{argument, arguments, applied, fact, lifted, resolved, term_of, value_of}
 use Rattle.ps_pddl.specs.Types.{acyclic, is_cyclic, names_of, with_types}
-use Rattle.ps_pddl.specs.Words.{condition, plain_value, second, term, value, words}
+use Rattle.ps_pddl.specs.Words.{bound, condition, most_in_force, plain_value, scopes, second, term, value, words}
 use Rattle.ps_conditions.proofs.Refusals.{AreRefused, Refuses, condition_refuses, value_refuses}
 use Rattle.ps_forms.specs.declared.lexemes.Lexeme.{Lexeme}
 use Rattle.ps_world.specs.declared.actions.Effects.{Effects}
 use Rattle.ps_pddl.specs.declared.meaning.lists.Listing.{Listing}
-use Rattle.ps_pddl.specs.declared.meaning.lists.Listing.TheVariants.{Types, Constants, Params}
+use Rattle.ps_pddl.specs.declared.meaning.lists.Listing.TheVariants.{Types, Constants, Params, Bound}
 use Rattle.ps_world.specs.declared.actions.Conditions.{Conditions}
 use Rattle.ps_pddl.specs.declared.refusals.Cap.{Cap}
 use Rattle.ps_pddl.specs.declared.refusals.Cap.TheVariants as cap
@@ -111,6 +103,32 @@ fact_own d ps l ts = applied_own d ps (predicate_of d l.name) l ts
 value_of_own : (d : Domain) (ps : List Param) (l : Lexeme) (ts : Nesteds) → Own (value_of d ps l ts)
 value_of_own d ps l ts = applied_own d ps (function_of d l.name) l ts
 
+-- ---- lists
+
+cap_own : (l : Lexeme) (listing : Listing) → is_of_meaning (Limit l.at (cap_of listing)) ≡ true
+cap_own l Types = refl
+cap_own l Constants = refl
+cap_own l Params = refl
+cap_own l (Bound most) = refl
+
+with_name_own : (listing : Listing) (l : Lexeme) (kind : Name) (before : List Param) → Own (with_name listing l kind before)
+with_name_own listing l kind before =
+    let p : Param = record { name = l.name; kind = kind } in
+    unless_own (nat_le (most_of listing) (counted listing p before)) (list_any (λ q. same_name l.name q.name) before) (Limit l.at (cap_of listing)) (Twice l.at l.name) (Ok (before ++ p ∷ [])) (cap_own l listing) refl tt
+
+mutual
+  listed_own : (d : Domain) (listing : Listing) (ts : Nesteds) (before : List Param) → Own (listed d listing ts before)
+  listed_own d listing none before = tt
+  listed_own d listing (more t ts) before =
+      either_own (is mark.Minus (word_of t).mark) (listed_type d listing ts before) (with_name listing (word_of t) (kind_ahead ts) before >>= λ x. listed d listing ts x)
+      (listed_type_own d listing ts before)
+      (then_own (with_name listing (word_of t) (kind_ahead ts) before) (λ x. listed d listing ts x) (with_name_own listing (word_of t) (kind_ahead ts) before) (λ x. listed_own d listing ts x))
+
+  listed_type_own : (d : Domain) (listing : Listing) (ts : Nesteds) (before : List Param) → Own (listed_type d listing ts before)
+  listed_type_own d listing none before = tt
+  listed_type_own d listing (more t ts) before =
+      either_own (is_type d (word_of t).name) (listed d listing ts before) (Err (Unknown (word_of t).at (word_of t).name)) (listed_own d listing ts before) refl
+
 -- ---- words, values and conditions
 
 plain_value_own : (d : Domain) (ps : List Param) (l : Lexeme) → Own (plain_value d ps l)
@@ -134,11 +152,16 @@ words_own d ps = record {
   function = value_of_own d ps;
 }
 
+bound_own : (d : Domain) (own : ℕ) (ps : List Param) (ts : Nesteds) → Own (bound d own ps ts)
+bound_own d own ps ts =
+    let listing : Listing = Bound (most_in_force own ps) in
+    then_own (listed d listing ts ps) (λ all. Ok (drop (length ps) all)) (listed_own d listing ts ps) (λ all. tt)
+
 value_own : (d : Domain) (ps : List Param) (t : Nested) → Own (value d ps t)
 value_own d ps t = value_refuses DomainRefusal IsOwn (words d ps) (words_own d ps) t
 
 condition_own : (d : Domain) (ps : List Param) (t : Nested) → Own (condition d ps t)
-condition_own d ps t = condition_refuses DomainRefusal IsOwn (words d ps) (words_own d ps) t
+condition_own d ps t = condition_refuses DomainRefusal IsOwn (scopes d (length ps)) (record { words = words_own d; bound = bound_own d (length ps) }) ps t
 
 -- ---- the parts of an action's condition
 
@@ -238,30 +261,7 @@ mutual
   all_changes_own d ps none changes = tt
   all_changes_own d ps (more t ts) changes = then_own (effect.timed d ps t changes) (λ x. effect.all_timed d ps ts x) (changes_own d ps t changes) (λ x. all_changes_own d ps ts x)
 
--- ---- lists
-
-cap_own : (l : Lexeme) (listing : Listing) → is_of_meaning (Limit l.at (cap_of listing)) ≡ true
-cap_own l Types = refl
-cap_own l Constants = refl
-cap_own l Params = refl
-
-with_name_own : (listing : Listing) (l : Lexeme) (kind : Name) (before : List Param) → Own (with_name listing l kind before)
-with_name_own listing l kind before =
-    let p : Param = record { name = l.name; kind = kind } in
-    unless_own (nat_le (most_of listing) (counted listing p before)) (list_any (λ q. same_name l.name q.name) before) (Limit l.at (cap_of listing)) (Twice l.at l.name) (Ok (before ++ p ∷ [])) (cap_own l listing) refl tt
-
-mutual
-  listed_own : (d : Domain) (listing : Listing) (ts : Nesteds) (before : List Param) → Own (listed d listing ts before)
-  listed_own d listing none before = tt
-  listed_own d listing (more t ts) before =
-      either_own (is mark.Minus (word_of t).mark) (listed_type d listing ts before) (with_name listing (word_of t) (kind_ahead ts) before >>= λ x. listed d listing ts x)
-      (listed_type_own d listing ts before)
-      (then_own (with_name listing (word_of t) (kind_ahead ts) before) (λ x. listed d listing ts x) (with_name_own listing (word_of t) (kind_ahead ts) before) (λ x. listed_own d listing ts x))
-
-  listed_type_own : (d : Domain) (listing : Listing) (ts : Nesteds) (before : List Param) → Own (listed_type d listing ts before)
-  listed_type_own d listing none before = tt
-  listed_type_own d listing (more t ts) before =
-      either_own (is_type d (word_of t).name) (listed d listing ts before) (Err (Unknown (word_of t).at (word_of t).name)) (listed_own d listing ts before) refl
+-- ---- types
 
 acyclic_own : (d : Domain) (p : Option Param) → Own (acyclic d p)
 acyclic_own d None = tt

@@ -112,9 +112,9 @@ module _ (after : Table) (first : 0 < length after) (d : Domain) where
       also_sound (IsValueHere after first d ps h.0) (IsValueHere after first d ps 61) (value d ps x) (value_here after first d ps h.0 x h.2 h.3)
       (λ e p. (p.0, expr_fits_more h.0 61 (expr_tree e) p.1 h.1))
 
-  parts_here : (ps : List Param) (o : Option Nested) → Fits IsConditionThere o → Sound (ArePartsHere after first d ps 60) (meaning.parts d ps o)
-  parts_here ps None h = (All-nil _, All-nil _, All-nil _)
-  parts_here ps (Some t) h = condition_form_here after first d ps 60 h.0 t (record { at_start = []; over_all = []; at_end = [] }) h.2 (omega (arith, h.1)) h.3 (All-nil _, All-nil _, All-nil _)
+  parts_here : (ps : List Param) (params : AreParamsHere after first ps) (o : Option Nested) → Fits IsConditionThere o → Sound (ArePartsHere after first d ps params 60) (meaning.parts d ps o)
+  parts_here ps params None h = (All-nil _, All-nil _, All-nil _)
+  parts_here ps params (Some t) h = condition_form_here after first d ps params 60 h.0 t (record { at_start = []; over_all = []; at_end = [] }) h.2 (omega (arith, h.1)) h.3 (All-nil _, All-nil _, All-nil _)
 
   changes_here : (ps : List Param) (o : Option Nested) → Fits IsEffectThere o → Sound (AreChangesHere after first d ps 60) (meaning.changes d ps o)
   changes_here ps None h = (All-nil _, All-nil _)
@@ -143,7 +143,7 @@ module _ (after : Table) (first : 0 < length after) (d : Domain) where
       let IsAct : Effect → Type 0 = λ e. IsEffectOf (length after) (length ps) e in
       let IsShort : Effect → Type 0 = λ e. FitsEffect after 60 e in
       then_sound (IsValueHere after first d ps 61) IsActionHere (meaning.duration d ps time) (λ x. meaning.parts d ps form >>= λ y. meaning.changes d ps change >>= λ z. Ok (made x y z)) (duration_here ps time time_form)
-      (λ x one. then_sound (ArePartsHere after first d ps 60) IsActionHere (meaning.parts d ps form) (λ y. meaning.changes d ps change >>= λ z. Ok (made x y z)) (parts_here ps form condition_form)
+      (λ x one. then_sound (ArePartsHere after first d ps params 60) IsActionHere (meaning.parts d ps form) (λ y. meaning.changes d ps change >>= λ z. Ok (made x y z)) (parts_here ps params form condition_form)
       (λ y two. then_sound (AreChangesHere after first d ps 60) IsActionHere (meaning.changes d ps change) (λ z. Ok (made x y z)) (changes_here ps change effect_form)
       (λ z three. (
         record {

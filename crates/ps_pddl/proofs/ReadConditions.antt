@@ -1,7 +1,6 @@
 -- Conditions that are read: their names stand in the table, their heads may stand there, and they have as few levels as their lists.
-use Rattle.std.proofs.Common.{◌≡◌, ℕ, suc, zero, ◌<◌, ◌≤◌, true, false, All, List, [], ◌∷◌, ◌++◌, length, Option, Some, None, Ok, Err, refl, ap, subst, arith}
-use Rattle.std.specs.Bool.{if◌then◌else◌}
-use Rattle.std.proofs.lemmas.List.Elements.{All-push}
+use Rattle.std.proofs.Common.{◌≡◌, ℕ, suc, zero, ◌<◌, ◌≤◌, Bool, true, false, All, List, [], ◌∷◌, ◌++◌, length, Option, Some, None, Ok, Err, refl, ap, subst, arith}
+use Rattle.std.proofs.lemmas.List.Elements.{All-append, All-push}
 use Rattle.ps_world.specs.CondViews.{cond_tree}
 use Rattle.ps_world.specs.ExprViews.{expr_tree}
 use Rattle.ps_world.specs.Names.{Table}
@@ -24,23 +23,24 @@ use Rattle.ps_forms.specs.Grammar.{IsValue, IsCondition, AreConditions, IsTimedC
 use Rattle.ps_forms.specs.Grammar as grammar
 use Rattle.ps_forms.specs.Nested.{Nested, Nesteds, word, group, none, more}
 use Rattle.ps_forms.specs.declared.lexemes.Lexeme.{Lexeme}
-use Rattle.ps_print.specs.CanonicalWords.{AreCondsOf, IsCondOf}
+use Rattle.ps_print.specs.CanonicalWords.{AreCondsOf, IsCondOf, IsParamOf}
 use Rattle.ps_pddl.specs.Conditions as part
 use Rattle.ps_conditions.specs.Conditions as meant
 use Rattle.ps_conditions.specs.Signs.{rel_of}
 use Rattle.ps_conditions.specs.Steps.{◌>>=◌}
 use Rattle.ps_pddl.specs.Steps.{Read, reads}
 use Rattle.ps_pddl.specs.Terms.{fact, resolved}
-use Rattle.ps_pddl.specs.Words.{condition, second, term, value, words}
+use Rattle.ps_pddl.specs.Words.{bound, condition, scopes, second, term, value, words}
 use Rattle.ps_world.specs.declared.actions.Conditions.{Conditions}
 use Rattle.ps_pddl.specs.declared.refusals.DomainRefusal.TheVariants.{Kind}
 use Rattle.ps_pddl.proofs.CanonicalForms.{name_mark}
-use Rattle.ps_pddl.proofs.Fits.{FitsExpr, fits_number, fits_value, fits_negation, fits_operation, FitsCond, fits_all, fits_not, fits_fact, fits_same, fits_comparison, FitConds, fit_none, fit_more}
+use Rattle.ps_pddl.proofs.Fits.{FitsExpr, fits_number, fits_value, fits_negation, fits_operation, IsVariableName, FitsCond, fits_all, fits_any, fits_not, fits_implied, fits_some, fits_each, fits_fact, fits_same, fits_comparison, FitConds, fit_none, fit_more}
+use Rattle.ps_pddl.proofs.ReadLists.{AreParamsHere, bound_here}
 use Rattle.ps_pddl.proofs.ReadMarks.{fact-is_name, fact_no_rel, no_sound, relation_there, yes_sound}
 use Rattle.ps_pddl.proofs.ReadNames.{IsTold, AllTold, AreTold}
 use Rattle.ps_pddl.proofs.ReadValues.{IsHeadHere, IsTermHere, IsTypedHere, IsValueHere, fact_here, resolved_here, value_here}
 use Rattle.ps_pddl.proofs.Sound.{Sound, also_sound, then_sound, either_sound}
-use Rattle.ps_pddl.proofs.MeanMarks.{isnt-by}
+use Rattle.ps_pddl.proofs.MeanMarks.{head_of-fact, head_of-relation}
 
 -- ---- more levels
 
@@ -60,6 +60,15 @@ mutual
   cond_fits_more names _ (suc most) _ (fits_all room cs h) le = fits_all most cs (conds_fit_more names room most cs h (omega (arith, le)))
   cond_fits_more names _ zero _ (fits_not room c h) le = absurd (omega (arith, le))
   cond_fits_more names _ (suc most) _ (fits_not room c h) le = fits_not most c (cond_fits_more names room most c h (omega (arith, le)))
+  cond_fits_more names _ zero _ (fits_any room cs h) le = absurd (omega (arith, le))
+  cond_fits_more names _ (suc most) _ (fits_any room cs h) le = fits_any most cs (conds_fit_more names room most cs h (omega (arith, le)))
+  cond_fits_more names _ zero _ (fits_implied room a b h k) le = absurd (omega (arith, le))
+  cond_fits_more names _ (suc most) _ (fits_implied room a b h k) le =
+      fits_implied most a b (cond_fits_more names room most a h (omega (arith, le))) (cond_fits_more names room most b k (omega (arith, le)))
+  cond_fits_more names _ zero _ (fits_some room qs c free h) le = absurd (omega (arith, le))
+  cond_fits_more names _ (suc most) _ (fits_some room qs c free h) le = fits_some most qs c free (cond_fits_more names room most c h (omega (arith, le)))
+  cond_fits_more names _ zero _ (fits_each room qs c free h) le = absurd (omega (arith, le))
+  cond_fits_more names _ (suc most) _ (fits_each room qs c free h) le = fits_each most qs c free (cond_fits_more names room most c h (omega (arith, le)))
   cond_fits_more names _ zero _ (fits_fact room f h) le = absurd (omega (arith, le))
   cond_fits_more names _ (suc most) _ (fits_fact room f h) le = fits_fact most f h
   cond_fits_more names _ zero _ (fits_same room a b) le = absurd (omega (arith, le))
@@ -155,77 +164,86 @@ module _ (after : Table) (first : 0 < length after) (d : Domain) (ps : List Para
   plain_here room l (more a (more b ts)) m h k =
       unrelated_here (IsCondHere (suc room)) (rel_of l.mark) a b (meant.stated reads (words d ps) l (more a (more b ts))) (fact_no_rel l.mark m) (stated_here room l (more a (more b ts)) m h k)
 
-  -- a head with this mark, what follows it, and what it means
-  module _ (P : Cond → Type 0) (l : Lexeme) (ts : Nesteds) where
-    and_form : l.mark ≡ mark.And → Sound P (meant.conditions reads (words d ps) ts [] >>= λ cs. Ok (cond.And cs)) → Sound P (meant.form reads (words d ps) (more (word l) ts))
-    and_form m h =
-        yes_sound P (is mark.And l.mark) (meant.conditions reads (words d ps) ts [] >>= λ cs. Ok (cond.And cs)) (if is mark.Not l.mark then meant.negation reads (words d ps) ts else meant.plain_condition reads (words d ps) l ts)
-        (ap (is mark.And) m) h
-
-    not_form : l.mark ≡ mark.Not → Sound P (meant.negation reads (words d ps) ts) → Sound P (meant.form reads (words d ps) (more (word l) ts))
-    not_form m h =
-        no_sound P (is mark.And l.mark) (meant.conditions reads (words d ps) ts [] >>= λ cs. Ok (cond.And cs)) (if is mark.Not l.mark then meant.negation reads (words d ps) ts else meant.plain_condition reads (words d ps) l ts)
-        (ap (is mark.And) m)
-        (yes_sound P (is mark.Not l.mark) (meant.negation reads (words d ps) ts) (meant.plain_condition reads (words d ps) l ts) (ap (is mark.Not) m) h)
-
-    other_form : is mark.And l.mark ≡ false → is mark.Not l.mark ≡ false → Sound P (meant.plain_condition reads (words d ps) l ts) → Sound P (meant.form reads (words d ps) (more (word l) ts))
-    other_form m n h =
-        no_sound P (is mark.And l.mark) (meant.conditions reads (words d ps) ts [] >>= λ cs. Ok (cond.And cs)) (if is mark.Not l.mark then meant.negation reads (words d ps) ts else meant.plain_condition reads (words d ps) l ts)
-        m (no_sound P (is mark.Not l.mark) (meant.negation reads (words d ps) ts) (meant.plain_condition reads (words d ps) l ts) n h)
-
+module _ (after : Table) (first : 0 < length after) (d : Domain) (own : ℕ) where
   -- two values after a relation
-  compared_here : (room : ℕ) (l : Lexeme) (x y : Nested) → is_relation l.mark ≡ true → IsValue room x → IsValue room y → AllTold after (group (more (word l) (more x (more y none)))) → Sound (IsCondHere (suc room)) (condition d ps (group (more (word l) (more x (more y none)))))
-  compared_here room l x y m v w h =
-      other_form (IsCondHere (suc room)) l (more x (more y none)) (isnt-by is_relation mark.And l.mark m refl) (isnt-by is_relation mark.Not l.mark m refl)
-      (related_here room (rel_of l.mark) x y (meant.stated reads (words d ps) l (more x (more y none))) (relation_there l.mark m) v w h.1.0 h.1.1.0)
+  compared_here : (ps : List Param) (room : ℕ) (l : Lexeme) (x y : Nested) → is_relation l.mark ≡ true → IsValue room x → IsValue room y → AllTold after (group (more (word l) (more x (more y none)))) → Sound (IsCondHere after first d ps (suc room)) (meant.condition reads (scopes d own) ps (group (more (word l) (more x (more y none)))))
+  compared_here ps room l x y m v w h =
+      rw (head_of-relation l.mark m) (related_here after first d ps room (rel_of l.mark) x y (meant.stated reads (words d ps) l (more x (more y none))) (relation_there l.mark m) v w h.1.0 h.1.1.0)
+
+  -- a quantifier of variables that may stand there and of a condition that does
+  some_here : (ps qs : List Param) (room : ℕ) (each : Bool) (c : CondTree) → AreParamsHere after first qs → IsTreeHere after first d (ps ++ qs) room c → IsCondHere after first d ps (suc room) (meant.quantifier each qs c)
+  some_here ps qs room true c h k = ((h.0, k.0), fits_each room qs c h.1 k.1)
+  some_here ps qs room false c h k = ((h.0, k.0), fits_some room qs c h.1 k.1)
+
+  both_here : (ps qs : List Param) → AreParamsHere after first ps → AreParamsHere after first qs → AreParamsHere after first (ps ++ qs)
+  both_here ps qs h k = (All-append (IsParamOf (length after)) ps qs h.0 k.0, All-append (λ (p : Param). IsVariableName after p.name) ps qs h.1 k.1)
 
   mutual
-    condition_here : (room : ℕ) (t : Nested) → IsCondition room t → AllTold after t → Sound (IsCondHere room) (condition d ps t)
-    condition_here _ _ (written.all_of room l ts m cs) h =
-        and_form (IsCondHere (suc room)) l ts m
-        (then_sound (AreCondsHere room) (IsCondHere (suc room)) (meant.conditions reads (words d ps) ts []) (λ all. Ok (cond.And all)) (conditions_here room ts [] cs h.1 (tt, fit_none room))
+    pub condition_here : (ps : List Param) → AreParamsHere after first ps → (room : ℕ) (t : Nested) → IsCondition room t → AllTold after t → Sound (IsCondHere after first d ps room) (meant.condition reads (scopes d own) ps t)
+    condition_here ps f _ _ (written.all_of room l ts m cs) h =
+        rw m (then_sound (AreCondsHere after first d ps room) (IsCondHere after first d ps (suc room)) (meant.conditions reads (scopes d own) ps ts []) (λ all. Ok (cond.And all)) (conditions_here ps f room ts [] cs h.1 (tt, fit_none room))
         (λ all k. (k.0, fits_all room (cond_trees all) k.1)))
-    condition_here _ _ (written.not_so room l c m one) h =
-        not_form (IsCondHere (suc room)) l (more c none) m
-        (then_sound (IsCondHere room) (IsCondHere (suc room)) (condition d ps c) (λ x. Ok (cond.Not (cond_tree x))) (condition_here room c one h.1.0)
+    condition_here ps f _ _ (written.any_of room l ts m cs) h =
+        rw m (then_sound (AreCondsHere after first d ps room) (IsCondHere after first d ps (suc room)) (meant.conditions reads (scopes d own) ps ts []) (λ all. Ok (cond.Or all)) (conditions_here ps f room ts [] cs h.1 (tt, fit_none room))
+        (λ all k. ((tt, k.0), fits_any room (cond_trees all) k.1)))
+    condition_here ps f _ _ (written.not_so room l c m one) h =
+        rw m (then_sound (IsCondHere after first d ps room) (IsCondHere after first d ps (suc room)) (meant.condition reads (scopes d own) ps c) (λ x. Ok (cond.Not (cond_tree x))) (condition_here ps f room c one h.1.0)
         (λ x k. (k.0, fits_not room (cond_tree x) k.1)))
-    condition_here _ _ (written.a_fact room l ts m r few) h =
-        other_form (IsCondHere (suc room)) l ts (isnt-by is_fact_name mark.And l.mark m refl) (isnt-by is_fact_name mark.Not l.mark m refl) (plain_here room l ts m h.0 h.1)
-    condition_here _ _ (written.same room l m n is s t) h =
-        compared_here room l (word m) (word n) (ap is_relation is) (written.an_argument room m refl s) (written.an_argument room n refl t) h
-    condition_here _ _ (written.comparison room l x y m v w) h = compared_here room l x y m v w h
+    condition_here ps f _ _ (written.implication room l a b m one other) h =
+        rw m (then_sound (IsCondHere after first d ps room) (IsCondHere after first d ps (suc room)) (meant.condition reads (scopes d own) ps a) (λ x. meant.condition reads (scopes d own) ps b >>= λ y. Ok (cond.Imply (cond_tree x) (cond_tree y))) (condition_here ps f room a one h.1.0)
+        (λ x j. then_sound (IsCondHere after first d ps room) (IsCondHere after first d ps (suc room)) (meant.condition reads (scopes d own) ps b) (λ y. Ok (cond.Imply (cond_tree x) (cond_tree y))) (condition_here ps f room b other h.1.1.0)
+        (λ y k. ((tt, (j.0, k.0)), fits_implied room (cond_tree x) (cond_tree y) j.1 k.1))))
+    condition_here ps f _ _ (written.some_choice room l vs c m typed one) h =
+        rw m (then_sound (AreParamsHere after first) (IsCondHere after first d ps (suc room)) (bound d own ps vs) (λ qs. meant.condition reads (scopes d own) (ps ++ qs) c >>= λ x. Ok (meant.quantifier false qs (cond_tree x))) (bound_here after first d own ps vs typed h.1.0 f)
+        (λ qs g. then_sound (IsCondHere after first d (ps ++ qs) room) (IsCondHere after first d ps (suc room)) (meant.condition reads (scopes d own) (ps ++ qs) c) (λ x. Ok (meant.quantifier false qs (cond_tree x))) (condition_here (ps ++ qs) (both_here ps qs f g) room c one h.1.1.0)
+        (λ x k. some_here ps qs room false (cond_tree x) g k)))
+    condition_here ps f _ _ (written.each_choice room l vs c m typed one) h =
+        rw m (then_sound (AreParamsHere after first) (IsCondHere after first d ps (suc room)) (bound d own ps vs) (λ qs. meant.condition reads (scopes d own) (ps ++ qs) c >>= λ x. Ok (meant.quantifier true qs (cond_tree x))) (bound_here after first d own ps vs typed h.1.0 f)
+        (λ qs g. then_sound (IsCondHere after first d (ps ++ qs) room) (IsCondHere after first d ps (suc room)) (meant.condition reads (scopes d own) (ps ++ qs) c) (λ x. Ok (meant.quantifier true qs (cond_tree x))) (condition_here (ps ++ qs) (both_here ps qs f g) room c one h.1.1.0)
+        (λ x k. some_here ps qs room true (cond_tree x) g k)))
+    condition_here ps f _ _ (written.a_fact room l ts m r few) h = rw (head_of-fact l.mark m) (plain_here after first d ps room l ts m h.0 h.1)
+    condition_here ps f _ _ (written.same room l m n is s t) h =
+        compared_here ps room l (word m) (word n) (ap is_relation is) (written.an_argument room m refl s) (written.an_argument room n refl t) h
+    condition_here ps f _ _ (written.comparison room l x y m v w) h = compared_here ps room l x y m v w h
 
-    conditions_here : (room : ℕ) (ts : Nesteds) (before : List CondTree) → AreConditions room ts → AreTold after ts → AreCondsHere room before → Sound (AreCondsHere room) (meant.conditions reads (words d ps) ts before)
-    conditions_here _ _ before (written.no_condition room) h k = k
-    conditions_here _ _ before (written.one_condition room c cs one r) h k =
-        then_sound (IsCondHere room) (AreCondsHere room) (condition d ps c) (λ x. meant.conditions reads (words d ps) cs (before ++ cond_tree x ∷ [])) (condition_here room c one h.0)
-        (λ x p. conditions_here room cs (before ++ cond_tree x ∷ []) r h.1 (conds_push before (cond_tree x) k.0 p.0, fits_push room before (cond_tree x) k.1 p.1))
+    conditions_here : (ps : List Param) → AreParamsHere after first ps → (room : ℕ) (ts : Nesteds) (before : List CondTree) → AreConditions room ts → AreTold after ts → AreCondsHere after first d ps room before → Sound (AreCondsHere after first d ps room) (meant.conditions reads (scopes d own) ps ts before)
+    conditions_here ps f _ _ before (written.no_condition room) h k = k
+    conditions_here ps f _ _ before (written.one_condition room c cs one r) h k =
+        then_sound (IsCondHere after first d ps room) (AreCondsHere after first d ps room) (meant.condition reads (scopes d own) ps c) (λ x. meant.conditions reads (scopes d own) ps cs (before ++ cond_tree x ∷ [])) (condition_here ps f room c one h.0)
+        (λ x p. conditions_here ps f room cs (before ++ cond_tree x ∷ []) r h.1 (conds_push after first d ps before (cond_tree x) k.0 p.0, fits_push after first d ps room before (cond_tree x) k.1 p.1))
 
-  -- ---- the parts of an action's condition
+-- ---- the parts of an action's condition
+
+module _ (after : Table) (first : 0 < length after) (d : Domain) (ps : List Param) (params : AreParamsHere after first ps) where
+  abbrev pub IsPartHere : ℕ → CondTree → Type 0
+  IsPartHere room c = IsTreeHere after first d ps room c
+
+  abbrev IsCondPart : ℕ → Cond → Type 0
+  IsCondPart room c = IsPartHere room (cond_tree c)
 
   abbrev pub ArePartsHere : ℕ → Conditions → Type 0
-  ArePartsHere most parts = All (IsTreeHere most) parts.at_start × All (IsTreeHere most) parts.over_all × All (IsTreeHere most) parts.at_end
+  ArePartsHere most parts = All (IsPartHere most) parts.at_start × All (IsPartHere most) parts.over_all × All (IsPartHere most) parts.at_end
 
-  at_time_here : (most : ℕ) (moment : Mark) (c : Cond) (parts : Conditions) → IsCondHere most c → ArePartsHere most parts → ArePartsHere most (part.at_time moment c parts)
-  at_time_here most mark.Start c parts h k = (All-push (IsTreeHere most) parts.at_start (cond_tree c) k.0 h, k.1, k.2)
-  at_time_here most m c parts h k = (k.0, k.1, All-push (IsTreeHere most) parts.at_end (cond_tree c) k.2 h)
+  at_time_here : (most : ℕ) (moment : Mark) (c : Cond) (parts : Conditions) → IsCondPart most c → ArePartsHere most parts → ArePartsHere most (part.at_time moment c parts)
+  at_time_here most mark.Start c parts h k = (All-push (IsPartHere most) parts.at_start (cond_tree c) k.0 h, k.1, k.2)
+  at_time_here most m c parts h k = (k.0, k.1, All-push (IsPartHere most) parts.at_end (cond_tree c) k.2 h)
 
-  timed_part_here : (most : ℕ) (m moment : Mark) (t : Nested) (parts : Conditions) → Sound (IsCondHere most) (condition d ps t) → ArePartsHere most parts → Sound (ArePartsHere most) (part.timed_part d ps m moment t parts)
+  timed_part_here : (most : ℕ) (m moment : Mark) (t : Nested) (parts : Conditions) → Sound (IsCondPart most) (condition d ps t) → ArePartsHere most parts → Sound (ArePartsHere most) (part.timed_part d ps m moment t parts)
   timed_part_here most mark.At moment t parts h k =
-      then_sound (IsCondHere most) (ArePartsHere most) (condition d ps t) (λ c. Ok (part.at_time moment c parts)) h (λ c one. at_time_here most moment c parts one k)
+      then_sound (IsCondPart most) (ArePartsHere most) (condition d ps t) (λ c. Ok (part.at_time moment c parts)) h (λ c one. at_time_here most moment c parts one k)
   timed_part_here most mark.Over moment t parts h k =
-      then_sound (IsCondHere most) (ArePartsHere most) (condition d ps t) (λ c. Ok (part.over_all c parts)) h
-      (λ c one. (k.0, All-push (IsTreeHere most) parts.over_all (cond_tree c) k.1 one, k.2))
+      then_sound (IsCondPart most) (ArePartsHere most) (condition d ps t) (λ c. Ok (part.over_all c parts)) h
+      (λ c one. (k.0, All-push (IsPartHere most) parts.over_all (cond_tree c) k.1 one, k.2))
   timed_part_here most m moment t parts h k = k
 
   -- what stands in a timed form has no more levels than are left
   timed_condition_here : (most room : ℕ) (t : Nested) (parts : Conditions) → IsTimedCondition room t → room ≤ most → AllTold after t → ArePartsHere most parts → Sound (ArePartsHere most) (part.timed d ps t parts)
   timed_condition_here most _ _ parts (grammar.at_moment room l m c first_word moment one) le h k =
       no_sound (ArePartsHere most) (is mark.And l.mark) (part.all_timed d ps (more (word m) (more c none)) parts) (part.timed_part d ps l.mark m.mark c parts) (ap (is mark.And) first_word)
-      (timed_part_here most l.mark m.mark c parts (also_sound (IsCondHere room) (IsCondHere most) (condition d ps c) (condition_here room c one h.1.1.0) (λ x p. (p.0, cond_fits_more after room most (cond_tree x) p.1 le))) k)
+      (timed_part_here most l.mark m.mark c parts (also_sound (IsCondPart room) (IsCondPart most) (condition d ps c) (condition_here after first d (length ps) ps params room c one h.1.1.0) (λ x p. (p.0, cond_fits_more after room most (cond_tree x) p.1 le))) k)
   timed_condition_here most _ _ parts (grammar.over_all room l m c first_word moment one) le h k =
       no_sound (ArePartsHere most) (is mark.And l.mark) (part.all_timed d ps (more (word m) (more c none)) parts) (part.timed_part d ps l.mark m.mark c parts) (ap (is mark.And) first_word)
-      (timed_part_here most l.mark m.mark c parts (also_sound (IsCondHere room) (IsCondHere most) (condition d ps c) (condition_here room c one h.1.1.0) (λ x p. (p.0, cond_fits_more after room most (cond_tree x) p.1 le))) k)
+      (timed_part_here most l.mark m.mark c parts (also_sound (IsCondPart room) (IsCondPart most) (condition d ps c) (condition_here after first d (length ps) ps params room c one h.1.1.0) (λ x p. (p.0, cond_fits_more after room most (cond_tree x) p.1 le))) k)
 
   -- a list of parts, by its head
   listed_parts : (most : ℕ) (l : Lexeme) (ts : Nesteds) (parts : Conditions) → l.mark ≡ mark.And → Sound (ArePartsHere most) (part.all_timed d ps ts parts) → Sound (ArePartsHere most) (part.timed d ps (group (more (word l) ts)) parts)

@@ -14,7 +14,9 @@ use Rattle.ps_shape.specs.declared.marks.Mark.{Mark}
 use Rattle.ps_shape.specs.declared.marks.Mark.TheVariants as mark
 use Rattle.ps_shape.specs.Symbols.{none_seen}
 use Rattle.ps_shape.specs.declared.symbols.Seen.{Seen}
-use Rattle.ps_forms.specs.Grammar.{AreFunctions, ArePredicates, AreSections, IsActionBody, IsText, IsTypedList}
+use Rattle.ps_forms.specs.Grammar.{AreFunctions, ArePredicates, AreSections, IsActionBody, IsText}
+use Rattle.ps_forms.specs.TypedLists.{IsTypedList}
+use Rattle.ps_forms.specs.TypedLists.IsTypedList.{no_name}
 use Rattle.ps_forms.specs.Grammar as grammar
 use Rattle.ps_forms.specs.Nested.{Nested, Nesteds, word, group, none, more}
 use Rattle.ps_forms.specs.Places.{head, items, rest, section}
@@ -148,8 +150,8 @@ module _ (after : Table) (first : 0 < length after) where
 
   with_sections_here : (n : Name) (ts : Nesteds) → IsNameOf (length after) n → AreBodies ts → AreTold after ts → Sound IsDomainHere (meaning.with_sections (meaning.bare n) ts)
   with_sections_here n ts lt g h =
-      let types = section_here mark.Types ts (grammar.no_name is_name) g h in
-      let constants = section_here mark.Constants ts (grammar.no_name is_name) g h in
+      let types = section_here mark.Types ts (no_name is_name) g h in
+      let constants = section_here mark.Constants ts (no_name is_name) g h in
       let predicates = section_here mark.Predicates ts grammar.no_predicate g h in
       let functions = section_here mark.Functions ts grammar.no_function g h in
       then_sound (HasTypesHere after first) IsDomainHere (with_types (meaning.bare n) (section mark.Types ts))

@@ -1,8 +1,8 @@
 -- Lists of typed names and declarations that are read: their names stand in the table, and may stand there.
-use Rattle.std.proofs.Common.{◌≡◌, nat_le, ◌<◌, Bool, true, false, All, List, [], ◌∷◌, ◌++◌, find, length, Option, Some, None, Ok, Err, refl, ap, subst}
+use Rattle.std.proofs.Common.{◌≡◌, ℕ, nat_le, ◌<◌, Bool, true, false, All, List, [], ◌∷◌, ◌++◌, drop, find, length, Option, Some, None, Ok, Err, refl, ap, subst}
 use Rattle.std.specs.Bool.{if◌then◌else◌}
 use Rattle.std.specs.List.{list_any}
-use Rattle.std.proofs.lemmas.List.Elements.{All-filter, All-nil, All-push, All-weaker}
+use Rattle.std.proofs.lemmas.List.Elements.{All-drop, All-filter, All-nil, All-push, All-weaker}
 use Rattle.ps_world.specs.Names.{same_name, Table}
 use Rattle.ps_world.specs.Knowledge.{is_type}
 use Rattle.ps_world.specs.declared.names.Name.{Name}
@@ -12,7 +12,9 @@ use Rattle.ps_world.specs.declared.domains.Domain.{Domain}
 use Rattle.ps_shape.specs.Marks.{is, is_name, is_predicate_name}
 use Rattle.ps_shape.specs.declared.marks.Mark.{Mark}
 use Rattle.ps_shape.specs.declared.marks.Mark.TheVariants as mark
-use Rattle.ps_forms.specs.Grammar.{is_variable, AreFunctions, ArePredicates, IsDecl, IsRun, IsTypedList}
+use Rattle.ps_forms.specs.Grammar.{AreFunctions, ArePredicates, IsDecl}
+use Rattle.ps_forms.specs.TypedLists.{IsRun, IsTypedList, is_variable}
+use Rattle.ps_forms.specs.TypedLists as list_of_names
 use Rattle.ps_forms.specs.Grammar as grammar
 use Rattle.ps_forms.specs.Nested.{Nested, Nesteds, word, none, more}
 use Rattle.ps_forms.specs.Places.{head, word_of}
@@ -20,10 +22,11 @@ use Rattle.ps_forms.specs.declared.lexemes.Lexeme.{Lexeme}
 use Rattle.ps_print.specs.CanonicalWords.{IsDeclOf, IsNameOf, IsParamOf}
 use Rattle.ps_pddl.specs.Lists.{counts, kept, kind_ahead, listed, listed_type, with_name}
 use Rattle.ps_pddl.specs.Meaning as meaning
+use Rattle.ps_pddl.specs.Words.{bound, most_in_force}
 use Rattle.ps_conditions.specs.Steps.{◌>>=◌}
 use Rattle.ps_pddl.specs.Types.{acyclic, is_cyclic, names_of, with_types}
 use Rattle.ps_pddl.specs.declared.meaning.lists.Listing.{Listing}
-use Rattle.ps_pddl.specs.declared.meaning.lists.Listing.TheVariants.{Params, Types}
+use Rattle.ps_pddl.specs.declared.meaning.lists.Listing.TheVariants.{Bound, Params, Types}
 use Rattle.ps_pddl.specs.declared.refusals.Cap.{Cap}
 use Rattle.ps_pddl.specs.declared.refusals.DomainRefusal.TheVariants.{Limit, Twice, Unknown}
 use Rattle.ps_pddl.proofs.Fits.{FitParams, FitsPredicate, IsVariableName}
@@ -73,13 +76,13 @@ module _ (after : Table) (first : 0 < length after) where
 
       mutual
         list_here : (ts : Nesteds) (before : List Param) → IsTypedList fits ts → AreTold after ts → All IsParamHere before → Sound (All IsParamHere) (listed d listing ts before)
-        list_here _ before (grammar.no_name _) h all = all
-        list_here _ before (grammar.first_name _ l ts m r) h all = one_name l ts before m h.0 h.1 (λ x p. run_here ts x r h.1 p) all
+        list_here _ before (list_of_names.no_name _) h all = all
+        list_here _ before (list_of_names.first_name _ l ts m r) h all = one_name l ts before m h.0 h.1 (λ x p. run_here ts x r h.1 p) all
 
         run_here : (ts : Nesteds) (before : List Param) → IsRun fits ts → AreTold after ts → All IsParamHere before → Sound (All IsParamHere) (listed d listing ts before)
-        run_here _ before (grammar.run_end _) h all = all
-        run_here _ before (grammar.next_name _ l ts m r) h all = one_name l ts before m h.0 h.1 (λ x p. run_here ts x r h.1 p) all
-        run_here _ before (grammar.type_name _ l k ts m n r) h all =
+        run_here _ before (list_of_names.run_end _) h all = all
+        run_here _ before (list_of_names.next_name _ l ts m r) h all = one_name l ts before m h.0 h.1 (λ x p. run_here ts x r h.1 p) all
+        run_here _ before (list_of_names.type_name _ l k ts m n r) h all =
             yes_sound (All IsParamHere) (is mark.Minus l.mark) (listed_type d listing (more (word k) ts) before) (with_name listing l (kind_ahead (more (word k) ts)) before >>= λ x. listed d listing (more (word k) ts) x) (ap (is mark.Minus) m)
             (either_sound (All IsParamHere) (is_type d k.name) (listed d listing ts before) (Err (Unknown k.at k.name)) (λ e. list_here ts before r h.1.1 all) (λ e. tt))
 
@@ -91,12 +94,22 @@ module _ (after : Table) (first : 0 < length after) where
   abbrev pub AreParamsHere : List Param → Type 0
   AreParamsHere ps = All (IsParamOf (length after)) ps × FitParams after ps
 
-  pub params_here : (d : Domain) (ts : Nesteds) → IsTypedList is_variable ts → AreTold after ts → Sound AreParamsHere (listed d Params ts [])
-  params_here d ts g h =
+  params_after : (d : Domain) (listing : Listing) (ts : Nesteds) (before : List Param) → IsTypedList is_variable ts → AreTold after ts → AreParamsHere before → Sound AreParamsHere (listed d listing ts before)
+  params_after d listing ts before g h k =
       let IsHere : Param → Type 0 = λ p. (IsNameOf (length after) p.name × IsVariableName after p.name) × IsNameOf (length after) p.kind in
-      also_sound (All IsHere) AreParamsHere (listed d Params ts [])
-      (list_here d Params (λ n. IsNameOf (length after) n × IsVariableName after n) is_variable refl (λ l k m. (k.below, k.variable (variable_mark l.mark m))) ts [] g h (All-nil IsHere))
+      also_sound (All IsHere) AreParamsHere (listed d listing ts before)
+      (list_here d listing (λ n. IsNameOf (length after) n × IsVariableName after n) is_variable refl (λ l k m. (k.below, k.variable (variable_mark l.mark m))) ts before g h (λ i x lt. (((k.0 i x lt).0, k.1 i x lt), (k.0 i x lt).1)))
       (λ ps p. (All-weaker IsHere (IsParamOf (length after)) (λ x q. (q.0.0, q.1)) ps p, All-weaker IsHere (λ x. IsVariableName after x.name) (λ x q. q.0.1) ps p))
+
+  pub params_here : (d : Domain) (ts : Nesteds) → IsTypedList is_variable ts → AreTold after ts → Sound AreParamsHere (listed d Params ts [])
+  params_here d ts g h = params_after d Params ts [] g h (All-nil (IsParamOf (length after)), All-nil (λ (p : Param). IsVariableName after p.name))
+
+  -- so may the variables of a quantifier, after others that may
+  pub bound_here : (d : Domain) (own : ℕ) (ps : List Param) (ts : Nesteds) → IsTypedList is_variable ts → AreTold after ts → AreParamsHere ps → Sound AreParamsHere (bound d own ps ts)
+  bound_here d own ps ts g h k =
+      let listing : Listing = Bound (most_in_force own ps) in
+      then_sound AreParamsHere AreParamsHere (listed d listing ts ps) (λ all. Ok (drop (length ps) all)) (params_after d listing ts ps g h k)
+      (λ all p. (All-drop (IsParamOf (length after)) (length ps) all p.0, All-drop (λ (p : Param). IsVariableName after p.name) (length ps) all p.1))
 
   -- ---- types
 

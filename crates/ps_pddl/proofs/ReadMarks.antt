@@ -1,7 +1,7 @@
 -- Tests of marks, and which way a test goes.
 use Rattle.std.proofs.Common.{◌≡◌, Bool, true, false, None, refl}
 use Rattle.std.specs.Bool.{if◌then◌else◌}
-use Rattle.ps_shape.specs.Marks.{is, is_change, is_fact_name, is_name, is_predicate_name}
+use Rattle.ps_shape.specs.Marks.{is_change, is_fact_name, is_name, is_predicate_name}
 use Rattle.ps_shape.specs.declared.marks.Mark.{Mark}
 use Rattle.ps_shape.specs.declared.marks.Mark.TheVariants as mark
 use Rattle.ps_forms.specs.Conditions.{is_relation}

@@ -16,10 +16,9 @@ use Rattle.ps_text.specs.declared.lexing.Class.TheVariants as class
 use Rattle.ps_text.specs.declared.lexing.Token.{Token}
 use Rattle.ps_text.proofs.Folds.{folded-folded, IsNameText-folded}
 use Rattle.ps_text.proofs.Tables.{AreNames-interned, placed}
-use Rattle.ps_shape.specs.Marks.{is_name}
+use Rattle.ps_shape.specs.Marks.{is_name, is_term}
 use Rattle.ps_shape.specs.declared.marks.Mark.{Mark}
 use Rattle.ps_shape.specs.declared.marks.Mark.TheVariants as mark
-use Rattle.ps_forms.specs.Conditions.{is_term}
 use Rattle.ps_text.specs.Names.{Keeps}
 use Rattle.ps_forms.specs.Lexemes.{fixed_names, keywords, lexemes_of, mark_in, mark_of, name_within, named, number_or_zero, numbered, signs, table_after, IsTokenOf}
 use Rattle.ps_forms.specs.Nested.{Nested, Nesteds, word, group, none, more}

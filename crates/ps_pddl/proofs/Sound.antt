@@ -9,7 +9,10 @@ use Rattle.ps_world.specs.declared.domains.Param.{Param}
 use Rattle.ps_world.specs.declared.domains.Decl.{Decl}
 use Rattle.ps_world.specs.declared.domains.Domain.{Domain}
 use Rattle.ps_world.specs.declared.actions.ActionDef.{ActionDef}
+use Rattle.ps_conditions.specs.Signs.{Forms, by_head}
 use Rattle.ps_conditions.specs.Steps.{◌>>=◌}
+use Rattle.ps_conditions.specs.declared.signs.Head.{Head}
+use Rattle.ps_conditions.specs.declared.signs.Head.TheVariants as the
 use Rattle.ps_pddl.specs.Steps.{Read, unless}
 use Rattle.ps_pddl.specs.Types.{leads_to}
 use Rattle.ps_pddl.specs.declared.refusals.DomainRefusal.{DomainRefusal}
@@ -47,6 +50,16 @@ pub unless_sound : {A : Type 0} (P : A → Type 0) (b c : Bool) (one other : Dom
 unless_sound P true c one other read h = tt
 unless_sound P false true one other read h = tt
 unless_sound P false false one other read h = h refl refl
+
+-- what is read for each form has this property
+pub by_head_sound : {A : Type 0} (P : A → Type 0) (h : Head) (forms : Forms (Read A)) → Sound P forms.all → Sound P forms.any → Sound P forms.no → Sound P forms.implied → Sound P forms.for_some → Sound P forms.for_all → Sound P forms.plain → Sound P (by_head h forms)
+by_head_sound P the.All forms all any deny implied some each plain = all
+by_head_sound P the.Any forms all any deny implied some each plain = any
+by_head_sound P the.No forms all any deny implied some each plain = deny
+by_head_sound P the.Implied forms all any deny implied some each plain = implied
+by_head_sound P the.ForSome forms all any deny implied some each plain = some
+by_head_sound P the.ForAll forms all any deny implied some each plain = each
+by_head_sound P the.Plain forms all any deny implied some each plain = plain
 
 -- what is there has this property, if anything is there
 abbrev pub Fits : {A : Type 0} → (A → Type 0) → Option A → Type 0

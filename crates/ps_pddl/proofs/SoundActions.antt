@@ -107,9 +107,9 @@ module _ (d : Domain) (acts : List ActionDef) where
   duration_sound ps None h = omega arith
   duration_sound ps (Some x) h = value_sound d acts ps x h
 
-  parts_sound : (ps : List Param) (t : Option Nested) → Fits IsCounted t → Sound (AreParts d acts ps) (meaning.parts d ps t)
-  parts_sound ps None h = (none_all _, none_all _, none_all _)
-  parts_sound ps (Some t) h = timed_sound d acts ps t (record { at_start = []; over_all = []; at_end = [] }) h (none_all _, none_all _, none_all _)
+  parts_sound : (ps : List Param) (typed : AreTyped (acting d acts) 6 ps) (t : Option Nested) → Fits IsCounted t → Sound (AreParts d acts ps typed) (meaning.parts d ps t)
+  parts_sound ps typed None h = (none_all _, none_all _, none_all _)
+  parts_sound ps typed (Some t) h = timed_sound d acts ps typed t (record { at_start = []; over_all = []; at_end = [] }) h (none_all _, none_all _, none_all _)
 
   both_changes_sound : (ps : List Param) (t : Option Nested) → Fits IsCounted t → Sound (AreChanges d acts ps) (meaning.changes d ps t)
   both_changes_sound ps None h = (none_all _, none_all _)
@@ -133,8 +133,8 @@ module _ (d : Domain) (acts : List ActionDef) where
       let change = at (after mark.EffectKey ts) 0 in
       then_sound (IsValue d acts ps) (IsNamed n) (meaning.duration d ps time) (λ x. meaning.parts d ps form >>= λ y. meaning.changes d ps change >>= λ z. Ok (made x y z))
       (duration_sound ps time (at_counted (items_at (after mark.DurationKey ts)) 2 (items_at_counted (after mark.DurationKey ts) (after_counted mark.DurationKey ts h))))
-      (λ x one. then_sound (AreParts d acts ps) (IsNamed n) (meaning.parts d ps form) (λ y. meaning.changes d ps change >>= λ z. Ok (made x y z))
-      (parts_sound ps form (at_counted (after mark.ConditionKey ts) 0 (after_counted mark.ConditionKey ts h)))
+      (λ x one. then_sound (AreParts d acts ps k) (IsNamed n) (meaning.parts d ps form) (λ y. meaning.changes d ps change >>= λ z. Ok (made x y z))
+      (parts_sound ps k form (at_counted (after mark.ConditionKey ts) 0 (after_counted mark.ConditionKey ts h)))
       (λ y two. then_sound (AreChanges d acts ps) (IsNamed n) (meaning.changes d ps change) (λ z. Ok (made x y z))
       (both_changes_sound ps change (at_counted (after mark.EffectKey ts) 0 (after_counted mark.EffectKey ts h)))
       (λ z three. (

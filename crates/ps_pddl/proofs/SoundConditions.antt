@@ -1,8 +1,9 @@
 -- Conditions that are read are of what is declared.
-use Rattle.std.proofs.Common.{All, List, [], ◌∷◌, ◌++◌, Option, Some, None, Ok, Err}
-use Rattle.std.specs.Bool.{if◌then◌else◌}
+use Rattle.std.proofs.Common.{◌≡◌, ℕ, ◌+◌, Bool, true, false, All, List, [], ◌∷◌, ◌++◌, drop, length, Option, Some, None, Ok, Err, sym, subst, arith}
 use Rattle.std.proofs.lemmas.List.Elements.{All-push}
 use Rattle.ps_world.specs.CondViews.{cond_tree}
+use Rattle.ps_world.specs.Knowledge.{is_type}
+use Rattle.ps_world.specs.Leaves.{AllIn, AllInEach}
 use Rattle.ps_world.specs.Trees.{CondTree, cond_trees}
 use Rattle.ps_world.specs.declared.domains.Param.{Param}
 use Rattle.ps_world.specs.declared.domains.Domain.{Domain}
@@ -17,29 +18,37 @@ use Rattle.ps_shape.specs.declared.marks.Mark.{Mark}
 use Rattle.ps_shape.specs.declared.marks.Mark.TheVariants as mark
 use Rattle.ps_pddl.specs.Conditions as part
 use Rattle.ps_forms.specs.Nested.{Nested, Nesteds, word, group, none, more}
-use Rattle.ps_forms.specs.Places.{word_of}
+use Rattle.ps_forms.specs.Places.{items, word_of}
 use Rattle.ps_conditions.specs.Conditions as meant
-use Rattle.ps_conditions.specs.Signs.{rel_of}
+use Rattle.ps_conditions.specs.Signs.{head_of, rel_of}
 use Rattle.ps_conditions.specs.Steps.{◌>>=◌}
 use Rattle.ps_pddl.specs.Steps.{Read, reads}
 use Rattle.ps_pddl.specs.Terms.{fact, resolved}
-use Rattle.ps_pddl.specs.Words.{condition, second, term, value, words}
-use Rattle.ps_pddl.specs.WellFormed.{AreConds, AreCounted, HasKind, IsCond, IsCounted, IsFactOf, IsTerm}
+use Rattle.ps_pddl.specs.Lists.{kept, listed}
+use Rattle.ps_pddl.specs.Words.{bound, condition, most_in_force, scopes, second, term, value, words}
+use Rattle.ps_pddl.specs.WellFormed.{AreCounted, AreTyped, HasKind, IsCond, IsCounted, IsFactOf, IsTerm, declared_leaves}
 use Rattle.ps_forms.specs.declared.lexemes.Lexeme.{Lexeme}
 use Rattle.ps_world.specs.declared.actions.Conditions.{Conditions}
 use Rattle.ps_pddl.specs.declared.refusals.DomainRefusal.TheVariants.{Kind}
-use Rattle.ps_pddl.proofs.Sound.{Sound, then_sound, either_sound}
+use Rattle.ps_pddl.specs.declared.meaning.lists.Listing.TheVariants.{Bound}
+use Rattle.ps_pddl.proofs.BoundLists.{kept_bound, listed_begins}
+use Rattle.ps_pddl.proofs.Sound.{Sound, both_sound, by_head_sound, then_sound, either_sound}
+use Rattle.ps_pddl.proofs.SoundLists.{AreFew, AreFine, AreKnown, listed_after_sound}
 use Rattle.ps_pddl.proofs.SoundTerms.{acting, IsValue, fact_sound, resolved_sound, value_sound}
 
-module _ (d : Domain) (acts : List ActionDef) (ps : List Param) where
+-- in an action with so many parameters, where these variables are in force
+module _ (d : Domain) (acts : List ActionDef) (own : ℕ) (ps : List Param) where
   -- a condition, and conditions in order
+  abbrev IsHeldTree : CondTree → Type 0
+  IsHeldTree c = AllIn (declared_leaves (acting d acts) own) ps c
+
   abbrev IsHeld : Cond → Type 0
-  IsHeld c = IsCond (acting d acts) ps (cond_tree c)
+  IsHeld c = IsHeldTree (cond_tree c)
 
   abbrev AreHeld : List CondTree → Type 0
-  AreHeld cs = AreConds (acting d acts) ps (cond_trees cs)
+  AreHeld cs = AllInEach (declared_leaves (acting d acts) own) ps (cond_trees cs)
 
-  held_push : (cs : List CondTree) (c : CondTree) → AreHeld cs → IsCond (acting d acts) ps c → AreHeld (cs ++ c ∷ [])
+  held_push : (cs : List CondTree) (c : CondTree) → AreHeld cs → IsHeldTree c → AreHeld (cs ++ c ∷ [])
   held_push [] c h k = (k, tt)
   held_push (x ∷ cs) c h k = (h.0, held_push cs c h.1 k)
 
@@ -87,44 +96,96 @@ module _ (d : Domain) (acts : List ActionDef) (ps : List Param) where
   plain_condition_sound l (more a (more b ts)) h =
       related_sound (rel_of l.mark) a b (meant.stated reads (words d ps) l (more a (more b ts))) h.0 h.1.0 (stated_sound l (more a (more b ts)))
 
+-- ---- quantifiers
+
+module _ (d : Domain) (acts : List ActionDef) (own : ℕ) where
+  -- variables in force: few, apart and of declared types
+  abbrev AreInForce : List Param → Type 0
+  AreInForce ps = AreTyped (acting d acts) (own + 2) ps
+
+  listed_in_force : (ps all : List Param) → AreFine d (Bound (most_in_force own ps)) all × (ps ++ drop (length ps) all ≡ all) → AreInForce (ps ++ drop (length ps) all)
+  listed_in_force ps all h =
+      let most = most_in_force own ps in
+      let fine = subst (λ (x : List Param). AreFew most x × All (λ (p : Param). is_type d p.kind ≡ true) x) (kept_bound most all) h.0 in
+      let few = fine.0.0 in
+      subst AreInForce (sym h.1) (record { few = omega (arith, few); apart = fine.0.1; kinds = fine.1 })
+
+  bound_sound : (ps : List Param) (ts : Nesteds) → AreInForce ps → Sound (λ qs. AreInForce (ps ++ qs)) (bound d own ps ts)
+  bound_sound ps ts h =
+      let most = most_in_force own ps in
+      let few = h.few in
+      let start : AreFew most (kept (Bound most) ps) × AreKnown d (Bound most) ps =
+      subst (λ (x : List Param). AreFew most x × All (λ (p : Param). is_type d p.kind ≡ true) x) (sym (kept_bound most ps)) ((omega (arith, few), h.apart), h.kinds) in
+      then_sound (λ all. AreFine d (Bound most) all × (ps ++ drop (length ps) all ≡ all)) (λ qs. AreInForce (ps ++ qs)) (listed d (Bound most) ts ps) (λ all. Ok (drop (length ps) all))
+      (both_sound (AreFine d (Bound most)) (λ all. ps ++ drop (length ps) all ≡ all) (listed d (Bound most) ts ps) (listed_after_sound d (Bound most) ts ps start.0 start.1) (listed_begins d (Bound most) ts ps))
+      (λ all p. listed_in_force ps all p)
+
+  quantifier_held : (ps qs : List Param) (each : Bool) (c : CondTree) → AreInForce (ps ++ qs) → IsHeldTree d acts own (ps ++ qs) c → IsHeld d acts own ps (meant.quantifier each qs c)
+  quantifier_held ps qs true c h k = (h, k)
+  quantifier_held ps qs false c h k = (h, k)
+
   mutual
-    condition_sound : (t : Nested) → IsCounted t → Sound IsHeld (condition d ps t)
-    condition_sound (word l) h = tt
-    condition_sound (group ts) h = form_sound ts h
+    pub condition_sound : (ps : List Param) → AreInForce ps → (t : Nested) → IsCounted t → Sound (IsHeld d acts own ps) (meant.condition reads (scopes d own) ps t)
+    condition_sound ps f (word l) h = tt
+    condition_sound ps f (group ts) h = form_sound ps f ts h
 
-    form_sound : (ts : Nesteds) → AreCounted ts → Sound IsHeld (meant.form reads (words d ps) ts)
-    form_sound none h = tt
-    form_sound (more f ts) h =
-        either_sound IsHeld (is mark.And (word_of f).mark) (meant.conditions reads (words d ps) ts [] >>= λ cs. Ok (cond.And cs))
-        (if is mark.Not (word_of f).mark then meant.negation reads (words d ps) ts else meant.plain_condition reads (words d ps) (word_of f) ts)
-        (λ e. then_sound AreHeld IsHeld (meant.conditions reads (words d ps) ts []) (λ cs. Ok (cond.And cs)) (conditions_sound ts [] h.1 tt) (λ cs k. k))
-        (λ e. either_sound IsHeld (is mark.Not (word_of f).mark) (meant.negation reads (words d ps) ts) (meant.plain_condition reads (words d ps) (word_of f) ts)
-        (λ e. negation_sound ts h.1) (λ e. plain_condition_sound (word_of f) ts h.1))
+    form_sound : (ps : List Param) → AreInForce ps → (ts : Nesteds) → AreCounted ts → Sound (IsHeld d acts own ps) (meant.form reads (scopes d own) ps ts)
+    form_sound ps f none h = tt
+    form_sound ps f (more t ts) h =
+        by_head_sound (IsHeld d acts own ps) (head_of (word_of t).mark) _
+        (then_sound (AreHeld d acts own ps) (IsHeld d acts own ps) (meant.conditions reads (scopes d own) ps ts []) (λ cs. Ok (cond.And cs)) (conditions_sound ps f ts [] h.1 tt) (λ cs k. k))
+        (then_sound (AreHeld d acts own ps) (IsHeld d acts own ps) (meant.conditions reads (scopes d own) ps ts []) (λ cs. Ok (cond.Or cs)) (conditions_sound ps f ts [] h.1 tt) (λ cs k. (tt, k)))
+        (negation_sound ps f ts h.1) (implication_sound ps f ts h.1) (quantified_sound ps f false ts h.1) (quantified_sound ps f true ts h.1)
+        (plain_condition_sound d acts own ps (word_of t) ts h.1)
 
-    negation_sound : (ts : Nesteds) → AreCounted ts → Sound IsHeld (meant.negation reads (words d ps) ts)
-    negation_sound none h = tt
-    negation_sound (more c ts) h = then_sound IsHeld IsHeld (condition d ps c) (λ x. Ok (cond.Not (cond_tree x))) (condition_sound c h.0) (λ x k. k)
+    negation_sound : (ps : List Param) → AreInForce ps → (ts : Nesteds) → AreCounted ts → Sound (IsHeld d acts own ps) (meant.negation reads (scopes d own) ps ts)
+    negation_sound ps f none h = tt
+    negation_sound ps f (more c ts) h =
+        then_sound (IsHeld d acts own ps) (IsHeld d acts own ps) (meant.condition reads (scopes d own) ps c) (λ x. Ok (cond.Not (cond_tree x))) (condition_sound ps f c h.0) (λ x k. k)
 
-    conditions_sound : (ts : Nesteds) (before : List CondTree) → AreCounted ts → AreHeld before → Sound AreHeld (meant.conditions reads (words d ps) ts before)
-    conditions_sound none before h k = k
-    conditions_sound (more c cs) before h k =
-        then_sound IsHeld AreHeld (condition d ps c) (λ x. meant.conditions reads (words d ps) cs (before ++ cond_tree x ∷ [])) (condition_sound c h.0)
-        (λ x one. conditions_sound cs (before ++ cond_tree x ∷ []) h.1 (held_push before (cond_tree x) k one))
+    implication_sound : (ps : List Param) → AreInForce ps → (ts : Nesteds) → AreCounted ts → Sound (IsHeld d acts own ps) (meant.implication reads (scopes d own) ps ts)
+    implication_sound ps f none h = tt
+    implication_sound ps f (more a none) h = tt
+    implication_sound ps f (more a (more b ts)) h =
+        then_sound (IsHeld d acts own ps) (IsHeld d acts own ps) (meant.condition reads (scopes d own) ps a) (λ x. meant.condition reads (scopes d own) ps b >>= λ y. Ok (cond.Imply (cond_tree x) (cond_tree y))) (condition_sound ps f a h.0)
+        (λ x one. then_sound (IsHeld d acts own ps) (IsHeld d acts own ps) (meant.condition reads (scopes d own) ps b) (λ y. Ok (cond.Imply (cond_tree x) (cond_tree y))) (condition_sound ps f b h.1.0) (λ y two. (tt, (one, two))))
 
-  -- ---- the parts of an action's condition
+    quantified_sound : (ps : List Param) → AreInForce ps → (each : Bool) (ts : Nesteds) → AreCounted ts → Sound (IsHeld d acts own ps) (meant.quantified reads (scopes d own) ps each ts)
+    quantified_sound ps f each none h = tt
+    quantified_sound ps f each (more vs none) h = tt
+    quantified_sound ps f each (more vs (more c ts)) h =
+        then_sound (λ qs. AreInForce (ps ++ qs)) (IsHeld d acts own ps) (bound d own ps (items vs)) (λ qs. meant.condition reads (scopes d own) (ps ++ qs) c >>= λ x. Ok (meant.quantifier each qs (cond_tree x))) (bound_sound ps (items vs) f)
+        (λ qs g. then_sound (IsHeld d acts own (ps ++ qs)) (IsHeld d acts own ps) (meant.condition reads (scopes d own) (ps ++ qs) c) (λ x. Ok (meant.quantifier each qs (cond_tree x))) (condition_sound (ps ++ qs) g c h.1.0)
+        (λ x k. quantifier_held ps qs each (cond_tree x) g k))
+
+    conditions_sound : (ps : List Param) → AreInForce ps → (ts : Nesteds) (before : List CondTree) → AreCounted ts → AreHeld d acts own ps before → Sound (AreHeld d acts own ps) (meant.conditions reads (scopes d own) ps ts before)
+    conditions_sound ps f none before h k = k
+    conditions_sound ps f (more c cs) before h k =
+        then_sound (IsHeld d acts own ps) (AreHeld d acts own ps) (meant.condition reads (scopes d own) ps c) (λ x. meant.conditions reads (scopes d own) ps cs (before ++ cond_tree x ∷ [])) (condition_sound ps f c h.0)
+        (λ x one. conditions_sound ps f cs (before ++ cond_tree x ∷ []) h.1 (held_push d acts own ps before (cond_tree x) k one))
+
+-- ---- the parts of an action's condition
+
+module _ (d : Domain) (acts : List ActionDef) (ps : List Param) (typed : AreTyped (acting d acts) 6 ps) where
+  -- the parameters of an action are in force in it
+  own_in_force : AreTyped (acting d acts) (length ps + 2) ps
+  own_in_force = record { few = omega arith; apart = typed.apart; kinds = typed.kinds }
+
+  abbrev IsHeldHere : Cond → Type 0
+  IsHeldHere c = IsCond (acting d acts) ps (cond_tree c)
 
   abbrev pub AreParts : Conditions → Type 0
   AreParts parts = All (IsCond (acting d acts) ps) parts.at_start × All (IsCond (acting d acts) ps) parts.over_all × All (IsCond (acting d acts) ps) parts.at_end
 
-  at_time_held : (moment : Mark) (c : Cond) (parts : Conditions) → IsHeld c → AreParts parts → AreParts (part.at_time moment c parts)
+  at_time_held : (moment : Mark) (c : Cond) (parts : Conditions) → IsHeldHere c → AreParts parts → AreParts (part.at_time moment c parts)
   at_time_held mark.Start c parts h k = (All-push (IsCond (acting d acts) ps) parts.at_start (cond_tree c) k.0 h, k.1, k.2)
   at_time_held m c parts h k = (k.0, k.1, All-push (IsCond (acting d acts) ps) parts.at_end (cond_tree c) k.2 h)
 
   timed_part_sound : (m moment : Mark) (t : Nested) (parts : Conditions) → IsCounted t → AreParts parts → Sound AreParts (part.timed_part d ps m moment t parts)
   timed_part_sound mark.At moment t parts h k =
-      then_sound IsHeld AreParts (condition d ps t) (λ c. Ok (part.at_time moment c parts)) (condition_sound t h) (λ c one. at_time_held moment c parts one k)
+      then_sound IsHeldHere AreParts (condition d ps t) (λ c. Ok (part.at_time moment c parts)) (condition_sound d acts (length ps) ps own_in_force t h) (λ c one. at_time_held moment c parts one k)
   timed_part_sound mark.Over moment t parts h k =
-      then_sound IsHeld AreParts (condition d ps t) (λ c. Ok (part.over_all c parts)) (condition_sound t h)
+      then_sound IsHeldHere AreParts (condition d ps t) (λ c. Ok (part.over_all c parts)) (condition_sound d acts (length ps) ps own_in_force t h)
       (λ c one. (k.0, All-push (IsCond (acting d acts) ps) parts.over_all (cond_tree c) k.1 one, k.2))
   timed_part_sound m moment t parts h k = k
 

@@ -115,6 +115,10 @@ module _ (d : Domain) (listing : Listing) where
   left_sound none = (λ before w h. (w, h refl), λ before w h. (w, h refl))
   left_sound (more t ts) = (λ before w h. one_word (is mark.Minus (word_of t).mark) (word_of t) ts before (left_sound ts) w h, λ before w h. one_type t ts before (left_sound ts) w h)
 
+  -- after others that are so
+  pub listed_after_sound : (ts : Nesteds) (before : List Param) → AreFew (most_of listing) (kept listing before) → AreKnown before → Sound AreFine (listed d listing ts before)
+  listed_after_sound ts before few known = (left_sound ts).0 before few (λ k. known)
+
   pub listed_sound : (ts : Nesteds) → Sound AreFine (listed d listing ts [])
   listed_sound ts = (left_sound ts).0 [] (omega arith, λ i j x lt within. absurd (omega (arith, within))) (λ e k x within. absurd (omega (arith, within)))
 

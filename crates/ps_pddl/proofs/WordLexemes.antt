@@ -12,7 +12,6 @@ use Rattle.ps_text.specs.Names.{folded, interned, is_name, name_fault, place_of,
 use Rattle.ps_text.specs.Tokens.{class_of, span_of, AreTokens}
 use Rattle.ps_text.specs.Words.{pieces, words}
 use Rattle.ps_text.specs.declared.lexing.Class.{Class}
-use Rattle.ps_text.specs.declared.lexing.Class.TheVariants as class
 use Rattle.ps_text.specs.declared.lexing.Token.{Token}
 use Rattle.ps_text.proofs.Folds.{IsNameText-folded}
 use Rattle.ps_text.proofs.Tables.{AreNames-interned, interned-there, place_of-interned, place_of-within}

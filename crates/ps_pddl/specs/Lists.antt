@@ -20,7 +20,7 @@ use Rattle.ps_pddl.specs.declared.refusals.Cap.TheVariants as cap
 use Rattle.ps_pddl.specs.declared.refusals.DomainRefusal.{DomainRefusal}
 use Rattle.ps_pddl.specs.declared.refusals.DomainRefusal.TheVariants.{Unknown, Twice, Limit}
 use Rattle.ps_pddl.specs.declared.meaning.lists.Listing.{Listing}
-use Rattle.ps_pddl.specs.declared.meaning.lists.Listing.TheVariants.{Types, Constants, Params}
+use Rattle.ps_pddl.specs.declared.meaning.lists.Listing.TheVariants.{Types, Constants, Params, Bound}
 
 -- what is at fault with one name more in a list, where there are so many: it is one too many, or it is there already
 abbrev pub fault_of_new : Cap → ℕ → ℕ → Bool → Lexeme → Option DomainRefusal
@@ -32,12 +32,14 @@ abbrev pub cap_of : Listing → Cap
 cap_of Types = cap.Types
 cap_of Constants = cap.Instances
 cap_of Params = cap.Params
+cap_of (Bound most) = cap.Bound
 
 -- how many names it has at most
 abbrev pub most_of : Listing → ℕ
 most_of Types = 256
 most_of Constants = 1000
 most_of Params = 6
+most_of (Bound most) = most
 
 -- whether a name counts: `object` among the types with the parent `object` has no effect
 abbrev pub counts : Listing → Param → Bool

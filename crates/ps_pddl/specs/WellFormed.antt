@@ -1,11 +1,11 @@
 -- What a domain that was read is like: what it names is declared, once in its list, within the limits, and of kinds that suit.
-use Rattle.std.specs.Prelude.{◌≡◌, ℕ, ◌≤◌, true, false, Option, Some, None, List, [], ◌∷◌, length, All, slice_get}
+use Rattle.std.specs.Prelude.{◌≡◌, ℕ, ◌+◌, ◌≤◌, true, false, Option, Some, None, List, [], ◌∷◌, ◌++◌, length, All, slice_get}
 use Rattle.std.specs.List.{AllPairs}
 use Rattle.ps_world.specs.Names.{same_name}
 use Rattle.ps_world.specs.Numbers.{IsCount}
 use Rattle.ps_world.specs.Knowledge.{is_type, is_below, predicate_of, function_of, constant_of}
-use Rattle.ps_world.specs.Trees.{ExprTree, number, value_of, negated, operated, CondTree, CondTrees}
-use Rattle.ps_world.specs.Leaves.{Leaves, AllIn, AllInEach}
+use Rattle.ps_world.specs.Trees.{ExprTree, number, value_of, negated, operated, CondTree}
+use Rattle.ps_world.specs.Leaves.{Leaves, AllIn}
 use Rattle.ps_world.specs.ExprViews.{expr_tree}
 use Rattle.ps_world.specs.declared.names.Name.{Name}
 use Rattle.ps_world.specs.declared.schemas.Term.{Term}
@@ -80,18 +80,21 @@ IsExpr d ps (operated op x y) = IsExpr d ps x × IsExpr d ps y
 abbrev pub IsTerm : Domain → List Param → Term → Type 0
 IsTerm d ps t = (kind : Name) × HasKind d ps t kind
 
--- what a condition's leaves are: of predicates, functions and terms that are declared, no type is asked for, and nothing is quantified, any
--- of several or implied, which isn't read
-abbrev pub declared_leaves : Domain → Leaves
-declared_leaves d = record { atom = IsFactOf d; term = IsTerm d; value = IsExpr d; kind = λ ps kind. ⊥; bound = λ ps qs. ⊥; either = ⊥ }
+-- what a condition's leaves are in an action with so many parameters: of predicates, functions and terms that are declared, and no type is
+-- asked for; and at most two variables more are in force at one place, none of them twice, each of a declared type
+abbrev pub declared_leaves : Domain → ℕ → Leaves
+declared_leaves d own = record {
+  atom = IsFactOf d;
+  term = IsTerm d;
+  value = IsExpr d;
+  kind = λ ps kind. ⊥;
+  bound = λ ps qs. AreTyped d (own + 2) (ps ++ qs);
+  either = Unit {0};
+}
 
--- a condition of such leaves
+-- a condition of such leaves, in an action with these parameters
 abbrev pub IsCond : Domain → List Param → CondTree → Type 0
-IsCond d ps c = AllIn (declared_leaves d) ps c
-
--- the same of several
-abbrev pub AreConds : Domain → List Param → CondTrees → Type 0
-AreConds d ps cs = AllInEach (declared_leaves d) ps cs
+IsCond d ps c = AllIn (declared_leaves d (length ps)) ps c
 
 -- an effect whose predicates and functions are declared
 abbrev pub IsEffect : Domain → List Param → Effect → Type 0

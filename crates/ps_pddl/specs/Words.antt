@@ -1,5 +1,5 @@
 -- What words, values and conditions mean in an action.
-use Rattle.std.specs.Prelude.{if◌then◌else◌, Ok, Err, List}
+use Rattle.std.specs.Prelude.{ℕ, ◌+◌, min, if◌then◌else◌, Ok, Err, List, drop, length}
 use Rattle.ps_world.specs.declared.domains.Param.{Param}
 use Rattle.ps_world.specs.declared.domains.Domain.{Domain}
 use Rattle.ps_world.specs.declared.schemas.Term.{Term}
@@ -8,14 +8,16 @@ use Rattle.ps_world.specs.declared.expressions.Expr.TheVariants.{Num}
 use Rattle.ps_world.specs.declared.conditions.Cond.{Cond}
 use Rattle.ps_shape.specs.Marks.{is}
 use Rattle.ps_shape.specs.declared.marks.Mark.TheVariants.{Number}
-use Rattle.ps_forms.specs.Nested.{Nested, word, group}
+use Rattle.ps_forms.specs.Nested.{Nested, Nesteds, word, group}
 use Rattle.ps_forms.specs.declared.lexemes.Lexeme.{Lexeme}
 use Rattle.ps_conditions.specs.Conditions as meant
 use Rattle.ps_conditions.specs.Steps.{◌>>=◌}
 use Rattle.ps_conditions.specs.Values as worth
-use Rattle.ps_conditions.specs.Words.{Words}
+use Rattle.ps_conditions.specs.Words.{Scopes, Words}
+use Rattle.ps_pddl.specs.Lists.{listed}
 use Rattle.ps_pddl.specs.Steps.{Read, reads}
 use Rattle.ps_pddl.specs.Terms.{fact, resolved, value_of}
+use Rattle.ps_pddl.specs.declared.meaning.lists.Listing.TheVariants.{Bound}
 use Rattle.ps_pddl.specs.declared.refusals.DomainRefusal.TheVariants.{Kind}
 
 -- the term that a word is
@@ -45,6 +47,18 @@ words d ps = record {
 abbrev pub value : Domain → List Param → Nested → Read Expr
 value d ps t = worth.value reads (words d ps) t
 
--- what a condition means there
+-- how many variables may be in force below these: two more than the parameters of the action, which has so many
+abbrev pub most_in_force : ℕ → List Param → ℕ
+most_in_force own ps = min own (length ps) + 2
+
+-- the variables that a list binds where these are in force: no name is that of one of these
+abbrev pub bound : Domain → ℕ → List Param → Nesteds → Read (List Param)
+bound d own ps ts = listed d (Bound (most_in_force own ps)) ts ps >>= λ all. Ok (drop (length ps) all)
+
+-- what words mean in an action with so many parameters, and what lists of variables bind
+abbrev pub scopes : Domain → ℕ → Scopes reads
+scopes d own = record { words = words d; bound = bound d own }
+
+-- what a condition of an action with these parameters means
 abbrev pub condition : Domain → List Param → Nested → Read Cond
-condition d ps t = meant.condition reads (words d ps) t
+condition d ps t = meant.condition reads (scopes d (length ps)) ps t

@@ -34,7 +34,7 @@ fn declare_constants(
 ) -> Result<(), Failure<DomainRefusal>>
     ensures { Gives (λ _. d.new) result (with_constants d.old (forms trees.now)) }
 {
-    let constants = listed(alloc, d, Listing::Constants, trees)?;
+    let constants = listed(alloc, d, Listing::Constants, &[], trees)?;
     d.set_constants(alloc, Seq::of(constants))?;
     Ok(())
 }

@@ -17,6 +17,8 @@ pub enum Cap {
     Actions,
     /// 6 parameters of a predicate, a function or an action.
     Params,
+    /// 2 variables that quantifiers bind, in force at one place.
+    Bound,
     /// 1,000 constants, which are a problem's first instances.
     Instances,
 }

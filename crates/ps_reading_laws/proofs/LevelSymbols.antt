@@ -42,7 +42,7 @@ is_form_head (InCondition condition.FormHead) = true
 is_form_head (InEffect effect.FormHead) = true
 is_form_head s = false
 
--- a symbol of a condition, an effect, a value or a goal, but no open parenthesis by itself
+-- a symbol of a condition, of variables that it binds, of an effect, a value or a goal, but no open parenthesis by itself
 abbrev pub is_inner : Symbol → Bool
 is_inner (The Open) = false
 is_inner (The m) = true
@@ -54,6 +54,10 @@ is_inner (InEffect effect.Effect) = true
 is_inner (InEffect effect.Effects) = true
 is_inner (InEffect effect.Head) = true
 is_inner (InEffect effect.StartOrEnd) = true
+is_inner (InAction action.Parameters) = true
+is_inner (InList list.Variables) = true
+is_inner (InList list.VariableRun) = true
+is_inner (InList list.TypeName) = true
 is_inner (InValue part) = true
 is_inner (InGoal part) = true
 is_inner s = false
@@ -214,6 +218,12 @@ inner_effect effect.Head e = refl
 inner_effect effect.StartOrEnd e = refl
 inner_effect _ e = absurd (cc)
 
+inner_list : (part : ListPart) → is_inner (InList part) ≡ true → list_all (λ m. inner_fits (list_rule part m) m (weight (InList part))) every_mark ≡ true
+inner_list list.Variables e = refl
+inner_list list.VariableRun e = refl
+inner_list list.TypeName e = refl
+inner_list _ e = absurd (cc)
+
 inner_names : (most : ℕ) → list_all (λ m. inner_fits (goal_rule (goal.Names most) m) m 1) every_mark ≡ true
 inner_names zero = refl
 inner_names (suc more) = refl
@@ -241,6 +251,8 @@ inner_step (The wanted) m h = inner_the wanted m (is wanted m) refl h
 inner_step AnyName m h = each_mark (λ m. inner_fits (step AnyName m) m (weight AnyName)) refl m
 inner_step (InCondition part) m h = each_mark (λ m. inner_fits (condition_rule part m) m (weight (InCondition part))) (inner_condition part h) m
 inner_step (InEffect part) m h = each_mark (λ m. inner_fits (effect_rule part m) m (weight (InEffect part))) (inner_effect part h) m
+inner_step (InAction action.Parameters) m h = each_mark (λ m. inner_fits (action_rule action.Parameters m) m (weight (InAction action.Parameters))) refl m
+inner_step (InList part) m h = each_mark (λ m. inner_fits (list_rule part m) m (weight (InList part))) (inner_list part h) m
 inner_step (InValue part) m h = inner_value part m
 inner_step (InGoal part) m h = each_mark (λ m. inner_fits (goal_rule part m) m (weight (InGoal part))) (inner_goal part) m
 inner_step _ m h = absurd (cc)

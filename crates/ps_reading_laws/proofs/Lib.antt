@@ -12,5 +12,6 @@ pub mod MemberReadings
 pub mod Nesting
 pub mod Phases
 pub mod Ways
+pub mod WordsJudged
 pub mod WritableDomains
 pub mod WritableParts

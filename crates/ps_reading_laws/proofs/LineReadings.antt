@@ -1,5 +1,5 @@
 -- Every line of a script is read as something.
-use Rattle.std.proofs.Common.{◌≡◌, ℕ, false, true, List, length, Some, refl, inl, inr}
+use Rattle.std.proofs.Common.{◌≡◌, ℕ, false, true, List, length, Some, Result, Ok, Err, refl, inl, inr}
 use Rattle.std.proofs.lemmas.Bool.{cases_Bool}
 use Rattle.ps_world.specs.Names.{Table}
 use Rattle.ps_machine.specs.declared.inputs.LineCause.TheVariants as cause
@@ -10,21 +10,23 @@ use Rattle.ps_text.specs.declared.lexing.LexRefusal.{LexRefusal}
 use Rattle.ps_text.specs.declared.lexing.LexRefusal.TheVariants as lexing
 use Rattle.ps_text.specs.declared.lexing.Token.{Token}
 use Rattle.ps_forms.specs.Lexemes.{lexemes_of}
+use Rattle.ps_forms.specs.Nested.{Nesteds}
 use Rattle.ps_forms.specs.declared.lexemes.Lexeme.{Lexeme}
 use Rattle.ps_script.specs.Commands.{command_of}
 use Rattle.ps_script.specs.Files.{after_run, file_in, is_run_plan, is_source}
 use Rattle.ps_script.specs.Forms.{form_of, start_of}
-use Rattle.ps_script.specs.Lines.{IsOfForm, IsPlain, IsRead, bad, is_nothing, marks_of, place, with_run_plan}
+use Rattle.ps_script.specs.Judged.{IsJudged}
+use Rattle.ps_script.specs.Lines.{IsOfForm, IsPlain, IsRead, bad, is_nothing, with_run_plan}
 use Rattle.ps_script.specs.Lines.IsRead.{good, nothing, run_nothing, run_plan, source, source_nothing, without_class, without_form, without_number, without_shape}
 use Rattle.ps_script.specs.declared.forms.Form.{Form}
 use Rattle.ps_script.specs.declared.reading.Read.{Read}
 use Rattle.ps_script.specs.declared.reading.Read.TheVariants.{Line, Nothing, RunPlan, Source}
-use Rattle.ps_script.proofs.LineReads.{good_balance}
+use Rattle.ps_script.proofs.Balance.{start_closed, start_paired}
+use Rattle.ps_script.proofs.Fronts.{front_balance}
 use Rattle.ps_reading_laws.specs.Laws.{EveryLineIsRead}
 use Rattle.ps_reading_laws.proofs.Cases.{found}
-use Rattle.ps_reading_laws.proofs.Judging.{judged}
 use Rattle.ps_reading_laws.proofs.Lexing.{lexed}
-use Rattle.ps_reading_laws.proofs.Nesting.{spelt}
+use Rattle.ps_reading_laws.proofs.WordsJudged.{words_judged}
 
 module _ (table : Table) (bytes : List ℕ) where
   -- the line is read as something
@@ -49,12 +51,15 @@ module _ (table : Table) (bytes : List ℕ) where
 
   -- ---- another line
 
-  fitting_line : (form : Form) (tokens : List Token) → IsOfForm bytes form tokens → Reads
-  fitting_line form tokens is =
+  judged_line : (form : Form) (tokens : List Token) (r : Result Nesteds ℕ) → IsOfForm bytes form tokens → IsJudged (start_of form) bytes tokens (lexemes_of bytes table tokens).0 r → Reads
+  judged_line form tokens (Ok ts) is fits =
       let ls : List Lexeme = (lexemes_of bytes table tokens).0 in
       let after : Table = (lexemes_of bytes table tokens).1 in
-      let ts = spelt ls (good_balance table bytes form tokens ls ls after is refl refl) in
-      (Line (Good (command_of form ts.0)), after, good form tokens ls after ts.0 (command_of form ts.0) is refl ts.1 refl)
+      (Line (Good (command_of form ts)), after, good form tokens ls after ts (command_of form ts) is refl fits refl)
+  judged_line form tokens (Err at) is out =
+      let ls : List Lexeme = (lexemes_of bytes table tokens).0 in
+      let after : Table = (lexemes_of bytes table tokens).1 in
+      (bad (cause.Shape at), table, without_shape form tokens ls after at is refl out)
 
   module _ (plain : IsPlain bytes) where
     classless_line : (fault : LexRefusal) → RefusesText fault bytes → Reads
@@ -63,10 +68,9 @@ module _ (table : Table) (bytes : List ℕ) where
 
     formed_line : (tokens : List Token) (form : Form) → AreTokens bytes tokens → form_of (words bytes) ≡ Some form → Reads
     formed_line tokens form are is =
-        elim (judged (start_of form) (marks_of bytes tokens)) [
-          | inl fits ↦ fitting_line form tokens (record { plain = plain; are_tokens = are; form_is = is; derived = fits.0; shallow = fits.1 })
-          | inr fault ↦ (bad (cause.Shape (place bytes tokens fault.0)), table, without_shape form tokens fault.0 plain are is fault.1)
-        ]
+        let ls : List Lexeme = (lexemes_of bytes table tokens).0 in
+        let words = words_judged (start_of form) bytes tokens ls (λ found fits. front_balance (start_of form) ls found (start_paired form) (start_closed form) fits) in
+        judged_line form tokens words.0 (record { plain = plain; are_tokens = are; form_is = is }) words.1
 
     worded_line : (tokens : List Token) → AreTokens bytes tokens → Reads
     worded_line tokens are =

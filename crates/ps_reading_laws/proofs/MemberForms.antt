@@ -1,30 +1,20 @@
 -- A line of a member that fits its form says something.
-use Rattle.std.proofs.Common.{◌≡◌, ℕ, Bool, true, false, if◌then◌else◌, List, [], ◌∷◌, Option, None, Some, refl, sym, subst}
+use Rattle.std.proofs.Common.{◌≡◌, ℕ, Bool, true, false, if◌then◌else◌, List, [], ◌∷◌, Option, None, Some, refl}
 use Rattle.std.specs.List.{list_all}
 use Rattle.std.specs.Option.{option_and_then, option_or}
 use Rattle.std.proofs.lemmas.Bool.{and_parts}
-use Rattle.ps_world.specs.Names.{Table}
 use Rattle.ps_world.specs.declared.edits.Edit.{Edit as Change}
 use Rattle.ps_world.specs.declared.edits.Edit.TheVariants as change
 use Rattle.ps_machine.specs.declared.inputs.Command.TheVariants as command
 use Rattle.ps_machine.specs.declared.members.Unit.TheVariants as unit
-use Rattle.ps_text.specs.declared.lexing.Token.{Token}
-use Rattle.ps_shape.specs.Shape.{Derives}
-use Rattle.ps_shape.specs.declared.marks.Mark.{Mark}
-use Rattle.ps_forms.specs.Lexemes.{lexemes_of, marks}
 use Rattle.ps_forms.specs.Nested.{Nesteds}
 use Rattle.ps_forms.specs.Places.{head, items_at, rest}
-use Rattle.ps_forms.specs.Spelling.{is_balanced}
 use Rattle.ps_script.specs.Commands.{after_two, command_of, fourth_name, stated}
 use Rattle.ps_script.specs.Forms as script
 use Rattle.ps_script.specs.Goals.{fact_of, first_condition}
-use Rattle.ps_script.specs.Lines.{marks_of}
 use Rattle.ps_script.specs.declared.forms.Form.{Form as ScriptForm}
 use Rattle.ps_script.specs.declared.forms.Form.TheVariants as edit
-use Rattle.ps_script.proofs.Balance.{balanced}
-use Rattle.ps_members.proofs.FormLines.{balanced_line}
-use Rattle.ps_script.proofs.LineReads.{marks_same}
-use Rattle.ps_members.specs.Forms.{begun, is_allowed, is_edit, may_edit, start_of}
+use Rattle.ps_members.specs.Forms.{begun, is_allowed, is_edit, may_edit}
 use Rattle.ps_members.specs.Lines.{Says, is_plain}
 use Rattle.ps_members.specs.declared.forms.Form.{Form}
 use Rattle.ps_members.specs.declared.forms.Form.TheVariants as form
@@ -92,10 +82,3 @@ says (form.Edit f) ts plain may =
     (Does (unit.Edit e.0), (e.0, e.1, refl))
 says form.Args ts plain may = absurd (cc)
 says form.Feedback ts plain may = absurd (cc)
-
--- ---- parentheses
-
--- the words of a line that fits its form are balanced
-pub balanced_words : (table : Table) (bytes : List ℕ) (f : Form) (tokens : List Token) → Derives (start_of f) (marks_of bytes tokens) → is_balanced 0 (marks (lexemes_of bytes table tokens).0) ≡ true
-balanced_words table bytes f tokens derived =
-    subst (λ (ms : List Mark). is_balanced 0 ms ≡ true) (sym (marks_same bytes table tokens)) (balanced_line f (marks_of bytes tokens) derived)

@@ -11,12 +11,14 @@ use Rattle.ps_text.specs.Tokens.{AreTokens}
 use Rattle.ps_text.specs.Words.{words}
 use Rattle.ps_text.specs.declared.lexing.Token.{Token}
 use Rattle.ps_forms.specs.Lexemes.{lexemes_of}
+use Rattle.ps_forms.specs.Nested.{Nesteds}
 use Rattle.ps_forms.specs.declared.lexemes.Lexeme.{Lexeme}
-use Rattle.ps_script.specs.Lines.{cause_of, is_nothing, marks_of, place}
+use Rattle.ps_script.specs.Judged.{IsJudged, place}
+use Rattle.ps_script.specs.Lines.{cause_of, is_nothing}
 use Rattle.ps_members.specs.Args.{first_other, pattern_of}
 use Rattle.ps_members.specs.Feedback.{feedback_of}
 use Rattle.ps_members.specs.Forms.{form_at, may_edit, start_of}
-use Rattle.ps_members.specs.Lines.{Fits, IsFormed, IsSaid, is_plain}
+use Rattle.ps_members.specs.Lines.{IsFormed, IsSaid, is_plain}
 use Rattle.ps_members.specs.Lines.IsFormed.{meant, misfit, no_note, no_place, note, places}
 use Rattle.ps_members.specs.Lines.IsSaid.{with_form, without_class, without_form}
 use Rattle.ps_members.specs.Members.{AreLines, Leads, at_end}
@@ -33,12 +35,12 @@ use Rattle.ps_members.specs.declared.places.Said.TheVariants.{Args, Unit as Does
 use Rattle.ps_members.specs.declared.refusals.ScriptRefusal.{ScriptRefusal}
 use Rattle.ps_members.specs.declared.refusals.ScriptRefusal.TheVariants.{Line}
 use Rattle.ps_members.proofs.FormEdits.{form_edits}
+use Rattle.ps_members.proofs.FormLines.{fit_balance}
 use Rattle.ps_reading_laws.specs.Laws.{EveryMemberIsRead}
 use Rattle.ps_reading_laws.proofs.Cases.{answered, found}
-use Rattle.ps_reading_laws.proofs.Judging.{judged}
 use Rattle.ps_reading_laws.proofs.Lexing.{lexed}
-use Rattle.ps_reading_laws.proofs.MemberForms.{balanced_words, says}
-use Rattle.ps_reading_laws.proofs.Nesting.{spelt}
+use Rattle.ps_reading_laws.proofs.MemberForms.{says}
+use Rattle.ps_reading_laws.proofs.WordsJudged.{words_judged}
 
 -- ---- a line of a form
 
@@ -62,20 +64,22 @@ module _ (table : Table) (bytes : List ℕ) (tokens : List Token) where
       ]
 
   module _ (f : Form) (plain : is_plain f ≡ true) (may : may_edit f ≡ true) where
-    fitting_line : Fits (worded bytes) f tokens → Forms f
-    fitting_line fits =
+    judged_line : (r : Result Nesteds ℕ) → IsJudged (start_of f) (worded bytes) tokens (lexemes_of (worded bytes) table tokens).0 r → Forms f
+    judged_line (Ok ts) fits =
         let ls : List Lexeme = (lexemes_of (worded bytes) table tokens).0 in
         let after : Table = (lexemes_of (worded bytes) table tokens).1 in
-        let ts = spelt ls (balanced_words table (worded bytes) f tokens fits.derived) in
-        let what = says f ts.0 plain may in
-        (Ok what.0, after, meant f ls after ts.0 what.0 plain fits refl ts.1 what.1)
+        let what = says f ts plain may in
+        (Ok what.0, after, meant f ls after ts what.0 plain refl fits what.1)
+    judged_line (Err at) out =
+        let ls : List Lexeme = (lexemes_of (worded bytes) table tokens).0 in
+        let after : Table = (lexemes_of (worded bytes) table tokens).1 in
+        (Err (cause.Shape at), table, misfit f ls after at plain refl out)
 
     plain_line : Forms f
     plain_line =
-        elim (judged (start_of f) (marks_of (worded bytes) tokens)) [
-          | inl fits ↦ fitting_line (record { derived = fits.0; shallow = fits.1 })
-          | inr i ↦ (Err (cause.Shape (place (worded bytes) tokens i.0)), table, misfit f i.0 plain i.1)
-        ]
+        let ls : List Lexeme = (lexemes_of (worded bytes) table tokens).0 in
+        let words = words_judged (start_of f) (worded bytes) tokens ls (fit_balance f ls) in
+        judged_line words.0 words.1
 
   formed_line : (f : Form) → may_edit f ≡ true → Forms f
   formed_line form.Args may = args_line

@@ -1,26 +1,22 @@
 -- A domain that can be written fits the grammar, and one that is read can be written.
-use Rattle.std.proofs.Common.{◌≡◌, ℕ, false, List, length, codes, ◌++◌, get_or, refl, sym, ◌∙◌, inl, inr, arith}
+use Rattle.std.proofs.Common.{List, [], length, get_or, arith}
 use Rattle.std.specs.List.{All}
-use Rattle.std.proofs.lemmas.Bool.{cases_Bool}
 use Rattle.std.proofs.lemmas.List.Elements.{All-weaker}
-use Rattle.ps_world.specs.Lines.{same_text}
-use Rattle.ps_world.specs.Names.{Table, name_text}
+use Rattle.ps_world.specs.Names.{Table}
 use Rattle.ps_world.specs.Trees.{CondTree}
 use Rattle.ps_world.specs.ExprViews.{expr_tree}
-use Rattle.ps_world.specs.declared.names.Name.{Name}
 use Rattle.ps_world.specs.declared.actions.Effect.{Effect}
 use Rattle.ps_world.specs.declared.actions.ActionDef.{ActionDef}
 use Rattle.ps_world.specs.declared.domains.Param.{Param}
 use Rattle.ps_world.specs.declared.domains.Decl.{Decl}
 use Rattle.ps_world.specs.declared.domains.Domain.{Domain}
-use Rattle.ps_world.proofs.SameTexts.{same_text-is}
-use Rattle.ps_text.specs.Names.{AreNames, folded}
-use Rattle.ps_print.specs.CanonicalWords.{IsActionOf, IsCondOf, IsDeclOf, IsDomainOf, IsNameOf, IsParamOf}
+use Rattle.ps_text.specs.Names.{AreNames}
+use Rattle.ps_print.specs.CanonicalWords.{IsActionOf, IsCondOf, IsDeclOf, IsDomainOf}
 use Rattle.ps_pddl.specs.WellFormed.{IsAction, IsEffect, IsWellFormed}
-use Rattle.ps_pddl.proofs.Fits.{FitParams, FitsAction, FitsCond, FitsDomain, FitsEffect, FitsPredicate, IsVariableName}
+use Rattle.ps_pddl.proofs.Fits.{FitParams, FitsAction, FitsCond, FitsDomain, FitsEffect, FitsPredicate}
 use Rattle.ps_pddl.proofs.MeanConditions.{HaveHeads}
 use Rattle.ps_reading_laws.specs.Writable.{AreParamNames, IsWritableAction, IsWritableCond, IsWritableDomain, IsWritableEffect, IsWritablePredicate}
-use Rattle.ps_reading_laws.proofs.WritableParts.{cond_fits, cond_heads, cond_opens_few, effect_fits, effect_opens_few, expr_fits, expr_opens_few}
+use Rattle.ps_reading_laws.proofs.WritableParts.{cond_fits, cond_heads, cond_opens_few, effect_fits, effect_opens_few, expr_fits, expr_opens_few, params_fit, params_written}
 
 -- what follows, for each element, from two facts or from three
 each_by_two : {X : Type 0} (P Q R : X → Type 0) → ((x : X) → P x → Q x → R x) → (xs : List X) → All P xs → All Q xs → All R xs
@@ -29,39 +25,14 @@ each_by_two P Q R f xs p q = λ k d lt. f (get_or xs k d) (p k d lt) (q k d lt)
 each_by_three : {X : Type 0} (P Q R S : X → Type 0) → ((x : X) → P x → Q x → R x → S x) → (xs : List X) → All P xs → All Q xs → All R xs → All S xs
 each_by_three P Q R S f xs p q r = λ k d lt. f (get_or xs k d) (p k d lt) (q k d lt) (r k d lt)
 
--- ---- parameters
-
--- `?` before another name in lower case doesn't read as `?duration`
-not_duration : (text : List ℕ) → folded text ≡ text → (text ≡ codes "duration" → ⊥) → same_text (folded (codes "?" ++ text)) (codes "?duration") ≡ false
-not_duration text lower other =
-    elim (cases_Bool (same_text (folded (codes "?" ++ text)) (codes "?duration"))) [
-      | inl e ↦
-          let whole = same_text-is (folded (codes "?" ++ text)) (codes "?duration") e in
-          let rest : folded text ≡ codes "duration" = cc in
-          absurd (other (sym lower ∙ rest))
-      | inr e ↦ e
-    ]
-
 module _ (names : Table) where
-  name_fits : AreNames names → (n : Name) → IsNameOf (length names) n → (name_text names n ≡ codes "duration" → ⊥) → IsVariableName names n
-  name_fits good n known other = rw (not_duration (name_text names n) (good.texts n.0 _ known).lower_case other) refl
-
-  params_fit : AreNames names → (ps : List Param) → All (IsParamOf (length names)) ps → AreParamNames names ps → FitParams names ps
-  params_fit good = each_by_two (IsParamOf (length names)) (λ p. name_text names p.name ≡ codes "duration" → ⊥) (λ p. IsVariableName names p.name) (λ p known other. name_fits good p.name known.0 other)
-
-  name_written : (n : Name) → IsVariableName names n → name_text names n ≡ codes "duration" → ⊥
-  name_written n fit same = cc
-
-  params_written : (ps : List Param) → FitParams names ps → AreParamNames names ps
-  params_written = All-weaker (λ p. IsVariableName names p.name) (λ p. name_text names p.name ≡ codes "duration" → ⊥) (λ p. name_written p.name)
-
   -- ---- actions
 
-  conds_fit : (ps : List Param) (cs : List CondTree) → All (IsCondOf (length names) ps) cs → All (IsWritableCond names) cs → All (FitsCond names 60) cs
-  conds_fit ps = each_by_two (IsCondOf (length names) ps) (IsWritableCond names) (FitsCond names 60) (λ c known written. cond_fits names (length names) ps 60 c known written.0 (omega (arith, written.1)))
+  conds_fit : AreNames names → (ps : List Param) (cs : List CondTree) → All (IsCondOf (length names) ps) cs → All (IsWritableCond names) cs → All (FitsCond names 60) cs
+  conds_fit good ps = each_by_two (IsCondOf (length names) ps) (IsWritableCond names) (FitsCond names 60) (λ c known written. cond_fits names good ps [] 60 c known written.0 (omega (arith, written.1)))
 
   conds_written : (cs : List CondTree) → All (FitsCond names 60) cs → All (IsWritableCond names) cs
-  conds_written = All-weaker (FitsCond names 60) (IsWritableCond names) (λ c fit. (cond_heads names 60 c fit, omega (arith, cond_opens_few names 60 c fit)))
+  conds_written = All-weaker (FitsCond names 60) (IsWritableCond names) (λ c fit. (cond_heads names [] 60 c fit, omega (arith, cond_opens_few names 60 c fit)))
 
   effects_fit : (d : Domain) (ps : List Param) → HaveHeads names d.predicates → (es : List Effect) → All (IsEffect d ps) es → All IsWritableEffect es → All (FitsEffect names 60) es
   effects_fit d ps heads = each_by_two (IsEffect d ps) IsWritableEffect (FitsEffect names 60) (λ e sound written. effect_fits names d ps 60 e heads sound (omega (arith, written)))
@@ -71,18 +42,18 @@ module _ (names : Table) where
 
   action_fits : AreNames names → (d : Domain) → HaveHeads names d.predicates → (a : ActionDef) → IsActionOf (length names) a → IsAction d a → IsWritableAction names a → FitsAction names a
   action_fits good d heads a known sound written = record {
-    params = params_fit good a.params known.params written.params;
+    params = params_fit names good a.params known.params written.params;
     duration = expr_fits 61 (expr_tree a.duration) (omega (arith, written.duration));
-    start = conds_fit a.params a.conditions.at_start known.conditions_at_start written.start;
-    over = conds_fit a.params a.conditions.over_all known.conditions_over_all written.over;
-    end = conds_fit a.params a.conditions.at_end known.conditions_at_end written.end;
+    start = conds_fit good a.params a.conditions.at_start known.conditions_at_start written.start;
+    over = conds_fit good a.params a.conditions.over_all known.conditions_over_all written.over;
+    end = conds_fit good a.params a.conditions.at_end known.conditions_at_end written.end;
     at_start = effects_fit d a.params heads a.effects.at_start sound.at_start written.at_start;
     at_end = effects_fit d a.params heads a.effects.at_end sound.at_end written.at_end;
   }
 
   action_written : (a : ActionDef) → FitsAction names a → IsWritableAction names a
   action_written a fit = record {
-    params = params_written a.params fit.params;
+    params = params_written names a.params fit.params;
     duration = omega (arith, expr_opens_few 61 (expr_tree a.duration) fit.duration);
     start = conds_written a.conditions.at_start fit.start;
     over = conds_written a.conditions.over_all fit.over;
@@ -94,7 +65,7 @@ module _ (names : Table) where
   -- ---- domains
 
   decl_fits : AreNames names → (decl : Decl) → IsDeclOf (length names) decl → IsWritablePredicate names decl → FitsPredicate names decl
-  decl_fits good decl known written = record { head = written.name; params = params_fit good decl.params known.1 written.params }
+  decl_fits good decl known written = record { head = written.name; params = params_fit names good decl.params known.1 written.params }
 
   -- a well-formed domain that can be written fits the grammar
   pub writable_fits : AreNames names → (d : Domain) → IsWellFormed d → IsWritableDomain names d → FitsDomain names d
@@ -102,7 +73,7 @@ module _ (names : Table) where
       let heads : HaveHeads names d.predicates = All-weaker (IsWritablePredicate names) _ (λ decl one. one.name) d.predicates written.predicates in
       record {
         predicates = each_by_two (IsDeclOf (length names)) (IsWritablePredicate names) (FitsPredicate names) (decl_fits good) d.predicates written.known.predicates written.predicates;
-        functions = each_by_two (IsDeclOf (length names)) (λ decl. AreParamNames names decl.params) (λ decl. FitParams names decl.params) (λ decl known. params_fit good decl.params known.1) d.functions written.known.functions written.functions;
+        functions = each_by_two (IsDeclOf (length names)) (λ decl. AreParamNames names decl.params) (λ decl. FitParams names decl.params) (λ decl known. params_fit names good decl.params known.1) d.functions written.known.functions written.functions;
         actions = each_by_three (IsActionOf (length names)) (IsAction d) (IsWritableAction names) (FitsAction names) (action_fits good d heads) d.actions written.known.actions sound.actions written.actions;
       }
 
@@ -110,7 +81,7 @@ module _ (names : Table) where
   pub fitting_written : (d : Domain) → IsDomainOf (length names) d → FitsDomain names d → IsWritableDomain names d
   fitting_written d known fit = record {
     known = known;
-    predicates = All-weaker (FitsPredicate names) (IsWritablePredicate names) (λ decl one. record { name = one.head; params = params_written decl.params one.params }) d.predicates fit.predicates;
-    functions = All-weaker (λ decl. FitParams names decl.params) (λ decl. AreParamNames names decl.params) (λ decl. params_written decl.params) d.functions fit.functions;
+    predicates = All-weaker (FitsPredicate names) (IsWritablePredicate names) (λ decl one. record { name = one.head; params = params_written names decl.params one.params }) d.predicates fit.predicates;
+    functions = All-weaker (λ decl. FitParams names decl.params) (λ decl. AreParamNames names decl.params) (λ decl. params_written names decl.params) d.functions fit.functions;
     actions = All-weaker (FitsAction names) (IsWritableAction names) action_written d.actions fit.actions;
   }

@@ -1,6 +1,14 @@
 -- A condition, an effect or an expression fits the grammar's levels exactly where its text has few enough parentheses open at one place.
-use Rattle.std.proofs.Common.{ℕ, zero, suc, ◌≤◌, List, arith}
-use Rattle.ps_world.specs.Names.{Table}
+use Rattle.std.proofs.Common.{◌≡◌, ℕ, zero, suc, ◌≤◌, false, List, ◌++◌, length, codes, get_or, refl, sym, ◌∙◌, inl, inr, arith}
+use Rattle.std.specs.List.{All}
+use Rattle.std.proofs.lemmas.Bool.{cases_Bool}
+use Rattle.std.proofs.lemmas.List.Elements.{All-weaker}
+use Rattle.ps_world.specs.Lines.{same_text}
+use Rattle.ps_world.specs.Names.{Table, name_text}
+use Rattle.ps_world.specs.Leaves.{AllIn, AllInEach}
+use Rattle.ps_world.specs.declared.names.Name.{Name}
+use Rattle.ps_world.proofs.SameTexts.{same_text-is}
+use Rattle.ps_text.specs.Names.{AreNames, folded}
 use Rattle.ps_world.specs.Trees.{ExprTree, number, value_of, negated, operated, CondTree, CondTrees, all_of, any_of, no, implied, holds, same, compares, is_a, for_some, for_all}
 use Rattle.ps_world.specs.Trees as tree
 use Rattle.ps_world.specs.ExprViews.{expr_tree}
@@ -9,15 +17,15 @@ use Rattle.ps_world.specs.declared.actions.Effect.TheVariants.{Add, Delete, Numb
 use Rattle.ps_world.specs.declared.domains.Param.{Param}
 use Rattle.ps_world.specs.declared.domains.Domain.{Domain}
 use Rattle.ps_rules.specs.Sound.{cond_opens, conds_open, expr_opens}
-use Rattle.ps_print.specs.CanonicalWords.{AreCondsOf, IsCondOf}
+use Rattle.ps_print.specs.CanonicalWords.{AreCondsOf, IsCondOf, IsNameOf, IsParamOf}
 use Rattle.ps_pddl.specs.WellFormed.{IsEffect}
-use Rattle.ps_pddl.proofs.Fits.{FitsCond, FitConds, FitsEffect, FitsExpr}
-use Rattle.ps_pddl.proofs.Fits.FitsCond.{fits_all, fits_comparison, fits_fact, fits_not, fits_same}
+use Rattle.ps_pddl.proofs.Fits.{FitParams, FitsCond, FitConds, FitsEffect, FitsExpr, IsVariableName}
+use Rattle.ps_pddl.proofs.Fits.FitsCond.{fits_all, fits_any, fits_comparison, fits_each, fits_fact, fits_implied, fits_not, fits_same, fits_some}
 use Rattle.ps_pddl.proofs.Fits.FitConds.{fit_more, fit_none}
 use Rattle.ps_pddl.proofs.Fits.FitsEffect.{fits_addition, fits_change, fits_deletion}
 use Rattle.ps_pddl.proofs.Fits.FitsExpr.{fits_negation, fits_number, fits_operation, fits_value}
 use Rattle.ps_pddl.proofs.MeanConditions.{HaveHeads, fact-head}
-use Rattle.ps_reading_laws.specs.Writable.{HasFactHeads, HaveFactHeads, effect_opens}
+use Rattle.ps_reading_laws.specs.Writable.{AreParamNames, effect_opens, headed_leaves}
 
 -- ---- expressions
 
@@ -41,53 +49,114 @@ expr_opens_few _ _ (fits_operation room o x y fit also) =
     let right = expr_opens_few room y also in
     omega (arith, left, right)
 
--- ---- conditions
+-- ---- parameters
+
+-- `?` before another name in lower case doesn't read as `?duration`
+not_duration : (text : List ℕ) → folded text ≡ text → (text ≡ codes "duration" → ⊥) → same_text (folded (codes "?" ++ text)) (codes "?duration") ≡ false
+not_duration text lower other =
+    elim (cases_Bool (same_text (folded (codes "?" ++ text)) (codes "?duration"))) [
+      | inl e ↦
+          let whole = same_text-is (folded (codes "?" ++ text)) (codes "?duration") e in
+          let rest : folded text ≡ codes "duration" = cc in
+          absurd (other (sym lower ∙ rest))
+      | inr e ↦ e
+    ]
 
 module _ (names : Table) where
-  module _ (count : ℕ) (ps : List Param) where
-    mutual
-      pub cond_fits : (room : ℕ) (c : CondTree) → IsCondOf count ps c → HasFactHeads names c → cond_opens c ≤ room → FitsCond names room c
-      cond_fits room (is_a t kind) known heads few = absurd known
-      cond_fits room (any_of cs) known heads few = absurd heads.0
-      cond_fits room (implied a b) known heads few = absurd heads.0
-      cond_fits room (for_some qs c) known heads few = absurd heads.0
-      cond_fits room (for_all qs c) known heads few = absurd heads.0
-      cond_fits zero (all_of cs) known heads few = absurd (omega (arith, few))
-      cond_fits zero (no c) known heads few = absurd (omega (arith, few))
-      cond_fits zero (holds l) known heads few = absurd (omega (arith, few))
-      cond_fits zero (same s t) known heads few = absurd (omega (arith, few))
-      cond_fits zero (compares rel x y) known heads few = absurd (omega (arith, few))
-      cond_fits (suc room) (all_of cs) known heads few = fits_all room cs (conds_fit room cs known heads (omega (arith, few)))
-      cond_fits (suc room) (no c) known heads few = fits_not room c (cond_fits room c known heads (omega (arith, few)))
-      cond_fits (suc room) (holds l) known heads few = fits_fact room l heads
-      cond_fits (suc room) (same s t) known heads few = fits_same room s t
-      cond_fits (suc room) (compares rel x y) known heads few = fits_comparison room rel x y (expr_fits room x (omega (arith, few))) (expr_fits room y (omega (arith, few)))
+  name_fits : AreNames names → (n : Name) → IsNameOf (length names) n → (name_text names n ≡ codes "duration" → ⊥) → IsVariableName names n
+  name_fits good n known other = rw (not_duration (name_text names n) (good.texts n.0 _ known).lower_case other) refl
 
-      conds_fit : (room : ℕ) (cs : CondTrees) → AreCondsOf count ps cs → HaveFactHeads names cs → conds_open cs ≤ room → FitConds names room cs
-      conds_fit room tree.none known heads few = fit_none room
-      conds_fit room (tree.more c cs) known heads few =
-          fit_more room c cs (cond_fits room c known.0 heads.0 (omega (arith, few))) (conds_fit room cs known.1 heads.1 (omega (arith, few)))
+  pub params_fit : AreNames names → (ps : List Param) → All (IsParamOf (length names)) ps → AreParamNames names ps → FitParams names ps
+  params_fit good ps known other = λ k d lt. name_fits good (get_or ps k d).name (known k d lt).0 (other k d lt)
+
+  name_written : (n : Name) → IsVariableName names n → name_text names n ≡ codes "duration" → ⊥
+  name_written n fit e = cc
+
+  pub params_written : (ps : List Param) → FitParams names ps → AreParamNames names ps
+  params_written = All-weaker (λ p. IsVariableName names p.name) (λ p. name_text names p.name ≡ codes "duration" → ⊥) (λ p. name_written p.name)
+
+  -- ---- conditions
+
+  module _ (good : AreNames names) where
+    mutual
+      pub cond_fits : (ps os : List Param) (room : ℕ) (c : CondTree) → IsCondOf (length names) ps c → AllIn (headed_leaves names) os c → cond_opens c ≤ room → FitsCond names room c
+      cond_fits ps os room (is_a t kind) known heads few = absurd known
+      cond_fits ps os zero (all_of cs) known heads few = absurd (omega (arith, few))
+      cond_fits ps os zero (any_of cs) known heads few = absurd (omega (arith, few))
+      cond_fits ps os zero (no c) known heads few = absurd (omega (arith, few))
+      cond_fits ps os zero (implied a b) known heads few = absurd (omega (arith, few))
+      cond_fits ps os zero (holds l) known heads few = absurd (omega (arith, few))
+      cond_fits ps os zero (same s t) known heads few = absurd (omega (arith, few))
+      cond_fits ps os zero (compares rel x y) known heads few = absurd (omega (arith, few))
+      cond_fits ps os zero (for_some qs c) known heads few = absurd (omega (arith, few))
+      cond_fits ps os zero (for_all qs c) known heads few = absurd (omega (arith, few))
+      cond_fits ps os (suc room) (all_of cs) known heads few = fits_all room cs (conds_fit ps os room cs known heads (omega (arith, few)))
+      cond_fits ps os (suc room) (any_of cs) known heads few = fits_any room cs (conds_fit ps os room cs known.1 heads.1 (omega (arith, few)))
+      cond_fits ps os (suc room) (no c) known heads few = fits_not room c (cond_fits ps os room c known heads (omega (arith, few)))
+      cond_fits ps os (suc room) (implied a b) known heads few =
+          fits_implied room a b (cond_fits ps os room a known.1.0 heads.1.0 (omega (arith, few))) (cond_fits ps os room b known.1.1 heads.1.1 (omega (arith, few)))
+      cond_fits ps os (suc room) (holds l) known heads few = fits_fact room l heads
+      cond_fits ps os (suc room) (same s t) known heads few = fits_same room s t
+      cond_fits ps os (suc room) (compares rel x y) known heads few = fits_comparison room rel x y (expr_fits room x (omega (arith, few))) (expr_fits room y (omega (arith, few)))
+      cond_fits ps os (suc room) (for_some qs c) known heads few =
+          fits_some room qs c (params_fit good qs known.0 heads.0) (cond_fits (ps ++ qs) (os ++ qs) room c known.1 heads.1 (omega (arith, few)))
+      cond_fits ps os (suc room) (for_all qs c) known heads few =
+          fits_each room qs c (params_fit good qs known.0 heads.0) (cond_fits (ps ++ qs) (os ++ qs) room c known.1 heads.1 (omega (arith, few)))
+
+      conds_fit : (ps os : List Param) (room : ℕ) (cs : CondTrees) → AreCondsOf (length names) ps cs → AllInEach (headed_leaves names) os cs → conds_open cs ≤ room → FitConds names room cs
+      conds_fit ps os room tree.none known heads few = fit_none room
+      conds_fit ps os room (tree.more c cs) known heads few =
+          fit_more room c cs (cond_fits ps os room c known.0 heads.0 (omega (arith, few))) (conds_fit ps os room cs known.1 heads.1 (omega (arith, few)))
 
   mutual
-    pub cond_heads : (room : ℕ) (c : CondTree) → FitsCond names room c → HasFactHeads names c
-    cond_heads _ _ (fits_all room cs fit) = conds_heads room cs fit
-    cond_heads _ _ (fits_not room c fit) = cond_heads room c fit
-    cond_heads _ _ (fits_fact room l head) = head
-    cond_heads _ _ (fits_same room s t) = (tt, tt)
-    cond_heads _ _ (fits_comparison room rel x y fit also) = (tt, tt)
+    pub cond_heads : (ps : List Param) (room : ℕ) (c : CondTree) → FitsCond names room c → AllIn (headed_leaves names) ps c
+    cond_heads ps _ _ (fits_all room cs fit) = conds_heads ps room cs fit
+    cond_heads ps _ _ (fits_any room cs fit) = (tt, conds_heads ps room cs fit)
+    cond_heads ps _ _ (fits_not room c fit) = cond_heads ps room c fit
+    cond_heads ps _ _ (fits_implied room a b fit also) = (tt, (cond_heads ps room a fit, cond_heads ps room b also))
+    cond_heads ps _ _ (fits_some room qs c free fit) = (params_written qs free, cond_heads (ps ++ qs) room c fit)
+    cond_heads ps _ _ (fits_each room qs c free fit) = (params_written qs free, cond_heads (ps ++ qs) room c fit)
+    cond_heads ps _ _ (fits_fact room l head) = head
+    cond_heads ps _ _ (fits_same room s t) = (tt, tt)
+    cond_heads ps _ _ (fits_comparison room rel x y fit also) = (tt, tt)
 
-    conds_heads : (room : ℕ) (cs : CondTrees) → FitConds names room cs → HaveFactHeads names cs
-    conds_heads _ _ (fit_none room) = tt
-    conds_heads _ _ (fit_more room c cs fit fits) = (cond_heads room c fit, conds_heads room cs fits)
+    conds_heads : (ps : List Param) (room : ℕ) (cs : CondTrees) → FitConds names room cs → AllInEach (headed_leaves names) ps cs
+    conds_heads ps _ _ (fit_none room) = tt
+    conds_heads ps _ _ (fit_more room c cs fit fits) = (cond_heads ps room c fit, conds_heads ps room cs fits)
+
+  -- a condition opens a parenthesis at least
+  fits_one : (room : ℕ) (c : CondTree) → FitsCond names room c → 1 ≤ room
+  fits_one _ _ (fits_all room cs fit) = omega arith
+  fits_one _ _ (fits_any room cs fit) = omega arith
+  fits_one _ _ (fits_not room c fit) = omega arith
+  fits_one _ _ (fits_implied room a b fit also) = omega arith
+  fits_one _ _ (fits_some room qs c free fit) = omega arith
+  fits_one _ _ (fits_each room qs c free fit) = omega arith
+  fits_one _ _ (fits_fact room l head) = omega arith
+  fits_one _ _ (fits_same room s t) = omega arith
+  fits_one _ _ (fits_comparison room rel x y fit also) = omega arith
 
   mutual
     pub cond_opens_few : (room : ℕ) (c : CondTree) → FitsCond names room c → cond_opens c ≤ room
     cond_opens_few _ _ (fits_all room cs fit) =
         let below = conds_open_few room cs fit in
         omega (arith, below)
+    cond_opens_few _ _ (fits_any room cs fit) =
+        let below = conds_open_few room cs fit in
+        omega (arith, below)
     cond_opens_few _ _ (fits_not room c fit) =
         let below = cond_opens_few room c fit in
         omega (arith, below)
+    cond_opens_few _ _ (fits_implied room a b fit also) =
+        let left = cond_opens_few room a fit in
+        let right = cond_opens_few room b also in
+        omega (arith, left, right)
+    cond_opens_few _ _ (fits_some room qs c free fit) =
+        let below = cond_opens_few room c fit in
+        omega (arith, below, fits_one room c fit)
+    cond_opens_few _ _ (fits_each room qs c free fit) =
+        let below = cond_opens_few room c fit in
+        omega (arith, below, fits_one room c fit)
     cond_opens_few _ _ (fits_fact room l head) = omega arith
     cond_opens_few _ _ (fits_same room s t) = omega arith
     cond_opens_few _ _ (fits_comparison room rel x y fit also) =

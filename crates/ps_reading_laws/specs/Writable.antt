@@ -36,15 +36,15 @@ AreParamNames names ps = All (λ p. name_text names p.name ≡ codes "duration" 
 
 -- ---- conditions and effects
 
--- what is said of a condition's leaves here: each fact has a head that may stand there, and nothing is quantified, any of several or implied
+-- what is said of a condition's leaves here: each fact has a head that may stand there, and no variable that is bound is named `duration`
 abbrev pub headed_leaves : Table → Leaves
 headed_leaves names = record {
   atom = λ ps l. IsFactHead names l.head;
   term = λ ps t. Unit {0};
   value = λ ps x. Unit {0};
   kind = λ ps kind. Unit {0};
-  bound = λ ps qs. ⊥;
-  either = ⊥;
+  bound = λ ps qs. AreParamNames names qs;
+  either = Unit {0};
 }
 
 -- a condition of such leaves
@@ -61,8 +61,8 @@ effect_opens (Add l) = 1
 effect_opens (Delete l) = 2
 effect_opens (Number how l x) = suc (max 1 (expr_opens (expr_tree x)))
 
--- a condition that an action can have: the heads of its facts may stand there, and with the 4 parentheses around it at most 64 are open at
--- one place
+-- a condition that an action can have: the heads of its facts may stand there, no variable that it binds is named `duration`, and with the 4
+-- parentheses around it at most 64 are open at one place
 abbrev pub IsWritableCond : Table → CondTree → Type 0
 IsWritableCond names c = HasFactHeads names c × (4 + cond_opens c ≤ deepest)
 

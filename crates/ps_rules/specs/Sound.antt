@@ -1,11 +1,11 @@
 -- Sound inputs: those that the limits of a session allow. That the domain is well formed is said beside this, by the crate that reads
 -- domains.
-use Rattle.std.specs.Prelude.{◌≡◌, ℕ, suc, ◌≤◌, max, Bool, true, false, ◌&&◌, not, Ok, Option, IfSome, IsTrue, All, List, [], ◌∷◌, length}
+use Rattle.std.specs.Prelude.{◌≡◌, ℕ, suc, ◌≤◌, max, nat_lt, Bool, true, false, ◌&&◌, not, Ok, Option, IfSome, IsTrue, All, List, [], ◌∷◌, ◌++◌, length}
 use Rattle.std.specs.List.{AllPairs, list_all}
 use Rattle.std.specs.Option.{IsSomeAnd}
 use Rattle.ps_world.specs.Names.{same_name}
 use Rattle.ps_world.specs.Trees.{ExprTree, number, value_of, negated, operated, CondTree, CondTrees, all_of, any_of, no, implied, holds, same, compares, is_a, for_some, for_all, none, more}
-use Rattle.ps_world.specs.Leaves.{Leaves, AllIn, AllInEach}
+use Rattle.ps_world.specs.Leaves.{Leaves, AllIn}
 use Rattle.ps_world.specs.CondViews.{cond_tree}
 use Rattle.ps_world.specs.Knowledge.{action_of}
 use Rattle.ps_world.specs.declared.names.Name.{Name}
@@ -14,6 +14,7 @@ use Rattle.ps_world.specs.declared.schemas.Term.TheVariants.{Var, Const}
 use Rattle.ps_world.specs.declared.schemas.Lifted.{Lifted}
 use Rattle.ps_world.specs.declared.conditions.Cond.{Cond}
 use Rattle.ps_world.specs.declared.domains.Domain.{Domain}
+use Rattle.ps_world.specs.declared.domains.Param.{Param}
 use Rattle.ps_world.specs.declared.edits.Edit.{Edit}
 use Rattle.ps_world.specs.declared.edits.Edit.TheVariants.{SetGoal}
 use Rattle.ps_machine.specs.Tables.{is_note}
@@ -31,40 +32,36 @@ use Rattle.ps_rules.specs.Members.{observers, performers}
 
 -- ---- conditions that a script may write
 
--- whether a term is a name
-abbrev pub is_named : Term → Bool
-is_named (Var i) = false
-is_named (Const n) = true
+-- whether a term is a name, or a variable in force
+abbrev pub is_bound : List Param → Term → Bool
+is_bound ps (Var i) = nat_lt i (length ps)
+is_bound ps (Const n) = true
 
--- whether all arguments of a head are names
-abbrev pub are_named : Lifted → Bool
-are_named l = list_all is_named l.terms
+-- whether all arguments of a head are
+abbrev pub are_bound : List Param → Lifted → Bool
+are_bound ps l = list_all (is_bound ps) l.terms
 
--- whether no variable stands in an expression
-abbrev pub is_ground_expr : ExprTree → Bool
-is_ground_expr (number n) = true
-is_ground_expr (value_of l) = are_named l
-is_ground_expr (negated x) = is_ground_expr x
-is_ground_expr (operated op x y) = is_ground_expr x && is_ground_expr y
+-- whether no other variable stands in an expression
+abbrev pub is_bound_expr : List Param → ExprTree → Bool
+is_bound_expr ps (number n) = true
+is_bound_expr ps (value_of l) = are_bound ps l
+is_bound_expr ps (negated x) = is_bound_expr ps x
+is_bound_expr ps (operated op x y) = is_bound_expr ps x && is_bound_expr ps y
 
--- what a condition's leaves are in a script: no variable stands there, no type is asked for, and nothing is quantified, any of several or implied
-abbrev pub ground_leaves : Leaves
-ground_leaves = record {
-  atom = λ ps l. IsTrue (are_named l);
-  term = λ ps t. IsTrue (is_named t);
-  value = λ ps x. IsTrue (is_ground_expr x);
+-- what a condition's leaves are in a script: no variable stands there but those in force, of which there are two at most, and no type is asked for
+abbrev pub script_leaves : Leaves
+script_leaves = record {
+  atom = λ ps l. IsTrue (are_bound ps l);
+  term = λ ps t. IsTrue (is_bound ps t);
+  value = λ ps x. IsTrue (is_bound_expr ps x);
   kind = λ ps kind. ⊥;
-  bound = λ ps qs. ⊥;
-  either = ⊥;
+  bound = λ ps qs. length (ps ++ qs) ≤ 2;
+  either = Unit {0};
 }
 
--- a condition of such leaves
-abbrev pub IsGroundCond : CondTree → Type 0
-IsGroundCond c = AllIn ground_leaves [] c
-
--- the same of several
-abbrev pub AreGroundConds : CondTrees → Type 0
-AreGroundConds cs = AllInEach ground_leaves [] cs
+-- a condition of such leaves: no variable is free in it
+abbrev pub IsClosedCond : CondTree → Type 0
+IsClosedCond c = AllIn script_leaves [] c
 
 -- how many parentheses the text of an expression has open at one place, at most
 abbrev pub expr_opens : ExprTree → ℕ
@@ -91,9 +88,9 @@ abbrev mutual
   conds_open none = 0
   conds_open (more c cs) = max (cond_opens c) (conds_open cs)
 
--- a condition that a script may write: no variable stands in it, and at most 64 parentheses are open at one place
+-- a condition that a script may write: no variable is free in it, and at most 64 parentheses are open at one place
 pub record IsScriptCond (c : Cond) : Type 0 where
-  pub named : IsGroundCond (cond_tree c)
+  pub closed : IsClosedCond (cond_tree c)
   pub shallow : cond_opens (cond_tree c) ≤ 64
 
 -- an edit that a script may write: so is its goal, where it sets one

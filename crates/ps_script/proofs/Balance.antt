@@ -6,14 +6,17 @@ use Rattle.std.proofs.lemmas.Bool.Decides.{nat_tests}
 use denote.Enum.Bare.{same_true}
 use Rattle.ps_shape.specs.contracts.marks.Mark.{the_type}
 use Rattle.ps_shape.specs.Marks.{is}
-use Rattle.ps_shape.specs.Rules.{where_it_is, goal_rule, step}
+use Rattle.ps_shape.specs.Rules.{where_it_is, action_rule, goal_rule, list_rule, step}
 use Rattle.ps_shape.specs.Shape.{Derives}
 use Rattle.ps_shape.specs.Shape.Derives.{nothing, by_rule}
 use Rattle.ps_shape.specs.Symbols.{level, weight}
 use Rattle.ps_shape.specs.declared.marks.Mark.{Mark}
 use Rattle.ps_shape.specs.declared.marks.Mark.TheVariants.{Open, Close}
 use Rattle.ps_shape.specs.declared.symbols.Symbol.{Symbol}
-use Rattle.ps_shape.specs.declared.symbols.Symbol.TheVariants.{The, AnyName, InGoal}
+use Rattle.ps_shape.specs.declared.symbols.Symbol.TheVariants.{The, AnyName, InAction, InGoal, InList}
+use Rattle.ps_shape.specs.declared.symbols.ActionPart.TheVariants as action
+use Rattle.ps_shape.specs.declared.symbols.ListPart.{ListPart}
+use Rattle.ps_shape.specs.declared.symbols.ListPart.TheVariants as list
 use Rattle.ps_shape.specs.declared.symbols.GoalPart.{GoalPart}
 use Rattle.ps_shape.specs.declared.symbols.GoalPart.TheVariants as goal
 use Rattle.ps_forms.specs.Spelling.{is_balanced}
@@ -33,6 +36,8 @@ is_shut (The Open) = false
 is_shut (The m) = true
 is_shut AnyName = true
 is_shut (InGoal part) = true
+is_shut (InAction action.Parameters) = true
+is_shut (InList part) = true
 is_shut _ = false
 
 -- how many parentheses are open before these
@@ -77,6 +82,10 @@ all_goal (goal.Names most) = all_names most
 all_goal goal.Condition = refl
 all_goal _ = refl
 
+all_list : (part : ListPart) → list_all (λ m. fits (list_rule part m) m (weight (InList part))) every_mark ≡ true
+all_list list.Keywords = refl
+all_list _ = refl
+
 fits_itself : (m : Mark) → is_shut (The m) ≡ true → fits (Some []) m (weight (The m)) ≡ true
 fits_itself Open e = absurd (cc)
 fits_itself _ e = refl
@@ -91,6 +100,8 @@ fits_step : (s : Symbol) (m : Mark) → is_shut s ≡ true → fits (step s m) m
 fits_step (The wanted) m shut = fits_the wanted m (is wanted m) refl shut
 fits_step AnyName m shut = each_mark (λ m. fits (step AnyName m) m (weight AnyName)) refl m
 fits_step (InGoal part) m shut = each_mark (λ m. fits (goal_rule part m) m (weight (InGoal part))) (all_goal part) m
+fits_step (InAction action.Parameters) m shut = each_mark (λ m. fits (action_rule action.Parameters m) m (weight (InAction action.Parameters))) refl m
+fits_step (InList part) m shut = each_mark (λ m. fits (list_rule part m) m (weight (InList part))) (all_list part) m
 fits_step _ m shut = absurd (cc)
 
 -- ---- whole lines
@@ -146,14 +157,10 @@ balanced _ _ nothing paired = refl
 balanced _ _ (by_rule s st m ms new leads rest) paired =
     one_mark s st m ms new (is_open s) refl leads paired (λ more. balanced (new ++ st) ms rest more)
 
-start_paired : (f : Form) → are_paired (start_of f) ≡ true
+pub start_paired : (f : Form) → are_paired (start_of f) ≡ true
 start_paired SetInstance = refl
 start_paired _ = refl
 
-start_closed : (f : Form) → open_before (start_of f) ≡ 0
+pub start_closed : (f : Form) → open_before (start_of f) ≡ 0
 start_closed SetInstance = refl
 start_closed _ = refl
-
--- a line that fits its form is balanced
-pub balanced_line : (f : Form) (ms : List Mark) → Derives (start_of f) ms → is_balanced 0 ms ≡ true
-balanced_line f ms derived = subst (λ (n : ℕ). is_balanced n ms ≡ true) (start_closed f) (balanced (start_of f) ms derived (start_paired f))

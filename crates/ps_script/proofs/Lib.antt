@@ -1,6 +1,9 @@
 pub mod Balance
 pub mod FileNames
+pub mod Fronts
+pub mod Judgements
 pub mod LineReads
 pub mod Lists
 pub mod OneAnswer
 pub mod TokenWords
+pub mod Typed

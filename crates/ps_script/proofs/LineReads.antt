@@ -1,5 +1,5 @@
 -- What a line is read as, by what was found out of it.
-use Rattle.std.proofs.Common.{◌≡◌, ℕ, true, false, List, [], ◌∷◌, length, take, Option, None, Some, IfSome, Result, Err, refl, sym, ◌∙◌, ap, subst}
+use Rattle.std.proofs.Common.{◌≡◌, ℕ, true, false, List, length, take, Option, None, Some, IfSome, Result, Ok, Err, sym, ◌∙◌, ap, subst}
 use Rattle.ps_world.specs.Failures.{refusal_of}
 use Rattle.ps_world.specs.Names.{Table}
 use Rattle.ps_world.specs.declared.failures.Failure.{Failure}
@@ -15,64 +15,40 @@ use Rattle.ps_text.specs.Words.{words}
 use Rattle.ps_text.specs.declared.lexing.LexRefusal.{LexRefusal}
 use Rattle.ps_text.specs.declared.lexing.LexRefusal.TheVariants as lexing
 use Rattle.ps_text.specs.declared.lexing.Token.{Token}
-use Rattle.ps_shape.specs.Shape.{Derives, IsFirstFaultFrom, IsShallowFrom}
-use Rattle.ps_shape.specs.declared.marks.Mark.{Mark}
-use Rattle.ps_forms.specs.Lexemes.{lexeme_of, lexemes_of, marks, table_after}
+use Rattle.ps_shape.specs.declared.symbols.Symbol.{Symbol}
+use Rattle.ps_forms.specs.Lexemes.{lexemes_of, marks}
 use Rattle.ps_forms.specs.Nested.{Nesteds}
-use Rattle.ps_forms.specs.Spelling.{SpellAll, is_balanced}
 use Rattle.ps_forms.specs.declared.lexemes.Lexeme.{Lexeme}
 use Rattle.ps_script.specs.Commands.{command_of}
 use Rattle.ps_script.specs.Files.{after_run, file_in, is_run_plan, is_source}
 use Rattle.ps_script.specs.Forms.{form_of, start_of}
-use Rattle.ps_script.specs.Lines.{IsOfForm, IsPlain, IsRead, bad, cause_of, is_nothing, marks_of, place, with_run_plan}
+use Rattle.ps_script.specs.Judged.{Fits, IsJudged}
+use Rattle.ps_script.specs.Lines.{IsOfForm, IsPlain, IsRead, bad, cause_of, is_nothing, with_run_plan}
 use Rattle.ps_script.specs.Lines.IsRead.{good, run_nothing, run_plan, source, source_nothing, without_class, without_form, without_number, without_shape}
 use Rattle.ps_script.specs.declared.forms.Form.{Form}
 use Rattle.ps_script.specs.declared.reading.Read.{Read}
 use Rattle.ps_script.specs.declared.reading.Read.TheVariants.{Line, RunPlan, Source}
-use Rattle.ps_script.proofs.Balance.{balanced_line}
 
--- the marks of a text's words are those of its tokens
-pub marks_same : (bytes : List ℕ) (table : Table) (tokens : List Token) → marks (lexemes_of bytes table tokens).0 ≡ marks_of bytes tokens
-marks_same bytes table [] = refl
-marks_same bytes table (t ∷ ts) = ap (λ ms. (lexeme_of bytes table t).mark ∷ ms) (marks_same bytes (table_after bytes table t) ts)
+of_form : (bytes : List ℕ) (form : Form) (tokens : List Token) → IsPlain bytes → AreTokens bytes tokens → form_of (words bytes) ≡ Some form → IsOfForm bytes form tokens
+of_form bytes form tokens plain are is = record { plain = plain; are_tokens = are; form_is = is }
 
--- and so are the marks that were taken from the words
-word_marks : (table after : Table) (bytes : List ℕ) (tokens : List Token) (ls same : List Lexeme) (items : List Mark) → lexemes_of bytes table tokens ≡ (ls, after) → same ≡ ls → items ≡ marks same → items ≡ marks_of bytes tokens
-word_marks table after bytes tokens ls same items words e n =
-    n ∙ ap marks e ∙ ap (λ x. marks x.0) (sym words) ∙ marks_same bytes table tokens
+module _ (table now : Table) (bytes : List ℕ) (form : Form) (tokens : List Token) (ls same : List Lexeme) (misfit : Option ℕ) (found : Result Nesteds ℕ) (plain : IsPlain bytes) (are : AreTokens bytes tokens) (is : form_of (words bytes) ≡ Some form) (words : lexemes_of bytes table tokens ≡ (ls, now)) (e : same ≡ ls) (judged : (start : List Symbol) → Fits start (marks same) misfit → IsJudged start bytes tokens same found) (fits : Fits (start_of form) (marks same) misfit) where
+  judged_words : (r : Result Nesteds ℕ) → found ≡ r → IsJudged (start_of form) bytes tokens ls r
+  judged_words r f =
+      subst (λ (x : Result Nesteds ℕ). IsJudged (start_of form) bytes tokens ls x) f
+      (subst (λ (x : List Lexeme). IsJudged (start_of form) bytes tokens x found) e (judged (start_of form) fits))
 
-pub fits_form : (bytes : List ℕ) (form : Form) (tokens : List Token) (ms items : List Mark) → IsPlain bytes → AreTokens bytes tokens → form_of (words bytes) ≡ Some form → ms ≡ items → items ≡ marks_of bytes tokens → Derives (start_of form) ms × IsShallowFrom (start_of form) ms → IsOfForm bytes form tokens
-fits_form bytes form tokens ms items plain are is m n fits = record {
-  plain = plain;
-  are_tokens = are;
-  form_is = is;
-  derived = subst (Derives (start_of form)) (m ∙ n) fits.0;
-  shallow = subst (λ (x : List Mark). IsShallowFrom (start_of form) x) (m ∙ n) fits.1;
-}
+  -- a line that fits its form is the command of its words
+  pub good_read : (ts us : Nesteds) (command : Command) → found ≡ Ok ts → us ≡ ts → command ≡ command_of form us → IsRead table bytes (Line (Good command)) now
+  good_read ts us command f u c =
+      good form tokens ls now ts command (of_form bytes form tokens plain are is) words (judged_words (Ok ts) f) (ap (command_of form) (sym u) ∙ sym c)
 
--- a line whose words fit its form is of that form
-pub words_fit : (table after : Table) (bytes : List ℕ) (form : Form) (tokens : List Token) (ls same : List Lexeme) (ms items : List Mark) → IsPlain bytes → AreTokens bytes tokens → form_of (words bytes) ≡ Some form → lexemes_of bytes table tokens ≡ (ls, after) → same ≡ ls → ms ≡ items → items ≡ marks same → Derives (start_of form) ms × IsShallowFrom (start_of form) ms → IsOfForm bytes form tokens
-words_fit table after bytes form tokens ls same ms items plain are is words e m n fits =
-    fits_form bytes form tokens ms items plain are is m (word_marks table after bytes tokens ls same items words e n) fits
-
--- the words of a line that fits its form are balanced
-pub good_balance : (table : Table) (bytes : List ℕ) (form : Form) (tokens : List Token) (ls same : List Lexeme) (after : Table) → IsOfForm bytes form tokens → lexemes_of bytes table tokens ≡ (ls, after) → same ≡ ls → is_balanced 0 (marks same) ≡ true
-good_balance table bytes form tokens ls same after is words e =
-    subst (λ (ms : List Mark). is_balanced 0 ms ≡ true) (sym (word_marks table after bytes tokens ls same (marks same) words e refl)) (balanced_line form _ is.derived)
-
--- a line that fits its form is the command of its words
-pub good_read : (table : Table) (bytes : List ℕ) (form : Form) (tokens : List Token) (ls same : List Lexeme) (after : Table) (command : Command) → IsOfForm bytes form tokens → lexemes_of bytes table tokens ≡ (ls, after) → same ≡ ls → (ts : Nesteds) × SpellAll ts same × (command ≡ command_of form ts) → IsRead table bytes (Line (Good command)) after
-good_read table bytes form tokens ls same after command is words e found =
-    good form tokens ls after found.0 command is words (subst (SpellAll found.0) e found.1) (sym found.2)
-
--- a line that doesn't fit its form puts no name into the table
-pub misfit_read : (table now after : Table) (before : ℕ) (bytes : List ℕ) (form : Form) (tokens : List Token) (ls same : List Lexeme) (ms items : List Mark) (i at : ℕ) (found : Option ℕ) (r : Read) → before ≡ length table → Keeps table now → after ≡ take before now → IsPlain bytes → AreTokens bytes tokens → form_of (words bytes) ≡ Some form → lexemes_of bytes table tokens ≡ (ls, now) → same ≡ ls → ms ≡ items → items ≡ marks same → found ≡ Some i → IfSome found (λ at. IsFirstFaultFrom (start_of form) ms at) → at ≡ place bytes tokens i → r ≡ bad (cause.Shape at) → IsRead table bytes r after
-misfit_read table now after before bytes form tokens ls same ms items i at found r count kept cut plain are is words e m n f fault p b =
-    let here : IsFirstFaultFrom (start_of form) ms i = subst (λ (o : Option ℕ). IfSome o (λ at. IsFirstFaultFrom (start_of form) ms at)) f fault in
-    let to : ms ≡ marks_of bytes tokens = m ∙ word_marks table now bytes tokens ls same items words e n in
-    let back : after ≡ table = cut ∙ ap (λ k. take k now) count ∙ kept_front table now kept in
-    let bare : IsRead table bytes (bad (cause.Shape (place bytes tokens i))) table = without_shape form tokens i plain are is (subst (λ (x : List Mark). IsFirstFaultFrom (start_of form) x i) to here) in
-    subst (λ (x : Table). IsRead table bytes r x) (sym back) (subst (λ (x : Read). IsRead table bytes x table) (sym (b ∙ ap (λ k. bad (cause.Shape k)) p)) bare)
+  -- a line with a fault puts no name into the table
+  pub bad_read : (after : Table) (before at : ℕ) (r : Read) → before ≡ length table → Keeps table now → after ≡ take before now → found ≡ Err at → r ≡ bad (cause.Shape at) → IsRead table bytes r after
+  bad_read after before at r count kept cut f b =
+      let back : after ≡ table = cut ∙ ap (λ k. take k now) count ∙ kept_front table now kept in
+      let bare : IsRead table bytes (bad (cause.Shape at)) table = without_shape form tokens ls now at (of_form bytes form tokens plain are is) words (judged_words (Err at) f) in
+      subst (λ (x : Table). IsRead table bytes r x) (sym back) (subst (λ (x : Read). IsRead table bytes x table) (sym b) bare)
 
 pub formless_read : (table : Table) (bytes : List ℕ) (tokens : List Token) (found : Option Form) (r : Read) → IsPlain bytes → AreTokens bytes tokens → found ≡ form_of (words bytes) → found ≡ None → r ≡ bad cause.Command → IsRead table bytes r table
 formless_read table bytes tokens found r plain are f n e = subst (λ (x : Read). IsRead table bytes x table) (sym e) (without_form tokens plain are (sym f ∙ n))

@@ -1,5 +1,5 @@
 -- A line is read as one thing at most.
-use Rattle.std.proofs.Common.{◌≡◌, ℕ, ◌⊎◌, inl, inr, false, if◌then◌else◌, List, length, Option, None, Some, refl, sym, ◌∙◌, ap, subst}
+use Rattle.std.proofs.Common.{◌≡◌, ℕ, ◌⊎◌, inl, inr, if◌then◌else◌, List, length, Option, None, Some, Result, Ok, Err, refl, sym, ◌∙◌, ap, subst}
 use Rattle.ps_world.specs.Names.{Table}
 use Rattle.ps_machine.specs.declared.inputs.Command.{Command}
 use Rattle.ps_machine.specs.declared.inputs.LineCause.TheVariants as cause
@@ -10,23 +10,21 @@ use Rattle.ps_text.specs.declared.lexing.LexRefusal.{LexRefusal}
 use Rattle.ps_text.specs.declared.lexing.LexRefusal.TheVariants as lexing
 use Rattle.ps_text.specs.declared.lexing.Token.{Token}
 use Rattle.ps_text.proofs.OneLexing.{tokens_are_one, faults_are_one, tokens_are_faultless}
-use Rattle.ps_shape.specs.Shape.{Derives, IsFirstFaultFrom, IsShallowFrom}
-use Rattle.ps_shape.proofs.OneFault.{first_faults_are_one, first_faults_are_real}
+use Rattle.ps_shape.specs.declared.symbols.Symbol.{Symbol}
 use Rattle.ps_forms.specs.Lexemes.{lexemes_of}
 use Rattle.ps_forms.specs.Nested.{Nesteds}
-use Rattle.ps_forms.specs.Spelling.{SpellAll}
 use Rattle.ps_forms.specs.declared.lexemes.Lexeme.{Lexeme}
-use Rattle.ps_forms.proofs.OneSpelling.{one_spelling}
 use Rattle.ps_script.specs.Commands.{command_of}
 use Rattle.ps_script.specs.Files.{after_run, file_in, is_run_plan, is_source}
 use Rattle.ps_script.specs.Forms.{form_of, start_of}
+use Rattle.ps_script.specs.Judged.{IsJudged}
 use Rattle.ps_script.specs.Laws.{LinesAreReadAsOne}
-use Rattle.ps_script.specs.Lines.{IsPlain, IsRead, bad, cause_of, is_nothing, marks_of, place, with_run_plan}
+use Rattle.ps_script.specs.Lines.{IsPlain, IsRead, bad, cause_of, is_nothing, with_run_plan}
 use Rattle.ps_script.specs.Lines.IsRead.{nothing, source, source_nothing, run_plan, run_nothing, without_class, without_number, without_form, without_shape, good}
 use Rattle.ps_script.specs.declared.forms.Form.{Form}
-use Rattle.ps_script.specs.declared.forms.Form.TheVariants as form
 use Rattle.ps_script.specs.declared.reading.Read.{Read}
 use Rattle.ps_script.specs.declared.reading.Read.TheVariants.{Nothing, Line, Source, RunPlan}
+use Rattle.ps_script.proofs.Judgements.{judged_one}
 
 -- ---- lines that say nothing or name a file
 
@@ -47,8 +45,8 @@ early table bytes =
 
 -- the answer to a line of a form
 data Formed (table : Table) (bytes : List ℕ) (tokens : List Token) (f : Form) : Read → Table → Type 0 where
-  misfit : (i : ℕ) → IsFirstFaultFrom (start_of f) (marks_of bytes tokens) i → Formed table bytes tokens f (bad (cause.Shape (place bytes tokens i))) table
-  meant : (ls : List Lexeme) (after : Table) (ts : Nesteds) (command : Command) → Derives (start_of f) (marks_of bytes tokens) → IsShallowFrom (start_of f) (marks_of bytes tokens) → lexemes_of bytes table tokens ≡ (ls, after) → SpellAll ts ls → command_of f ts ≡ command → Formed table bytes tokens f (Line (Good command)) after
+  refused : (ls : List Lexeme) (after : Table) (at : ℕ) → lexemes_of bytes table tokens ≡ (ls, after) → IsJudged (start_of f) bytes tokens ls (Err at) → Formed table bytes tokens f (bad (cause.Shape at)) table
+  meant : (ls : List Lexeme) (after : Table) (ts : Nesteds) (command : Command) → lexemes_of bytes table tokens ≡ (ls, after) → IsJudged (start_of f) bytes tokens ls (Ok ts) → command_of f ts ≡ command → Formed table bytes tokens f (Line (Good command)) after
 
 -- the answer to a line with words
 data Worded (table : Table) (bytes : List ℕ) : Read → Table → Type 0 where
@@ -56,16 +54,30 @@ data Worded (table : Table) (bytes : List ℕ) : Read → Table → Type 0 where
   formless : (tokens : List Token) → AreTokens bytes tokens → form_of (words bytes) ≡ None → Worded table bytes (bad cause.Command) table
   formed : (tokens : List Token) (f : Form) (r : Read) (after : Table) → AreTokens bytes tokens → form_of (words bytes) ≡ Some f → Formed table bytes tokens f r after → Worded table bytes r after
 
-formed_one : (table : Table) (bytes : List ℕ) (tokens : List Token) (f : Form) (r s : Read) (after other : Table) → Formed table bytes tokens f r after → Formed table bytes tokens f s other → (r ≡ s) × (after ≡ other)
-formed_one table bytes tokens f _ _ _ _ (misfit i x) (misfit k y) =
-    (ap (λ n. bad (cause.Shape (place bytes tokens n))) (first_faults_are_one (start_of f) (marks_of bytes tokens) i k x y), refl)
-formed_one table bytes tokens f _ _ _ _ (misfit i x) (meant ls a ts c d h w p m) = absurd (first_faults_are_real (start_of f) (marks_of bytes tokens) i x d h)
-formed_one table bytes tokens f _ _ _ _ (meant ls a ts c d h w p m) (misfit i x) = absurd (first_faults_are_real (start_of f) (marks_of bytes tokens) i x d h)
-formed_one table bytes tokens f _ _ _ _ (meant ls a ts c d h w p m) (meant ms o us g e k v q n) =
+-- two judgements of the words of a line are the same
+pub words_one : (start : List Symbol) (table : Table) (bytes : List ℕ) (tokens : List Token) (ls ms : List Lexeme) (after other : Table) (r s : Result Nesteds ℕ) → lexemes_of bytes table tokens ≡ (ls, after) → lexemes_of bytes table tokens ≡ (ms, other) → IsJudged start bytes tokens ls r → IsJudged start bytes tokens ms s → (r ≡ s) × (after ≡ other)
+words_one start table bytes tokens ls ms after other r s w v x y =
     let both = sym w ∙ v in
-    let lists : ts ≡ us = one_spelling ts us ms (subst (SpellAll ts) (ap (λ x. x.0) both) p) q in
-    let same : c ≡ g = sym m ∙ ap (command_of f) lists ∙ n in
-    (ap (λ x. Line (Good x)) same, ap (λ x. x.1) both)
+    (judged_one start bytes tokens ms r s (subst (λ (x : List Lexeme). IsJudged start bytes tokens x r) (ap (λ x. x.0) both) x) y, ap (λ x. x.1) both)
+
+pub same_lists : (ts us : Nesteds) → ◌≡◌ {A = Result Nesteds ℕ} (Ok ts) (Ok us) → ts ≡ us
+same_lists ts us e = cc
+
+pub same_fault : (a b : ℕ) → ◌≡◌ {A = Result Nesteds ℕ} (Err a) (Err b) → a ≡ b
+same_fault a b e = cc
+
+formed_one : (table : Table) (bytes : List ℕ) (tokens : List Token) (f : Form) (r s : Read) (after other : Table) → Formed table bytes tokens f r after → Formed table bytes tokens f s other → (r ≡ s) × (after ≡ other)
+formed_one table bytes tokens f _ _ _ _ (refused ls a i w x) (refused ms o k v y) =
+    (ap (λ n. bad (cause.Shape n)) (same_fault i k (words_one (start_of f) table bytes tokens ls ms a o (Err i) (Err k) w v x y).0), refl)
+formed_one table bytes tokens f _ _ _ _ (refused ls a i w x) (meant ms o us g v y n) =
+    let none = (words_one (start_of f) table bytes tokens ls ms a o (Err i) (Ok us) w v x y).0 in
+    absurd (cc)
+formed_one table bytes tokens f _ _ _ _ (meant ls a ts c w x m) (refused ms o k v y) =
+    let none = (words_one (start_of f) table bytes tokens ls ms a o (Ok ts) (Err k) w v x y).0 in
+    absurd (cc)
+formed_one table bytes tokens f _ _ _ _ (meant ls a ts c w x m) (meant ms o us g v y n) =
+    let one = words_one (start_of f) table bytes tokens ls ms a o (Ok ts) (Ok us) w v x y in
+    (ap (λ x. Line (Good x)) (sym m ∙ ap (command_of f) (same_lists ts us one.0) ∙ n), one.1)
 
 pub one_form : (a b : Form) → ◌≡◌ {A = Option Form} (Some a) (Some b) → a ≡ b
 one_form a b e = cc
@@ -102,9 +114,10 @@ answered table bytes _ _ (run_nothing e s p f) = inl (rw (e, s, p, f) refl)
 answered table bytes _ _ (without_class at plain x) = inr (plain_late table bytes plain, faulty at (lexing.Bad at) x)
 answered table bytes _ _ (without_number at plain x) = inr (plain_late table bytes plain, faulty at (lexing.Number at) x)
 answered table bytes _ _ (without_form tokens plain x e) = inr (plain_late table bytes plain, formless tokens x e)
-answered table bytes _ _ (without_shape f tokens i plain x e y) = inr (plain_late table bytes plain, formed tokens f _ _ x e (misfit i y))
-answered table bytes _ _ (good f tokens ls after ts command is w p m) =
-    inr (plain_late table bytes is.plain, formed tokens f _ _ is.are_tokens is.form_is (meant ls after ts command is.derived is.shallow w p m))
+answered table bytes _ _ (without_shape f tokens ls after at is w x) =
+    inr (plain_late table bytes is.plain, formed tokens f _ _ is.are_tokens is.form_is (refused ls after at w x))
+answered table bytes _ _ (good f tokens ls after ts command is w x m) =
+    inr (plain_late table bytes is.plain, formed tokens f _ _ is.are_tokens is.form_is (meant ls after ts command w x m))
 
 abbrev here_or : Read × Table → Option (Read × Table) → Read × Table
 here_or other None = other

@@ -1,5 +1,5 @@
 -- The forms of a line: the words that each begins with, and what each wants.
-use Rattle.std.specs.Prelude.{ℕ, suc, Bool, true, false, ◌&&◌, if◌then◌else◌, List, [], ◌∷◌, codes, Option, None, Some}
+use Rattle.std.specs.Prelude.{ℕ, suc, Bool, true, ◌&&◌, if◌then◌else◌, List, [], ◌∷◌, codes, Option, None, Some}
 use Rattle.std.specs.Option.{option_or}
 use Rattle.ps_text.specs.Words.{reads_as, word_at}
 use Rattle.ps_shape.specs.declared.marks.Mark.TheVariants as mark

@@ -2,6 +2,8 @@ pub mod Commands
 pub mod Files
 pub mod Forms
 pub mod Goals
+pub mod Judged
 pub mod Kinds
 pub mod Laws
 pub mod Lines
+pub mod Scopes

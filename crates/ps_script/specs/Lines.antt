@@ -1,6 +1,5 @@
 -- What a line of the terminal is read as.
-use Rattle.std.specs.Prelude.{◌≡◌, ℕ, Bool, true, false, ◌||◌, ◌==◌, List, [], ◌∷◌, codes, length, map, slice_get, slice_range, None, Some}
-use Rattle.std.specs.Option.{option_map_or}
+use Rattle.std.specs.Prelude.{◌≡◌, ℕ, Bool, true, false, ◌||◌, ◌==◌, List, [], ◌∷◌, codes, length, map, slice_range, None, Some, Ok, Err}
 use Rattle.ps_world.specs.Names.{Table}
 use Rattle.ps_machine.specs.declared.inputs.Command.{Command}
 use Rattle.ps_machine.specs.declared.inputs.LineCause.{LineCause}
@@ -12,15 +11,14 @@ use Rattle.ps_text.specs.Words.{words}
 use Rattle.ps_text.specs.declared.lexing.LexRefusal.{LexRefusal}
 use Rattle.ps_text.specs.declared.lexing.LexRefusal.TheVariants as lexing
 use Rattle.ps_text.specs.declared.lexing.Token.{Token}
-use Rattle.ps_shape.specs.Shape.{Derives, IsFirstFaultFrom, IsShallowFrom}
 use Rattle.ps_shape.specs.declared.marks.Mark.{Mark}
 use Rattle.ps_forms.specs.Lexemes.{lexemes_of, mark_of}
 use Rattle.ps_forms.specs.Nested.{Nesteds}
-use Rattle.ps_forms.specs.Spelling.{SpellAll}
 use Rattle.ps_forms.specs.declared.lexemes.Lexeme.{Lexeme}
 use Rattle.ps_script.specs.Commands.{command_of}
 use Rattle.ps_script.specs.Files.{after_run, file_in, is_run_plan, is_source, trimmed}
 use Rattle.ps_script.specs.Forms.{form_of, start_of}
+use Rattle.ps_script.specs.Judged.{IsJudged}
 use Rattle.ps_script.specs.declared.forms.Form.{Form}
 use Rattle.ps_script.specs.declared.reading.Read.{Read}
 use Rattle.ps_script.specs.declared.reading.Read.TheVariants.{Nothing, Line, Source, RunPlan}
@@ -48,10 +46,6 @@ with_run_plan table = interned (interned table (codes "run")) (codes "plan")
 abbrev pub marks_of : List ℕ → List Token → List Mark
 marks_of bytes tokens = map (λ t. mark_of t.class (slice_range bytes t.from t.to)) tokens
 
--- the byte at which a token begins, or the line's length past the last
-abbrev pub place : List ℕ → List Token → ℕ → ℕ
-place bytes tokens i = option_map_or (λ t. t.from) (slice_get tokens i) (length bytes)
-
 -- a bad line
 abbrev pub bad : LineCause → Read
 bad c = Line (Bad c)
@@ -61,16 +55,15 @@ abbrev pub cause_of : LexRefusal → LineCause
 cause_of (lexing.Bad at) = cause.Lex at
 cause_of (lexing.Number at) = cause.Number at
 
--- a line with these words is of this form, and all of it fits
+-- a line with these words is of this form
 pub record IsOfForm (bytes : List ℕ) (form : Form) (tokens : List Token) : Type 0 where
   pub plain : IsPlain bytes
   pub are_tokens : AreTokens bytes tokens
   pub form_is : form_of (words bytes) ≡ Some form
-  pub derived : Derives (start_of form) (marks_of bytes tokens)
-  pub shallow : IsShallowFrom (start_of form) (marks_of bytes tokens)
 
 -- What a line is read as, with a table of names before it and the table after it. A word without a class comes first, then leading
--- words that are no form, then the first word that doesn't fit, and a line that fits is what its nested lists mean.
+-- words that are no form, then the first word that doesn't fit or is a variable out of its scope, and any other line is what its nested
+-- lists mean.
 pub data IsRead (table : Table) (bytes : List ℕ) : Read → Table → Type 0 where
   nothing : is_nothing bytes ≡ true → IsRead table bytes Nothing table
   source : (file : List ℕ) → is_nothing bytes ≡ false → is_source bytes ≡ true → file_in (after_run bytes) ≡ Some file → IsRead table bytes (Source file) table
@@ -80,5 +73,5 @@ pub data IsRead (table : Table) (bytes : List ℕ) : Read → Table → Type 0 w
   without_class : (at : ℕ) → IsPlain bytes → IsFirstFault bytes at (lexing.Bad at) → IsRead table bytes (bad (cause.Lex at)) table
   without_number : (at : ℕ) → IsPlain bytes → IsFirstFault bytes at (lexing.Number at) → IsRead table bytes (bad (cause.Number at)) table
   without_form : (tokens : List Token) → IsPlain bytes → AreTokens bytes tokens → form_of (words bytes) ≡ None → IsRead table bytes (bad cause.Command) table
-  without_shape : (form : Form) (tokens : List Token) (i : ℕ) → IsPlain bytes → AreTokens bytes tokens → form_of (words bytes) ≡ Some form → IsFirstFaultFrom (start_of form) (marks_of bytes tokens) i → IsRead table bytes (bad (cause.Shape (place bytes tokens i))) table
-  good : (form : Form) (tokens : List Token) (ls : List Lexeme) (after : Table) (ts : Nesteds) (command : Command) → IsOfForm bytes form tokens → lexemes_of bytes table tokens ≡ (ls, after) → SpellAll ts ls → command_of form ts ≡ command → IsRead table bytes (Line (Good command)) after
+  without_shape : (form : Form) (tokens : List Token) (ls : List Lexeme) (after : Table) (at : ℕ) → IsOfForm bytes form tokens → lexemes_of bytes table tokens ≡ (ls, after) → IsJudged (start_of form) bytes tokens ls (Err at) → IsRead table bytes (bad (cause.Shape at)) table
+  good : (form : Form) (tokens : List Token) (ls : List Lexeme) (after : Table) (ts : Nesteds) (command : Command) → IsOfForm bytes form tokens → lexemes_of bytes table tokens ≡ (ls, after) → IsJudged (start_of form) bytes tokens ls (Ok ts) → command_of form ts ≡ command → IsRead table bytes (Line (Good command)) after

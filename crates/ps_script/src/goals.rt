@@ -25,7 +25,7 @@ pub fn fact_of(trees: &[Tree]) -> Fact
 fn condition(alloc: Global, tree: &Tree) -> Result<Cond, AllocError>
     ensures { IfOk result (λ c. c ≡ condition (nested tree.now)) }
 {
-    match read_condition(alloc, &LineNames, tree) {
+    match read_condition(alloc, &LineNames, &[], tree) {
         Ok(cond) => Ok(cond),
         Err(Failure::OutOfMemory) => Err(AllocError),
         Err(Failure::Refused(never)) => match never {},

@@ -1,23 +1,19 @@
 //! Reading a line of the terminal.
-ghost use Rattle.std.specs.Prelude.{◌≡◌, Some, false, slice_range, true, IfOk, OnErr, OnOk};
+ghost use Rattle.std.specs.Prelude.{◌≡◌, Some, false, true, IfOk, OnErr, OnOk};
 ghost use Rattle.ps_world.specs.Names.{Table};
 ghost use Rattle.ps_text.specs.Tokens.{AreTokens};
 ghost use Rattle.ps_text.specs.Words.{word_at, words};
 ghost use Rattle.ps_text.specs.Names.{Keeps};
-ghost use Rattle.ps_forms.specs.Lexemes.{IsTokenOf, mark_of, marks};
-ghost use Rattle.ps_forms.specs.Nested.{Nesteds};
-ghost use Rattle.ps_forms.specs.Spelling.{SpellAll, is_balanced};
-ghost use Rattle.ps_script.specs.Commands.{command_of};
 ghost use Rattle.ps_script.specs.Files.{after_run, file_in, is_run_plan, is_source};
 ghost use Rattle.ps_script.specs.Forms.{form_of};
-ghost use Rattle.ps_script.specs.Lines.{IsPlain, IsRead, bad, begins_nothing, cause_of, is_nothing, marks_of, place, with_run_plan};
+ghost use Rattle.ps_script.specs.Lines.{IsPlain, IsRead, bad, begins_nothing, cause_of, is_nothing, with_run_plan};
 
 use super::commands::command_of;
 use super::files::{FileName, after_run, file_in, is_run_plan, is_source, trimmed};
 use super::forms::{Form, form_of_leading};
-use ps_forms::{Lexeme, lexemes_of, mark_of, trees_of};
-use ps_machine::{Command, Line, LineCause};
-use ps_shape::Mark;
+use super::judging::{judged, marks_of_words};
+use ps_forms::lexemes_of;
+use ps_machine::{Line, LineCause};
 use ps_text::{LexRefusal, Names, Token, tokens};
 use ps_world::Failure;
 use std::alloc::{AllocError, Global};
@@ -72,36 +68,6 @@ fn put_run_plan(names: &mut Names) -> Result<(), AllocError>
     Ok(())
 }
 
-/// What a token is to the grammar.
-fn mark_of_token(bytes: &[u8], token: Token) -> Mark
-    requires { IsTokenOf bytes.now token }
-    ensures { result ≡ mark_of token.class (slice_range bytes.now token.from token.to) }
-{
-    mark_of(token.class, &bytes[token.from..token.to])
-}
-
-/// What each token is to the grammar.
-pub fn marks_of(alloc: Global, bytes: &[u8], tokens: &[Token]) -> Result<Vec<Mark>, AllocError>
-    requires { AreTokens bytes.now tokens.now }
-    ensures { IfOk result (λ v. v.items ≡ marks_of bytes.now tokens.now) }
-{
-    let mut marks = Vec::with_capacity(alloc, tokens.len())?;
-    for token in tokens {
-        marks.push(mark_of_token(bytes, *token))?;
-    }
-    Ok(marks)
-}
-
-/// The byte at which a token begins, or the line's length past the last.
-pub fn place(bytes: &[u8], tokens: &[Token], i: usize) -> usize
-    ensures { result ≡ place bytes.now tokens.now i }
-{
-    match tokens.get(i) {
-        Some(token) => token.from,
-        None => bytes.len(),
-    }
-}
-
 /// The word that the token at a place is, or an empty one past the last.
 fn word_of<'a>(bytes: &'a [u8], tokens: &[Token], i: usize) -> &'a [u8]
     requires { AreTokens bytes.now tokens.now }
@@ -154,26 +120,6 @@ fn read_run_plan(alloc: Global, names: &mut Names, bytes: &[u8]) -> Result<Read,
     }
 }
 
-/// What each word is to the grammar.
-fn marks_of_words(alloc: Global, words: &[Lexeme]) -> Result<Vec<Mark>, AllocError>
-    ensures { IfOk result (λ v. v.items ≡ marks words.now) }
-{
-    let mut marks = Vec::with_capacity(alloc, words.len())?;
-    for word in words {
-        marks.push(word.mark)?;
-    }
-    Ok(marks)
-}
-
-/// The command that the words of a line are, where they fit its form.
-fn command_in(alloc: Global, form: Form, words: &[Lexeme]) -> Result<Command, AllocError>
-    requires { is_balanced 0 (marks words.now) ≡ true }
-    ensures { IfOk result (λ c. (ts : Nesteds) × SpellAll ts words.now × (c ≡ command_of form ts)) }
-{
-    let trees = trees_of(alloc, words)?;
-    command_of(alloc, form, trees.as_slice())
-}
-
 /// Reads a line whose leading words are those of a form.
 ///
 /// What the words are to the grammar is found once, as they are made. So their names are in the table before it is known whether the line
@@ -194,14 +140,17 @@ fn read_form(
     let before = names.len();
     let words = lexemes_of(alloc, names, bytes, tokens)?;
     let marks = marks_of_words(alloc, &words)?;
-    if let Some(i) = form.first_misfit(alloc, &marks)? {
-        names.cut_back(before);
-        return Ok(bad(LineCause::Shape {
-            at: place(bytes, tokens, i),
-        }));
+    let misfit = form.first_misfit(alloc, &marks)?;
+    match judged(alloc, bytes, tokens, &words, misfit)? {
+        Ok(trees) => {
+            let command = command_of(alloc, form, trees.as_slice())?;
+            Ok(Read::Line(Line::Good(command)))
+        }
+        Err(at) => {
+            names.cut_back(before);
+            Ok(bad(LineCause::Shape { at }))
+        }
     }
-    let command = command_in(alloc, form, &words)?;
-    Ok(Read::Line(Line::Good(command)))
 }
 
 /// Reads a line that names no file.

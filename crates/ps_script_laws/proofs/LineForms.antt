@@ -1,5 +1,5 @@
 -- The lists that the words of a line spell, and what the line's form takes of them.
-use Rattle.std.proofs.Common.{◌≡◌, ℕ, zero, suc, true, Some, List, [], ◌∷◌, length, refl, ap, ◌∙◌}
+use Rattle.std.proofs.Common.{◌≡◌, ℕ, zero, suc, true, Some, List, [], ◌∷◌, ◌++◌, length, None, refl, ap, ◌∙◌}
 use Rattle.std.proofs.lemmas.List.Elements.{All-nil}
 use Rattle.ps_world.specs.Names.{Table, name_text}
 use Rattle.ps_world.specs.Trees.{CondTree, CondTrees, all_of, any_of, no, implied, holds, same, compares, is_a, for_some, for_all}
@@ -13,17 +13,20 @@ use Rattle.ps_shape.specs.Marks.{is_name}
 use Rattle.ps_shape.specs.declared.symbols.Symbol.{Symbol}
 use Rattle.ps_shape.specs.declared.symbols.Symbol.TheVariants.{AnyName}
 use Rattle.ps_forms.specs.Lexemes.{mark_of}
-use Rattle.ps_forms.specs.Nested.{Nesteds, word, group, none, more}
+use Rattle.ps_forms.specs.Nested.{Nested, Nesteds, word, group, none, more}
 use Rattle.ps_forms.specs.Places.{rest}
 use Rattle.ps_forms.proofs.OneWord as one
 use Rattle.ps_print.specs.CanonicalWords.{cond_words, IsCondOf, IsNameOf, IsParamOf}
 use Rattle.ps_pddl.proofs.CanonicalForms.{IsNamed, IsCondForm}
 use Rattle.ps_pddl.proofs.Fits.{BindsFree, BindFree, IsVariableName}
 use Rattle.ps_pddl.proofs.NameMarks.{name_mark-is_name}
+use Rattle.ps_pddl.proofs.MeanTerms.{named-is_name}
 use Rattle.ps_pddl.proofs.SpeltParts.{name_first, spelt_cond}
 use Rattle.ps_pddl.proofs.SpeltWords.{AllSpelt, all_last, is_plain, nothing_spelt, one_last, word_first}
 use Rattle.ps_forms.proofs.TakenLines.{TakesLine}
+use Rattle.ps_script.specs.Scopes.{stray, strays}
 use Rattle.ps_script_laws.specs.Sayable.{HasGoalHeads, HaveGoalHeads}
+use Rattle.ps_script_laws.proofs.GoalScopes.{name_stays}
 
 -- so many fixed words, which are names, and then lists with this property
 abbrev pub Fixed : ℕ → (Nesteds → Type 0) → Nesteds → Type 0
@@ -47,21 +50,21 @@ IsOneCond names c ts = ⊥
 
 mutual
   -- a goal that can be said binds what may be a variable
-  pub heads_free : (names : Table) (c : CondTree) → HasGoalHeads names c → BindsFree names [] c
-  heads_free names (all_of cs) h = all_heads_free names cs h
-  heads_free names (any_of cs) h = absurd h.0
-  heads_free names (no c) h = heads_free names c h
-  heads_free names (implied a b) h = absurd h.0
-  heads_free names (holds l) h = tt
-  heads_free names (same s t) h = (tt, tt)
-  heads_free names (compares rel x y) h = (tt, tt)
-  heads_free names (is_a t kind) h = tt
-  heads_free names (for_some qs c) h = absurd h.0
-  heads_free names (for_all qs c) h = absurd h.0
+  pub heads_free : (names : Table) (ps : List Param) (c : CondTree) → HasGoalHeads names ps c → BindsFree names ps c
+  heads_free names ps (all_of cs) h = all_heads_free names ps cs h
+  heads_free names ps (any_of cs) h = (tt, all_heads_free names ps cs h.1)
+  heads_free names ps (no c) h = heads_free names ps c h
+  heads_free names ps (implied a b) h = (tt, (heads_free names ps a h.1.0, heads_free names ps b h.1.1))
+  heads_free names ps (holds l) h = tt
+  heads_free names ps (same s t) h = (tt, tt)
+  heads_free names ps (compares rel x y) h = (tt, tt)
+  heads_free names ps (is_a t kind) h = tt
+  heads_free names ps (for_some qs c) h = (h.0.free, heads_free names (ps ++ qs) c h.1)
+  heads_free names ps (for_all qs c) h = (h.0.free, heads_free names (ps ++ qs) c h.1)
 
-  all_heads_free : (names : Table) (cs : CondTrees) → HaveGoalHeads names cs → BindFree names [] cs
-  all_heads_free names tree.none h = tt
-  all_heads_free names (tree.more c cs) h = (heads_free names c h.0, all_heads_free names cs h.1)
+  all_heads_free : (names : Table) (ps : List Param) (cs : CondTrees) → HaveGoalHeads names ps cs → BindFree names ps cs
+  all_heads_free names ps tree.none h = tt
+  all_heads_free names ps (tree.more c cs) h = (heads_free names ps c h.0, all_heads_free names ps cs h.1)
 
 -- ---- words
 
@@ -115,3 +118,23 @@ fixed_rest zero P ts h = h
 fixed_rest (suc k) P none h = absurd h
 fixed_rest (suc k) P (more (group us) ts) h = absurd h
 fixed_rest (suc k) P (more (word l) ts) h = fixed_rest k P ts h.1
+
+-- ---- variables that stay in their scope
+
+pub fixed_stays : (k : ℕ) (P : Nesteds → Type 0) (ts : Nesteds) → Fixed k P ts → ((us : Nesteds) → P us → strays [] us ≡ None) → strays [] ts ≡ None
+fixed_stays zero P ts h next = next ts h
+fixed_stays (suc k) P none h next = refl
+fixed_stays (suc k) P (more (group us) ts) h next = absurd h
+fixed_stays (suc k) P (more (word l) ts) h next = rw (name_stays [] l h.0) (fixed_stays k P ts h.1 next)
+
+pub named_stays : (names : Table) (ns : List Name) (ts : Nesteds) → AreNamed names ns ts → strays [] ts ≡ None
+named_stays names [] none h = refl
+named_stays names [] (more t ts) h = absurd h
+named_stays names (n ∷ ns) none h = refl
+named_stays names (n ∷ ns) (more (group us) ts) h = absurd h
+named_stays names (n ∷ ns) (more (word l) ts) h = rw (name_stays [] l (named-is_name names n l h.0)) (named_stays names ns ts h.1)
+
+pub one_cond_stays : (names : Table) (c : CondTree) → ((t : Nested) → IsCondForm names [] c t → stray [] t ≡ None) → (us : Nesteds) → IsOneCond names c us → strays [] us ≡ None
+one_cond_stays names c stays none h = refl
+one_cond_stays names c stays (more t none) h = rw (stays t h) refl
+one_cond_stays names c stays (more t (more u us)) h = absurd h

@@ -1,5 +1,5 @@
 -- The edits, queries and acts that a line of the terminal can say, where these are the names.
-use Rattle.std.specs.Prelude.{◌≡◌, ℕ, ◌≤◌, true, List, [], length, All}
+use Rattle.std.specs.Prelude.{◌≡◌, ℕ, ◌≤◌, true, List, [], ◌++◌, codes, length, All}
 use Rattle.ps_world.specs.Names.{Table, name_text}
 use Rattle.ps_world.specs.Numbers.{IsCount}
 use Rattle.ps_world.specs.Trees.{ExprTree, number, value_of, negated, operated, CondTree, CondTrees}
@@ -9,6 +9,7 @@ use Rattle.ps_world.specs.declared.names.Name.{Name}
 use Rattle.ps_world.specs.declared.facts.Fact.{Fact}
 use Rattle.ps_world.specs.declared.schemas.Lifted.{Lifted}
 use Rattle.ps_world.specs.declared.conditions.Cond.{Cond}
+use Rattle.ps_world.specs.declared.domains.Param.{Param}
 use Rattle.ps_world.specs.declared.edits.Edit.{Edit}
 use Rattle.ps_world.specs.declared.edits.Edit.TheVariants.{AddInstance, RemoveInstance, AddFact, RemoveFact, SetValue, RemoveValue, SetGoal, RemoveGoal}
 use Rattle.ps_action.specs.declared.acts.Act.{Act}
@@ -17,8 +18,10 @@ use Rattle.ps_machine.specs.declared.inputs.Query.TheVariants.{ModelPredicate, M
 use Rattle.ps_rules.specs.Sound.{cond_opens}
 use Rattle.ps_text.specs.declared.lexing.Class.TheVariants as class
 use Rattle.ps_shape.specs.Marks.{is_goal_name}
+use Rattle.ps_shape.specs.declared.marks.Mark.TheVariants as mark
 use Rattle.ps_forms.specs.Lexemes.{mark_of}
 use Rattle.ps_print.specs.CanonicalWords.{IsCondOf, IsNameOf}
+use Rattle.ps_pddl.specs.WellFormed.{AreApart}
 
 -- ---- facts
 
@@ -53,31 +56,39 @@ IsShortExpr (value_of l) = IsShort l
 IsShortExpr (negated x) = IsShortExpr x
 IsShortExpr (operated op x y) = IsShortExpr x × IsShortExpr y
 
--- what is said of a goal's leaves here: each fact and function has at most 6 arguments, each fact a head that may stand there, and nothing is
--- quantified, any of several or implied
+-- variables that a quantifier binds where these are in force: with those there are two at most, each has a name of its own, and none of them
+-- is named `duration`
+pub record AreBindable (names : Table) (ps qs : List Param) : Type 0 where
+  pub few : length (ps ++ qs) ≤ 2
+  pub apart : AreApart (λ p. p.name) (ps ++ qs)
+  pub free : All (λ q. mark_of class.Variable (codes "?" ++ name_text names q.name) ≡ mark.Variable) qs
+
+-- what is said of a goal's leaves here: each fact and function has at most 6 arguments, each fact a head that may stand there, and each
+-- quantifier variables that it can bind
 abbrev pub sayable_leaves : Table → Leaves
 sayable_leaves names = record {
   atom = λ ps l. IsShort l × IsGoalHead names l.head;
   term = λ ps t. Unit {0};
   value = λ ps x. IsShortExpr x;
   kind = λ ps kind. Unit {0};
-  bound = λ ps qs. ⊥;
-  either = ⊥;
+  bound = λ ps qs. AreBindable names ps qs;
+  either = Unit {0};
 }
 
--- a condition of such leaves
-abbrev pub HasGoalHeads : Table → CondTree → Type 0
-HasGoalHeads names c = AllIn (sayable_leaves names) [] c
+-- a condition of such leaves, where these variables are in force
+abbrev pub HasGoalHeads : Table → List Param → CondTree → Type 0
+HasGoalHeads names ps c = AllIn (sayable_leaves names) ps c
 
 -- the same of several
-abbrev pub HaveGoalHeads : Table → CondTrees → Type 0
-HaveGoalHeads names cs = AllInEach (sayable_leaves names) [] cs
+abbrev pub HaveGoalHeads : Table → List Param → CondTrees → Type 0
+HaveGoalHeads names ps cs = AllInEach (sayable_leaves names) ps cs
 
--- A goal that a line can say: its names stand in the table, its numbers are in range, no variable stands in it and none in it says that
--- an instance has a type, its heads may stand where they do, and at most 64 parentheses are open at one place.
+-- A goal that a line can say: its names stand in the table, its numbers are in range, no variable is free in it and none in it says that
+-- an instance has a type, its heads may stand where they do, its variables can be bound where they are, and at most 64 parentheses are open
+-- at one place.
 pub record IsGoalOf (names : Table) (goal : Cond) : Type 0 where
   pub known : IsCondOf (length names) [] (cond_tree goal)
-  pub heads : HasGoalHeads names (cond_tree goal)
+  pub heads : HasGoalHeads names [] (cond_tree goal)
   pub shallow : cond_opens (cond_tree goal) ≤ 64
 
 -- ---- edits and queries

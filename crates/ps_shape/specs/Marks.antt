@@ -3,7 +3,7 @@ use Rattle.std.specs.Prelude.{Bool, true, false, not, ◌&&◌}
 use denote.Enum.Bare.{sameb}
 use Rattle.ps_shape.specs.contracts.marks.Mark.{the_type}
 use Rattle.ps_shape.specs.declared.marks.Mark.{Mark}
-use Rattle.ps_shape.specs.declared.marks.Mark.TheVariants.{Requirements, Types, Constants, Predicates, Functions, DurativeAction, Parameters, DurationKey, ConditionKey, EffectKey, Action, Derived, Constraints, Keyword, Define, Domain, Problem, At, Over, Start, End, All, And, Not, Or, Imply, Exists, Forall, When, Preference, Assign, Increase, Decrease, ScaleUp, ScaleDown, Either, NumberWord, Name}
+use Rattle.ps_shape.specs.declared.marks.Mark.TheVariants.{Requirements, Types, Constants, Predicates, Functions, DurativeAction, Parameters, DurationKey, ConditionKey, EffectKey, Action, Derived, Constraints, Keyword, Variable, Define, Domain, Problem, At, Over, Start, End, All, And, Not, Or, Imply, Exists, Forall, When, Preference, Assign, Increase, Decrease, ScaleUp, ScaleDown, Either, NumberWord, Name}
 
 -- the mark is this one
 abbrev pub is : Mark → Mark → Bool
@@ -37,6 +37,11 @@ is_name NumberWord = true
 is_name Name = true
 is_name _ = false
 
+-- the mark is a term's: a name or a variable
+abbrev pub is_term : Mark → Bool
+is_term Variable = true
+is_term m = is_name m
+
 -- the mark is a keyword
 abbrev pub is_keyword : Mark → Bool
 is_keyword Requirements = true
@@ -55,7 +60,7 @@ is_keyword Constraints = true
 is_keyword Keyword = true
 is_keyword _ = false
 
--- the mark is the head of a form with alternatives, a quantifier or a condition of its own
+-- the mark is the head of a form with alternatives, a quantifier or a condition of its own, wherever it may stand
 abbrev pub is_quantified : Mark → Bool
 is_quantified Or = true
 is_quantified Imply = true

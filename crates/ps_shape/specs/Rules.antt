@@ -1,9 +1,9 @@
 -- The grammar of a domain's text and of goals, a rule a line: the symbol wanted, the mark that it may begin with, and what is wanted after that mark.
 use Rattle.std.specs.Prelude.{ℕ, zero, suc, Bool, true, List, [], ◌∷◌, Option, None, Some, if◌then◌else◌}
 use Rattle.ps_shape.specs.Symbols.{none_seen}
-use Rattle.ps_shape.specs.Marks.{is, is_name, is_keyword, is_change, is_predicate_name, is_fact_name, is_goal_name}
+use Rattle.ps_shape.specs.Marks.{is, is_name, is_term, is_keyword, is_change, is_predicate_name, is_fact_name, is_goal_name}
 use Rattle.ps_shape.specs.declared.marks.Mark.{Mark}
-use Rattle.ps_shape.specs.declared.marks.Mark.TheVariants.{Open, Close, Plus, Times, Divide, Equal, Less, Greater, LessEqual, GreaterEqual, Minus, Duration, Variable, Requirements, Types, Constants, Predicates, Functions, DurativeAction, Parameters, DurationKey, ConditionKey, EffectKey, Number, Define, Domain, At, Over, Start, End, All, And, Not, NumberWord}
+use Rattle.ps_shape.specs.declared.marks.Mark.TheVariants.{Open, Close, Plus, Times, Divide, Equal, Less, Greater, LessEqual, GreaterEqual, Minus, Duration, Variable, Requirements, Types, Constants, Predicates, Functions, DurativeAction, Parameters, DurationKey, ConditionKey, EffectKey, Number, Define, Domain, At, Over, Start, End, All, And, Not, Or, Imply, Exists, Forall, NumberWord}
 use Rattle.ps_shape.specs.declared.symbols.Symbol.{Symbol}
 use Rattle.ps_shape.specs.declared.symbols.Symbol.TheVariants.{The, AnyName, InText, InList, InAction, InCondition, InEffect, InValue, InGoal}
 use Rattle.ps_shape.specs.declared.symbols.Seen.{Seen}
@@ -92,10 +92,15 @@ action_rule action.AfterCondition Close = Some []
 action_rule action.AfterCondition EffectKey = Some (InEffect effect.Form ∷ The Close ∷ [])
 action_rule _ _ = None
 
--- C: (and C*) | (not C) | (NAME TERM*) | (= X X) | (REL X X), where REL is < <= >= >
+-- C: (and C*) | (or C*) | (not C) | (imply C C) | (exists (VLIST) C) | (forall (VLIST) C) | (NAME TERM*) | (= X X) | (REL X X), where REL
+-- is < <= >= >
 abbrev pub condition_head_rule : Mark → Option (List Symbol)
 condition_head_rule And = Some (InCondition condition.Conditions ∷ [])
+condition_head_rule Or = Some (InCondition condition.Conditions ∷ [])
 condition_head_rule Not = Some (InCondition condition.Condition ∷ The Close ∷ [])
+condition_head_rule Imply = Some (InCondition condition.Condition ∷ InCondition condition.Condition ∷ The Close ∷ [])
+condition_head_rule Exists = Some (InAction action.Parameters ∷ InCondition condition.Condition ∷ The Close ∷ [])
+condition_head_rule Forall = Some (InAction action.Parameters ∷ InCondition condition.Condition ∷ The Close ∷ [])
 condition_head_rule Equal = Some (InValue value.Value ∷ InValue value.Value ∷ The Close ∷ [])
 condition_head_rule Less = Some (InValue value.Value ∷ InValue value.Value ∷ The Close ∷ [])
 condition_head_rule LessEqual = Some (InValue value.Value ∷ InValue value.Value ∷ The Close ∷ [])
@@ -174,20 +179,24 @@ value_rule value.ValueOrEnd Open = Some (InValue value.Head ∷ The Close ∷ []
 value_rule value.ValueOrEnd m = where_it_is (is_name m) (The Close ∷ [])
 value_rule _ _ = None
 
--- how many names a fact of a goal and a function's value have at most
+-- how many terms a fact of a goal and a function's value have at most
 abbrev pub most_names : ℕ
 most_names = 6
 
--- a name, where so many may stand, and the names that may follow it
+-- a term, where so many may stand, and the terms that may follow it
 abbrev pub name_rule : ℕ → Mark → Option (List Symbol)
 name_rule zero m = None
-name_rule (suc more) m = where_it_is (is_name m) (InGoal (goal.Names more) ∷ [])
+name_rule (suc more) m = where_it_is (is_term m) (InGoal (goal.Names more) ∷ [])
 
--- C: (and C*) | (not C) | (NAME NAME*) | (= NAME NAME) | (= X X) | (REL X X), where REL is < <= >= >, and the first NAME of a fact is
--- none of and not or imply exists forall when
+-- C: (and C*) | (or C*) | (not C) | (imply C C) | (exists (VLIST) C) | (forall (VLIST) C) | (NAME TERM*) | (= TERM TERM) | (= X X) |
+-- (REL X X), where REL is < <= >= >, and the NAME of a fact is none of and not or imply exists forall when
 abbrev pub goal_head_rule : Mark → Option (List Symbol)
 goal_head_rule And = Some (InGoal goal.Conditions ∷ [])
+goal_head_rule Or = Some (InGoal goal.Conditions ∷ [])
 goal_head_rule Not = Some (InGoal goal.Condition ∷ The Close ∷ [])
+goal_head_rule Imply = Some (InGoal goal.Condition ∷ InGoal goal.Condition ∷ The Close ∷ [])
+goal_head_rule Exists = Some (InAction action.Parameters ∷ InGoal goal.Condition ∷ The Close ∷ [])
+goal_head_rule Forall = Some (InAction action.Parameters ∷ InGoal goal.Condition ∷ The Close ∷ [])
 goal_head_rule Equal = Some (InGoal goal.FirstOperand ∷ [])
 goal_head_rule Less = Some (InGoal goal.Value ∷ InGoal goal.Value ∷ The Close ∷ [])
 goal_head_rule LessEqual = Some (InGoal goal.Value ∷ InGoal goal.Value ∷ The Close ∷ [])
@@ -195,7 +204,7 @@ goal_head_rule GreaterEqual = Some (InGoal goal.Value ∷ InGoal goal.Value ∷ 
 goal_head_rule Greater = Some (InGoal goal.Value ∷ InGoal goal.Value ∷ The Close ∷ [])
 goal_head_rule m = where_it_is (is_goal_name m) (InGoal (goal.Names most_names) ∷ [])
 
--- X: NUMBER | (NAME NAME*) | (- X) | (OP X X), where OP is + - * /
+-- X: NUMBER | (NAME TERM*) | (- X) | (OP X X), where OP is + - * /
 abbrev pub goal_value_rule : Mark → Option (List Symbol)
 goal_value_rule Minus = Some (InGoal goal.Value ∷ InGoal goal.ValueOrEnd ∷ [])
 goal_value_rule Plus = Some (InGoal goal.Value ∷ InGoal goal.Value ∷ The Close ∷ [])
@@ -203,11 +212,11 @@ goal_value_rule Times = Some (InGoal goal.Value ∷ InGoal goal.Value ∷ The Cl
 goal_value_rule Divide = Some (InGoal goal.Value ∷ InGoal goal.Value ∷ The Close ∷ [])
 goal_value_rule m = where_it_is (is_name m) (InGoal (goal.Names most_names) ∷ [])
 
--- what follows `=`: numbers are compared where a number or a parenthesis stands first, and names otherwise
+-- what follows `=`: numbers are compared where a number or a parenthesis stands first, and terms otherwise
 abbrev pub operand_rule : Mark → Option (List Symbol)
 operand_rule Number = Some (InGoal goal.Value ∷ The Close ∷ [])
 operand_rule Open = Some (InGoal goal.ValueHead ∷ InGoal goal.Value ∷ The Close ∷ [])
-operand_rule m = where_it_is (is_name m) (AnyName ∷ The Close ∷ [])
+operand_rule m = where_it_is (is_term m) (InGoal goal.Term ∷ The Close ∷ [])
 
 -- what each part of a goal begins with
 abbrev pub goal_rule : GoalPart → Mark → Option (List Symbol)
@@ -217,6 +226,7 @@ goal_rule goal.Conditions Close = Some []
 goal_rule goal.Conditions Open = Some (InGoal goal.Head ∷ InGoal goal.Conditions ∷ [])
 goal_rule goal.FirstOperand m = operand_rule m
 goal_rule goal.Atom Open = Some (AnyName ∷ InGoal (goal.Names most_names) ∷ [])
+goal_rule goal.Term m = where_it_is (is_term m) []
 goal_rule (goal.Names most) Close = Some []
 goal_rule (goal.Names most) m = name_rule most m
 goal_rule goal.Value Number = Some []

@@ -49,6 +49,7 @@ weight (InValue value.Atom) = 0
 weight (InValue value.Value) = 0
 weight (InGoal goal.Condition) = 0
 weight (InGoal goal.Atom) = 0
+weight (InGoal goal.Term) = 0
 weight (InGoal goal.Value) = 0
 weight _ = 1
 

@@ -26,7 +26,7 @@ pub enum Form {
     Either,
     /// A preference.
     Preference,
-    /// `or`, `imply`, `exists`, `forall` or `when`.
+    /// `or`, `imply`, `exists`, `forall` or `when`, where no form has it as its head.
     Quantified,
 }
 

@@ -1,6 +1,6 @@
 //! What a word of a domain's text is to the grammar.
 ghost use Rattle.std.specs.Prelude.{◌≡◌};
-ghost use Rattle.ps_shape.specs.Marks.{is_name, is_keyword, is_quantified, is_change, is_predicate_name, is_fact_name, is_goal_name};
+ghost use Rattle.ps_shape.specs.Marks.{is_name, is_term, is_keyword, is_quantified, is_change, is_predicate_name, is_fact_name, is_goal_name};
 
 /// What a word is to the grammar.
 #[derive(Clone, Copy, PartialEq, Eq, Debug)]
@@ -144,6 +144,16 @@ impl Mark {
             | Mark::NumberWord
             | Mark::Name => true,
             _ => false,
+        }
+    }
+
+    /// Whether it is a term's: a name or a variable.
+    pub fn is_term(self) -> bool
+        ensures { result ≡ is_term self }
+    {
+        match self {
+            Mark::Variable => true,
+            _ => self.is_name(),
         }
     }
 

@@ -16,7 +16,7 @@ use super::symbols::{
     ValuePart,
 };
 
-/// How many names a fact of a goal and a function's value have at most.
+/// How many terms a fact of a goal and a function's value have at most.
 const MOST_NAMES: u8 = 6;
 
 /// What the symbol leads to at the mark, if the mark fits.
@@ -285,10 +285,15 @@ fn condition_head_rule(mark: Mark) -> Option<Then>
     ensures few { IfSome result (λ next. level (symbols next) ≤ 2) }
 {
     let value = InValue(ValuePart::Value);
+    let condition = InCondition(ConditionPart::Condition);
     let end = The(Mark::Close);
     match mark {
-        Mark::And => Some(One(InCondition(ConditionPart::Conditions))),
-        Mark::Not => Some(Two(InCondition(ConditionPart::Condition), end)),
+        Mark::And | Mark::Or => Some(One(InCondition(ConditionPart::Conditions))),
+        Mark::Not => Some(Two(condition, end)),
+        Mark::Imply => Some(Three(condition, condition, end)),
+        Mark::Exists | Mark::Forall => {
+            Some(Three(InAction(ActionPart::Parameters), condition, end))
+        }
         Mark::Equal | Mark::Less | Mark::Greater | Mark::LessEqual | Mark::GreaterEqual => {
             Some(Three(value, value, end))
         }
@@ -428,6 +433,7 @@ fn goal_rule(part: GoalPart, mark: Mark) -> Option<Then>
         (GoalPart::Conditions, Mark::Open) => Some(Two(InGoal(GoalPart::Head), InGoal(part))),
         (GoalPart::FirstOperand, _) => operand_rule(mark),
         (GoalPart::Atom, Mark::Open) => Some(Two(AnyName, names)),
+        (GoalPart::Term, _) => at(mark.is_term(), Nothing),
         (GoalPart::Names(_), Mark::Close) => Some(Nothing),
         (GoalPart::Names(most), _) => name_rule(most, mark),
         (GoalPart::Value, Mark::Number) => Some(Nothing),
@@ -445,11 +451,16 @@ fn goal_head_rule(mark: Mark) -> Option<Then>
     ensures few { IfSome result (λ next. level (symbols next) ≤ 2) }
 {
     let value = InGoal(GoalPart::Value);
+    let condition = InGoal(GoalPart::Condition);
     let names = InGoal(GoalPart::Names(MOST_NAMES));
     let end = The(Mark::Close);
     match mark {
-        Mark::And => Some(One(InGoal(GoalPart::Conditions))),
-        Mark::Not => Some(Two(InGoal(GoalPart::Condition), end)),
+        Mark::And | Mark::Or => Some(One(InGoal(GoalPart::Conditions))),
+        Mark::Not => Some(Two(condition, end)),
+        Mark::Imply => Some(Three(condition, condition, end)),
+        Mark::Exists | Mark::Forall => {
+            Some(Three(InAction(ActionPart::Parameters), condition, end))
+        }
         Mark::Equal => Some(One(InGoal(GoalPart::FirstOperand))),
         Mark::Less | Mark::Greater | Mark::LessEqual | Mark::GreaterEqual => {
             Some(Three(value, value, end))
@@ -458,7 +469,7 @@ fn goal_head_rule(mark: Mark) -> Option<Then>
     }
 }
 
-/// What follows `=`: numbers are compared where a number or a parenthesis stands first, and names otherwise.
+/// What follows `=`: numbers are compared where a number or a parenthesis stands first, and terms otherwise.
 fn operand_rule(mark: Mark) -> Option<Then>
     ensures rule { option_map symbols result ≡ operand_rule mark }
     ensures few { IfSome result (λ next. level (symbols next) ≤ 2) }
@@ -468,7 +479,7 @@ fn operand_rule(mark: Mark) -> Option<Then>
     match mark {
         Mark::Number => Some(Two(value, end)),
         Mark::Open => Some(Three(InGoal(GoalPart::ValueHead), value, end)),
-        _ => at(mark.is_name(), Two(AnyName, end)),
+        _ => at(mark.is_term(), Two(InGoal(GoalPart::Term), end)),
     }
 }
 
@@ -484,7 +495,7 @@ fn goal_value_rule(mark: Mark) -> Option<Then>
     }
 }
 
-/// A name, where so many may stand, and the names that may follow it.
+/// A term, where so many may stand, and the terms that may follow it.
 fn name_rule(most: u8, mark: Mark) -> Option<Then>
     ensures rule { option_map symbols result ≡ name_rule most mark }
     ensures few { IfSome result (λ next. level (symbols next) ≤ 2) }
@@ -492,5 +503,5 @@ fn name_rule(most: u8, mark: Mark) -> Option<Then>
     if most == 0 {
         return None;
     }
-    at(mark.is_name(), One(InGoal(GoalPart::Names(most - 1))))
+    at(mark.is_term(), One(InGoal(GoalPart::Names(most - 1))))
 }

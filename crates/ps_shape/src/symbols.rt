@@ -23,7 +23,7 @@ pub enum Symbol {
     InEffect(EffectPart),
     /// A part of a value.
     InValue(ValuePart),
-    /// A part of a goal: a condition whose terms are names.
+    /// A part of a goal: a condition whose variables are bound in it.
     InGoal(GoalPart),
 }
 
@@ -149,7 +149,7 @@ pub enum ListPart {
 pub enum ActionPart {
     /// What follows the action's name.
     AfterName,
-    /// The list of parameters alone.
+    /// The list of parameters, or of the variables of a quantifier, alone.
     Parameters,
     /// What follows the parameters.
     AfterParameters,
@@ -220,7 +220,7 @@ pub enum ValuePart {
     ValueOrEnd,
 }
 
-/// Goals, and what they share with single facts and numbers: terms are names, and numbers stand alone or are in parentheses.
+/// Goals, and what they share with single facts and numbers: terms are names and variables, and numbers stand alone or are in parentheses.
 #[derive(Clone, Copy)]
 pub enum GoalPart {
     /// A condition.
@@ -229,11 +229,13 @@ pub enum GoalPart {
     Head,
     /// Conditions, and the parenthesis that ends them.
     Conditions,
-    /// What follows `=`: two names or two values, and the parenthesis that ends them.
+    /// What follows `=`: two terms or two values, and the parenthesis that ends them.
     FirstOperand,
-    /// A name with names, in parentheses.
+    /// A name with terms, in parentheses.
     Atom,
-    /// At most so many names, and the parenthesis that ends them.
+    /// A name or a variable.
+    Term,
+    /// At most so many terms, and the parenthesis that ends them.
     Names(u8),
     /// A value.
     Value,
@@ -272,7 +274,9 @@ impl Symbol {
             | Symbol::InCondition(ConditionPart::Form | ConditionPart::Condition)
             | Symbol::InEffect(EffectPart::Form | EffectPart::Effect | EffectPart::StartOrEnd)
             | Symbol::InValue(ValuePart::Atom | ValuePart::Value)
-            | Symbol::InGoal(GoalPart::Condition | GoalPart::Atom | GoalPart::Value) => 0,
+            | Symbol::InGoal(
+                GoalPart::Condition | GoalPart::Atom | GoalPart::Term | GoalPart::Value,
+            ) => 0,
             Symbol::InText(TextPart::SectionHead(_)) | Symbol::InEffect(EffectPart::FormEnd) => 2,
             _ => 1,
         }

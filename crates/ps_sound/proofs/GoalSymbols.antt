@@ -2,12 +2,14 @@
 use Rattle.std.proofs.Common.{◌≡◌, ℕ, zero, suc, ◌==◌, Bool, true, false, ◌&&◌, List, [], ◌∷◌, Option, None, Some, refl, subst, arith}
 use Rattle.std.specs.List.{list_all}
 use Rattle.std.proofs.lemmas.Bool.{and_parts, eqb-true}
-use Rattle.ps_shape.specs.Rules.{goal_rule, step}
+use Rattle.ps_shape.specs.Rules.{action_rule, goal_rule, list_rule, step}
 use Rattle.ps_shape.specs.Symbols.{level, weight}
 use Rattle.ps_shape.specs.declared.marks.Mark.{Mark}
 use Rattle.ps_shape.specs.declared.marks.Mark.TheVariants.{Open, Close}
 use Rattle.ps_shape.specs.declared.symbols.Symbol.{Symbol}
-use Rattle.ps_shape.specs.declared.symbols.Symbol.TheVariants.{The, AnyName, InGoal}
+use Rattle.ps_shape.specs.declared.symbols.Symbol.TheVariants.{The, AnyName, InAction, InGoal, InList}
+use Rattle.ps_shape.specs.declared.symbols.ActionPart.TheVariants as action
+use Rattle.ps_shape.specs.declared.symbols.ListPart.TheVariants as list
 use Rattle.ps_shape.specs.declared.symbols.GoalPart.{GoalPart}
 use Rattle.ps_shape.specs.declared.symbols.GoalPart.TheVariants as goal
 use Rattle.ps_forms.proofs.Balance.{each_mark, every_mark}
@@ -17,6 +19,10 @@ abbrev pub is_goal : Symbol → Bool
 is_goal (The Close) = true
 is_goal AnyName = true
 is_goal (InGoal part) = true
+is_goal (InAction action.Parameters) = true
+is_goal (InList list.Variables) = true
+is_goal (InList list.VariableRun) = true
+is_goal (InList list.TypeName) = true
 is_goal _ = false
 
 -- the symbol stands for one word or list
@@ -74,6 +80,10 @@ fits_step : (s : Symbol) (m : Mark) → is_goal s ≡ true → fits (weight s) m
 fits_step (The Close) m is = each_mark (λ m. fits 1 m (step (The Close) m)) refl m
 fits_step AnyName m is = each_mark (λ m. fits 0 m (step AnyName m)) refl m
 fits_step (InGoal part) m is = each_mark (λ m. fits (weight (InGoal part)) m (goal_rule part m)) (all_goal part) m
+fits_step (InAction action.Parameters) m is = each_mark (λ m. fits 0 m (action_rule action.Parameters m)) refl m
+fits_step (InList list.Variables) m is = each_mark (λ m. fits 1 m (list_rule list.Variables m)) refl m
+fits_step (InList list.VariableRun) m is = each_mark (λ m. fits 1 m (list_rule list.VariableRun m)) refl m
+fits_step (InList list.TypeName) m is = each_mark (λ m. fits 0 m (list_rule list.TypeName m)) refl m
 fits_step (The _) m is = absurd (cc)
 fits_step _ m is = absurd (cc)
 

@@ -1,16 +1,18 @@
 -- Words that nested lists are written with, where a goal is wanted: no list in them is too deep, and a list stands wherever a condition
 -- is looked for.
-use Rattle.std.proofs.Common.{◌≡◌, ℕ, suc, ◌+◌, ◌<◌, ◌≤◌, Bool, true, false, ◌&&◌, ◌||◌, is_some, if◌then◌else◌, List, [], ◌∷◌, ◌++◌, Some, refl, ◌∙◌, subst, arith}
-use Rattle.std.proofs.lemmas.Bool.{and_parts}
+use Rattle.std.proofs.Common.{◌≡◌, ℕ, suc, ◌+◌, ◌<◌, ◌≤◌, Bool, true, false, ◌&&◌, ◌||◌, is_some, ◌⊎◌, inl, inr, None, List, [], ◌∷◌, ◌++◌, Some, refl, ◌∙◌, ap, subst, arith}
+use Rattle.std.proofs.lemmas.Bool.{and_from, and_parts}
 use Rattle.std.proofs.lemmas.List.{map-append}
-use Rattle.ps_shape.specs.Marks.{is, is_goal_name, is_name}
+use Rattle.ps_shape.specs.Marks.{is, is_goal_name, is_term}
 use Rattle.ps_shape.specs.Rules.{most_names, step, where_it_is}
 use Rattle.ps_shape.specs.Shape.{deepest}
 use Rattle.ps_shape.specs.Symbols.{level}
 use Rattle.ps_shape.specs.declared.marks.Mark.{Mark}
-use Rattle.ps_shape.specs.declared.marks.Mark.TheVariants.{Open, Close, And, Not, Number, Equal, Less, LessEqual, GreaterEqual, Greater}
+use Rattle.ps_shape.specs.declared.marks.Mark.TheVariants.{Open, Close, And, Or, Not, Imply, Exists, Forall, Minus, Number, Variable, Equal, Less, LessEqual, GreaterEqual, Greater}
 use Rattle.ps_shape.specs.declared.symbols.Symbol.{Symbol}
-use Rattle.ps_shape.specs.declared.symbols.Symbol.TheVariants.{The, AnyName, InGoal}
+use Rattle.ps_shape.specs.declared.symbols.Symbol.TheVariants.{The, AnyName, InAction, InGoal, InList}
+use Rattle.ps_shape.specs.declared.symbols.ListPart.TheVariants as list
+use Rattle.ps_shape.specs.declared.symbols.ActionPart.TheVariants as action
 use Rattle.ps_shape.specs.declared.symbols.GoalPart.TheVariants as goal
 use Rattle.ps_shape.proofs.Levels.{level_more}
 use Rattle.ps_forms.specs.Lexemes.{marks}
@@ -22,12 +24,13 @@ use Rattle.ps_forms.specs.Spelling.SpellAll.{nothing, one_more}
 use Rattle.ps_forms.specs.declared.lexemes.Lexeme.{Lexeme}
 use Rattle.ps_rules.specs.Sound.{IsScriptCond}
 use Rattle.ps_forms.proofs.Taking.{group_marks, marks_more}
-use Rattle.ps_conditions.specs.Signs.{rel_of}
+use Rattle.ps_conditions.specs.Signs.{Forms, by_head, head_of, rel_of}
+use Rattle.ps_conditions.specs.declared.signs.Head.TheVariants.{Plain}
 use Rattle.ps_script.specs.Goals.{condition, first_condition}
 use Rattle.ps_sound.proofs.GoalMarks.{HasRoom, Runs}
 use Rattle.ps_sound.proofs.GoalMarks.Runs.{goes}
 use Rattle.ps_sound.proofs.GoalSymbols.{closes, closes_level, closes_twice, is_last, is_one, last_close, last_level, last_open, last_word, one_close, one_level, one_open, one_word}
-use Rattle.ps_sound.proofs.GoalTrees.{IsFine, are_formed, begins_formed, condition_fine, has_two, is_form, is_formed, is_headed}
+use Rattle.ps_sound.proofs.GoalTrees.{IsFine, are_after_type, are_formed, are_two_formed, are_variables, begins_formed, binds_formed, condition_fine, has_two, is_form, is_formed, is_headed}
 
 -- ---- one mark
 
@@ -181,16 +184,11 @@ open_more st ms runs =
     let same : n.new ≡ head_wanted ∷ conditions_wanted ∷ [] = let leads = n.leads in cc in
     subst (λ x. Runs (x ++ st) ms) same n.runs
 
-after_and : (st : List Symbol) (ms : List Mark) → Runs (head_wanted ∷ st) (And ∷ ms) → Runs (conditions_wanted ∷ st) ms
-after_and st ms runs =
-    let n = next head_wanted st And ms runs in
-    let same : n.new ≡ conditions_wanted ∷ [] = let leads = n.leads in cc in
-    subst (λ x. Runs (x ++ st) ms) same n.runs
-
-after_not : (st : List Symbol) (ms : List Mark) → Runs (head_wanted ∷ st) (Not ∷ ms) → Runs (condition_wanted ∷ The Close ∷ st) ms
-after_not st ms runs =
-    let n = next head_wanted st Not ms runs in
-    let same : n.new ≡ condition_wanted ∷ The Close ∷ [] = let leads = n.leads in cc in
+-- what is wanted after a head that leads to these symbols alone
+after_head : (m : Mark) (wanted st : List Symbol) (ms : List Mark) → step head_wanted m ≡ Some wanted → Runs (head_wanted ∷ st) (m ∷ ms) → Runs (wanted ++ st) ms
+after_head m wanted st ms leads runs =
+    let n = next head_wanted st m ms runs in
+    let same : n.new ≡ wanted = let there = n.leads in cc in
     subst (λ x. Runs (x ++ st) ms) same n.runs
 
 -- ---- heads
@@ -231,14 +229,14 @@ pub record OneMore (new : List Symbol) : Type 0 where
   pub is_wanted : is_one wanted ≡ true
   pub same : new ≡ wanted ∷ later
 
-operand_name : (b : Bool) (new : List Symbol) → where_it_is b (AnyName ∷ The Close ∷ []) ≡ Some new → OneMore new
-operand_name true new e = record { wanted = AnyName; later = The Close ∷ []; is_wanted = refl; same = cc }
+operand_name : (b : Bool) (new : List Symbol) → where_it_is b (InGoal goal.Term ∷ The Close ∷ []) ≡ Some new → OneMore new
+operand_name true new e = record { wanted = InGoal goal.Term; later = The Close ∷ []; is_wanted = refl; same = cc }
 operand_name false new e = absurd (cc)
 
 operand_word : (m : Mark) (new : List Symbol) → (m ≡ Open → ⊥) → step operand_wanted m ≡ Some new → OneMore new
 operand_word Open new o e = absurd (o refl)
 operand_word Number new o e = record { wanted = value_wanted; later = The Close ∷ []; is_wanted = refl; same = cc }
-operand_word m new o e = operand_name (is_name m) new e
+operand_word m new o e = operand_name (is_term m) new e
 
 two_operands : (ts : Nesteds) (ls : List Lexeme) → SpellAll ts ls → (st : List Symbol) (ms : List Mark) → Runs (operand_wanted ∷ st) (marks ls ++ Close ∷ ms) → has_two ts ≡ true
 two_operands _ _ nothing st ms runs =
@@ -272,22 +270,102 @@ operands_wanted st new ms e runs =
     let same : new ≡ operand_wanted ∷ [] = cc in
     subst (λ x. Runs (x ++ st) ms) same runs
 
--- what follows a head that is neither `and` nor `not`
-headed : (m : Mark) (ts : Nesteds) (ls : List Lexeme) → SpellAll ts ls → (st new : List Symbol) (ms : List Mark) → (m ≡ And → ⊥) → (m ≡ Not → ⊥) → step head_wanted m ≡ Some new → Runs (new ++ st) (marks ls ++ Close ∷ ms) → is_headed m ts ≡ true
-headed And ts ls a st new ms x y e runs = absurd (x refl)
-headed Not ts ls a st new ms x y e runs = absurd (y refl)
-headed Equal ts ls a st new ms x y e runs = two_operands ts ls a st ms (operands_wanted st new (marks ls ++ Close ∷ ms) e runs)
-headed Less ts ls a st new ms x y e runs = two_ones ts ls a value_wanted value_wanted (The Close ∷ st) ms refl refl (values_wanted st new (marks ls ++ Close ∷ ms) e runs)
-headed LessEqual ts ls a st new ms x y e runs = two_ones ts ls a value_wanted value_wanted (The Close ∷ st) ms refl refl (values_wanted st new (marks ls ++ Close ∷ ms) e runs)
-headed GreaterEqual ts ls a st new ms x y e runs = two_ones ts ls a value_wanted value_wanted (The Close ∷ st) ms refl refl (values_wanted st new (marks ls ++ Close ∷ ms) e runs)
-headed Greater ts ls a st new ms x y e runs = two_ones ts ls a value_wanted value_wanted (The Close ∷ st) ms refl refl (values_wanted st new (marks ls ++ Close ∷ ms) e runs)
-headed m ts ls a st new ms x y e runs = headed_name (is_goal_name m) (InGoal (goal.Names most_names) ∷ []) new (is_some (rel_of m) && has_two ts) e
+-- what follows a head without a word of its own
+headed : (m : Mark) (ts : Nesteds) (ls : List Lexeme) → SpellAll ts ls → (st new : List Symbol) (ms : List Mark) → head_of m ≡ Plain → step head_wanted m ≡ Some new → Runs (new ++ st) (marks ls ++ Close ∷ ms) → is_headed m ts ≡ true
+headed And ts ls a st new ms x e runs = absurd (cc)
+headed Or ts ls a st new ms x e runs = absurd (cc)
+headed Not ts ls a st new ms x e runs = absurd (cc)
+headed Imply ts ls a st new ms x e runs = absurd (cc)
+headed Exists ts ls a st new ms x e runs = absurd (cc)
+headed Forall ts ls a st new ms x e runs = absurd (cc)
+headed Equal ts ls a st new ms x e runs = two_operands ts ls a st ms (operands_wanted st new (marks ls ++ Close ∷ ms) e runs)
+headed Less ts ls a st new ms x e runs = two_ones ts ls a value_wanted value_wanted (The Close ∷ st) ms refl refl (values_wanted st new (marks ls ++ Close ∷ ms) e runs)
+headed LessEqual ts ls a st new ms x e runs = two_ones ts ls a value_wanted value_wanted (The Close ∷ st) ms refl refl (values_wanted st new (marks ls ++ Close ∷ ms) e runs)
+headed GreaterEqual ts ls a st new ms x e runs = two_ones ts ls a value_wanted value_wanted (The Close ∷ st) ms refl refl (values_wanted st new (marks ls ++ Close ∷ ms) e runs)
+headed Greater ts ls a st new ms x e runs = two_ones ts ls a value_wanted value_wanted (The Close ∷ st) ms refl refl (values_wanted st new (marks ls ++ Close ∷ ms) e runs)
+headed m ts ls a st new ms x e runs = headed_name (is_goal_name m) (InGoal (goal.Names most_names) ∷ []) new (is_some (rel_of m) && has_two ts) e
+
+abbrev params_wanted : Symbol
+params_wanted = InAction action.Parameters
+
+no_params : (m : Mark) (new : List Symbol) → (m ≡ Open → ⊥) → step params_wanted m ≡ Some new → ⊥
+no_params Open new o e = o refl
+no_params _ new o e = cc
+
+-- ---- lists of variables
+
+abbrev variables_wanted : Symbol
+variables_wanted = InList list.Variables
+
+abbrev run_wanted : Symbol
+run_wanted = InList list.VariableRun
+
+open_params : (st : List Symbol) (ms : List Mark) → Runs (params_wanted ∷ st) (Open ∷ ms) → Runs (variables_wanted ∷ st) ms
+open_params st ms runs =
+    let n = next params_wanted st Open ms runs in
+    let same : n.new ≡ variables_wanted ∷ [] = let leads = n.leads in cc in
+    subst (λ x. Runs (x ++ st) ms) same n.runs
+
+first_variable : (m : Mark) (new : List Symbol) → (m ≡ Close → ⊥) → step variables_wanted m ≡ Some new → (m ≡ Variable) × (new ≡ run_wanted ∷ [])
+first_variable Variable new c e = (refl, cc)
+first_variable Close new c e = absurd (c refl)
+first_variable _ new c e = absurd (cc)
+
+next_variable : (m : Mark) (new : List Symbol) → (m ≡ Close → ⊥) → step run_wanted m ≡ Some new → (m ≡ Variable) × (new ≡ run_wanted ∷ []) ⊎ (m ≡ Minus) × (new ≡ InList list.TypeName ∷ variables_wanted ∷ [])
+next_variable Variable new c e = inl (refl, cc)
+next_variable Minus new c e = inr (refl, cc)
+next_variable Close new c e = absurd (c refl)
+next_variable _ new c e = absurd (cc)
+
+-- the name of a type is no variable
+type_word : (m : Mark) (new : List Symbol) → step (InList list.TypeName) m ≡ Some new → is Variable m ≡ false
+type_word Variable new e = absurd (cc)
+type_word _ new e = refl
+
+-- a list stands where none can
+no_list : (s : Symbol) (us ts : Nesteds) (left right : Lexeme) (js ks : List Lexeme) (st : List Symbol) (ms : List Mark) {A : Type 0} → step s Open ≡ None → left.mark ≡ Open → right.mark ≡ Close → Runs (s ∷ st) (marks ((left ∷ (js ++ right ∷ [])) ++ ks) ++ ms) → A
+no_list s us ts left right js ks st ms none o c runs =
+    let n = next s st Open (marks js ++ Close ∷ (marks ks ++ ms)) (subst (Runs (s ∷ st)) (marks_more (left ∷ (js ++ right ∷ [])) ks ms ∙ group_marks left right js (marks ks ++ ms) o c) runs) in
+    let leads = n.leads in
+    absurd (cc)
+
+mutual
+  variables_formed : (ts : Nesteds) (ls : List Lexeme) → SpellAll ts ls → (st : List Symbol) (ms : List Mark) → Runs (variables_wanted ∷ st) (marks ls ++ Close ∷ ms) → are_variables ts ≡ true
+  variables_formed _ _ nothing st ms runs = refl
+  variables_formed _ _ (one_more _ ts _ ks (between left right us js o c a) b) st ms runs = no_list variables_wanted us ts left right js ks st (Close ∷ ms) refl o c runs
+  variables_formed _ _ (one_more _ ts _ ks (plain l o c) b) st ms runs =
+      let n = next variables_wanted st l.mark (marks ks ++ Close ∷ ms) runs in
+      let one = first_variable l.mark n.new c n.leads in
+      rw one.0 (run_formed ts ks b st ms (subst (λ x. Runs (x ++ st) (marks ks ++ Close ∷ ms)) one.1 n.runs))
+
+  run_formed : (ts : Nesteds) (ls : List Lexeme) → SpellAll ts ls → (st : List Symbol) (ms : List Mark) → Runs (run_wanted ∷ st) (marks ls ++ Close ∷ ms) → are_variables ts ≡ true
+  run_formed _ _ nothing st ms runs = refl
+  run_formed _ _ (one_more _ ts _ ks (between left right us js o c a) b) st ms runs = no_list run_wanted us ts left right js ks st (Close ∷ ms) refl o c runs
+  run_formed _ _ (one_more _ ts _ ks (plain l o c) b) st ms runs =
+      let n = next run_wanted st l.mark (marks ks ++ Close ∷ ms) runs in
+      elim (next_variable l.mark n.new c n.leads) [
+        | inl one ↦ rw (one.0) (run_formed ts ks b st ms (subst (λ x. Runs (x ++ st) (marks ks ++ Close ∷ ms)) one.1 n.runs))
+        | inr minus ↦ rw (minus.0) (type_formed ts ks b st ms (subst (λ x. Runs (x ++ st) (marks ks ++ Close ∷ ms)) minus.1 n.runs))
+      ]
+
+  type_formed : (ts : Nesteds) (ls : List Lexeme) → SpellAll ts ls → (st : List Symbol) (ms : List Mark) → Runs (InList list.TypeName ∷ variables_wanted ∷ st) (marks ls ++ Close ∷ ms) → are_after_type ts ≡ true
+  type_formed _ _ nothing st ms runs = refl
+  type_formed _ _ (one_more _ ts _ ks (between left right us js o c a) b) st ms runs = no_list (InList list.TypeName) us ts left right js ks (variables_wanted ∷ st) (Close ∷ ms) refl o c runs
+  type_formed _ _ (one_more _ ts _ ks (plain l o c) b) st ms runs =
+      let n = next (InList list.TypeName) (variables_wanted ∷ st) l.mark (marks ks ++ Close ∷ ms) runs in
+      rw (type_word l.mark n.new n.leads) (variables_formed ts ks b st ms (after_word (InList list.TypeName) (variables_wanted ∷ st) l.mark (marks ks ++ Close ∷ ms) refl o c runs))
 
 -- by the head
-form_by : (m : Mark) (ts : Nesteds) → (m ≡ And → are_formed ts ≡ true) → (m ≡ Not → begins_formed ts ≡ true) → ((m ≡ And → ⊥) → (m ≡ Not → ⊥) → is_headed m ts ≡ true) → (if is And m then are_formed ts else (if is Not m then begins_formed ts else is_headed m ts)) ≡ true
-form_by And ts f g h = f refl
-form_by Not ts f g h = g refl
-form_by m ts f g h = h (λ e. cc) (λ e. cc)
+form_by : (m : Mark) (b : Forms Bool)
+    → (m ≡ And → b.all ≡ true) → (m ≡ Or → b.any ≡ true) → (m ≡ Not → b.no ≡ true) → (m ≡ Imply → b.implied ≡ true)
+    → (m ≡ Exists → b.for_some ≡ true) → (m ≡ Forall → b.for_all ≡ true) → (head_of m ≡ Plain → b.plain ≡ true) → by_head (head_of m) b ≡ true
+form_by And b all any deny implied some each fact = all refl
+form_by Or b all any deny implied some each fact = any refl
+form_by Not b all any deny implied some each fact = deny refl
+form_by Imply b all any deny implied some each fact = implied refl
+form_by Exists b all any deny implied some each fact = some refl
+form_by Forall b all any deny implied some each fact = each refl
+form_by m b all any deny implied some each fact = fact refl
 
 mutual
   pub formed_one : (t : Nested) (ls : List Lexeme) → Spells t ls → (st : List Symbol) (ms : List Mark) → Runs (condition_wanted ∷ st) (marks ls ++ ms) → is_formed t ≡ true
@@ -304,10 +382,35 @@ mutual
       let n = next head_wanted st Open (marks js ++ Close ∷ (marks ks ++ last)) (subst (Runs (head_wanted ∷ st)) (marks_more (left ∷ (js ++ right ∷ [])) ks last ∙ group_marks left right js (marks ks ++ last) o c) runs) in
       let leads = n.leads in absurd (cc)
   formed_head _ _ (one_more _ ts _ ks (plain l o c) b) st ms runs =
-      form_by l.mark ts
-      (λ e. formed_all ts ks b st ms (after_and st (marks ks ++ Close ∷ ms) (subst (λ m. Runs (head_wanted ∷ st) (m ∷ (marks ks ++ Close ∷ ms))) e runs)))
-      (λ e. formed_first ts ks b (The Close ∷ st) (Close ∷ ms) (after_not st (marks ks ++ Close ∷ ms) (subst (λ m. Runs (head_wanted ∷ st) (m ∷ (marks ks ++ Close ∷ ms))) e runs)))
-      (λ x y. let n = next head_wanted st l.mark (marks ks ++ Close ∷ ms) runs in headed l.mark ts ks b st n.new ms x y n.leads n.runs)
+      let more = marks ks ++ Close ∷ ms in
+      form_by l.mark _
+      (λ e. formed_all ts ks b st ms (after_head l.mark (conditions_wanted ∷ []) st more (ap (step head_wanted) e) runs))
+      (λ e. formed_all ts ks b st ms (after_head l.mark (conditions_wanted ∷ []) st more (ap (step head_wanted) e) runs))
+      (λ e. formed_first ts ks b (The Close ∷ st) (Close ∷ ms) (after_head l.mark (condition_wanted ∷ The Close ∷ []) st more (ap (step head_wanted) e) runs))
+      (λ e. formed_two ts ks b (The Close ∷ st) (Close ∷ ms) (after_head l.mark (condition_wanted ∷ condition_wanted ∷ The Close ∷ []) st more (ap (step head_wanted) e) runs))
+      (λ e. formed_below ts ks b (The Close ∷ st) (Close ∷ ms) (after_head l.mark (params_wanted ∷ condition_wanted ∷ The Close ∷ []) st more (ap (step head_wanted) e) runs))
+      (λ e. formed_below ts ks b (The Close ∷ st) (Close ∷ ms) (after_head l.mark (params_wanted ∷ condition_wanted ∷ The Close ∷ []) st more (ap (step head_wanted) e) runs))
+      (λ e. let n = next head_wanted st l.mark more runs in headed l.mark ts ks b st n.new ms e n.leads n.runs)
+
+  -- two conditions
+  formed_two : (ts : Nesteds) (ls : List Lexeme) → SpellAll ts ls → (st : List Symbol) (ms : List Mark) → Runs (condition_wanted ∷ condition_wanted ∷ st) (marks ls ++ ms) → are_two_formed ts ≡ true
+  formed_two _ _ nothing st ms runs = refl
+  formed_two _ _ (one_more t ts ls ks a b) st ms runs =
+      let now = subst (Runs (condition_wanted ∷ condition_wanted ∷ st)) (marks_more ls ks ms) runs in
+      and_from _ _ (formed_one t ls a (condition_wanted ∷ st) (marks ks ++ ms) now) (formed_first ts ks b st ms (past_one t ls a condition_wanted (condition_wanted ∷ st) (marks ks ++ ms) refl now))
+
+  -- a list of variables and a condition
+  formed_below : (ts : Nesteds) (ls : List Lexeme) → SpellAll ts ls → (st : List Symbol) (ms : List Mark) → Runs (params_wanted ∷ condition_wanted ∷ st) (marks ls ++ ms) → binds_formed ts ≡ true
+  formed_below _ _ nothing st ms runs = refl
+  formed_below _ _ (one_more _ ts _ ks (plain l o c) b) st ms runs =
+      let n = next params_wanted (condition_wanted ∷ st) l.mark (marks ks ++ ms) runs in
+      absurd (no_params l.mark n.new o n.leads)
+  formed_below _ _ (one_more _ ts _ ks (between left right us js o c a) b) st ms runs =
+      let whole : List Lexeme = left ∷ (js ++ right ∷ []) in
+      let now = subst (Runs (params_wanted ∷ condition_wanted ∷ st)) (marks_more whole ks ms) runs in
+      let inside = open_params (condition_wanted ∷ st) (marks js ++ Close ∷ (marks ks ++ ms)) (subst (Runs (params_wanted ∷ condition_wanted ∷ st)) (group_marks left right js (marks ks ++ ms) o c) now) in
+      and_from _ _ (variables_formed us js a (condition_wanted ∷ st) (marks ks ++ ms) inside)
+      (formed_first ts ks b st ms (past_one (group us) whole (between left right us js o c a) params_wanted (condition_wanted ∷ st) (marks ks ++ ms) refl now))
 
   formed_first : (ts : Nesteds) (ls : List Lexeme) → SpellAll ts ls → (st : List Symbol) (ms : List Mark) → Runs (condition_wanted ∷ st) (marks ls ++ ms) → begins_formed ts ≡ true
   formed_first _ _ nothing st ms runs = refl
@@ -350,8 +453,8 @@ after_name _ _ (one_more t ts ls ks a b) st few runs = record {
   runs = (pass_one t ls a AnyName st (marks ks) refl few (begin ls ks (AnyName ∷ st) runs)).1;
 }
 
-script_cond : (n : ℕ) (t : Nested) → IsFine n (condition t) → n ≤ 64 → IsScriptCond (condition t)
-script_cond n t fine few = record { named = fine.0; shallow = omega (arith, few, fine.1) }
+script_cond : (n : ℕ) (t : Nested) → IsFine [] n (condition t) → n ≤ 64 → IsScriptCond (condition t)
+script_cond n t fine few = record { closed = fine.0; shallow = omega (arith, few, fine.1) }
 
 -- the list that stands first is formed, if one does
 pub formed_goal : (ts : Nesteds) (ls : List Lexeme) → SpellAll ts ls → Runs (condition_wanted ∷ []) (marks ls) → begins_formed ts ≡ true
@@ -360,9 +463,9 @@ formed_goal _ _ (one_more t ts ls ks a b) runs = formed_one t ls a [] (marks ks)
 
 -- the condition that stands first is one that a script may write
 pub script_goal : (ts : Nesteds) (ls : List Lexeme) → SpellAll ts ls → Runs (condition_wanted ∷ []) (marks ls) → IsScriptCond (first_condition ts)
-script_goal _ _ nothing runs = record { named = tt; shallow = omega arith }
+script_goal _ _ nothing runs = record { closed = tt; shallow = omega arith }
 script_goal _ _ (one_more t ts ls ks a b) runs =
     let now = begin ls ks (condition_wanted ∷ []) runs in
     let formed = formed_one t ls a [] (marks ks) now in
     let p = pass_one t ls a condition_wanted [] (marks ks) refl (omega arith) now in
-    script_cond (rank t) t (condition_fine t formed) (omega (arith, p.0))
+    script_cond (rank t) t (condition_fine [] t (omega arith) formed) (omega (arith, p.0))

@@ -1,7 +1,6 @@
 -- A line that is read is one that a script may have.
-use Rattle.std.proofs.Common.{◌≡◌, ℕ, true, List, [], ◌∷◌, sym, ◌∙◌, ap, subst, arith}
+use Rattle.std.proofs.Common.{◌≡◌, ℕ, true, List, [], ◌∷◌, IfOk, Result, Ok, Err, refl, subst, arith}
 use Rattle.ps_world.specs.Names.{Table}
-use Rattle.ps_machine.specs.declared.inputs.Command.{Command}
 use Rattle.ps_machine.specs.declared.inputs.Line.TheVariants.{Good}
 use Rattle.ps_rules.specs.Sound.{IsScriptCond, IsSoundLine}
 use Rattle.ps_text.specs.declared.lexing.Token.{Token}
@@ -10,7 +9,7 @@ use Rattle.ps_shape.specs.declared.marks.Mark.{Mark}
 use Rattle.ps_shape.specs.declared.symbols.Symbol.{Symbol}
 use Rattle.ps_shape.specs.declared.symbols.Symbol.TheVariants.{AnyName, InGoal}
 use Rattle.ps_shape.specs.declared.symbols.GoalPart.TheVariants as goal
-use Rattle.ps_forms.specs.Lexemes.{lexemes_of, marks}
+use Rattle.ps_forms.specs.Lexemes.{marks}
 use Rattle.ps_forms.specs.Nested.{Nesteds}
 use Rattle.ps_forms.specs.Places.{rest}
 use Rattle.ps_forms.specs.Spelling.{SpellAll}
@@ -18,21 +17,18 @@ use Rattle.ps_forms.specs.declared.lexemes.Lexeme.{Lexeme}
 use Rattle.ps_script.specs.Commands.{command_of}
 use Rattle.ps_script.specs.Forms.{start_of}
 use Rattle.ps_script.specs.Goals.{first_condition}
-use Rattle.ps_script.specs.Lines.{IsOfForm, IsRead, marks_of}
+use Rattle.ps_script.specs.Judged.{IsJudged}
+use Rattle.ps_script.specs.Lines.{IsRead}
 use Rattle.ps_script.specs.Lines.IsRead.{nothing, source, source_nothing, run_plan, run_nothing, without_class, without_number, without_form, without_shape, good}
 use Rattle.ps_script.specs.declared.forms.Form.{Form}
 use Rattle.ps_script.specs.declared.forms.Form.TheVariants.{SetGoal}
 use Rattle.ps_script.specs.declared.reading.Read.{Read}
 use Rattle.ps_script.specs.declared.reading.Read.TheVariants.{Line}
-use Rattle.ps_script.proofs.LineReads.{marks_same}
+use Rattle.ps_script.proofs.Judgements.{fitting_parts}
 use Rattle.ps_sound.proofs.GoalMarks.{Runs, runs_of}
 use Rattle.ps_sound.proofs.GoalTexts.{after_name, formed_goal, script_goal}
 use Rattle.ps_sound.proofs.GoalTrees.{begins_formed}
 use Rattle.ps_sound.specs.Sound.{LinesAreSound}
-
--- the marks of a line's words
-pub line_marks : (table after : Table) (bytes : List ℕ) (tokens : List Token) (ls : List Lexeme) → lexemes_of bytes table tokens ≡ (ls, after) → marks_of bytes tokens ≡ marks ls
-line_marks table after bytes tokens ls words = sym (marks_same bytes table tokens) ∙ ap (λ x. marks x.0) words
 
 abbrev goal_start : List Symbol
 goal_start = InGoal goal.Condition ∷ []
@@ -74,9 +70,11 @@ pub form_sound : (f : Form) (ts : Nesteds) (ls : List Lexeme) (ms : List Mark) �
 form_sound SetGoal ts ls ms spelt e derived flat = goal_after_two ts ls ms spelt e derived flat
 form_sound _ ts ls ms spelt e derived flat = tt
 
-good_sound : (table after : Table) (bytes : List ℕ) (f : Form) (tokens : List Token) (ls : List Lexeme) (ts : Nesteds) (command : Command) → IsOfForm bytes f tokens → lexemes_of bytes table tokens ≡ (ls, after) → SpellAll ts ls → command_of f ts ≡ command → IsSoundLine (Good command)
-good_sound table after bytes f tokens ls ts command is words spelt e =
-    subst (λ x. IsSoundLine (Good x)) e (form_sound f ts ls (marks_of bytes tokens) spelt (line_marks table after bytes tokens ls words) is.derived is.shallow)
+judged_sound : (f : Form) (bytes : List ℕ) (tokens : List Token) (ls : List Lexeme) (r : Result Nesteds ℕ) → IsJudged (start_of f) bytes tokens ls r → IfOk r (λ ts. IsSoundLine (Good (command_of f ts)))
+judged_sound f bytes tokens ls (Err at) judged = tt
+judged_sound f bytes tokens ls (Ok ts) judged =
+    let fits = fitting_parts (start_of f) bytes tokens ls (Ok ts) judged in
+    form_sound f ts ls (marks ls) fits.spelt refl fits.derived fits.shallow
 
 -- what is read is a sound line, if it is a line
 abbrev ReadsSound : Read → Type 0
@@ -92,8 +90,9 @@ reads_sound table _ bytes _ (run_nothing a b c d) = tt
 reads_sound table _ bytes _ (without_class at a b) = tt
 reads_sound table _ bytes _ (without_number at a b) = tt
 reads_sound table _ bytes _ (without_form tokens a b c) = tt
-reads_sound table _ bytes _ (without_shape form tokens i a b c d) = tt
-reads_sound table _ bytes _ (good form tokens ls after ts command is words spelt e) = good_sound table after bytes form tokens ls ts command is words spelt e
+reads_sound table _ bytes _ (without_shape form tokens ls after at is words judged) = tt
+reads_sound table _ bytes _ (good form tokens ls after ts command is words judged e) =
+    subst (λ x. IsSoundLine (Good x)) e (judged_sound form bytes tokens ls (Ok ts) judged)
 
 pub lines_are_sound : LinesAreSound
 lines_are_sound table bytes line after is = reads_sound table after bytes (Line line) is

@@ -22,7 +22,8 @@ use Rattle.ps_forms.specs.Nested.{Nesteds}
 use Rattle.ps_forms.specs.Spelling.{SpellAll}
 use Rattle.ps_forms.specs.declared.lexemes.Lexeme.{Lexeme}
 use Rattle.ps_script.specs.Files.{first_run, without_end}
-use Rattle.ps_script.specs.Lines.{marks_of}
+use Rattle.ps_script.specs.Judged.{IsJudged}
+use Rattle.ps_script.proofs.Judgements.{fitting_parts}
 use Rattle.ps_members.specs.Feedback.{feedback_of, note_on, noted, number_on, percent_of}
 use Rattle.ps_members.specs.Forms.{form_of, is_allowed, is_close, is_finished, is_unit, start_of}
 use Rattle.ps_members.specs.Lines.{IsFormed, IsSaid, Says}
@@ -35,7 +36,7 @@ use Rattle.ps_members.specs.declared.places.Place.{Place}
 use Rattle.ps_members.specs.declared.places.Place.TheVariants.{Working}
 use Rattle.ps_members.specs.declared.places.Said.{Said}
 use Rattle.ps_members.specs.declared.places.Said.TheVariants as says
-use Rattle.ps_sound.proofs.SoundLines.{form_sound, goal_after_one, line_marks}
+use Rattle.ps_sound.proofs.SoundLines.{form_sound, goal_after_one}
 
 -- ---- feedback
 
@@ -112,10 +113,15 @@ says_right form.Feedback ts ls ms spelt m derived flat s e = absurd e
 feedback_right : (r : Result Task LineCause) (u : Task) → r ≡ Ok u → IfOk r IsSoundUnit → IsRight form.Feedback (says.Unit u)
 feedback_right r u e sound = (subst (λ x. IfOk x IsSoundUnit) e sound, refl)
 
+judged_right : (f : Form) (part : List ℕ) (tokens : List Token) (ls : List Lexeme) (r : Result Nesteds ℕ) → IsJudged (start_of f) part tokens ls r → (s : Said) → IfOk r (λ ts. Says f ts s → IsRight f s)
+judged_right f part tokens ls (Err at) judged s = tt
+judged_right f part tokens ls (Ok ts) judged s =
+    let fits = fitting_parts (start_of f) part tokens ls (Ok ts) judged in
+    says_right f ts ls (marks ls) fits.spelt refl fits.derived fits.shallow s
+
 formed_right : (table : Table) (bytes : List ℕ) (tokens : List Token) (f : Form) (r : Result Said LineCause) (after : Table) → IsFormed table bytes tokens f r after → IfOk r (IsRight f)
-formed_right table bytes tokens _ _ _ (misfit f i p fault) = tt
-formed_right table bytes tokens _ _ _ (meant f ls after ts said p fits ws spelt is) =
-    says_right f ts ls (marks_of (worded bytes) tokens) spelt (line_marks table after (worded bytes) tokens ls ws) fits.derived fits.shallow said is
+formed_right table bytes tokens _ _ _ (misfit f ls after at p ws judged) = tt
+formed_right table bytes tokens _ _ _ (meant f ls after ts said p ws judged is) = judged_right f (worded bytes) tokens ls (Ok ts) judged said is
 formed_right table bytes tokens _ _ _ (no_place i e) = tt
 formed_right table bytes tokens _ _ _ (places e) = (tt, tt)
 formed_right table bytes tokens _ _ _ (no_note c e) = tt

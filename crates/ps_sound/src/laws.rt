@@ -1,8 +1,8 @@
 //! Laws of what is read: each is the contract of a function that does nothing.
 ghost use Rattle.ps_sound.specs.Sound.{LinesAreSound, MembersAreSound, PlansAreShort};
 
-/// A line that is read is one that a script may have: the goal that its edit sets has no variable, and at most 64 parentheses are open
-/// at one place of it.
+/// A line that is read is one that a script may have: in the goal that its edit sets no variable is free and at most two are in force at one
+/// place, and at most 64 parentheses are open at one place of it.
 pub fn lines_are_sound()
     ensures { LinesAreSound }
 {}

@@ -34,7 +34,7 @@ fn duration(
         (duration scope.now.domain.now scope.now.params.now (duration_in (forms trees.now))) }
 {
     match at(items_at(after(Mark::DurationKey, trees)), 2) {
-        Some(tree) => value(alloc, scope, tree),
+        Some(tree) => value(alloc, &scope.binder(), scope.params, tree),
         None => Ok(Expr::Num(Num::ZERO)),
     }
 }
@@ -126,7 +126,7 @@ fn add_action(
         Some(fault) => Err(Failure::Refused(fault)),
         None => {
             let inside = items_at(after(Mark::Parameters, trees));
-            let params = listed(alloc, d, Listing::Params, inside)?;
+            let params = listed(alloc, d, Listing::Params, &[], inside)?;
             before.push(action_body(alloc, d, word.name, params, trees)?)?;
             Ok(())
         }

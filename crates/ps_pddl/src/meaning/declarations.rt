@@ -38,7 +38,7 @@ fn add_declared(
     match fault_of_new(which, MOST_DECLS, before.len(), taken, word) {
         Some(fault) => Err(Failure::Refused(fault)),
         None => {
-            let params = Seq::of(listed(alloc, d, Listing::Params, rest(inside))?);
+            let params = Seq::of(listed(alloc, d, Listing::Params, &[], rest(inside))?);
             before.push(Decl {
                 name: word.name,
                 params,

@@ -39,7 +39,7 @@ fn added(
     ensures { Gives (λ _. all.new) result
         (added scope.now.domain.now scope.now.params.now word (forms trees.now) all.old) }
 {
-    let fact = fact(scope, word, trees).map_err(Failure::Refused)?;
+    let fact = fact(&scope.in_force(), word, trees).map_err(Failure::Refused)?;
     all.push(Effect::Add(fact))?;
     Ok(())
 }
@@ -55,7 +55,7 @@ fn deleted(
         (deleted scope.now.domain.now scope.now.params.now (nested tree.now) all.old) }
 {
     let inside = items(tree);
-    let fact = fact(scope, head(inside), rest(inside)).map_err(Failure::Refused)?;
+    let fact = fact(&scope.in_force(), head(inside), rest(inside)).map_err(Failure::Refused)?;
     all.push(Effect::Delete(fact))?;
     Ok(())
 }
@@ -74,8 +74,10 @@ fn changed(
         how (nested term.now) (nested by.now) all.old) }
 {
     let inside = items(term);
-    let function = value_of(scope, head(inside), rest(inside)).map_err(Failure::Refused)?;
-    let amount = value(alloc, scope, by)?;
+    let function = value_of(&scope.in_force(), head(inside), rest(inside)).map_err(
+        Failure::Refused,
+    )?;
+    let amount = value(alloc, &scope.binder(), scope.params, by)?;
     all.push(Effect::Number(how, function, amount))?;
     Ok(())
 }

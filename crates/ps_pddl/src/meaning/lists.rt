@@ -1,5 +1,5 @@
 //! What a list of typed names declares.
-ghost use Rattle.std.specs.Prelude.{◌≡◌, [], drop, true, false, IfErr, OnErr, OnOk};
+ghost use Rattle.std.specs.Prelude.{◌≡◌, drop, true, false, IfErr, OnErr, OnOk};
 ghost use Rattle.std.specs.List.{list_any};
 ghost use Rattle.ps_world.specs.Failures.{Gives};
 ghost use Rattle.ps_world.specs.Names.{same_name};
@@ -27,6 +27,8 @@ pub enum Listing {
     Constants,
     /// The parameters of a predicate, a function or an action.
     Params,
+    /// The variables of a quantifier after those in force, with so many at most in all.
+    Bound(usize),
 }
 
 impl Listing {
@@ -38,6 +40,7 @@ impl Listing {
             Listing::Types => Cap::Types,
             Listing::Constants => Cap::Instances,
             Listing::Params => Cap::Params,
+            Listing::Bound(_) => Cap::Bound,
         }
     }
 
@@ -49,6 +52,7 @@ impl Listing {
             Listing::Types => MOST_TYPES,
             Listing::Constants => MOST_INSTANCES,
             Listing::Params => MOST_ARGUMENTS,
+            Listing::Bound(most) => most,
         }
     }
 
@@ -58,7 +62,7 @@ impl Listing {
     {
         match self {
             Listing::Types => !(param.name == Name::OBJECT && param.kind == Name::OBJECT),
-            Listing::Constants | Listing::Params => true,
+            Listing::Constants | Listing::Params | Listing::Bound(_) => true,
         }
     }
 
@@ -167,17 +171,20 @@ fn pass_word(d: &Declared, word: Lexeme) -> Result<(), DomainRefusal>
     }
 }
 
-/// The names that a list declares, each with its type: names, of which a run before `- NAME` has that type and the rest `object`.
+/// The names that a list declares after those before, each with its type: names, of which a run before `- NAME` has that type and the rest
+/// `object`.
 /// The refusal is the first fault. The text is gone through twice, and the list before each name is within the limit.
 pub fn listed(
     alloc: Global,
     d: &Declared,
     listing: Listing,
+    before: &[Param],
     trees: &[Tree],
 ) -> Result<Vec<Param>, Failure<DomainRefusal>>
-    ensures { Gives (λ v. v.items) result (listed d.now listing (forms trees.now) []) }
+    ensures { Gives (λ v. v.items) result (listed d.now listing (forms trees.now) before.now) }
 {
     let mut all = Vec::new(alloc);
+    all.extend_from_slice(before)?;
     let mut kind = kind_ahead(trees, 0);
     let mut i = 0;
     while i < trees.len() {

@@ -25,8 +25,14 @@ fn add_at(
         (timed_part scope.now.domain.now scope.now.params.now At time (nested tree.now) all.old) }
 {
     match time {
-        Mark::Start => add_condition(alloc, scope, tree, &mut all.at_start),
-        _ => add_condition(alloc, scope, tree, &mut all.at_end),
+        Mark::Start => add_condition(
+            alloc,
+            &scope.binder(),
+            scope.params,
+            tree,
+            &mut all.at_start,
+        ),
+        _ => add_condition(alloc, &scope.binder(), scope.params, tree, &mut all.at_end),
     }
 }
 
@@ -41,7 +47,13 @@ fn add_over(
     ensures { Gives (λ _. all.new) result
         (timed_part scope.now.domain.now scope.now.params.now Over time (nested tree.now) all.old) }
 {
-    add_condition(alloc, scope, tree, &mut all.over_all)
+    add_condition(
+        alloc,
+        &scope.binder(),
+        scope.params,
+        tree,
+        &mut all.over_all,
+    )
 }
 
 /// Puts a part, by its first word and what follows it.

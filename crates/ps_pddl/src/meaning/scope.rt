@@ -1,5 +1,6 @@
 //! Where the conditions, the values and the effects of an action stand.
-ghost use Rattle.std.specs.Prelude.{◌≤◌, length};
+ghost use Rattle.std.specs.Prelude.{◌≡◌, ◌≤◌, length};
+ghost use Rattle.ps_conditions.specs.declared.scopes.TheConstants.{MOST_IN_FORCE};
 ghost use Rattle.ps_pddl.specs.declared.meaning.scope.TheConstants.{MOST_PARAMS};
 
 use ps_domain::Declared;
@@ -14,4 +15,45 @@ pub struct ActionScope<'a> {
     pub domain: &'a Declared,
     pub params: &'a [Param],
     ghost few: { length params.now ≤ MOST_PARAMS },
+}
+
+/// A place in a condition: words mean the variables in force there and what the domain declares.
+#[derive(Clone, Copy)]
+pub struct InForce<'a> {
+    pub domain: &'a Declared,
+    pub params: &'a [Param],
+    ghost few: { length params.now ≤ MOST_IN_FORCE },
+}
+
+/// An action's domain, and how many parameters it has.
+#[derive(Clone, Copy)]
+pub struct Binder<'a> {
+    pub domain: &'a Declared,
+    pub own: usize,
+    ghost few: { own ≤ MOST_PARAMS },
+}
+
+impl<'a> ActionScope<'a> {
+    /// Where no quantifier binds.
+    pub fn in_force(&self) -> InForce<'a>
+        ensures domain { result.domain.now ≡ self.now.domain.now }
+        ensures params { result.params.now ≡ self.now.params.now }
+    {
+        InForce {
+            domain: self.domain,
+            params: self.params,
+        }
+    }
+
+    /// Where quantifiers may bind.
+    pub fn binder(&self) -> Binder<'a>
+        ensures domain { result.domain.now ≡ self.now.domain.now }
+        ensures own { result.own ≡ length self.now.params.now }
+        ensures few { length self.now.params.now ≤ MOST_IN_FORCE }
+    {
+        Binder {
+            domain: self.domain,
+            own: self.params.len(),
+        }
+    }
 }

@@ -5,7 +5,7 @@ ghost use Rattle.ps_pddl.specs.Terms.{applied, argument, fact, lifted, resolved,
 ghost use Rattle.ps_pddl.specs.Forms.{forms};
 ghost use Rattle.ps_pddl.specs.declared.refusals.DomainRefusal.TheVariants.{Unknown};
 
-use super::scope::ActionScope;
+use super::scope::InForce;
 use crate::refusals::DomainRefusal;
 use ps_forms::{Lexeme, Tree, count, word_of};
 use ps_shape::Mark;
@@ -26,7 +26,7 @@ fn place_of(params: &[Param], name: Name) -> Option<usize>
 }
 
 /// A parameter as a term with its type: its number is its place.
-fn variable_of(scope: &ActionScope, name: Name) -> Option<Typed>
+fn variable_of(scope: &InForce, name: Name) -> Option<Typed>
     ensures { result ≡ variable_of scope.now.params.now name }
 {
     match place_of(scope.params, name) {
@@ -39,7 +39,7 @@ fn variable_of(scope: &ActionScope, name: Name) -> Option<Typed>
 }
 
 /// A declared parameter or constant as a term with its type.
-fn term_of(scope: &ActionScope, mark: Mark, name: Name) -> Option<Typed>
+fn term_of(scope: &InForce, mark: Mark, name: Name) -> Option<Typed>
     ensures { result ≡ term_of scope.now.domain.now scope.now.params.now mark name }
 {
     match mark {
@@ -65,7 +65,7 @@ fn unknown(word: Lexeme) -> DomainRefusal
 }
 
 /// The term that a word is, with its type. It may be `Unknown`.
-pub fn resolved(scope: &ActionScope, word: Lexeme) -> Result<Typed, DomainRefusal>
+pub fn resolved(scope: &InForce, word: Lexeme) -> Result<Typed, DomainRefusal>
     ensures { result ≡ resolved scope.now.domain.now scope.now.params.now word }
 {
     match term_of(scope, word.mark, word.name) {
@@ -75,7 +75,7 @@ pub fn resolved(scope: &ActionScope, word: Lexeme) -> Result<Typed, DomainRefusa
 }
 
 /// The term that a word is where this type is wanted: `Unknown` comes before `Kind`.
-fn argument(scope: &ActionScope, want: Name, word: Lexeme) -> Result<Term, DomainRefusal>
+fn argument(scope: &InForce, want: Name, word: Lexeme) -> Result<Term, DomainRefusal>
     ensures { result ≡ argument scope.now.domain.now scope.now.params.now want word }
 {
     let Some(Typed { term, kind }) = term_of(scope, word.mark, word.name) else {
@@ -113,7 +113,7 @@ fn lifted(head: Lexeme, terms: &[Term]) -> Result<Lifted, DomainRefusal>
 /// A head that is declared so, with arguments that suit it: `Arity` comes before what is at fault with an argument, and again after
 /// it where there are more than 6. It takes no memory.
 fn applied(
-    scope: &ActionScope,
+    scope: &InForce,
     decl: &Decl,
     head: Lexeme,
     trees: &[Tree],
@@ -137,7 +137,7 @@ fn applied(
 }
 
 /// A fact: a declared predicate with arguments that suit it. `Unknown` at the head comes before `Arity`.
-pub fn fact(scope: &ActionScope, head: Lexeme, trees: &[Tree]) -> Result<Lifted, DomainRefusal>
+pub fn fact(scope: &InForce, head: Lexeme, trees: &[Tree]) -> Result<Lifted, DomainRefusal>
     ensures { result ≡ fact scope.now.domain.now scope.now.params.now head (forms trees.now) }
 {
     match scope.domain.predicate(head.name) {
@@ -147,7 +147,7 @@ pub fn fact(scope: &ActionScope, head: Lexeme, trees: &[Tree]) -> Result<Lifted,
 }
 
 /// The value of a declared function at arguments that suit it. `Unknown` at the head comes before `Arity`.
-pub fn value_of(scope: &ActionScope, head: Lexeme, trees: &[Tree]) -> Result<Lifted, DomainRefusal>
+pub fn value_of(scope: &InForce, head: Lexeme, trees: &[Tree]) -> Result<Lifted, DomainRefusal>
     ensures { result ≡ value_of scope.now.domain.now scope.now.params.now head (forms trees.now) }
 {
     match scope.domain.function(head.name) {

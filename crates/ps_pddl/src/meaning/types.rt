@@ -111,7 +111,7 @@ pub fn declare_types(
     ensures { Gives (λ _. d.new) result (with_types d.old (forms trees.now)) }
 {
     d.set_types(alloc, Seq::of(names_of(alloc, trees)?))?;
-    let all = listed(alloc, d, Listing::Types, trees)?;
+    let all = listed(alloc, d, Listing::Types, &[], trees)?;
     d.set_types(alloc, Seq::of(kept(alloc, &all)?))?;
     check_parents(d)
 }

@@ -1,4 +1,4 @@
-use Rattle.std.proofs.Common.{◌≡◌, ◌+◌, ◌*◌, [], drop, map}
+use Rattle.std.proofs.Common.{◌≡◌, ◌+◌, ◌*◌, max, [], drop, map}
 use Rattle.ps_forms.specs.Nested.{nesteds, rank, ranks}
 use Rattle.ps_forms.specs.NestedViews.{nested}
 use Rattle.ps_conditions.specs.Conditions.{conditions}
@@ -10,10 +10,25 @@ decreases-condition g l = 4 * rank (nested l.tree.now)
 abbrev pub decreases-form : goal.decreases-form
 decreases-form g l = 4 * ranks (nesteds (map nested l.trees.now)) + 3
 
+abbrev pub decreases-negation : goal.decreases-negation
+decreases-negation g l = 4 * ranks (nesteds (map nested l.trees.now)) + 1
+
+abbrev pub decreases-both : goal.decreases-both
+decreases-both g l = 4 * max (rank (nested l.one.now)) (rank (nested l.other.now)) + 1
+
+abbrev pub decreases-implication : goal.decreases-implication
+decreases-implication g l = 4 * ranks (nesteds (map nested l.trees.now)) + 2
+
+abbrev pub decreases-binding : goal.decreases-binding
+decreases-binding g l = 4 * rank (nested l.inner.now) + 1
+
+abbrev pub decreases-quantified : goal.decreases-quantified
+decreases-quantified g l = 4 * ranks (nesteds (map nested l.trees.now)) + 2
+
 abbrev pub decreases-conditions : goal.decreases-conditions
 decreases-conditions g l = 4 * ranks (nesteds (map nested l.trees.now)) + 1
 
 -- the conditions that are left, after those before, are all of them
 abbrev pub invariant-conditions-loop-tree : goal.invariant-conditions-loop-tree
 invariant-conditions-loop-tree g l =
-    conditions _ (g.S.Scope.words l.scope) (nesteds (map nested (drop l.tree-index l.trees))) l.all ≡ conditions _ (g.S.Scope.words l.scope) (nesteds (map nested l.trees)) []
+    conditions _ (g.S.Scope.scopes l.scope) l.params (nesteds (map nested (drop l.tree-index l.trees))) l.all ≡ conditions _ (g.S.Scope.scopes l.scope) l.params (nesteds (map nested l.trees)) []

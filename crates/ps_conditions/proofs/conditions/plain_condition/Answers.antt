@@ -4,4 +4,4 @@ use Rattle.ps_conditions.proofs.conditions.plain_condition.Goals as goal
 
 pub returns-in-len1 : goal.returns-in-len1
 returns-in-len1 g c =
-    rw (with_one _ (g.S.Scope.words c.args.scope.now) c.args.word c.args.trees.now (omega arith)) c.stated-in-len1.ensures
+    rw (with_one _ ((g.S.Scope.scopes c.args.scope.now).words c.args.params.now) c.args.word c.args.trees.now (omega arith)) c.stated-in-len1.ensures

@@ -1,21 +1,28 @@
-use Rattle.std.proofs.Common.{Ok, ap}
-use Rattle.ps_script.specs.Lines.{IsOfForm}
-use Rattle.ps_script.proofs.LineReads.{good_balance, good_read, misfit_read, words_fit}
+use Rattle.std.proofs.Common.{Ok, ap, sym, ◌∙◌}
+use Rattle.ps_forms.specs.Lexemes.{marks}
+use Rattle.ps_script.specs.Forms.{start_of}
+use Rattle.ps_script.specs.Judged.{Fits}
+use Rattle.ps_script.proofs.Balance.{start_closed, start_paired}
+use Rattle.ps_script.proofs.Fronts.{found_fits, front_balance}
+use Rattle.ps_script.proofs.LineReads.{bad_read, good_read}
 use Rattle.ps_script.proofs.reading.read_form.Goals as goal
 
-pub returns-in-Some-clause-read : goal.returns-in-Some-clause-read
-returns-in-Some-clause-read c =
-    misfit_read c.args.names.now c.lexemes_of.new.names _ _ c.args.bytes.now c.args.form c.args.tokens.now _ _ _ _ _ _ _ _ c.len-before.ensures.count c.lexemes_of.ensures.kept c.cut_back.ensures
-    c.requires.plain c.requires.tokens c.requires.form c.in_ok-words.ensures.ok c.deref.ensures.value c.deref-2.ensures.value c.in_ok-marks.ensures c.in-Some.is c.in_ok-i.ensures.fault c.place.ensures c.bad.ensures
+pub judged-requires : goal.judged-requires
+judged-requires c =
+    let fits : Fits (start_of c.args.form) (marks c.deref-3.result.now) c.in_ok-misfit.misfit =
+    found_fits (start_of c.args.form) _ _ _ (c.deref-2.ensures.value ∙ c.in_ok-marks.ensures ∙ ap marks (c.deref.ensures.value ∙ sym c.deref-3.ensures.value)) (λ e. c.in_ok-misfit.ensures.none (ap Ok e)) c.in_ok-misfit.ensures.fault in
+    front_balance (start_of c.args.form) c.deref-3.result.now _ (start_paired c.args.form) (start_closed c.args.form) fits
 
-pub command_in-requires : goal.command_in-requires
-command_in-requires c =
-    let fits : IsOfForm c.args.bytes.now c.args.form c.args.tokens.now =
-    words_fit c.args.names.now c.lexemes_of.new.names c.args.bytes.now c.args.form c.args.tokens.now _ _ _ _ c.requires.plain c.requires.tokens c.requires.form c.in_ok-words.ensures.ok c.deref.ensures.value c.deref-2.ensures.value c.in_ok-marks.ensures (c.in_ok-i.ensures.none (ap Ok c.in_default.is)) in
-    good_balance c.args.names.now c.args.bytes.now c.args.form c.args.tokens.now _ _ _ fits c.in_ok-words.ensures.ok c.deref-3.ensures.value
+pub returns-in-Ok-clause-read : goal.returns-in-Ok-clause-read
+returns-in-Ok-clause-read c =
+    let fits : Fits (start_of c.args.form) (marks c.deref-3.result.now) c.in_ok-misfit.misfit =
+    found_fits (start_of c.args.form) _ _ _ (c.deref-2.ensures.value ∙ c.in_ok-marks.ensures ∙ ap marks (c.deref.ensures.value ∙ sym c.deref-3.ensures.value)) (λ e. c.in_ok-misfit.ensures.none (ap Ok e)) c.in_ok-misfit.ensures.fault in
+    good_read c.args.names.now c.lexemes_of.new.names c.args.bytes.now c.args.form c.args.tokens.now _ c.deref-3.result.now _ _ c.requires.plain c.requires.tokens c.requires.form c.in_ok-words.ensures.ok c.deref-3.ensures.value c.in_ok-trees.ensures fits
+    _ _ _ c.in-Ok.is c.as_slice.ensures c.in_ok-command-in-Ok.ensures
 
 pub returns-clause-read : goal.returns-clause-read
 returns-clause-read c =
-    let fits : IsOfForm c.args.bytes.now c.args.form c.args.tokens.now =
-    words_fit c.args.names.now c.lexemes_of.new.names c.args.bytes.now c.args.form c.args.tokens.now _ _ _ _ c.requires.plain c.requires.tokens c.requires.form c.in_ok-words.ensures.ok c.deref.ensures.value c.deref-2.ensures.value c.in_ok-marks.ensures (c.in_ok-i.ensures.none (ap Ok c.in_default.is)) in
-    good_read c.args.names.now c.args.bytes.now c.args.form c.args.tokens.now _ _ _ _ fits c.in_ok-words.ensures.ok c.deref-3.ensures.value c.in_ok-command.ensures
+    let fits : Fits (start_of c.args.form) (marks c.deref-3.result.now) c.in_ok-misfit.misfit =
+    found_fits (start_of c.args.form) _ _ _ (c.deref-2.ensures.value ∙ c.in_ok-marks.ensures ∙ ap marks (c.deref.ensures.value ∙ sym c.deref-3.ensures.value)) (λ e. c.in_ok-misfit.ensures.none (ap Ok e)) c.in_ok-misfit.ensures.fault in
+    bad_read c.args.names.now c.lexemes_of.new.names c.args.bytes.now c.args.form c.args.tokens.now _ c.deref-3.result.now _ _ c.requires.plain c.requires.tokens c.requires.form c.in_ok-words.ensures.ok c.deref-3.ensures.value c.in_ok-trees.ensures fits
+    _ _ _ _ c.len-before.ensures.count c.lexemes_of.ensures.kept c.cut_back.ensures c.in-Err.is c.bad.ensures

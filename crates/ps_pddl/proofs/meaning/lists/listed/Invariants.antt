@@ -1,4 +1,4 @@
-use Rattle.std.proofs.Common.{◌≡◌, ◌-◌, [], length, drop, map}
+use Rattle.std.proofs.Common.{◌≡◌, ◌-◌, length, drop, map}
 use Rattle.ps_forms.specs.Nested.{nesteds}
 use Rattle.ps_forms.specs.NestedViews.{nested}
 use Rattle.ps_pddl.specs.Lists.{kind_ahead, listed}
@@ -8,7 +8,7 @@ use Rattle.ps_pddl.proofs.meaning.lists.listed.Given as goal
 abbrev pub invariant-loop-i : goal.invariant-loop-i
 invariant-loop-i l = record {
   run : l.kind ≡ kind_ahead (nesteds (map nested (drop l.i l.trees)));
-  whole : listed l.d l.listing (nesteds (map nested (drop l.i l.trees))) l.all.items ≡ listed l.d l.listing (nesteds (map nested l.trees)) [];
+  whole : listed l.d l.listing (nesteds (map nested (drop l.i l.trees))) l.all.items ≡ listed l.d l.listing (nesteds (map nested l.trees)) l.before;
 }
 
 abbrev pub decreases-loop-i : goal.decreases-loop-i

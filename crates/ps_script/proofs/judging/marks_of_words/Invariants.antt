@@ -1,6 +1,6 @@
 use Rattle.std.proofs.Common.{◌≡◌, ◌++◌, drop}
 use Rattle.ps_forms.specs.Lexemes.{marks}
-use Rattle.ps_script.proofs.reading.marks_of_words.Given as goal
+use Rattle.ps_script.proofs.judging.marks_of_words.Given as goal
 
 -- the marks that stand and those of the words that are left are all of them
 abbrev pub invariant-loop-word : goal.invariant-loop-word
