@@ -70,15 +70,32 @@ fn know_the_same(one: &Problem, other: &Problem) -> Result<bool, Fail> {
     )
 }
 
+/// Whether a change of nothing leaves a problem as it is.
+fn stays(alloc: Global, problem: &mut Problem) -> Result<bool, Fail> {
+    let none = no_change(alloc);
+    Ok(!problem.patch(&none)?)
+}
+
+/// That a change makes of what is known what is known after the act, once.
+fn leads_there(
+    rt: &impl Abort,
+    alloc: Global,
+    problem: &mut Problem,
+    after: &Problem,
+    change: &Change,
+) -> Result<(), Fail> {
+    assert!(rt; !know_the_same(&*problem, after)?);
+    assert!(rt; problem.patch(change)?);
+    assert!(rt; know_the_same(&*problem, after)?);
+    assert!(rt; stays(alloc, &mut *problem)?);
+    assert!(rt; know_the_same(&*problem, after)?);
+    Ok(())
+}
+
 fn patches_so(rt: &impl Abort, alloc: Global, world: &mut World) -> Result<(), Fail> {
     let after = after_act(alloc, world)?;
-    assert!(rt; !know_the_same(&world.problem, &after)?);
     let change = driven(alloc, &mut world.names)?;
-    assert!(rt; world.problem.patch(&change)?);
-    assert!(rt; know_the_same(&world.problem, &after)?);
-    assert!(rt; !world.problem.patch(&no_change(alloc))?);
-    assert!(rt; know_the_same(&world.problem, &after)?);
-    Ok(())
+    leads_there(rt, alloc, &mut world.problem, &after, &change)
 }
 
 #[test]
