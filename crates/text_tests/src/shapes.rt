@@ -27,7 +27,7 @@ const GOALS: &str = "\
 ( = a 1 ) -> Ok(Some(3))
 ( preference a ) -> Ok(None)
 ( when ) -> Ok(Some(1))
-( p ?x ) -> Ok(Some(2))
+( p ?x ) -> Ok(None)
 ( and ( p ) -> Ok(Some(5))
 ( p ) a -> Ok(Some(3))
  -> Ok(Some(0))";
