@@ -135,12 +135,18 @@ fn takes_a_grant_once(rt: HostRuntime) -> Result<(), Fail> {
     assert_run(&rt, rt.alloc(), &mut world, true)
 }
 
-/// Asserts that no turn does anything in a halted run, and how many entries there are.
-fn assert_halted(rt: &impl Abort, board: &mut Board, count: usize) -> Result<(), Fail> {
-    assert!(rt; matches!(tick(board, 2)?, Ticked::Halted));
+/// Asserts that members do nothing in a halted run.
+fn assert_idle(rt: &impl Abort, board: &mut Board) -> Result<(), Fail> {
     assert!(rt; matches!(performer_turn(board, 2, 0)?, Turn::Nothing));
     assert!(rt; matches!(performer_turn(board, 2, 1)?, Turn::Nothing));
     assert!(rt; matches!(observer_turn(board, 2)?, Turn::Nothing));
+    Ok(())
+}
+
+/// Asserts that no turn does anything in a halted run, and how many entries there are.
+fn assert_halted(rt: &impl Abort, board: &mut Board, count: usize) -> Result<(), Fail> {
+    assert!(rt; matches!(tick(board, 2)?, Ticked::Halted));
+    assert_idle(rt, board)?;
     assert_eq!(rt; board.entries().len(), count);
     Ok(())
 }

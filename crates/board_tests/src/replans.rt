@@ -82,23 +82,42 @@ fn submits(
     Ok(submitted)
 }
 
-fn assert_replans(rt: &impl Abort, alloc: Global, world: &mut World) -> Result<(), Fail> {
-    let board = &mut world.board;
+/// Asserts that the run opens, and that its one act starts and is put up.
+fn assert_puts_up(rt: &impl Abort, board: &mut Board) -> Result<(), Fail> {
     assert_eq!(rt; open_run(board)?, 11);
     assert!(rt; matches!(tick(board, 1)?, Ticked::Did));
     assert!(rt; matches!(tick(board, 1)?, Ticked::Did));
+    Ok(())
+}
+
+/// Asserts that the performer passes, and that the act fails.
+fn assert_fails(rt: &impl Abort, board: &mut Board) -> Result<(), Fail> {
     assert!(rt; matches!(performer_turn(board, 1, 0)?, Turn::Did));
     assert!(rt; matches!(tick(board, 1)?, Ticked::Did));
-    assert!(rt;
-        matches!(
-            submits(rt, alloc, board, 15, true)?,
-            Submitted::Stale { at: 15 }
-        )
-    );
-    assert!(rt; matches!(submits(rt, alloc, board, 16, false)?, Submitted::Taken));
-    let text = printed(alloc, &world.names, board.entries())?;
+    Ok(())
+}
+
+/// Asserts that an answer to what was known before is stale, and that one to what is known is taken.
+fn assert_answers(rt: &impl Abort, alloc: Global, board: &mut Board) -> Result<(), Fail> {
+    let stale = submits(rt, alloc, board, 15, true)?;
+    assert!(rt; matches!(stale, Submitted::Stale { at: 15 }));
+    let taken = submits(rt, alloc, board, 16, false)?;
+    assert!(rt; matches!(taken, Submitted::Taken));
+    Ok(())
+}
+
+fn assert_written(rt: &impl Abort, alloc: Global, world: &World) -> Result<(), Fail> {
+    let text = printed(alloc, &world.names, world.board.entries())?;
     assert_eq!(rt; str::from_utf8(&text)?, JOURNAL);
     Ok(())
+}
+
+fn assert_replans(rt: &impl Abort, alloc: Global, world: &mut World) -> Result<(), Fail> {
+    let board = &mut world.board;
+    assert_puts_up(rt, board)?;
+    assert_fails(rt, board)?;
+    assert_answers(rt, alloc, board)?;
+    assert_written(rt, alloc, world)
 }
 
 #[test]

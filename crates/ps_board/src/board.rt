@@ -148,8 +148,6 @@ impl Board {
     {
         let present = Present::new(alloc, &input)?;
         let performers = present.ledger.performers.names.len();
-        let grants = vec![in alloc; None; performers]?;
-        let heard = vec![in alloc; 0; performers]?;
         let mut core = Core {
             input,
             entries: Vec::new(alloc),
@@ -158,9 +156,12 @@ impl Board {
             spare: 0,
         };
         core.show();
+        let core = Box::new(alloc, core)?;
+        let grants = vec![in alloc; None; performers]?;
+        let heard = vec![in alloc; 0; performers]?;
         Ok(Board {
             alloc,
-            core: Box::new(alloc, core)?,
+            core,
             grants,
             heard,
             halted: false,

@@ -112,6 +112,19 @@ impl Core {
         Ok(None)
     }
 
+    /// The first entry since a snapshot that counts, if one does. The only error is that memory ran out.
+    fn first_since(&self, mut snapshot: Snapshot) -> Result<Option<u64>, AllocError>
+        requires stands { Stands self.now }
+        requires asked { WasAsked self.now.input self.now.entries.items snapshot.at }
+        requires known { snapshot.problem
+            ≡ know self.now.input (take snapshot.at self.now.entries.items) }
+        ensures first { IfOk result
+            (IsFirstFrom self.now.input self.now.entries.items snapshot.at) }
+        ensures reserved { NoEditFrom self.now.entries.items snapshot.at → IsOk result }
+    {
+        self.first_to_count(snapshot.at, &mut snapshot.problem)
+    }
+
     /// Appends the block of the event that follows an answer to what is known now. The only error is that memory ran out, and then no
     /// entry is appended.
     fn follow(&mut self, alloc: Global, hand: u8, answer: Answer) -> Result<(), AllocError>
@@ -139,7 +152,7 @@ impl Core {
         &mut self,
         alloc: Global,
         hand: u8,
-        mut snapshot: Snapshot,
+        snapshot: Snapshot,
         answer: Answer,
     ) -> Result<Submitted, AllocError>
         requires stands { Stands self.now }
@@ -160,7 +173,7 @@ impl Core {
         ensures reserved { NoEditFrom self.old.entries.items snapshot.at
             → Covers self.old hand (planned answer) → IsOk result }
     {
-        match self.first_to_count(snapshot.at, &mut snapshot.problem)? {
+        match self.first_since(snapshot)? {
             Some(at) => Ok(Submitted::Stale { at }),
             None => {
                 self.follow(alloc, hand, answer)?;

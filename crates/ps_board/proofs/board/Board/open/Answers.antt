@@ -20,6 +20,6 @@ invariant_of-result c =
     let named : n ≡ length c.in_ok-present.present.ledger.performers.names.items = search (rules, arith) in
     let many : n ≡ length (performers core.input) =
     named ∙ ap length c.in_ok-present.ensures.members.performers ∙ mapped-length (λ p. p.name) (performers c.args.input) ∙ ap (λ i. length (performers i)) (sym c.show.ensures.input) in
-    subst (λ k. IsKept k c.in_ok-grants.grants.items c.in_ok-heard.heard.items false) (sym c.in_ok-new.ensures.ok)
+    subst (λ k. IsKept k c.in_ok-grants.grants.items c.in_ok-heard.heard.items false) (sym c.in_ok-core.ensures.ok)
     (subst (λ xs. IsKept core xs c.in_ok-heard.heard.items false) (sym gs)
     (subst (λ xs. IsKept core (replicate n None) xs false) (sym hs) (kept-open core n many c.show.ensures.stands c.show.ensures.shown)))
