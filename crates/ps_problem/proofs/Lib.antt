@@ -8,12 +8,14 @@ pub mod Heads
 pub mod KindLists
 pub mod NamePlaces
 pub mod Namings
+pub mod Noted
 pub mod Opening
 pub mod Patches
 pub mod PutFacts
 pub mod PutSuits
 pub mod PutValues
 pub mod Puts
+pub mod Ranges
 pub mod Removals
 pub mod Suits
 pub mod Values

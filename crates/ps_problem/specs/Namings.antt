@@ -1,9 +1,9 @@
 -- Facts that are found by the names that stand in them.
-use Rattle.std.specs.Prelude.{◌≡◌, true, List, [], All}
+use Rattle.std.specs.Prelude.{◌≡◌, true, List, [], All, filter, map}
 use Rattle.std.specs.List.{Contains}
 use Rattle.std.specs.Ordering.{on, then_cmp}
 use Rattle.std.specs.declared.cmp.Ordering.{Ordering}
-use Rattle.ps_world.specs.Names.{name_cmp}
+use Rattle.ps_world.specs.Names.{name_cmp, same_name}
 use Rattle.ps_world.specs.Facts.{fact_cmp}
 use Rattle.ps_world.specs.Knowledge.{is_among}
 use Rattle.ps_world.specs.declared.names.Name.{Name}
@@ -34,3 +34,11 @@ pub record AreNamed (facts : List Fact) (namings : List Naming) : Type 0 where
 -- the fact that stands before all others with a head
 abbrev pub lowest_of : Name → Fact
 lowest_of n = record { head = n; args = [] }
+
+-- the note that stands before all others with a name
+abbrev pub lowest_with : Name → Naming
+lowest_with n = record { name = n; fact = lowest_of (record { 0 = 0 }) }
+
+-- the facts that a name is noted with
+abbrev pub noted_with : Name → List Naming → List Fact
+noted_with n xs = map (λ x. x.fact) (filter (λ x. same_name n x.name) xs)

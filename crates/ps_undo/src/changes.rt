@@ -25,25 +25,12 @@ fn with_goal(alloc: Global, goal: Option<Option<Cond>>) -> Change
 
 // ---- the change of an edit
 
-/// Adds those of these facts that name an instance.
-fn push_naming(facts: &[Fact], name: Name, out: &mut Seq<Fact>) -> Result<(), AllocError>
-    ensures { OnOk result (out.new
-        ≡ out.old ++ filter (λ f. is_among name f.args) facts.now) }
-{
-    for fact in facts {
-        if fact.args.contains(name) {
-            out.push(*fact)?;
-        }
-    }
-    Ok(())
-}
-
 /// Adds the facts that name an instance.
 fn push_facts(problem: &Problem, name: Name, out: &mut Seq<Fact>) -> Result<(), AllocError>
     ensures { OnOk result (out.new
         ≡ out.old ++ filter (λ f. is_among name f.args) problem.now.facts) }
 {
-    push_naming(&problem.facts()?, name, out)
+    push_all(&problem.facts_naming(name)?, out)
 }
 
 /// Adds the terms that have values and name an instance.
@@ -51,16 +38,7 @@ fn push_terms(problem: &Problem, name: Name, out: &mut Seq<Fact>) -> Result<(), 
     ensures { OnOk result (out.new
         ≡ out.old ++ filter (λ f. is_among name f.args) (keys_of problem.now.values)) }
 {
-    push_naming(terms_in(problem)?.as_slice(), name, out)
-}
-
-/// The terms that have values.
-fn terms_in(problem: &Problem) -> Result<Seq<Fact>, AllocError>
-    ensures { IfOk result (λ terms. terms ≡ keys_of problem.now.values) }
-{
-    let mut terms = Seq::new(problem.allocator());
-    push_keys(&problem.values()?, &mut terms)?;
-    Ok(terms)
+    push_all(&problem.terms_naming(name)?, out)
 }
 
 /// What becomes of the goal where an instance goes: it is removed if it names the instance.

@@ -11,7 +11,7 @@ ghost use Rattle.ps_action.specs.Effects.{added_by};
 ghost use Rattle.ps_problem.specs.Namings.{AreNamed};
 ghost use Rattle.ps_problem.specs.Puts.{deleted_by, fresh_in, lost_in, without_one};
 
-use super::namings::{Naming, lowest_of, note, note_where_taken, take_naming};
+use super::namings::{Naming, lowest_of, note, note_where_taken, noted_with, take_naming};
 use ps_world::{Effect, Fact, Name};
 use std::alloc::{AllocError, Global};
 use std::collections::BTreeSet;
@@ -193,6 +193,16 @@ impl Facts {
         self.all.iter().copied().collect(alloc)
     }
 
+    /// The facts that name this, in their order. The only error is out of memory.
+    pub fn list_naming(&self, alloc: Global, name: Name) -> Result<Vec<Fact>, AllocError>
+        ensures { IfOk result (λ v. v.items ≡ filter (λ f. is_among name f.args) self.now) }
+    {
+        match &self.namings {
+            Some(namings) => naming_noted(alloc, &self.all, namings, name),
+            None => naming_each(alloc, &self.all, name),
+        }
+    }
+
     /// The facts with this head, in their order.
     pub fn list_of(&self, alloc: Global, head: Name) -> Result<Vec<Fact>, AllocError>
         ensures { IfOk result (λ v. v.items ≡ filter (λ f. same_name head f.head) self.now) }
@@ -207,6 +217,36 @@ impl Facts {
         }
         Ok(found)
     }
+}
+
+/// The facts that name this, found one by one.
+fn naming_each(alloc: Global, all: &BTreeSet<Fact>, name: Name) -> Result<Vec<Fact>, AllocError>
+    ensures { IfOk result (λ v. v.items ≡ filter (λ f. is_among name f.args) all.now.keys) }
+{
+    let mut found = Vec::new(alloc);
+    for fact in all {
+        if fact.args.contains(name) {
+            found.push(*fact)?;
+        }
+    }
+    Ok(found)
+}
+
+/// The facts that name this, found by notes.
+fn naming_noted(
+    alloc: Global,
+    all: &BTreeSet<Fact>,
+    namings: &BTreeSet<Naming>,
+    name: Name,
+) -> Result<Vec<Fact>, AllocError>
+    requires { AreNamed all.now.keys namings.now.keys }
+    ensures { IfOk result (λ v. v.items ≡ filter (λ f. is_among name f.args) all.now.keys) }
+{
+    // A set says of its length that its items rise.
+    let _count = all.len();
+    let mut found = noted_with(alloc, namings, name)?;
+    found.retain(|fact| all.contains(fact));
+    Ok(found)
 }
 
 /// The fact that an effect adds. None exactly where it adds none.

@@ -6,7 +6,7 @@ ghost use Rattle.std.specs.Map.{keys_of};
 ghost use Rattle.std.specs.Option.{option_copied};
 ghost use Rattle.ps_world.specs.Facts.{fact_cmp};
 ghost use Rattle.ps_world.specs.Names.{same_name};
-ghost use Rattle.ps_world.specs.Knowledge.{is_below, is_known, kind_of, value_in};
+ghost use Rattle.ps_world.specs.Knowledge.{is_among, is_below, is_known, kind_of, value_in};
 
 use super::Problem;
 use ps_action::Known;
@@ -88,6 +88,20 @@ impl Problem {
         ensures { IfOk result (λ v. v.items ≡ filter (λ f. same_name head f.head) self.now.facts) }
     {
         self.facts.list_of(self.alloc, head)
+    }
+
+    /// The facts that name this, in their order. Once an instance was removed no others are gone over.
+    pub fn facts_naming(&self, name: Name) -> Result<Vec<Fact>, AllocError>
+        ensures { IfOk result (λ v. v.items ≡ filter (λ f. is_among name f.args) self.now.facts) }
+    {
+        self.facts.list_naming(self.alloc, name)
+    }
+
+    /// The functions at arguments that name this and have a value, in their order. Once an instance was removed no others are gone over.
+    pub fn terms_naming(&self, name: Name) -> Result<Vec<Fact>, AllocError>
+        ensures { IfOk result (λ v. v.items ≡ filter (λ f. is_among name f.args) (keys_of self.now.values)) }
+    {
+        self.values.list_naming(self.alloc, name)
     }
 }
 

@@ -1,14 +1,15 @@
 //! Which facts name which names.
-ghost use Rattle.std.specs.Prelude.{◌≡◌, ◌≢◌, ◌<◌, List, length, All, IfSome, IfNone, OnOk};
+ghost use Rattle.std.specs.Prelude.{◌≡◌, ◌≢◌, ◌<◌, List, length, All, IfSome, IfNone, IfOk, OnOk};
 ghost use Rattle.std.specs.List.{Contains};
+ghost use Rattle.std.specs.List.Sorted.{IsStrictlySortedBy};
 ghost use Rattle.std.specs.BTreeSet.{insert_key};
 ghost use Rattle.ps_world.specs.Facts.{fact_cmp};
 ghost use Rattle.ps_world.specs.declared.facts.Fact.{Fact};
-ghost use Rattle.ps_problem.specs.Namings.{IsNaming, IsNoted, Covers, AreNamed, lowest_of as lowest};
+ghost use Rattle.ps_problem.specs.Namings.{IsNaming, IsNoted, Covers, AreNamed, lowest_of as lowest, lowest_with, naming_cmp, noted_with};
 ghost use Rattle.ps_problem.specs.declared.problem.namings.Naming.{Naming};
 
 use ps_world::{Args, Fact, Name};
-use std::alloc::AllocError;
+use std::alloc::{AllocError, Global};
 use std::collections::BTreeSet;
 
 /// An argument of a fact, and the fact.
@@ -78,6 +79,38 @@ fn first_naming(namings: &BTreeSet<Naming>, name: Name) -> Option<Naming>
         Some(found)
     } else {
         None
+    }
+}
+
+/// The facts that this name is noted with, in their order. Some may be known no more.
+pub fn noted_with(
+    alloc: Global,
+    namings: &BTreeSet<Naming>,
+    name: Name,
+) -> Result<Vec<Fact>, AllocError>
+    ensures noted { IfOk result (λ v. v.items ≡ noted_with name namings.now.keys) }
+    ensures rise { OnOk result (IsStrictlySortedBy naming_cmp namings.now.keys) }
+{
+    // A set says of its length that its items rise.
+    let _count = namings.len();
+    let mut found = Vec::new(alloc);
+    // They stand together, from the lowest of them on.
+    for naming in namings.range(lowest_with(name)..) {
+        if name != naming.name {
+            return Ok(found);
+        }
+        found.push(naming.fact)?;
+    }
+    Ok(found)
+}
+
+/// The note that stands before all others with this name.
+fn lowest_with(name: Name) -> Naming
+    ensures { result ≡ lowest_with name }
+{
+    Naming {
+        name,
+        fact: lowest_of(Name(0)),
     }
 }
 

@@ -12,7 +12,7 @@ ghost use Rattle.ps_problem.specs.Namings.{AreNamed};
 ghost use Rattle.ps_problem.specs.Puts.{dropped_in, held_in, put_back, with_held, without_term};
 
 use super::facts::Facts;
-use super::namings::{Naming, note, note_where_taken, take_naming};
+use super::namings::{Naming, note, note_where_taken, noted_with, take_naming};
 use ps_world::{Fact, Name, Num};
 use std::alloc::{AllocError, Global};
 use std::collections::{BTreeMap, BTreeSet};
@@ -211,6 +211,16 @@ impl Values {
         }
     }
 
+    /// The functions at arguments that name this and have a value, in order. The only error is out of memory.
+    pub fn list_naming(&self, alloc: Global, name: Name) -> Result<Vec<Fact>, AllocError>
+        ensures { IfOk result (λ v. v.items ≡ filter (λ f. is_among name f.args) (keys_of self.now)) }
+    {
+        match &self.namings {
+            Some(namings) => naming_noted(alloc, &self.all, namings, name),
+            None => naming_each(alloc, &self.all, name),
+        }
+    }
+
     /// The functions at their arguments with their values, in order. The only error is out of memory.
     pub fn list(&self, alloc: Global) -> Result<Vec<(Fact, Num)>, AllocError>
         ensures items { IfOk result (λ v. v.items ≡ self.now) }
@@ -222,6 +232,40 @@ impl Values {
         }
         Ok(all)
     }
+}
+
+/// The functions at arguments that name this and have a value, found one by one.
+fn naming_each(
+    alloc: Global,
+    all: &BTreeMap<Fact, Num>,
+    name: Name,
+) -> Result<Vec<Fact>, AllocError>
+    ensures { IfOk result (λ v. v.items ≡ filter (λ f. is_among name f.args) (keys_of all.now.entries)) }
+{
+    let mut found = Vec::new(alloc);
+    for (term, _) in all {
+        if term.args.contains(name) {
+            found.push(*term)?;
+        }
+    }
+    Ok(found)
+}
+
+/// The functions at arguments that name this and have a value, found by notes.
+fn naming_noted(
+    alloc: Global,
+    all: &BTreeMap<Fact, Num>,
+    namings: &BTreeSet<Naming>,
+    name: Name,
+) -> Result<Vec<Fact>, AllocError>
+    requires { AreNamed (keys_of all.now.entries) namings.now.keys }
+    ensures { IfOk result (λ v. v.items ≡ filter (λ f. is_among name f.args) (keys_of all.now.entries)) }
+{
+    // A map says of its length that its keys rise.
+    let _count = all.len();
+    let mut found = noted_with(alloc, namings, name)?;
+    found.retain(|term| all.contains_key(term));
+    Ok(found)
 }
 
 /// The terms among those that lose their values that aren't given one as well, in their order.
