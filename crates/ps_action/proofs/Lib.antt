@@ -1,8 +1,9 @@
-pub mod Bindings
+pub mod ArcTables
 pub mod Clashes
 pub mod Contained
 pub mod Facts
 pub mod Faults
+pub mod Fine
 pub mod FirstFault
 pub mod Grounded
 pub mod Keys
@@ -10,5 +11,7 @@ pub mod Made
 pub mod MadeFacts
 pub mod MadeValues
 pub mod Meeting
+pub mod Plainly
+pub mod Sampled
+pub mod Spreading
 pub mod Standing
-pub mod ArcTables

@@ -1,6 +1,7 @@
 -- Effects that aren't refused, and those that are.
 use Rattle.std.proofs.Common.{◌≡◌, ◌↔◌, Option, Some, None, Ok, Err, refl, subst}
-use Rattle.ps_action.specs.Effects.{fault_of_effects, flat, made, unless, values_set}
+use Rattle.ps_action.specs.Effects.{fault_of_effects, flat, made, values_set}
+use Rattle.ps_action.specs.Refusals.{unless}
 use Rattle.ps_action.specs.Laws.{AreMade, EffectsChange, EffectsAreAtFault}
 use Rattle.ps_action.proofs.FirstFault.{first_fault}
 use Rattle.ps_action.proofs.MadeFacts.{facts_after, facts_rise}

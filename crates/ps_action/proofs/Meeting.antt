@@ -98,7 +98,3 @@ pub effect_thing : (e : Effect) → is_thing (changed_by_effect e) ≡ true
 effect_thing (Add l) = fact_thing l (has_var l) refl
 effect_thing (Delete l) = fact_thing l (has_var l) refl
 effect_thing (Number how l x) = value_thing l (has_var l) refl
-
--- so is a function term, or its place
-pub value_at-thing : (l : Lifted) → is_thing (value_at l) ≡ true
-value_at-thing l = value_thing l (has_var l) refl

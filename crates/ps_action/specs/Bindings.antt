@@ -17,3 +17,7 @@ fitting_names d instances kind = if is_type d kind then of_type d instances kind
 abbrev pub bindings : Domain → List (Name × Name) → List Param → List Name → List (List Name)
 bindings d instances [] env = env ∷ []
 bindings d instances (p ∷ ps) env = flat_map (λ n. bindings d instances ps (env ++ n ∷ [])) (fitting_names d instances p.kind)
+
+-- the bindings of variables where the first of them stands for one of these
+abbrev pub bindings_from : Domain → List (Name × Name) → Param → List Param → List Name → List (Name × Name) → List (List Name)
+bindings_from d instances p ps env some = flat_map (λ n. bindings d instances ps (env ++ n ∷ [])) (of_type d some p.kind)

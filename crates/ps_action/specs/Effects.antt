@@ -1,5 +1,5 @@
 -- What effects change.
-use Rattle.std.specs.Prelude.{◌≡◌, ℕ, ℤ, ◌+ℤ◌, ◌-ℤ◌, Bool, false, not, if◌then◌else◌, Option, Some, None, option_map, option_and_then, Result, Ok, Err, IsOk, List, [], ◌∷◌, ◌++◌, filter, filter_map, fold, length}
+use Rattle.std.specs.Prelude.{ℕ, ℤ, ◌+ℤ◌, ◌-ℤ◌, Bool, false, not, if◌then◌else◌, Option, Some, None, option_map, option_and_then, Result, List, [], ◌∷◌, ◌++◌, map, filter, filter_map, flat_map, fold, length}
 use Rattle.std.specs.List.{list_any}
 use Rattle.std.specs.Option.{option_or}
 use Rattle.std.specs.BTreeMap.{insert_entry}
@@ -8,26 +8,49 @@ use Rattle.ps_world.specs.Facts.{fact_cmp}
 use Rattle.ps_world.specs.Failures.{Gives}
 use Rattle.ps_world.specs.Trees.{ExprTree}
 use Rattle.ps_world.specs.ExprViews.{expr_tree}
+use Rattle.ps_world.specs.CondViews.{cond_tree}
 use Rattle.ps_world.specs.Knowledge.{ground, same_fact, value_in}
 use Rattle.ps_world.specs.declared.failures.Failure.{Failure}
-use Rattle.ps_world.specs.declared.failures.Failure.TheVariants.{OutOfMemory}
+use Rattle.ps_world.specs.declared.names.Name.{Name}
 use Rattle.ps_world.specs.declared.numbers.Num.{Num}
 use Rattle.ps_world.specs.declared.facts.Fact.{Fact}
 use Rattle.ps_world.specs.declared.actions.NumOp.{NumOp}
 use Rattle.ps_world.specs.declared.actions.NumOp.TheVariants.{Assign, Increase, Decrease, ScaleUp, ScaleDown}
 use Rattle.ps_world.specs.declared.actions.Effect.{Effect}
 use Rattle.ps_world.specs.declared.actions.Effect.TheVariants.{Add, Delete, Number}
+use Rattle.ps_world.specs.declared.actions.Guarded.{Guarded}
+use Rattle.ps_world.specs.declared.actions.Guarded.TheVariants.{Plain, When}
+use Rattle.ps_world.specs.declared.actions.Spread.{Spread}
+use Rattle.ps_world.specs.declared.actions.Spread.TheVariants.{Once, ForAll}
 use Rattle.ps_world.specs.declared.domains.Domain.{Domain}
 use Rattle.ps_world.specs.declared.known.Knowledge.{Knowledge}
 use Rattle.ps_action.specs.declared.refusals.EffectRefusal.{EffectRefusal}
 use Rattle.ps_action.specs.declared.refusals.EffectRefusal.TheVariants.{Clash, Undefined, Range}
+use Rattle.ps_action.specs.Bindings.{bindings}
+use Rattle.ps_action.specs.Grounding.{put_effect}
+use Rattle.ps_action.specs.Refusals.{unless}
+use Rattle.ps_action.specs.Truth.{is_true_with}
 use Rattle.ps_action.specs.Values.{in_range, of_both, product, quotient, value}
 
 -- ---- the effects of a list
 
+-- an effect where variables stand for these names; effects under a condition, where it holds, and else none
+abbrev pub flat_guarded : Domain → Knowledge → List Name → Guarded → List Effect
+flat_guarded d k env (Plain e) = put_effect env e ∷ []
+flat_guarded d k env (When c es) = if is_true_with d k env (cond_tree c) then map (put_effect env) es else []
+
+-- what stands once, where no variable stands for a name; what stands for each choice of instances once for each, in the order of the choices
+abbrev pub flat_spread : Domain → Knowledge → Spread → List Effect
+flat_spread d k (Once g) = flat_guarded d k [] g
+flat_spread d k (ForAll ps gs) = flat_map (λ env. flat_map (flat_guarded d k env) gs) (bindings d k.instances ps [])
+
 -- the effects that a list stands for in a state
-abbrev pub flat : Domain → Knowledge → List Effect → List Effect
-flat d k es = es
+abbrev pub flat : Domain → Knowledge → List Spread → List Effect
+flat d k es = flat_map (flat_spread d k) es
+
+-- effects that stand once, with no condition, as a list of effects
+abbrev pub plainly : List Effect → List Spread
+plainly es = map (λ e. Once (Plain e)) es
 
 -- ---- the new value that a numeric effect gives
 
@@ -53,8 +76,8 @@ value_set k (Number how l x) = option_map (λ n. (ground l, n)) (option_and_then
 abbrev pub values_of_flat : Knowledge → List Effect → List (Fact × Num)
 values_of_flat k es = filter_map (value_set k) es
 
--- the same of a list of effects
-abbrev pub values_set : Domain → Knowledge → List Effect → List (Fact × Num)
+-- the function terms that a list of effects gives values, each with its value
+abbrev pub values_set : Domain → Knowledge → List Spread → List (Fact × Num)
 values_set d k es = values_of_flat k (flat d k es)
 
 -- ---- what is at fault
@@ -92,7 +115,7 @@ abbrev pub fault_of_flat : Knowledge → List Effect → Option EffectRefusal
 fault_of_flat k es = faults_from k [] es
 
 -- the first fault of a list of effects, by its place among those that the list stands for
-abbrev pub fault_of_effects : Domain → Knowledge → List Effect → Option EffectRefusal
+abbrev pub fault_of_effects : Domain → Knowledge → List Spread → Option EffectRefusal
 fault_of_effects d k es = fault_of_flat k (flat d k es)
 
 -- whether an effect gives a function term a value that one of those before it gives a value
@@ -135,20 +158,14 @@ made k es ready = record k {
   values = fold with_value k.values ready;
 }
 
--- this, unless something is at fault
-abbrev pub unless : {R A : Type 0} → Option R → A → Result A R
-unless (Some fault) new = Err fault
-unless None new = Ok new
-
 -- the knowledge after flat effects, or their first fault
 abbrev pub effect_flat : Knowledge → List Effect → Result Knowledge EffectRefusal
 effect_flat k es = unless (fault_of_flat k es) (made k es (values_of_flat k es))
 
 -- the knowledge after a list of effects, or its first fault
-abbrev pub effect : Domain → Knowledge → List Effect → Result Knowledge EffectRefusal
+abbrev pub effect : Domain → Knowledge → List Spread → Result Knowledge EffectRefusal
 effect d k es = effect_flat k (flat d k es)
 
--- the answer to a list of effects: the knowledge after it, or its first fault, unless memory ran out, which only effects with no fault meet
-pub record Applies (d : Domain) (k : Knowledge) (es : List Effect) (r : Result Knowledge (Failure EffectRefusal)) : Type 0 where
-  pub gives : Gives (λ new. new) r (effect d k es)
-  pub memory : r ≡ Err OutOfMemory → IsOk (effect d k es)
+-- the answer to a list of effects: the knowledge after it, or its first fault, unless memory ran out
+abbrev pub Applies : Domain → Knowledge → List Spread → Result Knowledge (Failure EffectRefusal) → Type 0
+Applies d k es r = Gives (λ new. new) r (effect d k es)

@@ -10,14 +10,20 @@ use Rattle.ps_world.specs.declared.schemas.Term.TheVariants.{Var, Const}
 use Rattle.ps_world.specs.declared.schemas.Lifted.{Lifted}
 use Rattle.ps_world.specs.declared.expressions.Expr.{Expr}
 use Rattle.ps_world.specs.declared.expressions.Expr.TheVariants.{Num, Fun, Neg, Bin}
+use Rattle.ps_world.specs.declared.conditions.Cond.{Cond}
+use Rattle.ps_world.specs.declared.conditions.Cond.TheVariants as to
 use Rattle.ps_world.specs.declared.actions.ActionDef.{ActionDef}
 use Rattle.ps_world.specs.declared.actions.Conditions.{Conditions}
 use Rattle.ps_world.specs.declared.actions.Effects.{Effects}
 use Rattle.ps_world.specs.declared.actions.Effect.{Effect}
 use Rattle.ps_world.specs.declared.actions.Effect.TheVariants.{Add, Delete, Number}
+use Rattle.ps_world.specs.declared.actions.Guarded.{Guarded}
+use Rattle.ps_world.specs.declared.actions.Guarded.TheVariants.{Plain, When}
+use Rattle.ps_world.specs.declared.actions.Spread.{Spread}
+use Rattle.ps_world.specs.declared.actions.Spread.TheVariants.{Once, ForAll}
 use Rattle.ps_world.specs.declared.domains.Param.{Param}
 use Rattle.ps_world.specs.declared.domains.Domain.{Domain}
-use Rattle.ps_action.specs.Effects.{unless}
+use Rattle.ps_action.specs.Refusals.{unless}
 use Rattle.ps_action.specs.declared.acts.Act.{Act}
 use Rattle.ps_action.specs.declared.acts.GroundAction.{GroundAction}
 use Rattle.ps_action.specs.declared.refusals.GroundRefusal.{GroundRefusal}
@@ -72,6 +78,27 @@ put_effect args (Add l) = Add (put_lifted args l)
 put_effect args (Delete l) = Delete (put_lifted args l)
 put_effect args (Number how l x) = Number how (put_lifted args l) (put_expr args x)
 
+-- the same of a condition as effects hold it
+abbrev pub put_condition : List Name → Cond → Cond
+put_condition args (to.And cs) = to.And (map (put_cond args) cs)
+put_condition args (to.Or cs) = to.Or (map (put_cond args) cs)
+put_condition args (to.Not c) = to.Not (put_cond args c)
+put_condition args (to.Imply a b) = to.Imply (put_cond args a) (put_cond args b)
+put_condition args (to.Holds l) = to.Holds (put_lifted args l)
+put_condition args (to.Same s t) = to.Same (put_term args s) (put_term args t)
+put_condition args (to.Cmp rel x y) = to.Cmp rel (put_expr args x) (put_expr args y)
+put_condition args (to.IsA t kind) = to.IsA (put_term args t) kind
+put_condition args (to.ForSome ps c) = to.ForSome ps (put_cond args c)
+put_condition args (to.ForAll ps c) = to.ForAll ps (put_cond args c)
+
+abbrev pub put_guarded : List Name → Guarded → Guarded
+put_guarded args (Plain e) = Plain (put_effect args e)
+put_guarded args (When c es) = When (put_condition args c) (map (put_effect args) es)
+
+abbrev pub put_spread : List Name → Spread → Spread
+put_spread args (Once g) = Once (put_guarded args g)
+put_spread args (ForAll ps gs) = ForAll ps (map (put_guarded args) gs)
+
 -- ---- ground actions
 
 -- that each argument is an instance that fits its parameter
@@ -92,7 +119,7 @@ put_conditions params args c = record {
 
 -- an action's effects with arguments put in
 abbrev pub put_all_effects : List Name → Effects → Effects
-put_all_effects args e = record { at_start = map (put_effect args) e.at_start; at_end = map (put_effect args) e.at_end }
+put_all_effects args e = record { at_start = map (put_spread args) e.at_start; at_end = map (put_spread args) e.at_end }
 
 -- the ground action of an act of this action
 abbrev pub grounded : ActionDef → Act → GroundAction

@@ -13,12 +13,19 @@ use Rattle.ps_world.specs.declared.facts.Fact.{Fact}
 use Rattle.ps_world.specs.declared.actions.NumOp.{NumOp}
 use Rattle.ps_world.specs.declared.actions.Effect.{Effect}
 use Rattle.ps_world.specs.declared.actions.Effect.TheVariants.{Add, Delete, Number}
+use Rattle.ps_world.specs.declared.actions.Spread.{Spread}
 use Rattle.ps_world.specs.declared.domains.Domain.{Domain}
 use Rattle.ps_world.specs.declared.known.Knowledge.{Knowledge}
 use Rattle.ps_action.specs.declared.refusals.EffectRefusal.{EffectRefusal}
 use Rattle.ps_action.specs.declared.refusals.EffectRefusal.TheVariants.{Clash, Undefined, Range}
 use Rattle.ps_action.specs.Values.{in_range}
-use Rattle.ps_action.specs.Effects.{count_after, fault_of_effect, fault_of_effects, flat, effect}
+use Rattle.ps_action.specs.Effects.{count_after, fault_of_effect, fault_of_effects, flat, effect, plainly}
+
+-- ---- what a list stands for
+
+-- effects that stand once, with no condition, are in every state what their list stands for
+abbrev pub PlainEffectsStandForThemselves : Type 0
+PlainEffectsStandForThemselves = (d : Domain) (k : Knowledge) (es : List Effect) → flat d k (plainly es) ≡ es
 
 -- ---- what effects change
 
@@ -47,7 +54,7 @@ pub record AreMade (old : Knowledge) (es : List Effect) (new : Knowledge) : Type
 
 -- effects without a fault change what they say, and nothing else
 abbrev pub EffectsChange : Type 0
-EffectsChange = (d : Domain) (old : Knowledge) (es : List Effect) (new : Knowledge) → effect d old es ≡ Ok new → AreMade old (flat d old es) new
+EffectsChange = (d : Domain) (old : Knowledge) (es : List Spread) (new : Knowledge) → effect d old es ≡ Ok new → AreMade old (flat d old es) new
 
 -- ---- what is at fault
 
@@ -68,5 +75,5 @@ pub record IsFirstFault (k : Knowledge) (es : List Effect) (r : EffectRefusal) :
 -- effects are refused exactly where something is at fault, and for the first fault
 abbrev pub EffectsAreAtFault : Type 0
 EffectsAreAtFault =
-    (d : Domain) (k : Knowledge) (es : List Effect) (r : EffectRefusal)
+    (d : Domain) (k : Knowledge) (es : List Spread) (r : EffectRefusal)
     → ((effect d k es ≡ Err r) ↔ (fault_of_effects d k es ≡ Some r)) × (effect d k es ≡ Err r → IsFirstFault k (flat d k es) r)

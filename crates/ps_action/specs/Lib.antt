@@ -2,12 +2,15 @@ pub mod ArcTables
 pub mod Arcs
 pub mod Bindings
 pub mod Effects
+pub mod Fine
 pub mod Grounded
 pub mod Grounding
 pub mod Holes
 pub mod Laws
 pub mod Places
 pub mod Plans
+pub mod Refusals
+pub mod Samples
 pub mod Search
 pub mod Texts
 pub mod Things

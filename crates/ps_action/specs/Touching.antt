@@ -1,12 +1,18 @@
 -- What conditions read and what changes, one by one; where a variable stands, all that stands at a place.
-use Rattle.std.specs.Prelude.{if◌then◌else◌, Option, Some, None, List, [], ◌∷◌, ◌++◌, map}
+use Rattle.std.specs.Prelude.{if◌then◌else◌, Option, Some, None, List, [], ◌∷◌, ◌++◌, map, flat_map}
 use Rattle.ps_world.specs.Trees.{ExprTree, number, value_of, negated, operated, CondTree, CondTrees, all_of, any_of, no, implied, holds, same, compares, is_a, for_some, for_all, none, more, cond_trees}
+use Rattle.ps_world.specs.ExprViews.{expr_tree}
+use Rattle.ps_world.specs.CondViews.{cond_tree}
 use Rattle.ps_world.specs.Knowledge.{ground}
 use Rattle.ps_world.specs.declared.schemas.Term.{Term}
 use Rattle.ps_world.specs.declared.schemas.Term.TheVariants.{Var, Const}
 use Rattle.ps_world.specs.declared.schemas.Lifted.{Lifted}
 use Rattle.ps_world.specs.declared.actions.Effect.{Effect}
 use Rattle.ps_world.specs.declared.actions.Effect.TheVariants.{Add, Delete, Number}
+use Rattle.ps_world.specs.declared.actions.Guarded.{Guarded}
+use Rattle.ps_world.specs.declared.actions.Guarded.TheVariants.{Plain, When}
+use Rattle.ps_world.specs.declared.actions.Spread.{Spread}
+use Rattle.ps_world.specs.declared.actions.Spread.TheVariants.{Once, ForAll}
 use Rattle.ps_world.specs.declared.edits.Edit.{Edit}
 use Rattle.ps_world.specs.declared.edits.Edit.TheVariants.{AddInstance, RemoveInstance, AddFact, RemoveFact, SetValue, RemoveValue, SetGoal, RemoveGoal}
 use Rattle.ps_action.specs.declared.touched.Touched.{Touched}
@@ -61,11 +67,37 @@ abbrev mutual
 abbrev pub read_by_list : List CondTree → List Touched
 read_by_list cs = read_by_all (cond_trees cs)
 
+-- what the right side of an effect reads, if it is a numeric one
+abbrev pub read_by_effect : Effect → List Touched
+read_by_effect (Add l) = []
+read_by_effect (Delete l) = []
+read_by_effect (Number how l x) = read_by_expr (expr_tree x)
+
+-- the same of an effect or of several under a condition, which is read too
+abbrev pub read_by_guarded : Guarded → List Touched
+read_by_guarded (Plain e) = read_by_effect e
+read_by_guarded (When c es) = read_by (cond_tree c) ++ flat_map read_by_effect es
+
+-- the same of what stands once or for each choice of instances: all instances too, where it binds variables
+abbrev pub read_by_spread : Spread → List Touched
+read_by_spread (Once g) = read_by_guarded g
+read_by_spread (ForAll ps gs) = Instances ∷ flat_map read_by_guarded gs
+
 -- what an effect changes
 abbrev pub changed_by_effect : Effect → Touched
 changed_by_effect (Add l) = fact_of l
 changed_by_effect (Delete l) = fact_of l
 changed_by_effect (Number how l x) = value_at l
+
+-- what an effect changes, or effects under a condition, whether it holds or not
+abbrev pub changed_by_guarded : Guarded → List Touched
+changed_by_guarded (Plain e) = changed_by_effect e ∷ []
+changed_by_guarded (When c es) = map changed_by_effect es
+
+-- the same of what stands once or for each choice of instances
+abbrev pub changed_by_spread : Spread → List Touched
+changed_by_spread (Once g) = changed_by_guarded g
+changed_by_spread (ForAll ps gs) = flat_map changed_by_guarded gs
 
 -- what an edit changes; the goal is none of these
 abbrev pub changed_by_edit : Edit → Option Touched

@@ -1,17 +1,17 @@
-//! What effects give, and what is at fault with them.
+//! What effects without variables and conditions give, and what is at fault with them.
 ghost use Rattle.std.specs.Prelude.{◌≡◌, ◌↔◌, Some, IfOk, IsTrue};
 ghost use Rattle.std.specs.List.{list_any};
 ghost use Rattle.ps_world.specs.ExprViews.{expr_tree};
-ghost use Rattle.ps_action.specs.Effects.{clashes, count_after, count_fault, fault_of_effect, fault_of_effects, fault_of_flat, first_clash, new_count, sets, value_set, values_of_flat, values_set};
+ghost use Rattle.ps_action.specs.Effects.{clashes, count_after, count_fault, fault_of_effect, fault_of_flat, first_clash, new_count, sets, value_set, values_of_flat};
 
-use crate::known::{Known, Types};
+use crate::known::Known;
 use crate::refusals::EffectRefusal;
 use crate::values::{in_range, product, quotient, value_of};
 use ps_world::{Effect, Expr, Fact, Num, NumOp};
 use std::alloc::{AllocError, Global};
 
 /// The count of thousandths that an old value becomes by a number. None exactly where that isn't defined.
-fn new_count(how: NumOp, old: Option<Num>, by: Num) -> Option<i128>
+pub(crate) fn new_count(how: NumOp, old: Option<Num>, by: Num) -> Option<i128>
     ensures { result ≡ new_count how old (Some by) }
 {
     match (how, old) {
@@ -35,7 +35,7 @@ fn count_after<K: Known>(known: &K, how: NumOp, term: &Fact, expr: &Expr) -> Opt
 }
 
 /// Why a count is no new value, if it is none.
-fn count_fault(at: usize, count: Option<i128>) -> Option<EffectRefusal>
+pub(crate) fn count_fault(at: usize, count: Option<i128>) -> Option<EffectRefusal>
     ensures { result ≡ count_fault at count }
 {
     match count {
@@ -83,8 +83,10 @@ fn fault_of_effect<K: Known>(
     }
 }
 
-/// The first fault of flat effects, if they have one.
-fn fault_of_flat<K: Known>(known: &K, effects: &[Effect]) -> Option<EffectRefusal>
+/// The first fault of effects without variables and conditions, as `unfold` gives them, if they have one. All new values are those in
+/// what is known now. For each effect in order: `Clash` where an earlier one gives the same term a value, `Undefined`, `Range`. It takes
+/// no memory.
+pub fn fault_of_flat<K: Known>(known: &K, effects: &[Effect]) -> Option<EffectRefusal>
     ensures { result ≡ fault_of_flat (K.known known.now) effects.now }
 {
     for (at, effect) in effects.iter().enumerate() {
@@ -93,18 +95,6 @@ fn fault_of_flat<K: Known>(known: &K, effects: &[Effect]) -> Option<EffectRefusa
         }
     }
     None
-}
-
-/// The first fault of a list of effects, if it has one. All new values are those in what is known now. For each effect in order:
-/// `Clash` where an earlier one gives the same term a value, `Undefined`, `Range`. It takes no memory.
-pub fn fault_of_effects<K: Known, T: Types>(
-    known: &K,
-    types: &T,
-    effects: &[Effect],
-) -> Option<EffectRefusal>
-    ensures { result ≡ fault_of_effects (T.types types.now) (K.known known.now) effects.now }
-{
-    fault_of_flat(known, effects)
 }
 
 /// Whether an effect gives a function term a value that one of those before it gives a value.
@@ -140,8 +130,8 @@ fn is_at(clash: Option<usize>, at: usize) -> bool
     }
 }
 
-/// The first fault of flat effects, where the place of the first clash is known.
-fn fault_of_flat_with<K: Known>(
+/// The same as `fault_of_flat`, where the place of the first clash is known, so that no effect is held against the earlier ones.
+pub fn fault_of_flat_with<K: Known>(
     known: &K,
     effects: &[Effect],
     clash: Option<usize>,
@@ -161,19 +151,6 @@ fn fault_of_flat_with<K: Known>(
     None
 }
 
-/// The same as `fault_of_effects`, where the place of the first clash is known, so that no effect is held against the earlier ones.
-pub fn fault_with<K: Known, T: Types>(
-    known: &K,
-    types: &T,
-    effects: &[Effect],
-    clash: Option<usize>,
-) -> Option<EffectRefusal>
-    requires { clash ≡ first_clash effects.now }
-    ensures { result ≡ fault_of_effects (T.types types.now) (K.known known.now) effects.now }
-{
-    fault_of_flat_with(known, effects, clash)
-}
-
 /// The function term that an effect gives a value, with that value. None where it gives none, or where that isn't defined or is out
 /// of range.
 fn value_set<K: Known>(known: &K, effect: &Effect) -> Option<(Fact, Num)>
@@ -190,8 +167,8 @@ fn value_set<K: Known>(known: &K, effect: &Effect) -> Option<(Fact, Num)>
     }
 }
 
-/// The function terms that flat effects give values, each with its value.
-fn values_of_flat<K: Known>(
+/// The function terms that effects without variables and conditions give values, each with its value.
+pub fn values_of_flat<K: Known>(
     alloc: Global,
     known: &K,
     effects: &[Effect],
@@ -205,17 +182,4 @@ fn values_of_flat<K: Known>(
         }
     }
     Ok(all)
-}
-
-/// The function terms that a list of effects gives values, each with its value.
-pub fn values_set<K: Known, T: Types>(
-    alloc: Global,
-    known: &K,
-    types: &T,
-    effects: &[Effect],
-) -> Result<Vec<(Fact, Num)>, AllocError>
-    ensures { IfOk result (λ v. v.items
-        ≡ values_set (T.types types.now) (K.known known.now) effects.now) }
-{
-    values_of_flat(alloc, known, effects)
 }

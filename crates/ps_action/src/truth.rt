@@ -60,7 +60,7 @@ pub fn all_true<K: Known, T: Types>(known: &K, types: &T, conds: &Conds) -> bool
 
 /// Whether a condition holds, where variables stand for these names.
 #[cycle(truth)]
-fn is_true_with<K: Known, T: Types>(known: &K, types: &T, env: &Env, cond: &Cond) -> bool
+pub(crate) fn is_true_with<K: Known, T: Types>(known: &K, types: &T, env: &Env, cond: &Cond) -> bool
     ensures { result ≡ is_true_with (T.types types.now) (K.known known.now) env.now
         (cond_tree cond.now) }
 {

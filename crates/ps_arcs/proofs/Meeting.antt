@@ -1,5 +1,5 @@
 -- What is the same at each thing is the same at each place, and back.
-use Rattle.std.proofs.Common.{◌≡◌, true, List, [], ◌∷◌, ◌++◌, All, map, refl, ap, sym, subst, inl, inr}
+use Rattle.std.proofs.Common.{◌≡◌, true, List, [], ◌∷◌, ◌++◌, All, flat_map, map, refl, ap, sym, subst, inl, inr}
 use Rattle.std.specs.Cmp.{first_so, second_so}
 use Rattle.std.specs.List.{list_all}
 use Rattle.std.specs.Map.{lookup}
@@ -7,6 +7,10 @@ use Rattle.std.proofs.lemmas.Bool.{and_from, or_left, or_right}
 use Rattle.std.proofs.lemmas.List.Elements.{All-nil, All-cons, All-head, All-tail}
 use Rattle.ps_world.specs.Names.{same_name}
 use Rattle.ps_world.specs.declared.actions.Effect.{Effect}
+use Rattle.ps_world.specs.declared.actions.Guarded.{Guarded}
+use Rattle.ps_world.specs.declared.actions.Guarded.TheVariants.{Plain, When}
+use Rattle.ps_world.specs.declared.actions.Spread.{Spread}
+use Rattle.ps_world.specs.declared.actions.Spread.TheVariants.{Once, ForAll}
 use Rattle.ps_world.specs.declared.known.Knowledge.{Knowledge}
 use Rattle.ps_action.proofs.Contained.{fact_itself, fact_same, or_cases}
 use Rattle.ps_action.proofs.Meeting.{effect_thing}
@@ -15,7 +19,7 @@ use Rattle.ps_action.specs.declared.touched.Touched.{Touched}
 use Rattle.ps_action.specs.declared.touched.Touched.TheVariants.{Fact, Value, Instance, Facts, Values, Instances}
 use Rattle.ps_action.specs.Arcs.{changes, is_thing}
 use Rattle.ps_action.specs.Things.{Thing, a_fact, a_value, holds_thing, is_met, touched}
-use Rattle.ps_action.specs.Touching.{changed_by_effect}
+use Rattle.ps_action.specs.Touching.{changed_by_effect, changed_by_guarded, changed_by_spread}
 use Rattle.ps_eval.specs.Laws.{Agree}
 
 -- ---- things and places
@@ -72,6 +76,22 @@ effects_things : (es : List Effect) → list_all is_thing (map changed_by_effect
 effects_things [] = refl
 effects_things (e ∷ es) = and_from (is_thing (changed_by_effect e)) (list_all is_thing (map changed_by_effect es)) (effect_thing e) (effects_things es)
 
+guarded_things : (g : Guarded) → list_all is_thing (changed_by_guarded g) ≡ true
+guarded_things (Plain e) = effects_things (e ∷ [])
+guarded_things (When c es) = effects_things es
+
+guardeds_things : (gs : List Guarded) → list_all is_thing (flat_map changed_by_guarded gs) ≡ true
+guardeds_things [] = refl
+guardeds_things (g ∷ gs) = all_both (changed_by_guarded g) (flat_map changed_by_guarded gs) (guarded_things g) (guardeds_things gs)
+
+spread_things : (s : Spread) → list_all is_thing (changed_by_spread s) ≡ true
+spread_things (Once g) = guarded_things g
+spread_things (ForAll ps gs) = guardeds_things gs
+
+spreads_things : (es : List Spread) → list_all is_thing (flat_map changed_by_spread es) ≡ true
+spreads_things [] = refl
+spreads_things (s ∷ es) = all_both (changed_by_spread s) (flat_map changed_by_spread es) (spread_things s) (spreads_things es)
+
 pub changes_things : (a : GroundAction) → list_all is_thing (changes a) ≡ true
 changes_things a =
-    all_both (map changed_by_effect a.effects.at_start) (map changed_by_effect a.effects.at_end) (effects_things a.effects.at_start) (effects_things a.effects.at_end)
+    all_both (flat_map changed_by_spread a.effects.at_start) (flat_map changed_by_spread a.effects.at_end) (spreads_things a.effects.at_start) (spreads_things a.effects.at_end)

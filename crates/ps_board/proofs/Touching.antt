@@ -1,5 +1,5 @@
 -- What an event doesn't touch is as it was.
-use Rattle.std.proofs.Common.{◌≡◌, ◌↔◌, ◌≢◌, ◌⊎◌, ◌||◌, Bool, true, false, Option, Some, None, MatchOption, is_some, filter, not, if◌then◌else◌, option_to_list, Result, Ok, Err, List, [], ◌∷◌, map, inl, inr, refl, ap, sym, subst, ◌∙◌}
+use Rattle.std.proofs.Common.{◌≡◌, ◌↔◌, ◌≢◌, ◌⊎◌, ◌||◌, Bool, true, false, Option, Some, None, MatchOption, is_some, filter, not, if◌then◌else◌, option_to_list, Result, Ok, Err, List, [], ◌∷◌, flat_map, inl, inr, refl, ap, sym, subst, ◌∙◌}
 use Rattle.std.specs.BTreeMap.{insert_entry}
 use Rattle.std.specs.BTreeSet.{insert_key}
 use Rattle.std.specs.List.{Contains, list_any}
@@ -16,7 +16,7 @@ use Rattle.ps_world.specs.declared.names.Name.{Name}
 use Rattle.ps_world.specs.declared.numbers.Num.{Num}
 use Rattle.ps_world.specs.declared.conditions.Cond.{Cond}
 use Rattle.ps_world.specs.declared.facts.Fact.{Fact as GroundFact}
-use Rattle.ps_world.specs.declared.actions.Effect.{Effect}
+use Rattle.ps_world.specs.declared.actions.Spread.{Spread}
 use Rattle.ps_world.specs.declared.domains.Domain.{Domain}
 use Rattle.ps_world.specs.declared.known.Knowledge.{Knowledge}
 use Rattle.ps_world.specs.declared.edits.Edit.{Edit}
@@ -29,7 +29,7 @@ use Rattle.ps_action.specs.Things.{Thing, a_fact, a_value, holds_thing, is_met, 
 use Rattle.ps_action.specs.declared.places.Place.{Place}
 use Rattle.ps_action.proofs.Meeting.{one_met}
 use Rattle.ps_action.specs.Effects.{effect}
-use Rattle.ps_action.specs.Touching.{changed_by_effect}
+use Rattle.ps_action.specs.Touching.{changed_by_spread}
 use Rattle.ps_action.specs.declared.acts.Act.{Act}
 use Rattle.ps_action.specs.declared.acts.GroundAction.{GroundAction}
 use Rattle.ps_action.specs.declared.refusals.EffectRefusal.{EffectRefusal}
@@ -121,12 +121,12 @@ value-below ts p f e at =
 
 -- ---- effects
 
-effects-left : (k : Knowledge) (es : List Effect) (r : Result Knowledge EffectRefusal) → LeavesOthers k (map changed_by_effect es) r → NamesChange (map changed_by_effect es) k (kept k r)
+effects-left : (k : Knowledge) (es : List Spread) (r : Result Knowledge EffectRefusal) → LeavesOthers k (flat_map changed_by_spread es) r → NamesChange (flat_map changed_by_spread es) k (kept k r)
 effects-left k es (Err fault) h = λ t e. agree_itself k t
 effects-left k es (Ok new) h = λ t e. agree-back new k t (left t e)
   where
     ts : List Touched
-    ts = map changed_by_effect es
+    ts = flat_map changed_by_spread es
 
     left : (t : Touched) → is_named ts t ≡ false → Agree new k t
     left (Fact f) e = h.0 (a_fact f) (unmet ts (Fact f) (a_fact f) e (fact_itself f))
@@ -136,7 +136,7 @@ effects-left k es (Ok new) h = λ t e. agree-back new k t (left t e)
     left (Values p) e = λ f at. h.0 (a_value f) (unmet ts (Values p) (a_value f) e at)
     left Instances e = h.1
 
-effects-named : (d : Domain) (k : Knowledge) (es : List Effect) → NamesChange (map changed_by_effect es) k (kept k (effect d k es))
+effects-named : (d : Domain) (k : Knowledge) (es : List Spread) → NamesChange (flat_map changed_by_spread es) k (kept k (effect d k es))
 effects-named d k es = effects-left k es (effect d k es) (effects_leave d k es)
 
 -- ---- edits

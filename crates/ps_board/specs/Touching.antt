@@ -1,8 +1,8 @@
 -- What an event changes.
-use Rattle.std.specs.Prelude.{ℕ, Option, Some, None, option_to_list, List, [], map, slice_get}
+use Rattle.std.specs.Prelude.{ℕ, Option, Some, None, option_to_list, List, [], flat_map, slice_get}
 use Rattle.std.specs.Option.{option_map_or}
 use Rattle.ps_world.specs.declared.edits.Edit.{Edit}
-use Rattle.ps_action.specs.Touching.{changed_by_edit, changed_by_effect}
+use Rattle.ps_action.specs.Touching.{changed_by_edit, changed_by_spread}
 use Rattle.ps_action.specs.declared.acts.GroundAction.{GroundAction}
 use Rattle.ps_action.specs.declared.touched.Touched.{Touched}
 use Rattle.ps_machine.specs.declared.journal.Event.{Event}
@@ -21,6 +21,6 @@ touched_by_edit edit = option_to_list (changed_by_edit edit)
 -- something
 abbrev pub touched_by : List GroundAction → Event → List Touched
 touched_by gs (event.Edit by edit) = touched_by_edit edit
-touched_by gs (event.Start act) = map changed_by_effect (option_map_or (λ g. g.effects.at_start) (slice_get gs act) [])
-touched_by gs (event.End act) = map changed_by_effect (option_map_or (λ g. g.effects.at_end) (slice_get gs act) [])
+touched_by gs (event.Start act) = flat_map changed_by_spread (option_map_or (λ g. g.effects.at_start) (slice_get gs act) [])
+touched_by gs (event.End act) = flat_map changed_by_spread (option_map_or (λ g. g.effects.at_end) (slice_get gs act) [])
 touched_by gs e = []

@@ -5,7 +5,7 @@ use Rattle.std.specs.Option.{option_map_or, unwrap_or}
 use Rattle.std.proofs.lemmas.Bool.{true≢false, and_parts}
 use Rattle.ps_world.specs.declared.domains.Domain.{Domain}
 use Rattle.ps_world.specs.declared.known.Knowledge.{Knowledge}
-use Rattle.ps_world.specs.declared.actions.Effect.{Effect}
+use Rattle.ps_world.specs.declared.actions.Spread.{Spread}
 use Rattle.ps_action.specs.Effects.{effect}
 use Rattle.ps_action.specs.declared.acts.Act.{Act}
 use Rattle.ps_action.specs.declared.acts.GroundAction.{GroundAction}
@@ -47,7 +47,7 @@ any_in test start (suc n) h =
 -- ---- effects
 
 -- effects that are defined give the knowledge that is kept
-defined : (d : Domain) (k : Knowledge) (es : List Effect) → are_defined d k es ≡ true → (l : Knowledge) × (effect d k es ≡ Ok l) × (kept k (changed d k es) ≡ l)
+defined : (d : Domain) (k : Knowledge) (es : List Spread) → are_defined d k es ≡ true → (l : Knowledge) × (effect d k es ≡ Ok l) × (kept k (changed d k es) ≡ l)
 defined d k es h = by_outcome (effect d k es) refl h
   where
     by_outcome : (r : Result Knowledge EffectRefusal) → effect d k es ≡ r → is_ok r ≡ true → (l : Knowledge) × (effect d k es ≡ Ok l) × (kept k (changed d k es) ≡ l)

@@ -8,7 +8,7 @@ use Rattle.ps_world.specs.declared.domains.Domain.{Domain}
 use Rattle.ps_world.specs.declared.actions.ActionDef.{ActionDef}
 use Rattle.ps_world.specs.declared.known.Knowledge.{Knowledge}
 use Rattle.ps_action.specs.Grounding.{first_unfit, ground_act, ground_by, grounded}
-use Rattle.ps_action.specs.Effects.{unless}
+use Rattle.ps_action.specs.Refusals.{unless}
 use Rattle.ps_action.specs.Plans.{after_steps, judged, judged_by, where_true}
 use Rattle.ps_action.specs.Truth.{is_true}
 use Rattle.ps_action.specs.declared.acts.Act.{Act}

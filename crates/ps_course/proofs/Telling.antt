@@ -14,7 +14,7 @@ use Rattle.ps_world.specs.declared.domains.Domain.{Domain}
 use Rattle.ps_world.specs.declared.facts.Fact.{Fact}
 use Rattle.ps_world.specs.declared.numbers.Num.{Num}
 use Rattle.ps_world.specs.declared.known.Knowledge.{Knowledge}
-use Rattle.ps_world.specs.declared.actions.Effect.{Effect}
+use Rattle.ps_world.specs.declared.actions.Spread.{Spread}
 use Rattle.ps_world.specs.declared.edits.Edit.{Edit}
 use Rattle.ps_world.specs.declared.edits.EditRefusal.{EditRefusal}
 use Rattle.ps_action.specs.declared.acts.Act.{Act}
@@ -42,7 +42,7 @@ after_edit : (d : Domain) (k : Knowledge) (edit : Edit) (r : Result Knowledge Ed
 after_edit d k edit (Ok new) e rises = (edits_change d k edit new e).1 rises
 after_edit d k edit (Err why) e rises = rises
 
-after_effects : (d : Domain) (k : Knowledge) (es : List Effect) (r : Result Knowledge EffectRefusal) → effect d k es ≡ r → Rises k → Rises (kept k r)
+after_effects : (d : Domain) (k : Knowledge) (es : List Spread) (r : Result Knowledge EffectRefusal) → effect d k es ≡ r → Rises k → Rises (kept k r)
 after_effects d k es (Ok new) e rises =
     let made = effects_change d k es new e in
     record {

@@ -17,7 +17,7 @@ use Rattle.ps_world.specs.declared.names.Name.{Name}
 use Rattle.ps_world.specs.declared.actions.ActionDef.{ActionDef}
 use Rattle.ps_world.specs.declared.domains.Param.{Param}
 use Rattle.ps_world.specs.declared.domains.Domain.{Domain}
-use Rattle.ps_action.specs.Effects.{unless}
+use Rattle.ps_action.specs.Refusals.{unless}
 use Rattle.ps_action.specs.Grounding.{with_named, by_name, choices, picks, grounded, unfit, first_unfit, ground_by, ground_act, all_of_action, all_ground}
 use Rattle.ps_action.specs.declared.acts.Act.{Act}
 use Rattle.ps_action.specs.declared.acts.GroundAction.{GroundAction}

@@ -4,9 +4,9 @@ ghost use Rattle.ps_action.specs.Grounding.{grounded, put_all_effects, put_condi
 ghost use Rattle.ps_domain.specs.Grounding.{Grounds};
 
 use super::expert::Expert;
-use super::putting::{put_effects, put_expr, put_list};
-use ps_action::{Act, GroundAction, GroundRefusal, Instances, first_misfit};
-use ps_world::{ActionDef, Conditions, Effects, Failure, Name, Param};
+use super::putting::{put_effects, put_list};
+use ps_action::{Act, GroundAction, GroundRefusal, Instances, first_misfit, put_expr};
+use ps_world::{ActionDef, Conditions, Effects, Env, Failure, Name, Param};
 use std::alloc::{AllocError, Global};
 
 fn put_conditions(
@@ -42,7 +42,7 @@ pub fn grounded(alloc: Global, action: &ActionDef, act: &Act) -> Result<GroundAc
     let args = act.args.as_slice();
     Ok(GroundAction {
         act: *act,
-        duration: put_expr(alloc, args, &action.duration)?,
+        duration: put_expr(alloc, &Env::of(args), &action.duration)?,
         conditions: put_conditions(alloc, action.params.as_slice(), args, &action.conditions)?,
         effects: put_all_effects(alloc, args, &action.effects)?,
     })

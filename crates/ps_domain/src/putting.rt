@@ -1,119 +1,63 @@
 //! Arguments in place of the variables of an action.
 ghost use Rattle.std.specs.Prelude.{◌≡◌, length, map, IfOk};
 ghost use Rattle.ps_world.specs.CondViews.{cond_tree};
-ghost use Rattle.ps_action.specs.Grounding.{put_term, put_lifted, put_tree, put_expr, put_cond, put_effect, fitting, put_list};
+ghost use Rattle.ps_action.specs.Grounding.{put_cond, put_condition, put_effect, put_guarded, put_spread, fitting, put_list};
 
+use ps_action::{put_effect, put_expr, put_lifted, put_term};
 use ps_world::{
-    BoxedCond, BoxedExpr, Cond, Conds, Duplicate, Effect, Expr, Lifted, MOST_ARGUMENTS, Name,
-    Param, Seq, Term, Terms,
+    BoxedCond, Cond, Conds, Duplicate, Effect, Env, Guarded, Name, Param, Seq, Spread, Term,
 };
 use std::alloc::{AllocError, Global};
 
-/// A term with its argument in place of a variable. A variable behind the arguments is numbered without them.
-fn put_term(args: &[Name], term: Term) -> Term
-    ensures { result ≡ put_term args.now term }
-{
-    match term {
-        Term::Var(i) => match args.get(usize::from(i)) {
-            Some(name) => Term::Const(*name),
-            None => Term::Var((usize::from(i) - args.len()) as u8),
-        },
-        Term::Const(name) => Term::Const(name),
-    }
-}
-
-/// A fact with arguments in place of its variables. It takes no memory.
-fn put_lifted(args: &[Name], lifted: &Lifted) -> Lifted
-    ensures { result ≡ put_lifted args.now lifted.now }
-{
-    let count = lifted.terms.len();
-    let terms = lifted.terms.as_slice();
-    let mut put = [Term::Const(Name::OBJECT); MOST_ARGUMENTS];
-    for i in 0..count {
-        put[i] = put_term(args, terms[i]);
-    }
-    match Terms::of(&put[..count]) {
-        Some(terms) => Lifted {
-            head: lifted.head,
-            terms,
-        },
-        None => unreachable!(),
-    }
-}
-
-/// An expression with arguments in place of its variables.
-#[cycle(put_expr)]
-pub fn put_expr(alloc: Global, args: &[Name], expr: &Expr) -> Result<Expr, AllocError>
-    ensures { IfOk result (λ put. put ≡ put_expr args.now expr.now) }
-{
-    match expr {
-        Expr::Num(number) => Ok(Expr::Num(*number)),
-        Expr::Fun(lifted) => Ok(Expr::Fun(put_lifted(args, lifted))),
-        Expr::Neg(inner) => Ok(Expr::Neg(put_boxed_expr(alloc, args, inner)?)),
-        Expr::Bin(op, left, right) => {
-            let left = put_boxed_expr(alloc, args, left)?;
-            let right = put_boxed_expr(alloc, args, right)?;
-            Ok(Expr::Bin(*op, left, right))
-        }
-    }
-}
-
-#[cycle(put_expr)]
-fn put_boxed_expr(alloc: Global, args: &[Name], boxed: &BoxedExpr) -> Result<BoxedExpr, AllocError>
-    ensures { IfOk result (λ put. put ≡ put_tree args.now boxed.now) }
-{
-    let inner = put_expr(alloc, args, boxed.get())?;
-    BoxedExpr::new(alloc, inner)
-}
-
 #[cycle(put_cond)]
-fn put_cond(alloc: Global, args: &[Name], cond: &Cond) -> Result<Cond, AllocError>
-    ensures { IfOk result (λ put. cond_tree put ≡ put_cond args.now (cond_tree cond.now)) }
+fn put_cond(alloc: Global, env: &Env, cond: &Cond) -> Result<Cond, AllocError>
+    ensures whole { IfOk result (λ put. put ≡ put_condition env.now cond.now) }
+    ensures tree { IfOk result (λ put. cond_tree put ≡ put_cond env.now (cond_tree cond.now)) }
 {
     match cond {
-        Cond::And(parts) => Ok(Cond::And(put_conds(alloc, args, parts)?)),
-        Cond::Or(parts) => Ok(Cond::Or(put_conds(alloc, args, parts)?)),
-        Cond::Not(inner) => Ok(Cond::Not(put_boxed_cond(alloc, args, inner)?)),
+        Cond::And(parts) => Ok(Cond::And(put_conds(alloc, &*env, parts)?)),
+        Cond::Or(parts) => Ok(Cond::Or(put_conds(alloc, &*env, parts)?)),
+        Cond::Not(inner) => Ok(Cond::Not(put_boxed_cond(alloc, &*env, inner)?)),
         Cond::Imply(one, other) => {
-            let one = put_boxed_cond(alloc, args, one)?;
-            let other = put_boxed_cond(alloc, args, other)?;
+            let one = put_boxed_cond(alloc, &*env, one)?;
+            let other = put_boxed_cond(alloc, &*env, other)?;
             Ok(Cond::Imply(one, other))
         }
-        Cond::Holds(lifted) => Ok(Cond::Holds(put_lifted(args, lifted))),
-        Cond::Same(one, other) => Ok(Cond::Same(put_term(args, *one), put_term(args, *other))),
+        Cond::Holds(lifted) => Ok(Cond::Holds(put_lifted(&*env, lifted))),
+        Cond::Same(one, other) => Ok(Cond::Same(put_term(&*env, *one), put_term(&*env, *other))),
         Cond::Cmp(rel, left, right) => {
-            let left = put_expr(alloc, args, left)?;
-            let right = put_expr(alloc, args, right)?;
+            let left = put_expr(alloc, &*env, left)?;
+            let right = put_expr(alloc, &*env, right)?;
             Ok(Cond::Cmp(*rel, left, right))
         }
-        Cond::IsA(term, kind) => Ok(Cond::IsA(put_term(args, *term), *kind)),
+        Cond::IsA(term, kind) => Ok(Cond::IsA(put_term(&*env, *term), *kind)),
         Cond::ForSome(params, inner) => {
             let params = params.copy(alloc)?;
-            Ok(Cond::ForSome(params, put_boxed_cond(alloc, args, inner)?))
+            Ok(Cond::ForSome(params, put_boxed_cond(alloc, &*env, inner)?))
         }
         Cond::ForAll(params, inner) => {
             let params = params.copy(alloc)?;
-            Ok(Cond::ForAll(params, put_boxed_cond(alloc, args, inner)?))
+            Ok(Cond::ForAll(params, put_boxed_cond(alloc, &*env, inner)?))
         }
     }
 }
 
 #[cycle(put_cond)]
-fn put_boxed_cond(alloc: Global, args: &[Name], boxed: &BoxedCond) -> Result<BoxedCond, AllocError>
-    ensures { IfOk result (λ put. put ≡ put_cond args.now boxed.now) }
+fn put_boxed_cond(alloc: Global, env: &Env, boxed: &BoxedCond) -> Result<BoxedCond, AllocError>
+    ensures { IfOk result (λ put. put ≡ put_cond env.now boxed.now) }
 {
-    let inner = put_cond(alloc, args, boxed.get())?;
+    let inner = put_cond(alloc, &*env, boxed.get())?;
     BoxedCond::new(alloc, inner)
 }
 
 /// Conditions with arguments in place of their variables.
 #[cycle(put_cond)]
-pub fn put_conds(alloc: Global, args: &[Name], conds: &Conds) -> Result<Conds, AllocError>
-    ensures { IfOk result (λ put. put ≡ map (put_cond args.now) conds.now) }
+pub fn put_conds(alloc: Global, env: &Env, conds: &Conds) -> Result<Conds, AllocError>
+    ensures { IfOk result (λ put. put ≡ map (put_cond env.now) conds.now) }
 {
     let mut put = Conds::new(alloc);
     for cond in conds.as_slice() {
-        put.push(put_cond(alloc, args, cond)?)?;
+        put.push(put_cond(alloc, &*env, cond)?)?;
     }
     Ok(put)
 }
@@ -140,23 +84,56 @@ pub fn put_list(
     requires { length params.now ≡ length args.now }
     ensures { IfOk result (λ put. put ≡ put_list params.now args.now conds.now) }
 {
+    let env = Env::of(args);
     let mut put = fitting(alloc, params, args)?;
     for cond in conds.as_slice() {
-        put.push(put_cond(alloc, args, cond)?)?;
+        put.push(put_cond(alloc, &env, cond)?)?;
     }
     Ok(put)
 }
 
-fn put_effect(alloc: Global, args: &[Name], effect: &Effect) -> Result<Effect, AllocError>
-    ensures { IfOk result (λ put. put ≡ put_effect args.now effect.now) }
+fn put_flat(alloc: Global, env: &Env, effects: &[Effect]) -> Result<Seq<Effect>, AllocError>
+    ensures { IfOk result (λ put. put ≡ map (put_effect env.now) effects.now) }
 {
-    match effect {
-        Effect::Add(lifted) => Ok(Effect::Add(put_lifted(args, lifted))),
-        Effect::Delete(lifted) => Ok(Effect::Delete(put_lifted(args, lifted))),
-        Effect::Number(how, lifted, by) => {
-            let term = put_lifted(args, lifted);
-            let by = put_expr(alloc, args, by)?;
-            Ok(Effect::Number(*how, term, by))
+    let mut put = Seq::new(alloc);
+    for effect in effects {
+        put.push(put_effect(alloc, env, effect)?)?;
+    }
+    Ok(put)
+}
+
+fn put_guarded(alloc: Global, env: &Env, part: &Guarded) -> Result<Guarded, AllocError>
+    ensures { IfOk result (λ put. put ≡ put_guarded env.now part.now) }
+{
+    match part {
+        Guarded::Plain(effect) => Ok(Guarded::Plain(put_effect(alloc, env, effect)?)),
+        Guarded::When(cond, effects) => {
+            let cond = put_cond(alloc, env, cond)?;
+            let effects = put_flat(alloc, env, effects.as_slice())?;
+            Ok(Guarded::When(cond, effects))
+        }
+    }
+}
+
+fn put_parts(alloc: Global, env: &Env, parts: &[Guarded]) -> Result<Seq<Guarded>, AllocError>
+    ensures { IfOk result (λ put. put ≡ map (put_guarded env.now) parts.now) }
+{
+    let mut put = Seq::new(alloc);
+    for part in parts {
+        put.push(put_guarded(alloc, env, part)?)?;
+    }
+    Ok(put)
+}
+
+fn put_spread(alloc: Global, env: &Env, spread: &Spread) -> Result<Spread, AllocError>
+    ensures { IfOk result (λ put. put ≡ put_spread env.now spread.now) }
+{
+    match spread {
+        Spread::Once(part) => Ok(Spread::Once(put_guarded(alloc, env, part)?)),
+        Spread::ForAll(params, parts) => {
+            let params = params.copy(alloc)?;
+            let parts = put_parts(alloc, env, parts.as_slice())?;
+            Ok(Spread::ForAll(params, parts))
         }
     }
 }
@@ -165,13 +142,14 @@ fn put_effect(alloc: Global, args: &[Name], effect: &Effect) -> Result<Effect, A
 pub fn put_effects(
     alloc: Global,
     args: &[Name],
-    effects: &[Effect],
-) -> Result<Seq<Effect>, AllocError>
-    ensures { IfOk result (λ put. put ≡ map (put_effect args.now) effects.now) }
+    effects: &[Spread],
+) -> Result<Seq<Spread>, AllocError>
+    ensures { IfOk result (λ put. put ≡ map (put_spread args.now) effects.now) }
 {
+    let env = Env::of(args);
     let mut put = Seq::new(alloc);
-    for effect in effects {
-        put.push(put_effect(alloc, args, effect)?)?;
+    for spread in effects {
+        put.push(put_spread(alloc, &env, spread)?)?;
     }
     Ok(put)
 }

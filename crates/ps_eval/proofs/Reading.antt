@@ -24,11 +24,11 @@ use Rattle.ps_eval.specs.Laws.{Agree, TruthReadsWhatIsNamed}
 
 -- what holds of each of two lists in a row
 module _ {A : Type 0} (P : A → Type 0) where
-  in_front : (xs ys : List A) → All P (xs ++ ys) → All P xs
+  pub in_front : (xs ys : List A) → All P (xs ++ ys) → All P xs
   in_front [] ys h = All-nil P
   in_front (x ∷ xs) ys h = All-cons P x xs (All-head P x (xs ++ ys) h) (in_front xs ys (All-tail P x (xs ++ ys) h))
 
-  in_rest : (xs ys : List A) → All P (xs ++ ys) → All P ys
+  pub in_rest : (xs ys : List A) → All P (xs ++ ys) → All P ys
   in_rest [] ys h = h
   in_rest (x ∷ xs) ys h = in_rest xs ys (All-tail P x (xs ++ ys) h)
 

@@ -1,11 +1,11 @@
-//! What conditions read and what effects and edits change.
-ghost use Rattle.std.specs.Prelude.{◌≡◌, [], ◌∷◌, ◌++◌, map, IfOk, OnOk};
+//! What conditions read and what edits change.
+ghost use Rattle.std.specs.Prelude.{◌≡◌, [], ◌∷◌, ◌++◌, IfOk, OnOk};
 ghost use Rattle.ps_world.specs.CondViews.{cond_tree};
 ghost use Rattle.ps_world.specs.ExprViews.{expr_tree};
-ghost use Rattle.ps_action.specs.Touching.{arguments, changed_by_edit, changed_by_effect, named_by, read_by, read_by_expr, read_by_list};
+ghost use Rattle.ps_action.specs.Touching.{arguments, changed_by_edit, named_by, read_by, read_by_expr, read_by_list};
 
 use ps_action::Touched;
-use ps_world::{BoxedCond, BoxedExpr, Cond, Conds, Edit, Effect, Expr, Lifted, Term};
+use ps_world::{BoxedCond, BoxedExpr, Cond, Conds, Edit, Expr, Lifted, Term};
 use std::alloc::{AllocError, Global};
 
 fn push_name(term: &Term, all: &mut Vec<Touched>) -> Result<(), AllocError>
@@ -25,7 +25,7 @@ fn push_arguments(lifted: &Lifted, all: &mut Vec<Touched>) -> Result<(), AllocEr
 }
 
 #[cycle(expr)]
-fn push_expr(expr: &Expr, all: &mut Vec<Touched>) -> Result<(), AllocError>
+pub(crate) fn push_expr(expr: &Expr, all: &mut Vec<Touched>) -> Result<(), AllocError>
     ensures { OnOk result (all.new.items ≡ all.old.items ++ read_by_expr (expr_tree expr.now)) }
 {
     match expr {
@@ -50,7 +50,7 @@ fn push_boxed_expr(expr: &BoxedExpr, all: &mut Vec<Touched>) -> Result<(), Alloc
 }
 
 #[cycle(cond)]
-fn push_cond(cond: &Cond, all: &mut Vec<Touched>) -> Result<(), AllocError>
+pub(crate) fn push_cond(cond: &Cond, all: &mut Vec<Touched>) -> Result<(), AllocError>
     ensures { OnOk result (all.new.items ≡ all.old.items ++ read_by (cond_tree cond.now)) }
 {
     match cond {
@@ -105,27 +105,6 @@ pub fn reads(alloc: Global, conds: &Conds) -> Result<Vec<Touched>, AllocError>
 {
     let mut all = Vec::new(alloc);
     push_conds(conds, &mut all)?;
-    Ok(all)
-}
-
-fn changed_by_effect(effect: &Effect) -> Touched
-    ensures { result ≡ changed_by_effect effect.now }
-{
-    match effect {
-        Effect::Add(lifted) | Effect::Delete(lifted) => Touched::fact_of(lifted),
-        Effect::Number(_, lifted, _) => Touched::value_at(lifted),
-    }
-}
-
-/// What a list of effects changes: each fact that it adds or deletes, and each function term that it gives a value, or its place where a
-/// variable stands. One thing may be named twice.
-pub fn changed_by(alloc: Global, effects: &[Effect]) -> Result<Vec<Touched>, AllocError>
-    ensures { IfOk result (λ v. v.items ≡ map changed_by_effect effects.now) }
-{
-    let mut all = Vec::new(alloc);
-    for effect in effects {
-        all.push(changed_by_effect(effect))?;
-    }
     Ok(all)
 }
 

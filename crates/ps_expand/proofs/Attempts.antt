@@ -1,11 +1,13 @@
 -- What an attempt at a step comes to.
-use Rattle.std.proofs.Common.{◌≡◌, Bool, true, false, Option, Some, None, option_map, is_some, Result, Ok, if◌then◌else◌, refl, ap, ◌∙◌, sym}
+use Rattle.std.proofs.Common.{◌≡◌, Bool, true, false, List, Option, Some, None, option_map, is_some, Result, Ok, if◌then◌else◌, refl, ap, ◌∙◌, sym}
 use Rattle.std.specs.List.Sorted.{IsStrictlySortedBy}
 use Rattle.std.specs.Result.{result_ok}
 use Rattle.ps_world.specs.Facts.{fact_cmp}
+use Rattle.ps_world.specs.declared.actions.Effect.{Effect}
 use Rattle.ps_world.specs.declared.domains.Domain.{Domain}
 use Rattle.ps_world.specs.declared.known.Knowledge.{Knowledge}
-use Rattle.ps_action.specs.Effects.{effect, fault_of_effects, made, unless, values_set}
+use Rattle.ps_action.specs.Effects.{effect, fault_of_flat, flat, made, values_of_flat}
+use Rattle.ps_action.specs.Refusals.{unless}
 use Rattle.ps_action.specs.Plans.{and_then, step_of, where_true}
 use Rattle.ps_action.specs.Truth.{all_true}
 use Rattle.ps_action.specs.declared.acts.GroundAction.{GroundAction}
@@ -43,8 +45,16 @@ ended_at k s t w c m true false f e = refl
 ended_at k s t w c m false b f e = refl
 
 module _ (d : Domain) (k : Knowledge) (g : GroundAction) where
+  -- the effects of its start, and what is known after them
+  abbrev pub starts : List Effect
+  starts = flat d k g.effects.at_start
+
   abbrev during : Knowledge
-  during = made k g.effects.at_start (values_set d k g.effects.at_start)
+  during = made k starts (values_of_flat k starts)
+
+  -- the effects of its end
+  abbrev ends : List Effect
+  ends = flat d during g.effects.at_end
 
   abbrev rest : Next
   rest during =
@@ -53,15 +63,13 @@ module _ (d : Domain) (k : Knowledge) (g : GroundAction) where
       (and_then (EndEffect 0) (effect d during g.effects.at_end) Ok))
 
   pub start_false : all_true d k g.conditions.at_start ≡ false → result_ok (step_of d k 0 g) ≡ None
-  start_false e =
-      false_at (StartFalse 0) (StartEffect 0) during rest (all_true d k g.conditions.at_start) (fault_of_effects d k g.effects.at_start) e
+  start_false e = false_at (StartFalse 0) (StartEffect 0) during rest (all_true d k g.conditions.at_start) (fault_of_flat k starts) e
 
-  pub start_faulty : is_some (fault_of_effects d k g.effects.at_start) ≡ true → result_ok (step_of d k 0 g) ≡ None
-  start_faulty e =
-      faulty_at (StartFalse 0) (StartEffect 0) during rest (all_true d k g.conditions.at_start) (fault_of_effects d k g.effects.at_start) e
+  pub start_faulty : is_some (fault_of_flat k starts) ≡ true → result_ok (step_of d k 0 g) ≡ None
+  start_faulty e = faulty_at (StartFalse 0) (StartEffect 0) during rest (all_true d k g.conditions.at_start) (fault_of_flat k starts) e
 
   -- the change of a start that doesn't fail and of what follows
-  pub goes_on : all_true d k g.conditions.at_start ≡ true → is_some (fault_of_effects d k g.effects.at_start) ≡ false → IsStrictlySortedBy fact_cmp k.facts → option_map (changed k) (finished d k g (values_set d k g.effects.at_start)) ≡ result_ok (step_of d k 0 g)
+  pub goes_on : all_true d k g.conditions.at_start ≡ true → is_some (fault_of_flat k starts) ≡ false → IsStrictlySortedBy fact_cmp k.facts → option_map (changed k) (finished d k g starts (values_of_flat k starts)) ≡ result_ok (step_of d k 0 g)
   goes_on e h sorted =
-      ended_at k (OverAllFalse 0) (EndFalse 0) (EndEffect 0) (joined g.effects.at_start (values_set d k g.effects.at_start) g.effects.at_end (values_set d during g.effects.at_end)) (made during g.effects.at_end (values_set d during g.effects.at_end)) (all_true d during g.conditions.over_all) (all_true d during g.conditions.at_end) (fault_of_effects d during g.effects.at_end) (joined_made k g.effects.at_start (values_set d k g.effects.at_start) g.effects.at_end (values_set d during g.effects.at_end) sorted)
-      ∙ sym (begun_at (StartFalse 0) (StartEffect 0) during rest (all_true d k g.conditions.at_start) (fault_of_effects d k g.effects.at_start) e h)
+      ended_at k (OverAllFalse 0) (EndFalse 0) (EndEffect 0) (joined starts (values_of_flat k starts) ends (values_of_flat during ends)) (made during ends (values_of_flat during ends)) (all_true d during g.conditions.over_all) (all_true d during g.conditions.at_end) (fault_of_flat during ends) (joined_made k starts (values_of_flat k starts) ends (values_of_flat during ends) sorted)
+      ∙ sym (begun_at (StartFalse 0) (StartEffect 0) during rest (all_true d k g.conditions.at_start) (fault_of_flat k starts) e h)

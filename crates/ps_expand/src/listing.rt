@@ -15,10 +15,10 @@ ghost use Rattle.ps_expand.specs.Listing.{AreListed, listed_prop};
 use crate::during::During;
 use crate::expanding::Child;
 use crate::joining::joined;
-use ps_action::{Act, GroundAction, all_true, fault_of_effects, values_set};
+use ps_action::{Act, GroundAction, all_true, fault_of_flat, unfold, values_of_flat};
 use ps_domain::{Expert, GroundAllRefusal};
 use ps_problem::{Change, Problem};
-use ps_world::{Cond, Duplicate, Fact, Failure, Name, Num};
+use ps_world::{Cond, Duplicate, Effect, Fact, Failure, Name, Num};
 use std::alloc::{AllocError, Global};
 
 /// All ground actions among some instances, and a goal.
@@ -108,18 +108,19 @@ impl<'a> Listing<'a> {
         })
     }
 
-    /// The change that the end of a ground action makes after its start, whose values are these, unless a part of it fails.
+    /// The change that the end of a ground action makes after its start, which made these effects with these values, unless a part of it
+    /// fails.
     fn finish(
         &self,
         problem: &Problem,
         action: &GroundAction,
+        starts: &[Effect],
         ready: &[(Fact, Num)],
     ) -> Result<Option<Change>, AllocError>
         ensures { IfOk result (λ change. change
-            ≡ finished self.now.expert.now problem.now action.now ready.now) }
+            ≡ finished self.now.expert.now problem.now action.now starts.now ready.now) }
     {
-        let starts = action.effects.at_start.as_slice();
-        let ends = action.effects.at_end.as_slice();
+        let alloc = problem.allocator();
         let during = During {
             before: problem,
             effects: starts,
@@ -131,11 +132,17 @@ impl<'a> Listing<'a> {
         if !all_true(&during, self.expert, &action.conditions.at_end) {
             return Ok(None);
         }
-        if fault_of_effects(&during, self.expert, ends).is_some() {
+        let ends = unfold(
+            alloc,
+            &during,
+            self.expert,
+            action.effects.at_end.as_slice(),
+        )?;
+        if fault_of_flat(&during, &ends).is_some() {
             return Ok(None);
         }
-        let last = values_set(problem.allocator(), &during, self.expert, ends)?;
-        let change = joined(problem.allocator(), starts, ready, ends, &last)?;
+        let last = values_of_flat(alloc, &during, &ends)?;
+        let change = joined(alloc, starts, ready, &ends, &last)?;
         Ok(Some(change))
     }
 
@@ -149,15 +156,21 @@ impl<'a> Listing<'a> {
         ensures { IfOk result (λ change. option_map (changed problem.now) change
             ≡ result_ok (step_of self.now.expert.now problem.now 0 action.now)) }
     {
-        let starts = action.effects.at_start.as_slice();
+        let alloc = problem.allocator();
         if !all_true(problem, self.expert, &action.conditions.at_start) {
             return Ok(None);
         }
-        if fault_of_effects(problem, self.expert, starts).is_some() {
+        let starts = unfold(
+            alloc,
+            problem,
+            self.expert,
+            action.effects.at_start.as_slice(),
+        )?;
+        if fault_of_flat(problem, &starts).is_some() {
             return Ok(None);
         }
-        let ready = values_set(problem.allocator(), problem, self.expert, starts)?;
-        self.finish(problem, action, &ready)
+        let ready = values_of_flat(alloc, problem, &starts)?;
+        self.finish(problem, action, &starts, &ready)
     }
 
     /// The child of a ground action, unless a part of its step fails.

@@ -25,6 +25,7 @@ use Rattle.ps_shape.specs.declared.symbols.ConditionPart.{ConditionPart}
 use Rattle.ps_shape.specs.declared.symbols.ConditionPart.TheVariants as condition
 use Rattle.ps_shape.specs.declared.symbols.EffectPart.{EffectPart}
 use Rattle.ps_shape.specs.declared.symbols.EffectPart.TheVariants as effect
+use Rattle.ps_shape.specs.declared.symbols.Reach.TheVariants.{Spread, Guarded, Plain}
 use Rattle.ps_shape.specs.declared.symbols.ValuePart.{ValuePart}
 use Rattle.ps_shape.specs.declared.symbols.ValuePart.TheVariants as value
 use Rattle.ps_shape.specs.declared.symbols.GoalPart.{GoalPart}
@@ -59,6 +60,7 @@ each_mark p all m = one_of_all p every_mark (tag_of the_type m) m all (has_mark 
 
 -- in what the symbol stands for, beyond those that open there
 abbrev closes : Symbol → ℕ
+closes (InEffect effect.LoneTerms) = 1
 closes (InEffect effect.FormEnd) = 1
 closes s = weight s
 
@@ -120,7 +122,12 @@ all_condition condition.Form = refl
 all_condition _ = refl
 
 all_effect : (part : EffectPart) → list_all (λ m. fits (effect_rule part m) m (closes (InEffect part))) every_mark ≡ true
-all_effect effect.Form = refl
+all_effect (effect.Head Spread) = refl
+all_effect (effect.Head Guarded) = refl
+all_effect (effect.Head Plain) = refl
+all_effect (effect.BodyHead Spread) = refl
+all_effect (effect.BodyHead Guarded) = refl
+all_effect (effect.BodyHead Plain) = refl
 all_effect _ = refl
 
 all_value : (part : ValuePart) → list_all (λ m. fits (value_rule part m) m (closes (InValue part))) every_mark ≡ true

@@ -1,5 +1,5 @@
 -- Each value, condition and effect is taken where one is wanted.
-use Rattle.std.proofs.Common.{◌≡◌, ℕ, suc, ◌+◌, ◌≤◌, List, ◌∷◌, true, refl, ap, arith}
+use Rattle.std.proofs.Common.{◌≡◌, ℕ, suc, ◌+◌, ◌<◌, ◌≤◌, List, ◌∷◌, true, refl, ap, arith}
 use Rattle.ps_shape.specs.Shape.{deepest}
 use Rattle.ps_shape.specs.Symbols.{level}
 use Rattle.ps_shape.specs.declared.marks.Mark.TheVariants as mark
@@ -8,6 +8,8 @@ use Rattle.ps_shape.specs.declared.symbols.Symbol.TheVariants.{The, InAction, In
 use Rattle.ps_shape.specs.declared.symbols.ActionPart.TheVariants.{Parameters}
 use Rattle.ps_shape.specs.declared.symbols.ConditionPart.TheVariants as condition
 use Rattle.ps_shape.specs.declared.symbols.EffectPart.TheVariants as effect
+use Rattle.ps_shape.specs.declared.symbols.Reach.{Reach}
+use Rattle.ps_shape.specs.declared.symbols.Reach.TheVariants.{Spread, Guarded, Plain}
 use Rattle.ps_shape.specs.declared.symbols.ValuePart.TheVariants as value
 use Rattle.ps_forms.specs.Conditions.{is_relation}
 use Rattle.ps_forms.specs.Conditions.AreArguments.{no_argument, one_argument}
@@ -15,13 +17,15 @@ use Rattle.ps_forms.specs.Conditions.AreConditionsOf.{no_condition, one_conditio
 use Rattle.ps_forms.specs.Conditions.IsAtomOf.{atom}
 use Rattle.ps_forms.specs.Conditions.IsConditionOf.{all_of, any_of, not_so, implication, some_choice, each_choice, a_fact, same, comparison}
 use Rattle.ps_forms.specs.Conditions.IsValueOf.{a_number, an_argument, an_atom, negation, operation}
-use Rattle.ps_forms.specs.Grammar.{AreTerms, IsAtom, IsValue, IsCondition, AreConditions, IsTimedCondition, IsPart, AreParts, IsConditionForm, IsEffect, AreEffects, IsTimedEffect, IsChange, AreChanges, IsEffectForm}
+use Rattle.ps_forms.specs.Grammar.{AreTerms, IsAtom, IsValue, IsCondition, AreConditions, IsTimedCondition, IsPart, AreParts, IsConditionForm, IsEffectOf, IsOneEffect, AreEffectsOf, IsBody, IsTimedEffect, IsChange, AreChanges, IsEffectForm}
 use Rattle.ps_forms.specs.Grammar.IsTimedCondition.{at_moment, over_all}
 use Rattle.ps_forms.specs.Grammar.IsPart.{empty_part, all_parts, timed_part}
 use Rattle.ps_forms.specs.Grammar.AreParts.{no_part, one_part}
 use Rattle.ps_forms.specs.Grammar.IsConditionForm.{empty_condition, listed_condition, lone_condition}
-use Rattle.ps_forms.specs.Grammar.IsEffect.{all_effects, addition, deletion, change}
-use Rattle.ps_forms.specs.Grammar.AreEffects.{no_effect, one_effect}
+use Rattle.ps_forms.specs.Grammar.IsEffectOf.{all_effects, single}
+use Rattle.ps_forms.specs.Grammar.IsOneEffect.{addition, deletion, change, conditional, for_each}
+use Rattle.ps_forms.specs.Grammar.AreEffectsOf.{no_effect, one_effect}
+use Rattle.ps_forms.specs.Grammar.IsBody.{listed_body, lone_body}
 use Rattle.ps_forms.specs.Grammar.IsTimedEffect.{effect_at}
 use Rattle.ps_forms.specs.Grammar.IsChange.{empty_change, all_changes, timed_change}
 use Rattle.ps_forms.specs.Grammar.AreChanges.{no_change, one_change}
@@ -155,35 +159,89 @@ condition_form_taken _ _ (lone_condition room t own) st After e k = lone_conditi
 -- ---- effects
 
 -- an effect is one of several
-taken_among_effects : (t : Nested) (st : List Symbol) (After : List Symbol → Type 0) → Takes t After (InEffect effect.Effect ∷ InEffect effect.Effects ∷ st) → Takes t After (InEffect effect.Effects ∷ st)
-taken_among_effects (word l) st After h = absurd (no_word (InEffect effect.Effect) refl (InEffect effect.Effects ∷ st) After l.mark h)
-taken_among_effects (group ts) st After h = (omega (arith, h.0), h.1)
+taken_among_effects : (reach : Reach) (t : Nested) (st : List Symbol) (After : List Symbol → Type 0) → Takes t After (InEffect (effect.Effect reach) ∷ InEffect (effect.Effects reach) ∷ st) → Takes t After (InEffect (effect.Effects reach) ∷ st)
+taken_among_effects reach (word l) st After h = absurd (no_word (InEffect (effect.Effect reach)) refl (InEffect (effect.Effects reach) ∷ st) After l.mark h)
+taken_among_effects reach (group ts) st After h = (omega (arith, h.0), h.1)
+
+-- the symbol ends a list
+abbrev Ends : Symbol → Type 1
+Ends end = (st : List Symbol) (After : List Symbol → Type 0) → After st → TakesAll none After (end ∷ st)
+
+-- the symbol takes terms to the end of their list
+abbrev TakesTerms : Symbol → Type 1
+TakesTerms terms = (ts : Nesteds) → AreTerms ts → (st : List Symbol) (After : List Symbol → Type 0) → After st → TakesAll ts After (terms ∷ st)
+
+lone_terms_taken : TakesTerms (InEffect effect.LoneTerms)
+lone_terms_taken _ no_argument st After k = k
+lone_terms_taken _ (one_argument l ts is later) st After k = one.lone_term_fits st (TakesAll ts After) l.mark is (lone_terms_taken ts later st After k)
+
+-- what stands in the parentheses of an effect but an `and` is taken after the first of them
+abbrev IsInside : Reach → Symbol → Symbol → List Symbol → (List Symbol → Type 0) → Nested → Type 0
+IsInside reach terms end st After (group (more (word l) ts)) = one.HasHead st (TakesAll ts After) reach terms end l.mark
+IsInside reach terms end st After t = ⊥
+
+taken_as_effect : (reach : Reach) (t : Nested) (st : List Symbol) (After : List Symbol → Type 0) → level st < deepest → IsInside reach (InValue value.Terms) (The mark.Close) st After t → Takes t After (InEffect (effect.Effect reach) ∷ st)
+taken_as_effect reach (group (more (word l) ts)) st After below h = (omega (arith, below), one.head_fits st (TakesAll ts After) reach l.mark h)
+taken_as_effect reach t st After below h = absurd h
+
+taken_as_body : (reach : Reach) (t : Nested) (st : List Symbol) (After : List Symbol → Type 0) → suc (level st) < deepest → IsInside reach (InEffect effect.LoneTerms) (InEffect effect.FormEnd) st After t → Takes t After (InEffect (effect.Body reach) ∷ st)
+taken_as_body reach (group (more (word l) ts)) st After below h = (omega (arith, below), one.body_head_fits st (TakesAll ts After) reach l.mark below h)
+taken_as_body reach t st After below h = absurd h
+
+-- an effect opens a parenthesis at least
+one_effect_opens : (reach : Reach) (room : ℕ) (t : Nested) → IsOneEffect reach room t → 1 ≤ room
+one_effect_opens _ _ _ (addition reach room l ts is all) = omega arith
+one_effect_opens _ _ _ (deletion reach room l a is own) = omega arith
+one_effect_opens _ _ _ (change reach room l a x is own v) = omega arith
+one_effect_opens _ _ _ (conditional reach room l c t has is own body) = omega arith
+one_effect_opens _ _ _ (for_each reach room l vs t has is typed body) = omega arith
+
+body_opens : (reach : Reach) (room : ℕ) (t : Nested) → IsBody reach room t → 1 ≤ room
+body_opens _ _ _ (listed_body reach room l ts is all) = omega arith
+body_opens _ _ _ (lone_body reach room t own) = omega arith
 
 mutual
-  effect_taken : (room : ℕ) (t : Nested) → IsEffect room t → (st : List Symbol) (After : List Symbol → Type 0) → room + level st ≡ deepest → After st → Takes t After (InEffect effect.Effect ∷ st)
-  effect_taken _ _ (all_effects room l ts is all) st After e k =
-      (omega arith, one.at_mark st (TakesAll ts After) (InEffect effect.Head) l.mark mark.And is (effects_taken room ts all st After e k))
-  effect_taken _ _ (addition room l ts is all) st After e k =
-      (omega arith, one.predicate_fits st (TakesAll ts After) l.mark is (terms_taken ts all st After k))
-  effect_taken _ _ (deletion room l a is own) st After e k =
-      (omega arith, one.at_mark st (TakesAll (more a none) After) (InEffect effect.Head) l.mark mark.Not is (atom_taken room a own (The mark.Close ∷ st) (TakesAll none After) (omega arith) k))
-  effect_taken _ _ (change room l a x is own v) st After e k =
-      (omega arith, one.change_fits st (TakesAll (more a (more x none)) After) l.mark is (atom_taken room a own (InValue value.Value ∷ The mark.Close ∷ st) (TakesAll (more x none) After) (omega arith) (value_taken room x v (The mark.Close ∷ st) (TakesAll none After) (omega arith) k)))
+  effect_taken : (reach : Reach) (room : ℕ) (t : Nested) → IsEffectOf reach room t → (st : List Symbol) (After : List Symbol → Type 0) → room + level st ≡ deepest → After st → Takes t After (InEffect (effect.Effect reach) ∷ st)
+  effect_taken _ _ _ (all_effects reach room l ts is all) st After e k =
+      (omega arith, one.at_mark st (TakesAll ts After) (InEffect (effect.Head reach)) l.mark mark.And is (effects_taken reach room ts all st After e k))
+  effect_taken _ _ _ (single reach room t own) st After e k =
+      taken_as_effect reach t st After (omega (arith, one_effect_opens reach room t own)) (one_effect_taken reach room t own (InValue value.Terms) (The mark.Close) terms_taken (λ _ _ h. h) st After (omega arith) k)
 
-  effects_taken : (room : ℕ) (ts : Nesteds) → AreEffects room ts → (st : List Symbol) (After : List Symbol → Type 0) → suc room + level st ≡ deepest → After st → TakesAll ts After (InEffect effect.Effects ∷ st)
-  effects_taken _ _ (no_effect room) st After e k = k
-  effects_taken _ _ (one_effect room t ts first later) st After e k =
-      taken_among_effects t st (TakesAll ts After) (effect_taken room t first (InEffect effect.Effects ∷ st) (TakesAll ts After) (omega arith) (effects_taken room ts later st After e k))
+  -- an effect is taken with what is wanted for its terms and its end
+  one_effect_taken : (reach : Reach) (room : ℕ) (t : Nested) → IsOneEffect reach room t → (terms end : Symbol) → TakesTerms terms → Ends end → (st : List Symbol) (After : List Symbol → Type 0) → room + level (end ∷ st) ≡ suc deepest → After st → IsInside reach terms end st After t
+  one_effect_taken _ _ _ (addition reach room l ts is all) terms end listed ended st After e k =
+      one.predicate_fits st (TakesAll ts After) reach terms end l.mark is (listed ts all st After k)
+  one_effect_taken _ _ _ (deletion reach room l a is own) terms end listed ended st After e k =
+      one.not_fits st (TakesAll (more a none) After) reach terms end l.mark is (atom_taken room a own (end ∷ st) (TakesAll none After) (omega arith) (ended st After k))
+  one_effect_taken _ _ _ (change reach room l a x is own v) terms end listed ended st After e k =
+      one.change_fits st (TakesAll (more a (more x none)) After) reach terms end l.mark is (atom_taken room a own (InValue value.Value ∷ end ∷ st) (TakesAll (more x none) After) (omega arith) (value_taken room x v (end ∷ st) (TakesAll none After) (omega arith) (ended st After k)))
+  one_effect_taken _ _ _ (conditional reach room l c t has is own body) terms end listed ended st After e k =
+      let last : Takes t (TakesAll none After) (InEffect (effect.Body Plain) ∷ end ∷ st) = body_taken Plain room t body (end ∷ st) (TakesAll none After) (omega arith) (ended st After k) in
+      one.when_fits st (TakesAll (more c (more t none)) After) reach terms end l.mark has is (condition_taken room c own (InEffect (effect.Body Plain) ∷ end ∷ st) (TakesAll (more t none) After) (omega arith) last)
+  one_effect_taken _ _ _ (for_each reach room l vs t has is typed body) terms end listed ended st After e k =
+      let last : Takes t (TakesAll none After) (InEffect (effect.Body Guarded) ∷ end ∷ st) = body_taken Guarded room t body (end ∷ st) (TakesAll none After) (omega arith) (ended st After k) in
+      one.forall_fits st (TakesAll (more (group vs) (more t none)) After) reach terms end l.mark has is (bound_taken vs typed (InEffect (effect.Body Guarded) ∷ end ∷ st) (TakesAll (more t none) After) (omega (arith, body_opens Guarded room t body)) last)
+
+  effects_taken : (reach : Reach) (room : ℕ) (ts : Nesteds) → AreEffectsOf reach room ts → (st : List Symbol) (After : List Symbol → Type 0) → suc room + level st ≡ deepest → After st → TakesAll ts After (InEffect (effect.Effects reach) ∷ st)
+  effects_taken _ _ _ (no_effect reach room) st After e k = k
+  effects_taken _ _ _ (one_effect reach room t ts first later) st After e k =
+      taken_among_effects reach t st (TakesAll ts After) (effect_taken reach room t first (InEffect (effect.Effects reach) ∷ st) (TakesAll ts After) (omega arith) (effects_taken reach room ts later st After e k))
+
+  body_taken : (reach : Reach) (room : ℕ) (t : Nested) → IsBody reach room t → (st : List Symbol) (After : List Symbol → Type 0) → room + level st ≡ deepest → After st → Takes t After (InEffect (effect.Body reach) ∷ st)
+  body_taken _ _ _ (listed_body reach room l ts is all) st After e k =
+      (omega arith, one.at_mark st (TakesAll ts After) (InEffect (effect.BodyHead reach)) l.mark mark.And is (effects_taken reach room ts all st After e k))
+  body_taken _ _ _ (lone_body reach room t own) st After e k =
+      taken_as_body reach t st After (omega (arith, one_effect_opens reach room t own)) (one_effect_taken reach room t own (InEffect effect.LoneTerms) (InEffect effect.FormEnd) lone_terms_taken (λ _ _ h. h) st After (omega arith) k)
 
 -- ---- timed effects
 
 timed_change_taken : (room : ℕ) (t : Nested) → IsTimedEffect room t → (st : List Symbol) (After : List Symbol → Type 0) → suc room + suc (level st) ≡ deepest → After (InEffect effect.TimedList ∷ st) → Takes t After (InEffect effect.TimedList ∷ st)
 timed_change_taken _ _ (effect_at room l m t is moment own) st After e k =
-    (omega arith, one.at_mark (InEffect effect.TimedList ∷ st) (TakesAll (more (word m) (more t none)) After) (InEffect effect.TimedHead) l.mark mark.At is (one.moment_fits (InEffect effect.Effect ∷ The mark.Close ∷ InEffect effect.TimedList ∷ st) (TakesAll (more t none) After) m.mark moment (effect_taken room t own (The mark.Close ∷ InEffect effect.TimedList ∷ st) (TakesAll none After) (omega arith) k)))
+    (omega arith, one.at_mark (InEffect effect.TimedList ∷ st) (TakesAll (more (word m) (more t none)) After) (InEffect effect.TimedHead) l.mark mark.At is (one.moment_fits (InEffect (effect.Effect Spread) ∷ The mark.Close ∷ InEffect effect.TimedList ∷ st) (TakesAll (more t none) After) m.mark moment (effect_taken Spread room t own (The mark.Close ∷ InEffect effect.TimedList ∷ st) (TakesAll none After) (omega arith) k)))
 
 lone_effect_taken : (room : ℕ) (t : Nested) → IsTimedEffect room t → (st : List Symbol) (After : List Symbol → Type 0) → suc (suc room) + level st ≡ deepest → After st → Takes t After (InEffect effect.Form ∷ st)
 lone_effect_taken _ _ (effect_at room l m t is moment own) st After e k =
-    (omega arith, one.at_mark st (TakesAll (more (word m) (more t none)) After) (InEffect effect.FormHead) l.mark mark.At is (one.moment_fits (InEffect effect.Effect ∷ InEffect effect.FormEnd ∷ st) (TakesAll (more t none) After) m.mark moment (effect_taken room t own (InEffect effect.FormEnd ∷ st) (TakesAll none After) (omega arith) k)))
+    (omega arith, one.at_mark st (TakesAll (more (word m) (more t none)) After) (InEffect effect.FormHead) l.mark mark.At is (one.moment_fits (InEffect (effect.Effect Spread) ∷ InEffect effect.FormEnd ∷ st) (TakesAll (more t none) After) m.mark moment (effect_taken Spread room t own (InEffect effect.FormEnd ∷ st) (TakesAll none After) (omega arith) k)))
 
 mutual
   change_taken : (room : ℕ) (t : Nested) → IsChange room t → (st : List Symbol) (After : List Symbol → Type 0) → room + suc (level st) ≡ deepest → After (InEffect effect.TimedList ∷ st) → Takes t After (InEffect effect.TimedList ∷ st)

@@ -1,5 +1,5 @@
 -- What is taken where a value, a condition or an effect is wanted is one.
-use Rattle.std.proofs.Common.{◌≡◌, ℕ, zero, suc, ◌+◌, List, ◌∷◌, true, refl, ap, subst, ◌⊎◌, inl, inr, arith}
+use Rattle.std.proofs.Common.{◌≡◌, ℕ, zero, suc, ◌+◌, List, ◌∷◌, true, refl, sym, ap, subst, ◌⊎◌, inl, inr, arith}
 use Rattle.ps_shape.specs.Shape.{deepest}
 use Rattle.ps_shape.specs.Symbols.{level}
 use Rattle.ps_shape.specs.Marks.{is_name, is_change, is_fact_name}
@@ -8,6 +8,8 @@ use Rattle.ps_shape.specs.declared.symbols.Symbol.{Symbol}
 use Rattle.ps_shape.specs.declared.symbols.Symbol.TheVariants.{The, InCondition, InEffect, InValue}
 use Rattle.ps_shape.specs.declared.symbols.ConditionPart.TheVariants as condition
 use Rattle.ps_shape.specs.declared.symbols.EffectPart.TheVariants as effect
+use Rattle.ps_shape.specs.declared.symbols.Reach.{Reach}
+use Rattle.ps_shape.specs.declared.symbols.Reach.TheVariants.{Spread, Guarded, Plain}
 use Rattle.ps_shape.specs.declared.symbols.ValuePart.TheVariants as value
 use Rattle.ps_forms.specs.Conditions.{is_operator, is_relation}
 use Rattle.ps_forms.specs.Conditions.AreArguments.{no_argument, one_argument}
@@ -15,13 +17,15 @@ use Rattle.ps_forms.specs.Conditions.AreConditionsOf.{no_condition, one_conditio
 use Rattle.ps_forms.specs.Conditions.IsAtomOf.{atom}
 use Rattle.ps_forms.specs.Conditions.IsConditionOf.{all_of, any_of, not_so, implication, some_choice, each_choice, a_fact, comparison}
 use Rattle.ps_forms.specs.Conditions.IsValueOf.{a_number, an_argument, an_atom, negation, operation}
-use Rattle.ps_forms.specs.Grammar.{AreTerms, IsAtom, IsValue, IsCondition, AreConditions, IsTimedCondition, IsPart, AreParts, IsConditionForm, IsEffect, AreEffects, IsTimedEffect, IsChange, AreChanges, IsEffectForm}
+use Rattle.ps_forms.specs.Grammar.{AreTerms, IsAtom, IsValue, IsCondition, AreConditions, IsTimedCondition, IsPart, AreParts, IsConditionForm, IsEffectOf, IsOneEffect, AreEffectsOf, IsBody, IsTimedEffect, IsChange, AreChanges, IsEffectForm}
 use Rattle.ps_forms.specs.Grammar.IsTimedCondition.{at_moment, over_all}
 use Rattle.ps_forms.specs.Grammar.IsPart.{empty_part, all_parts, timed_part}
 use Rattle.ps_forms.specs.Grammar.AreParts.{no_part, one_part}
 use Rattle.ps_forms.specs.Grammar.IsConditionForm.{empty_condition, listed_condition, lone_condition}
-use Rattle.ps_forms.specs.Grammar.IsEffect.{all_effects, addition, deletion, change}
-use Rattle.ps_forms.specs.Grammar.AreEffects.{no_effect, one_effect}
+use Rattle.ps_forms.specs.Grammar.IsEffectOf.{all_effects, single}
+use Rattle.ps_forms.specs.Grammar.IsOneEffect.{addition, deletion, change, conditional, for_each}
+use Rattle.ps_forms.specs.Grammar.AreEffectsOf.{no_effect, one_effect}
+use Rattle.ps_forms.specs.Grammar.IsBody.{listed_body, lone_body}
 use Rattle.ps_forms.specs.Grammar.IsTimedEffect.{effect_at}
 use Rattle.ps_forms.specs.Grammar.IsChange.{empty_change, all_changes, timed_change}
 use Rattle.ps_forms.specs.Grammar.AreChanges.{no_change, one_change}
@@ -296,70 +300,130 @@ condition_form_of_taken (group (more (word l) ts)) room st After e h =
 
 -- ---- effects
 
--- an atom after `not` is a deletion
-deletion_of_taken : (ts : Nesteds) (room : ℕ) (st : List Symbol) (After : List Symbol → Type 0) → suc room + level st ≡ deepest → TakesAll ts After (InValue value.Atom ∷ The mark.Close ∷ st) → ((l : Lexeme) → l.mark ≡ mark.Not → IsEffect (suc room) (group (more (word l) ts))) × After st
-deletion_of_taken none room st After e h = absurd h
-deletion_of_taken (more a ts) room st After e h =
-    let first = atom_of_taken a room (The mark.Close ∷ st) (TakesAll ts After) (omega arith) h in
-    let end = only_close ts st After first.1 in
-    (λ l is. rw end.0 (deletion room l a is first.0), end.1)
-
--- an atom and a value after a change's name are a change
-change_of_taken : (ts : Nesteds) (room : ℕ) (st : List Symbol) (After : List Symbol → Type 0) → suc room + level st ≡ deepest → TakesAll ts After (InValue value.Atom ∷ InValue value.Value ∷ The mark.Close ∷ st) → ((l : Lexeme) → is_change l.mark ≡ true → IsEffect (suc room) (group (more (word l) ts))) × After st
-change_of_taken none room st After e h = absurd h
-change_of_taken (more a none) room st After e h = absurd (atom_of_taken a room (InValue value.Value ∷ The mark.Close ∷ st) (TakesAll none After) (omega arith) h).1
-change_of_taken (more a (more x ts)) room st After e h =
-    let first = atom_of_taken a room (InValue value.Value ∷ The mark.Close ∷ st) (TakesAll (more x ts) After) (omega arith) h in
-    let second = value_of_taken x room (The mark.Close ∷ st) (TakesAll ts After) (omega arith) first.1 in
-    let end = only_close ts st After second.1 in
-    (λ l is. rw end.0 (change room l a x is first.0 second.0), end.1)
-
 -- an effect of several is one
-as_effect : (t : Nested) (st : List Symbol) (After : List Symbol → Type 0) → Takes t After (InEffect effect.Effects ∷ st) → Takes t After (InEffect effect.Effect ∷ InEffect effect.Effects ∷ st)
-as_effect (word l) st After h = absurd (no_word (InEffect effect.Effects) refl st After l.mark h)
-as_effect (group ts) st After h = (omega (arith, h.0), h.1)
+as_effect : (reach : Reach) (t : Nested) (st : List Symbol) (After : List Symbol → Type 0) → Takes t After (InEffect (effect.Effects reach) ∷ st) → Takes t After (InEffect (effect.Effect reach) ∷ InEffect (effect.Effects reach) ∷ st)
+as_effect reach (word l) st After h = absurd (no_word (InEffect (effect.Effects reach)) refl st After l.mark h)
+as_effect reach (group ts) st After h = (omega (arith, h.0), h.1)
+
+-- what is taken where the symbol is wanted is terms
+abbrev GivesTerms : Symbol → Type 1
+GivesTerms terms = (ts : Nesteds) (st : List Symbol) (After : List Symbol → Type 0) → TakesAll ts After (terms ∷ st) → AreTerms ts × After st
+
+lone_terms_of_taken : GivesTerms (InEffect effect.LoneTerms)
+lone_terms_of_taken none st After h = (no_argument, h)
+lone_terms_of_taken (more (word l) ts) st After h =
+    let first = one.lone_term_told st (TakesAll ts After) l.mark h in
+    let later = lone_terms_of_taken ts st After first.1 in
+    (one_argument l ts first.0 later.0, later.1)
+lone_terms_of_taken (more (group us) ts) st After h = absurd h.1
+
+module _ (last : Symbol) (closes : Closes last) (reach : Reach) (room : ℕ) (st : List Symbol) (e : room + level (last ∷ st) ≡ deepest) where
+  -- an atom after `not` is a deletion
+  deletion_of_taken : (ts : Nesteds) (After : List Symbol → Type 0) → TakesAll ts After (InValue value.Atom ∷ last ∷ st) → ((l : Lexeme) → l.mark ≡ mark.Not → IsOneEffect reach (suc room) (group (more (word l) ts))) × After st
+  deletion_of_taken none After h = absurd h
+  deletion_of_taken (more a ts) After h =
+      let first = atom_of_taken a room (last ∷ st) (TakesAll ts After) e h in
+      let end = closes ts st After first.1 in
+      (λ l is. rw end.0 (deletion reach room l a is first.0), end.1)
+
+  -- an atom and a value after a change's name are a change
+  change_of_taken : (ts : Nesteds) (After : List Symbol → Type 0) → TakesAll ts After (InValue value.Atom ∷ InValue value.Value ∷ last ∷ st) → ((l : Lexeme) → is_change l.mark ≡ true → IsOneEffect reach (suc room) (group (more (word l) ts))) × After st
+  change_of_taken none After h = absurd h
+  change_of_taken (more a none) After h = absurd (atom_of_taken a room (InValue value.Value ∷ last ∷ st) (TakesAll none After) (omega (arith, e)) h).1
+  change_of_taken (more a (more x ts)) After h =
+      let first = atom_of_taken a room (InValue value.Value ∷ last ∷ st) (TakesAll (more x ts) After) (omega (arith, e)) h in
+      let second = value_of_taken x room (last ∷ st) (TakesAll ts After) e first.1 in
+      let end = closes ts st After second.1 in
+      (λ l is. rw end.0 (change reach room l a x is first.0 second.0), end.1)
 
 mutual
   -- what is taken where an effect is wanted is one
-  effect_of_taken : (t : Nested) (room : ℕ) (st : List Symbol) (After : List Symbol → Type 0) → room + level st ≡ deepest → Takes t After (InEffect effect.Effect ∷ st) → IsEffect room t × After st
-  effect_of_taken (word l) room st After e h = absurd (no_word (InEffect effect.Effect) refl st After l.mark h)
-  effect_of_taken (group ts) zero st After e h = absurd (omega (arith, h.0))
-  effect_of_taken (group none) (suc room) st After e h = absurd h.1
-  effect_of_taken (group (more (group us) ts)) (suc room) st After e h = absurd h.1.1
-  effect_of_taken (group (more (word l) ts)) (suc room) st After e h =
-      elim (one.effect_head_told st (TakesAll ts After) l.mark h.1) [
-        | inl (inl all) ↦
-            let inside = effects_of_taken ts room st After e all.1 in
-            (all_effects room l ts all.0 inside.0, inside.1)
-        | inl (inr denied) ↦
-            let inside = deletion_of_taken ts room st After e denied.1 in
-            (inside.0 l denied.0, inside.1)
-        | inr (inl changed) ↦
-            let inside = change_of_taken ts room st After e changed.1 in
-            (inside.0 l changed.0, inside.1)
-        | inr (inr name) ↦
-            let inside = terms_of_taken ts st After name.1 in
-            (addition room l ts name.0 inside.0, inside.1)
+  effect_of_taken : (reach : Reach) (t : Nested) (room : ℕ) (st : List Symbol) (After : List Symbol → Type 0) → room + level st ≡ deepest → Takes t After (InEffect (effect.Effect reach) ∷ st) → IsEffectOf reach room t × After st
+  effect_of_taken reach (word l) room st After e h = absurd (no_word (InEffect (effect.Effect reach)) refl st After l.mark h)
+  effect_of_taken reach (group ts) zero st After e h = absurd (omega (arith, h.0))
+  effect_of_taken reach (group none) (suc room) st After e h = absurd h.1
+  effect_of_taken reach (group (more (group us) ts)) (suc room) st After e h = absurd h.1.1
+  effect_of_taken reach (group (more (word l) ts)) (suc room) st After e h =
+      elim (one.effect_head_told st (TakesAll ts After) reach l.mark h.1) [
+        | inl all ↦
+            let inside = effects_of_taken reach ts room st After e all.1 in
+            (all_effects reach room l ts all.0 inside.0, inside.1)
+        | inr head ↦
+            let own = one_effect_of_taken reach l ts (InValue value.Terms) (The mark.Close) terms_of_taken only_close room st After (omega arith) head in
+            (single reach (suc room) (group (more (word l) ts)) own.0, own.1)
       ]
 
-  effects_of_taken : (ts : Nesteds) (room : ℕ) (st : List Symbol) (After : List Symbol → Type 0) → suc room + level st ≡ deepest → TakesAll ts After (InEffect effect.Effects ∷ st) → AreEffects room ts × After st
-  effects_of_taken none room st After e h = (no_effect room, h)
-  effects_of_taken (more t ts) room st After e h =
-      let first = effect_of_taken t room (InEffect effect.Effects ∷ st) (TakesAll ts After) (omega arith) (as_effect t st (TakesAll ts After) h) in
-      let later = effects_of_taken ts room st After e first.1 in
-      (one_effect room t ts first.0 later.0, later.1)
+  -- what is taken after the head of an effect makes one
+  one_effect_of_taken : (reach : Reach) (l : Lexeme) (ts : Nesteds) (terms last : Symbol) → GivesTerms terms → Closes last → (room : ℕ) (st : List Symbol) (After : List Symbol → Type 0) → room + level (last ∷ st) ≡ deepest → one.IsHead st (TakesAll ts After) reach terms last l.mark → IsOneEffect reach (suc room) (group (more (word l) ts)) × After st
+  one_effect_of_taken reach l ts terms last gives closes room st After e (inl (inl denied)) =
+      let inside = deletion_of_taken last closes reach room st e ts After denied.1 in
+      (inside.0 l denied.0, inside.1)
+  one_effect_of_taken reach l ts terms last gives closes room st After e (inl (inr changed)) =
+      let inside = change_of_taken last closes reach room st e ts After changed.1 in
+      (inside.0 l changed.0, inside.1)
+  one_effect_of_taken reach l none terms last gives closes room st After e (inr (inl (inl held))) = absurd held.1
+  one_effect_of_taken reach l (more c none) terms last gives closes room st After e (inr (inl (inl held))) =
+      absurd (condition_of_taken c room (InEffect (effect.Body Plain) ∷ last ∷ st) (TakesAll none After) (omega arith) held.1).1
+  one_effect_of_taken reach l (more c (more t ts)) terms last gives closes room st After e (inr (inl (inl held))) =
+      let first = condition_of_taken c room (InEffect (effect.Body Plain) ∷ last ∷ st) (TakesAll (more t ts) After) (omega arith) held.1 in
+      let second = body_of_taken Plain t room (last ∷ st) (TakesAll ts After) e first.1 in
+      let end = closes ts st After second.1 in
+      (rw end.0 (conditional reach room l c t held.0.0 held.0.1 first.0 second.0), end.1)
+  one_effect_of_taken reach l none terms last gives closes room st After e (inr (inl (inr each))) = absurd each.1
+  one_effect_of_taken reach l (more v none) terms last gives closes room st After e (inr (inl (inr each))) =
+      absurd (bound_of_taken v (InEffect (effect.Body Guarded) ∷ last ∷ st) (TakesAll none After) each.1).after
+  one_effect_of_taken reach l (more v (more t ts)) terms last gives closes room st After e (inr (inl (inr each))) =
+      let bound = bound_of_taken v (InEffect (effect.Body Guarded) ∷ last ∷ st) (TakesAll (more t ts) After) each.1 in
+      let second = body_of_taken Guarded t room (last ∷ st) (TakesAll ts After) e bound.after in
+      let end = closes ts st After second.1 in
+      let made : IsOneEffect reach (suc room) (group (more (word l) (more (group bound.inside) (more t ts)))) =
+      subst (λ (x : Nesteds). IsOneEffect reach (suc room) (group (more (word l) (more (group bound.inside) (more t x))))) (sym end.0) (for_each reach room l bound.inside t each.0.0 each.0.1 bound.typed second.0) in
+      (subst (λ (x : Nested). IsOneEffect reach (suc room) (group (more (word l) (more x (more t ts))))) bound.is made, end.1)
+  one_effect_of_taken reach l ts terms last gives closes room st After e (inr (inr name)) =
+      let inside = gives ts st After name.1 in
+      (addition reach room l ts name.0 inside.0, inside.1)
+
+  effects_of_taken : (reach : Reach) (ts : Nesteds) (room : ℕ) (st : List Symbol) (After : List Symbol → Type 0) → suc room + level st ≡ deepest → TakesAll ts After (InEffect (effect.Effects reach) ∷ st) → AreEffectsOf reach room ts × After st
+  effects_of_taken reach none room st After e h = (no_effect reach room, h)
+  effects_of_taken reach (more t ts) room st After e h =
+      let first = effect_of_taken reach t room (InEffect (effect.Effects reach) ∷ st) (TakesAll ts After) (omega arith) (as_effect reach t st (TakesAll ts After) h) in
+      let later = effects_of_taken reach ts room st After e first.1 in
+      (one_effect reach room t ts first.0 later.0, later.1)
+
+  -- what is taken where a body is wanted is one
+  body_of_taken : (reach : Reach) (t : Nested) (room : ℕ) (st : List Symbol) (After : List Symbol → Type 0) → room + level st ≡ deepest → Takes t After (InEffect (effect.Body reach) ∷ st) → IsBody reach room t × After st
+  body_of_taken reach (word l) room st After e h = absurd (no_word (InEffect (effect.Body reach)) refl st After l.mark h)
+  body_of_taken reach (group ts) zero st After e h = absurd (omega (arith, h.0))
+  body_of_taken reach (group none) (suc room) st After e h = absurd h.1
+  body_of_taken reach (group (more (group us) ts)) (suc room) st After e h = absurd h.1.1
+  body_of_taken reach (group (more (word l) ts)) (suc zero) st After e h =
+      elim (one.body_head_told st (TakesAll ts After) reach l.mark h.1) [
+        | inl all ↦
+            let inside = effects_of_taken reach ts zero st After e all.1 in
+            (listed_body reach zero l ts all.0 inside.0, inside.1)
+        | inr head ↦ absurd (omega (arith, e, head.0))
+      ]
+  body_of_taken reach (group (more (word l) ts)) (suc (suc room)) st After e h =
+      elim (one.body_head_told st (TakesAll ts After) reach l.mark h.1) [
+        | inl all ↦
+            let inside = effects_of_taken reach ts (suc room) st After e all.1 in
+            (listed_body reach (suc room) l ts all.0 inside.0, inside.1)
+        | inr head ↦
+            let own = one_effect_of_taken reach l ts (InEffect effect.LoneTerms) (InEffect effect.FormEnd) lone_terms_of_taken form_end room st After (omega arith) head.1 in
+            (lone_body reach (suc room) (group (more (word l) ts)) own.0, own.1)
+      ]
 
 -- ---- timed effects
 
 -- a moment and an effect after `at` are a timed effect
-timed_effect_of_taken : (last : Symbol) → Closes last → (ts : Nesteds) (room : ℕ) (st : List Symbol) (After : List Symbol → Type 0) → room + level (last ∷ st) ≡ deepest → TakesAll ts After (InEffect effect.StartOrEnd ∷ InEffect effect.Effect ∷ last ∷ st) → ((l : Lexeme) → l.mark ≡ mark.At → IsTimedEffect room (group (more (word l) ts))) × After st
+timed_effect_of_taken : (last : Symbol) → Closes last → (ts : Nesteds) (room : ℕ) (st : List Symbol) (After : List Symbol → Type 0) → room + level (last ∷ st) ≡ deepest → TakesAll ts After (InEffect effect.StartOrEnd ∷ InEffect (effect.Effect Spread) ∷ last ∷ st) → ((l : Lexeme) → l.mark ≡ mark.At → IsTimedEffect room (group (more (word l) ts))) × After st
 timed_effect_of_taken last closes none room st After e h = absurd h
 timed_effect_of_taken last closes (more (group us) ts) room st After e h = absurd h.1
 timed_effect_of_taken last closes (more (word m) none) room st After e h =
-    absurd (one.moment_told (InEffect effect.Effect ∷ last ∷ st) (TakesAll none After) m.mark h).1
+    absurd (one.moment_told (InEffect (effect.Effect Spread) ∷ last ∷ st) (TakesAll none After) m.mark h).1
 timed_effect_of_taken last closes (more (word m) (more t ts)) room st After e h =
-    let moment = one.moment_told (InEffect effect.Effect ∷ last ∷ st) (TakesAll (more t ts) After) m.mark h in
-    let first = effect_of_taken t room (last ∷ st) (TakesAll ts After) e moment.1 in
+    let moment = one.moment_told (InEffect (effect.Effect Spread) ∷ last ∷ st) (TakesAll (more t ts) After) m.mark h in
+    let first = effect_of_taken Spread t room (last ∷ st) (TakesAll ts After) e moment.1 in
     let end = closes ts st After first.1 in
     (λ l is. rw end.0 (effect_at room l m t is moment.0 first.0), end.1)
 

@@ -1,15 +1,19 @@
 -- What one word tells where a symbol is wanted (`told`), and which words fit there (`fits`).
-use Rattle.std.proofs.Common.{◌≡◌, Bool, true, false, List, [], ◌∷◌, ◌++◌, Option, None, Some, refl, sym, subst, ◌⊎◌, inl, inr}
+use Rattle.std.proofs.Common.{◌≡◌, suc, ◌<◌, Bool, true, false, List, [], ◌∷◌, ◌++◌, Option, None, Some, refl, sym, subst, ◌⊎◌, inl, inr, arith}
 use Rattle.std.specs.List.{list_all}
 use Rattle.std.specs.Option.{option_and_then}
 use denote.Enum.Bare.{same_true}
 use Rattle.ps_shape.specs.contracts.marks.Mark.{the_type}
 use Rattle.ps_shape.specs.Marks.{is, is_name, is_term, is_keyword, is_change, is_predicate_name, is_fact_name}
-use Rattle.ps_shape.specs.Rules.{where_it_is, once}
+use Rattle.ps_shape.specs.Rules.{where_it_is, once, one_effect_rule}
+use Rattle.ps_shape.specs.Shape.{deepest}
+use Rattle.ps_shape.specs.Symbols.{has_forall, has_when, level}
 use Rattle.ps_shape.specs.declared.marks.Mark.{Mark}
 use Rattle.ps_shape.specs.declared.marks.Mark.TheVariants as mark
 use Rattle.ps_shape.specs.declared.symbols.Symbol.{Symbol}
 use Rattle.ps_shape.specs.declared.symbols.Symbol.TheVariants.{The, AnyName, InText, InList, InAction, InCondition, InEffect, InValue}
+use Rattle.ps_shape.specs.declared.symbols.Reach.{Reach}
+use Rattle.ps_shape.specs.declared.symbols.Reach.TheVariants.{Spread, Guarded, Plain}
 use Rattle.ps_shape.specs.declared.symbols.Seen.{Seen}
 use Rattle.ps_shape.specs.declared.symbols.ListPart.{ListPart}
 use Rattle.ps_shape.specs.declared.symbols.TextPart.TheVariants as text
@@ -22,7 +26,7 @@ use Rattle.ps_forms.specs.Conditions.{is_operator, is_relation}
 use Rattle.ps_forms.specs.Grammar.{is_moment}
 use Rattle.ps_forms.specs.TypedLists.{is_variable}
 use Rattle.ps_forms.proofs.Balance.{each_mark, every_mark}
-use Rattle.ps_forms.proofs.Taking.{Follows, after_word, word_step}
+use Rattle.ps_forms.proofs.Taking.{Follows, after_word, allowed, of_allowed, opens_word, to_allowed, word_step}
 
 -- a word with this mark fits where the symbol is wanted before others, and what is wanted after it is so
 abbrev pub Fits : List Symbol → (List Symbol → Type 0) → Symbol → Mark → Type 0
@@ -38,7 +42,8 @@ nothing_new (Some new) st After e h = absurd (cc)
 
 -- no word fits where none may stand
 pub no_word : (s : Symbol) → list_all (λ m. refuses (word_step s m)) every_mark ≡ true → (st : List Symbol) (After : List Symbol → Type 0) (m : Mark) → Fits st After s m → ⊥
-no_word s all st After m h = nothing_new (word_step s m) st After (each_mark (λ n. refuses (word_step s n)) all m) h
+no_word s all st After m h =
+    nothing_new (word_step s m) st After (each_mark (λ n. refuses (word_step s n)) all m) (of_allowed (opens_word s m) (level (s ∷ st)) After (option_and_then (λ new. Some (new ++ st)) (word_step s m)) h).1
 
 module _ (st : List Symbol) (After : List Symbol → Type 0) where
   -- a word with this mark fits where the mark does
@@ -186,40 +191,108 @@ module _ (st : List Symbol) (After : List Symbol → Type 0) where
 
   -- ---- effects
 
-  pub effect_head_told : (m : Mark) → Fits st After (InEffect effect.Head) m → ((m ≡ mark.And) × After (InEffect effect.Effects ∷ st) ⊎ (m ≡ mark.Not) × After (InValue value.Atom ∷ The mark.Close ∷ st)) ⊎ ((is_change m ≡ true) × After (InValue value.Atom ∷ InValue value.Value ∷ The mark.Close ∷ st) ⊎ (is_predicate_name m ≡ true) × After (InValue value.Terms ∷ st))
-  effect_head_told mark.And h = inl (inl (refl, h))
-  effect_head_told mark.Not h = inl (inr (refl, h))
-  effect_head_told mark.Assign h = inr (inl (refl, h))
-  effect_head_told mark.Increase h = inr (inl (refl, h))
-  effect_head_told mark.Decrease h = inr (inl (refl, h))
-  effect_head_told mark.ScaleUp h = inr (inl (refl, h))
-  effect_head_told mark.ScaleDown h = inr (inl (refl, h))
-  effect_head_told m h = inr (inr (passed (is_predicate_name m) (InValue value.Terms ∷ []) h))
+  -- these symbols follow the head of an effect, where they do
+  abbrev pub HasHead : Reach → Symbol → Symbol → Mark → Type 0
+  HasHead reach terms end m = Follows After (option_and_then (λ n. Some (n ++ st)) (one_effect_rule reach terms end m))
 
-  pub change_fits : (m : Mark) → is_change m ≡ true → After (InValue value.Atom ∷ InValue value.Value ∷ The mark.Close ∷ st) → Fits st After (InEffect effect.Head) m
-  change_fits mark.Assign e h = h
-  change_fits mark.Increase e h = h
-  change_fits mark.Decrease e h = h
-  change_fits mark.ScaleUp e h = h
-  change_fits mark.ScaleDown e h = h
-  change_fits m e h = absurd (cc)
+  -- the head of an effect but `and`, by what is wanted after it
+  abbrev pub IsHead : Reach → Symbol → Symbol → Mark → Type 0
+  IsHead reach terms end m =
+      ((m ≡ mark.Not) × After (InValue value.Atom ∷ end ∷ st) ⊎ (is_change m ≡ true) × After (InValue value.Atom ∷ InValue value.Value ∷ end ∷ st))
+      ⊎ ((((has_when reach ≡ true) × (m ≡ mark.When)) × After (InCondition condition.Condition ∷ InEffect (effect.Body Plain) ∷ end ∷ st) ⊎ ((has_forall reach ≡ true) × (m ≡ mark.Forall)) × After (InAction action.Parameters ∷ InEffect (effect.Body Guarded) ∷ end ∷ st))
+      ⊎ (is_predicate_name m ≡ true) × After (terms ∷ st))
 
-  pub predicate_fits : (m : Mark) → is_predicate_name m ≡ true → After (InValue value.Terms ∷ st) → Fits st After (InEffect effect.Head) m
-  predicate_fits mark.And e h = absurd (cc)
-  predicate_fits mark.Not e h = absurd (cc)
-  predicate_fits mark.Assign e h = absurd (cc)
-  predicate_fits mark.Increase e h = absurd (cc)
-  predicate_fits mark.Decrease e h = absurd (cc)
-  predicate_fits mark.ScaleUp e h = absurd (cc)
-  predicate_fits mark.ScaleDown e h = absurd (cc)
-  predicate_fits m e h = passes (is_predicate_name m) (InValue value.Terms ∷ []) e h
+  pub head_told : (reach : Reach) (terms end : Symbol) (m : Mark) → HasHead reach terms end m → IsHead reach terms end m
+  head_told reach terms end mark.Not h = inl (inl (refl, h))
+  head_told reach terms end mark.Assign h = inl (inr (refl, h))
+  head_told reach terms end mark.Increase h = inl (inr (refl, h))
+  head_told reach terms end mark.Decrease h = inl (inr (refl, h))
+  head_told reach terms end mark.ScaleUp h = inl (inr (refl, h))
+  head_told reach terms end mark.ScaleDown h = inl (inr (refl, h))
+  head_told reach terms end mark.When h =
+      let has = passed (has_when reach) (InCondition condition.Condition ∷ InEffect (effect.Body Plain) ∷ end ∷ []) h in
+      inr (inl (inl ((has.0, refl), has.1)))
+  head_told reach terms end mark.Forall h =
+      let has = passed (has_forall reach) (InAction action.Parameters ∷ InEffect (effect.Body Guarded) ∷ end ∷ []) h in
+      inr (inl (inr ((has.0, refl), has.1)))
+  head_told reach terms end m h = inr (inr (passed (is_predicate_name m) (terms ∷ []) h))
 
-  pub timed_effect_head_told : (m : Mark) → Fits st After (InEffect effect.TimedHead) m → (m ≡ mark.And) × After (InEffect effect.TimedList ∷ st) ⊎ (m ≡ mark.At) × After (InEffect effect.StartOrEnd ∷ InEffect effect.Effect ∷ The mark.Close ∷ st)
+  pub effect_head_told : (reach : Reach) (m : Mark) → Fits st After (InEffect (effect.Head reach)) m → (m ≡ mark.And) × After (InEffect (effect.Effects reach) ∷ st) ⊎ IsHead reach (InValue value.Terms) (The mark.Close) m
+  effect_head_told reach mark.And h = inl (refl, h)
+  effect_head_told reach mark.Open h = absurd h
+  effect_head_told reach mark.Close h = absurd h
+  effect_head_told reach m h = inr (head_told reach (InValue value.Terms) (The mark.Close) m h)
+
+  lone_told : (reach : Reach) (m : Mark) → Follows After (allowed true (level (InEffect (effect.BodyHead reach) ∷ st)) (option_and_then (λ n. Some (n ++ st)) (one_effect_rule reach (InEffect effect.LoneTerms) (InEffect effect.FormEnd) m))) → (suc (level st) < deepest) × IsHead reach (InEffect effect.LoneTerms) (InEffect effect.FormEnd) m
+  lone_told reach m h =
+      let both = of_allowed true (level (InEffect (effect.BodyHead reach) ∷ st)) After (option_and_then (λ n. Some (n ++ st)) (one_effect_rule reach (InEffect effect.LoneTerms) (InEffect effect.FormEnd) m)) h in
+      let below : level (InEffect (effect.BodyHead reach) ∷ st) < deepest = both.0 refl in
+      (omega (arith, below), head_told reach (InEffect effect.LoneTerms) (InEffect effect.FormEnd) m both.1)
+
+  -- in a body, a head but `and` opens a level too
+  pub body_head_told : (reach : Reach) (m : Mark) → Fits st After (InEffect (effect.BodyHead reach)) m → (m ≡ mark.And) × After (InEffect (effect.Effects reach) ∷ st) ⊎ (suc (level st) < deepest) × IsHead reach (InEffect effect.LoneTerms) (InEffect effect.FormEnd) m
+  body_head_told reach mark.And h = inl (refl, h)
+  body_head_told reach mark.Open h = absurd h
+  body_head_told reach mark.Close h = absurd h
+  body_head_told reach m h = inr (lone_told reach m h)
+
+  pub head_fits : (reach : Reach) (m : Mark) → HasHead reach (InValue value.Terms) (The mark.Close) m → Fits st After (InEffect (effect.Head reach)) m
+  head_fits reach mark.And h = absurd h
+  head_fits reach m h = h
+
+  pub body_head_fits : (reach : Reach) (m : Mark) → suc (level st) < deepest → HasHead reach (InEffect effect.LoneTerms) (InEffect effect.FormEnd) m → Fits st After (InEffect (effect.BodyHead reach)) m
+  body_head_fits reach mark.And below h = absurd h
+  body_head_fits reach mark.Open below h = absurd h
+  body_head_fits reach mark.Close below h = absurd h
+  body_head_fits reach m below h =
+      to_allowed true (level (InEffect (effect.BodyHead reach) ∷ st)) After (option_and_then (λ n. Some (n ++ st)) (one_effect_rule reach (InEffect effect.LoneTerms) (InEffect effect.FormEnd) m)) (λ _. omega (arith, below)) h
+
+  pub change_fits : (reach : Reach) (terms end : Symbol) (m : Mark) → is_change m ≡ true → After (InValue value.Atom ∷ InValue value.Value ∷ end ∷ st) → HasHead reach terms end m
+  change_fits reach terms end mark.Assign e h = h
+  change_fits reach terms end mark.Increase e h = h
+  change_fits reach terms end mark.Decrease e h = h
+  change_fits reach terms end mark.ScaleUp e h = h
+  change_fits reach terms end mark.ScaleDown e h = h
+  change_fits reach terms end m e h = absurd (cc)
+
+  pub predicate_fits : (reach : Reach) (terms end : Symbol) (m : Mark) → is_predicate_name m ≡ true → After (terms ∷ st) → HasHead reach terms end m
+  predicate_fits reach terms end mark.Not e h = absurd (cc)
+  predicate_fits reach terms end mark.When e h = absurd (cc)
+  predicate_fits reach terms end mark.Forall e h = absurd (cc)
+  predicate_fits reach terms end mark.Assign e h = absurd (cc)
+  predicate_fits reach terms end mark.Increase e h = absurd (cc)
+  predicate_fits reach terms end mark.Decrease e h = absurd (cc)
+  predicate_fits reach terms end mark.ScaleUp e h = absurd (cc)
+  predicate_fits reach terms end mark.ScaleDown e h = absurd (cc)
+  predicate_fits reach terms end m e h = passes (is_predicate_name m) (terms ∷ []) e h
+
+  pub not_fits : (reach : Reach) (terms end : Symbol) (m : Mark) → m ≡ mark.Not → After (InValue value.Atom ∷ end ∷ st) → HasHead reach terms end m
+  not_fits reach terms end m e h = subst (λ (x : Mark). HasHead reach terms end x) (sym e) h
+
+  pub when_fits : (reach : Reach) (terms end : Symbol) (m : Mark) → has_when reach ≡ true → m ≡ mark.When → After (InCondition condition.Condition ∷ InEffect (effect.Body Plain) ∷ end ∷ st) → HasHead reach terms end m
+  when_fits reach terms end m has e h =
+      subst (λ (x : Mark). HasHead reach terms end x) (sym e) (passes (has_when reach) (InCondition condition.Condition ∷ InEffect (effect.Body Plain) ∷ end ∷ []) has h)
+
+  pub forall_fits : (reach : Reach) (terms end : Symbol) (m : Mark) → has_forall reach ≡ true → m ≡ mark.Forall → After (InAction action.Parameters ∷ InEffect (effect.Body Guarded) ∷ end ∷ st) → HasHead reach terms end m
+  forall_fits reach terms end m has e h =
+      subst (λ (x : Mark). HasHead reach terms end x) (sym e) (passes (has_forall reach) (InAction action.Parameters ∷ InEffect (effect.Body Guarded) ∷ end ∷ []) has h)
+
+  pub lone_term_told : (m : Mark) → Fits st After (InEffect effect.LoneTerms) m → (is_term m ≡ true) × After (InEffect effect.LoneTerms ∷ st)
+  lone_term_told mark.Open h = absurd h
+  lone_term_told mark.Close h = absurd h
+  lone_term_told m h = passed (is_term m) (InEffect effect.LoneTerms ∷ []) h
+
+  pub lone_term_fits : (m : Mark) → is_term m ≡ true → After (InEffect effect.LoneTerms ∷ st) → Fits st After (InEffect effect.LoneTerms) m
+  lone_term_fits mark.Open e h = absurd (cc)
+  lone_term_fits mark.Close e h = absurd (cc)
+  lone_term_fits m e h = passes (is_term m) (InEffect effect.LoneTerms ∷ []) e h
+
+  pub timed_effect_head_told : (m : Mark) → Fits st After (InEffect effect.TimedHead) m → (m ≡ mark.And) × After (InEffect effect.TimedList ∷ st) ⊎ (m ≡ mark.At) × After (InEffect effect.StartOrEnd ∷ InEffect (effect.Effect Spread) ∷ The mark.Close ∷ st)
   timed_effect_head_told mark.And h = inl (refl, h)
   timed_effect_head_told mark.At h = inr (refl, h)
   timed_effect_head_told _ h = absurd h
 
-  pub effect_form_head_told : (m : Mark) → Fits st After (InEffect effect.FormHead) m → (m ≡ mark.And) × After (InEffect effect.TimedList ∷ st) ⊎ (m ≡ mark.At) × After (InEffect effect.StartOrEnd ∷ InEffect effect.Effect ∷ InEffect effect.FormEnd ∷ st)
+  pub effect_form_head_told : (m : Mark) → Fits st After (InEffect effect.FormHead) m → (m ≡ mark.And) × After (InEffect effect.TimedList ∷ st) ⊎ (m ≡ mark.At) × After (InEffect effect.StartOrEnd ∷ InEffect (effect.Effect Spread) ∷ InEffect effect.FormEnd ∷ st)
   effect_form_head_told mark.And h = inl (refl, h)
   effect_form_head_told mark.At h = inr (refl, h)
   effect_form_head_told _ h = absurd h

@@ -36,9 +36,9 @@ line_of_passes _ _ (one_more t ts ls ks s r) st h =
 pub judged_of_line : (start : List Symbol) (ts : Nesteds) (ls : List Lexeme) → SpellAll ts ls → TakesLine ts start → Derives start (marks ls) × IsShallowFrom start (marks ls)
 judged_of_line start ts ls s h =
     let passes : Passes (marks ls) IsDone start = passes_of_line ts ls s start h in
-    (derived_of_run start (marks ls) (run_of_passes (marks ls) start passes), λ at deep. flat_of_passes (marks ls) start at passes deep.0 deep.1)
+    (derived_of_run start (marks ls) (run_of_passes (marks ls) start passes), λ at deep. flat_of_passes (marks ls) start at passes deep)
 
 -- a line that is derived and opens no level too many is taken to its end
 pub line_of_judged : (start : List Symbol) (ts : Nesteds) (ls : List Lexeme) → SpellAll ts ls → Derives start (marks ls) → IsShallowFrom start (marks ls) → TakesLine ts start
 line_of_judged start ts ls s d flat =
-    line_of_passes ts ls s start (passes_of_run (marks ls) start (run_of_derived start (marks ls) d) (λ at opens deep. flat at (opens, deep)))
+    line_of_passes ts ls s start (passes_of_run (marks ls) start (run_of_derived start (marks ls) d) flat)

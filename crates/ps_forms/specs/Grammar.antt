@@ -1,9 +1,11 @@
 -- The grammar of a domain's text, over nested lists. The number counts the levels of parentheses that may still be opened where the list stands.
 use Rattle.std.specs.Prelude.{◌≡◌, ℕ, suc, Bool, true, false}
 use Rattle.ps_shape.specs.Marks.{is_name, is_keyword, is_change, is_predicate_name}
-use Rattle.ps_shape.specs.Symbols.{none_seen}
+use Rattle.ps_shape.specs.Symbols.{has_forall, has_when, none_seen}
 use Rattle.ps_shape.specs.declared.marks.Mark.{Mark}
 use Rattle.ps_shape.specs.declared.marks.Mark.TheVariants as mark
+use Rattle.ps_shape.specs.declared.symbols.Reach.{Reach}
+use Rattle.ps_shape.specs.declared.symbols.Reach.TheVariants.{Spread, Guarded, Plain}
 use Rattle.ps_shape.specs.declared.symbols.Seen.{Seen}
 use Rattle.ps_forms.specs.Conditions.{AreArguments, AreConditionsOf, IsAtomOf, IsConditionOf, IsValueOf, domains}
 use Rattle.ps_forms.specs.Nested.{Nested, Nesteds, word, group, none, more}
@@ -66,17 +68,36 @@ pub data IsConditionForm : ℕ → Nested → Type 0 where
 -- ---- effects
 
 mutual
-  -- E: (and E*) | (NAME TERM*) | (not (NAME TERM*)) | (NOP (NAME TERM*) X)
-  pub data IsEffect : ℕ → Nested → Type 0 where
-    all_effects : (room : ℕ) (l : Lexeme) (ts : Nesteds) → l.mark ≡ mark.And → AreEffects room ts → IsEffect (suc room) (group (more (word l) ts))
-    addition : (room : ℕ) (l : Lexeme) (ts : Nesteds) → is_predicate_name l.mark ≡ true → AreTerms ts → IsEffect (suc room) (group (more (word l) ts))
-    deletion : (room : ℕ) (l : Lexeme) (a : Nested) → l.mark ≡ mark.Not → IsAtom room a → IsEffect (suc room) (group (more (word l) (more a none)))
-    change : (room : ℕ) (l : Lexeme) (a x : Nested) → is_change l.mark ≡ true → IsAtom room a → IsValue room x → IsEffect (suc room) (group (more (word l) (more a (more x none))))
+  -- E of an action, W of a `forall` and G of a `when`, by what may stand there: (and E*), or one effect
+  pub data IsEffectOf : Reach → ℕ → Nested → Type 0 where
+    all_effects : (reach : Reach) (room : ℕ) (l : Lexeme) (ts : Nesteds) → l.mark ≡ mark.And → AreEffectsOf reach room ts → IsEffectOf reach (suc room) (group (more (word l) ts))
+    single : (reach : Reach) (room : ℕ) (t : Nested) → IsOneEffect reach room t → IsEffectOf reach room t
 
-  -- E*
-  pub data AreEffects : ℕ → Nesteds → Type 0 where
-    no_effect : (room : ℕ) → AreEffects room none
-    one_effect : (room : ℕ) (e : Nested) (es : Nesteds) → IsEffect room e → AreEffects room es → AreEffects room (more e es)
+  -- (NAME TERM*) | (not (NAME TERM*)) | (NOP (NAME TERM*) X) | (when C G) | (forall (VLIST) W), the last two where they may stand
+  pub data IsOneEffect : Reach → ℕ → Nested → Type 0 where
+    addition : (reach : Reach) (room : ℕ) (l : Lexeme) (ts : Nesteds) → is_predicate_name l.mark ≡ true → AreTerms ts → IsOneEffect reach (suc room) (group (more (word l) ts))
+    deletion : (reach : Reach) (room : ℕ) (l : Lexeme) (a : Nested) → l.mark ≡ mark.Not → IsAtom room a → IsOneEffect reach (suc room) (group (more (word l) (more a none)))
+    change : (reach : Reach) (room : ℕ) (l : Lexeme) (a x : Nested) → is_change l.mark ≡ true → IsAtom room a → IsValue room x → IsOneEffect reach (suc room) (group (more (word l) (more a (more x none))))
+    conditional : (reach : Reach) (room : ℕ) (l : Lexeme) (c t : Nested) → has_when reach ≡ true → l.mark ≡ mark.When → IsCondition room c → IsBody Plain room t → IsOneEffect reach (suc room) (group (more (word l) (more c (more t none))))
+    for_each : (reach : Reach) (room : ℕ) (l : Lexeme) (vs : Nesteds) (t : Nested) → has_forall reach ≡ true → l.mark ≡ mark.Forall → IsTypedList is_variable vs → IsBody Guarded room t → IsOneEffect reach (suc room) (group (more (word l) (more (group vs) (more t none))))
+
+  -- E*, W* or G*
+  pub data AreEffectsOf : Reach → ℕ → Nesteds → Type 0 where
+    no_effect : (reach : Reach) (room : ℕ) → AreEffectsOf reach room none
+    one_effect : (reach : Reach) (room : ℕ) (e : Nested) (es : Nesteds) → IsEffectOf reach room e → AreEffectsOf reach room es → AreEffectsOf reach room (more e es)
+
+  -- W in a `forall` and G in a `when`: one effect alone counts one level deeper, as if it stood in an `and`
+  pub data IsBody : Reach → ℕ → Nested → Type 0 where
+    listed_body : (reach : Reach) (room : ℕ) (l : Lexeme) (ts : Nesteds) → l.mark ≡ mark.And → AreEffectsOf reach room ts → IsBody reach (suc room) (group (more (word l) ts))
+    lone_body : (reach : Reach) (room : ℕ) (t : Nested) → IsOneEffect reach room t → IsBody reach (suc room) t
+
+-- E
+abbrev pub IsEffect : ℕ → Nested → Type 0
+IsEffect room t = IsEffectOf Spread room t
+
+-- E*
+abbrev pub AreEffects : ℕ → Nesteds → Type 0
+AreEffects room ts = AreEffectsOf Spread room ts
 
 -- (at start E) | (at end E), where this many levels are left for the effect
 pub data IsTimedEffect : ℕ → Nested → Type 0 where

@@ -9,7 +9,7 @@ use Rattle.ps_world.specs.declared.domains.Domain.{Domain}
 use Rattle.ps_world.specs.declared.domains.Param.{Param}
 use Rattle.ps_world.specs.declared.known.Knowledge.{Knowledge}
 use Rattle.ps_world.specs.declared.names.Name.{Name}
-use Rattle.ps_action.specs.Effects.{unless}
+use Rattle.ps_action.specs.Refusals.{unless}
 use Rattle.ps_action.specs.Grounding.{first_unfit, fitting, ground_act, ground_by, grounded, unfit}
 use Rattle.ps_action.specs.Truth.{all_true, fits}
 use Rattle.ps_action.specs.declared.acts.Act.{Act}

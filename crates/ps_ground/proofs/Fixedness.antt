@@ -7,18 +7,20 @@ use Rattle.std.specs.Cmp.{first_so, second_so}
 use Rattle.std.specs.Result.{result_ok}
 use Rattle.std.specs.Ordering.{eq_by_cmp}
 use Rattle.std.proofs.lemmas.Bool.Decides.{nat_tests}
-use Rattle.std.proofs.lemmas.List.Folds.{list_any-append}
 use Rattle.std.proofs.lemmas.Map.Views.{any-filter_same, tells_apart}
 use Rattle.std.proofs.lemmas.Option.{unwrap_or-slice_get}
 use Rattle.std.proofs.lemmas.Bool.{or_from, or_parts}
 use Rattle.ps_world.specs.Bound.{ground_in, name_in}
 use Rattle.ps_world.specs.CondViews.{cond_tree}
-use Rattle.ps_world.specs.Knowledge.{action_of, ground, same_fact}
+use Rattle.ps_world.specs.Knowledge.{action_of, same_fact}
 use Rattle.ps_world.specs.Names.{name_cmp, object, same_name}
 use Rattle.ps_world.specs.Trees.{CondTree}
 use Rattle.ps_world.specs.declared.actions.ActionDef.{ActionDef}
 use Rattle.ps_world.specs.declared.actions.Effect.{Effect}
 use Rattle.ps_world.specs.declared.actions.Effect.TheVariants.{Add, Delete, Number}
+use Rattle.ps_world.specs.declared.actions.Guarded.{Guarded}
+use Rattle.ps_world.specs.declared.actions.Spread.{Spread}
+use Rattle.ps_world.specs.declared.actions.Spread.TheVariants.{Once, ForAll}
 use Rattle.ps_world.specs.declared.conditions.Cond.{Cond}
 use Rattle.ps_world.specs.declared.domains.Domain.{Domain}
 use Rattle.ps_world.specs.declared.domains.Param.{Param}
@@ -29,8 +31,9 @@ use Rattle.ps_world.specs.declared.schemas.Lifted.{Lifted}
 use Rattle.ps_world.specs.declared.schemas.Term.{Term}
 use Rattle.ps_world.specs.declared.schemas.Term.TheVariants.{Var, Const}
 use Rattle.ps_world.proofs.SameTexts.{name_itself}
-use Rattle.ps_action.specs.Effects.{added_by, unless}
-use Rattle.ps_action.specs.Grounding.{first_unfit, fitting, ground_act, ground_by, grounded, put_cond, put_effect, put_lifted, put_list, put_term, put_var}
+use Rattle.ps_action.specs.Bindings.{bindings}
+use Rattle.ps_action.specs.Refusals.{unless}
+use Rattle.ps_action.specs.Grounding.{first_unfit, fitting, ground_act, ground_by, grounded, put_cond, put_lifted, put_list, put_term, put_var}
 use Rattle.ps_action.specs.Search.{possible_acts}
 use Rattle.ps_action.specs.Truth.{all_true, is_true}
 use Rattle.ps_action.specs.declared.acts.Act.{Act}
@@ -40,10 +43,11 @@ use Rattle.ps_action.specs.declared.refusals.GroundRefusal.TheVariants.{Arity, N
 use Rattle.ps_action.proofs.Facts.{exact_facts, names_total}
 use Rattle.ps_action.proofs.Keys.{any-insert_key}
 use Rattle.ps_domain.proofs.Indexes.{at_same}
-use Rattle.ps_ground.specs.Fixed.{AreFixed, all_heads_added, head_added, heads_added, is_from, possible_facts}
+use Rattle.ps_ground.specs.Fixed.{AreFixed, all_heads_added, head_added, heads_added, heads_in, heads_in_part, is_from, possible_facts}
 use Rattle.ps_ground.specs.Moves.{grounds}
-use Rattle.ps_ground.specs.Atoms.{AreAtoms, IsOver, adds}
+use Rattle.ps_ground.specs.Atoms.{AreAtoms, IsOver, added_in, adds, effects_in, may_add, may_add_part, may_add_spread}
 use Rattle.ps_ground.specs.States.{State, at, changed, ended, stepped, where_so}
+use Rattle.ps_ground.proofs.MayAdd.{adds_put, join_none, none_through, split_none}
 use Rattle.ps_ground.proofs.Preparing.{first_atoms, no_last, no_over}
 use Rattle.ps_ground.proofs.Settled.{both_true}
 
@@ -114,7 +118,7 @@ module _ (d : Domain) (k : Knowledge) (s : State) (args : List Name) where
 
 -- ---- acts that lead nowhere
 
-module _ (d : Domain) (k : Knowledge) (facts : List Fact) (heads : List Name) (fixed : List Fact) (are : AreFixed heads fixed facts) (a : ActionDef) (act : Act) (atoms : AreAtoms facts (adds (grounded a act))) where
+module _ (d : Domain) (k : Knowledge) (facts : List Fact) (heads : List Name) (fixed : List Fact) (are : AreFixed heads fixed facts) (a : ActionDef) (act : Act) (atoms : AreAtoms facts (adds d k (grounded a act))) where
   -- conditions that hold in no state without the facts that never are known
   abbrev pub IsVain : List CondTree → Type 0
   IsVain cs = (s : State) → AreFixed heads fixed s.facts → all_true d (at k s) (map (put_cond act.args) cs) ≡ false
@@ -127,10 +131,10 @@ module _ (d : Domain) (k : Knowledge) (facts : List Fact) (heads : List Name) (f
       ap (λ b. option_and_then (ended d k (grounded a act)) (where_so b (changed d k s (grounded a act).effects.at_start))) (in_states a.conditions.at_start v s o)
 
   pub no_over_all : IsVain a.conditions.over_all → (s : State) → IsOver facts s → stepped d k s (grounded a act) ≡ None
-  no_over_all v s o = no_over d k facts (grounded a act) (in_states a.conditions.over_all v) (first_atoms facts (grounded a act) atoms) s o
+  no_over_all v s o = no_over d k facts (grounded a act) (in_states a.conditions.over_all v) (first_atoms d k facts (grounded a act) atoms) s o
 
   pub no_at_end : IsVain a.conditions.at_end → (s : State) → IsOver facts s → stepped d k s (grounded a act) ≡ None
-  no_at_end v s o = no_last d k facts (grounded a act) (in_states a.conditions.at_end v) (first_atoms facts (grounded a act) atoms) s o
+  no_at_end v s o = no_last d k facts (grounded a act) (in_states a.conditions.at_end v) (first_atoms d k facts (grounded a act) atoms) s o
 
 -- ---- the ground action of an act
 
@@ -175,29 +179,38 @@ other_fact f g true false e h other =
     let same : f ≡ g = tells_apart exact_facts f g e in
     absurd (cc (sym h ∙ ap (λ (x : Fact). same_name f.head x.head) (sym same) ∙ name_itself f.head))
 
-module _ (f : Fact) (args : List Name) where
-  -- effects that add no fact of its predicate don't add it, whatever the arguments
-  effects_none : (es : List Effect) → list_any (same_name f.head) (filter_map head_added es) ≡ false → list_any (same_fact f) (filter_map added_by (map (put_effect args) es)) ≡ false
+module _ (f : Fact) (env : List Name) where
+  -- effects that add no fact of its predicate don't add it, whatever variables stand for
+  effects_none : (es : List Effect) → list_any (same_name f.head) (filter_map head_added es) ≡ false → list_any (same_fact f) (flat_map (added_in env) es) ≡ false
   effects_none [] e = refl
   effects_none (Add l ∷ es) e =
       let w = or_parts (same_name f.head l.head) (list_any (same_name f.head) (filter_map head_added es)) e in
-      let g = ground (put_lifted args l) in
-      or_from (same_fact f g) (list_any (same_fact f) (filter_map added_by (map (put_effect args) es))) (other_fact f g (same_fact f g) (same_name f.head g.head) refl refl w.0) (effects_none es w.1)
+      let g = ground_in env l in
+      or_from (same_fact f g) (list_any (same_fact f) (flat_map (added_in env) es)) (other_fact f g (same_fact f g) (same_name f.head g.head) refl refl w.0) (effects_none es w.1)
   effects_none (Delete l ∷ es) e = effects_none es e
   effects_none (Number how l x ∷ es) e = effects_none es e
 
-module _ (f : Fact) where
-  split_none : {A : Type 0} (p : A → Bool) (xs ys : List A) → list_any p (xs ++ ys) ≡ false → (list_any p xs ≡ false) × (list_any p ys ≡ false)
-  split_none p xs ys e = or_parts (list_any p xs) (list_any p ys) (sym (list_any-append p xs ys) ∙ e)
+  parts_none : (gs : List Guarded) → list_any (same_name f.head) (flat_map heads_in_part gs) ≡ false → list_any (same_fact f) (flat_map (may_add_part env) gs) ≡ false
+  parts_none gs e = none_through (same_name f.head) (same_fact f) heads_in_part (may_add_part env) (λ g. effects_none (effects_in g)) gs e
 
-  join_none : {A : Type 0} (p : A → Bool) (xs ys : List A) → list_any p xs ≡ false → list_any p ys ≡ false → list_any p (xs ++ ys) ≡ false
-  join_none p xs ys e h = list_any-append p xs ys ∙ or_from (list_any p xs) (list_any p ys) e h
+none_at_all : {A : Type 0} (f : Fact) (of : A → List Fact) → ((x : A) → list_any (same_fact f) (of x) ≡ false) → (xs : List A) → list_any (same_fact f) (flat_map of xs) ≡ false
+none_at_all f of h [] = refl
+none_at_all f of h (x ∷ xs) = join_none (same_fact f) (of x) (flat_map of xs) (h x) (none_at_all f of h xs)
+
+module _ (f : Fact) where
+  spread_none : (d : Domain) (k : Knowledge) (env : List Name) (s : Spread) → list_any (same_name f.head) (heads_in s) ≡ false → list_any (same_fact f) (may_add_spread d k env s) ≡ false
+  spread_none d k env (Once g) e = effects_none f env (effects_in g) e
+  spread_none d k env (ForAll ps gs) e = none_at_all f (λ n. flat_map (may_add_part n) gs) (λ n. parts_none f n gs e) (bindings d k.instances ps env)
+
+  list_none : (d : Domain) (k : Knowledge) (env : List Name) (es : List Spread) → list_any (same_name f.head) (flat_map heads_in es) ≡ false → list_any (same_fact f) (may_add d k env es) ≡ false
+  list_none d k env es e = none_through (same_name f.head) (same_fact f) heads_in (may_add_spread d k env) (spread_none d k env) es e
 
   -- neither does an action
-  action_none : (a : ActionDef) (act : Act) → list_any (same_name f.head) (heads_added a) ≡ false → list_any (same_fact f) (adds (grounded a act)) ≡ false
-  action_none a act e =
-      let w = split_none (same_name f.head) (filter_map head_added a.effects.at_start) (filter_map head_added a.effects.at_end) e in
-      join_none (same_fact f) (filter_map added_by (map (put_effect act.args) a.effects.at_start)) (filter_map added_by (map (put_effect act.args) a.effects.at_end)) (effects_none f act.args a.effects.at_start w.0) (effects_none f act.args a.effects.at_end w.1)
+  action_none : (d : Domain) (k : Knowledge) (a : ActionDef) (act : Act) → list_any (same_name f.head) (heads_added a) ≡ false → list_any (same_fact f) (adds d k (grounded a act)) ≡ false
+  action_none d k a act e =
+      let w = split_none (same_name f.head) (flat_map heads_in a.effects.at_start) (flat_map heads_in a.effects.at_end) e in
+      ap (list_any (same_fact f)) (adds_put d k a act)
+      ∙ join_none (same_fact f) (may_add d k act.args a.effects.at_start) (may_add d k act.args a.effects.at_end) (list_none d k act.args a.effects.at_start w.0) (list_none d k act.args a.effects.at_end w.1)
 
   found_at : (a b : ActionDef) (bs : List ActionDef) (c : Bool) (o : Option ActionDef) → list_any (same_name f.head) (heads_added b) ≡ false → (o ≡ Some a → list_any (same_name f.head) (heads_added a) ≡ false) → cond c (Some b) o ≡ Some a → list_any (same_name f.head) (heads_added a) ≡ false
   found_at a b bs true o here rest e =
@@ -213,18 +226,18 @@ module _ (f : Fact) where
       found_at a b bs (p b) (find p bs) w.0 (found_none p bs a w.1) is
 
   module _ (d : Domain) (k : Knowledge) (none : list_any (same_name f.head) (all_heads_added d) ≡ false) where
-    act_none : (act : Act) (o : Option ActionDef) (r : Result GroundAction GroundRefusal) (g : GroundAction) → action_of d act.action ≡ o → ground_by d k.instances o act ≡ r → r ≡ Ok g → list_any (same_fact f) (adds g) ≡ false
+    act_none : (act : Act) (o : Option ActionDef) (r : Result GroundAction GroundRefusal) (g : GroundAction) → action_of d act.action ≡ o → ground_by d k.instances o act ≡ r → r ≡ Ok g → list_any (same_fact f) (adds d k g) ≡ false
     act_none act None r g is e h = absurd (cc)
     act_none act (Some a) r g is e h =
         let same : g ≡ grounded a act = grounded_of d k.instances act g a is (ap (λ o. ground_by d k.instances o act) is ∙ e ∙ h) in
-        ap (λ (x : GroundAction). list_any (same_fact f) (adds x)) same ∙ action_none a act (found_none (λ action. same_name act.action action.name) d.actions a none is)
+        ap (λ (x : GroundAction). list_any (same_fact f) (adds d k x)) same ∙ action_none d k a act (found_none (λ action. same_name act.action action.name) d.actions a none is)
 
-    one_none : (act : Act) (acts : List Act) (r : Result GroundAction GroundRefusal) → ground_act d k.instances act ≡ r → list_any (same_fact f) (flat_map adds (filter_map (λ act. result_ok (ground_act d k.instances act)) acts)) ≡ false → list_any (same_fact f) (flat_map adds (cons_option (result_ok r) (filter_map (λ act. result_ok (ground_act d k.instances act)) acts))) ≡ false
+    one_none : (act : Act) (acts : List Act) (r : Result GroundAction GroundRefusal) → ground_act d k.instances act ≡ r → list_any (same_fact f) (flat_map (adds d k) (filter_map (λ act. result_ok (ground_act d k.instances act)) acts)) ≡ false → list_any (same_fact f) (flat_map (adds d k) (cons_option (result_ok r) (filter_map (λ act. result_ok (ground_act d k.instances act)) acts))) ≡ false
     one_none act acts (Err why) e rest = rest
     one_none act acts (Ok g) e rest =
-        join_none (same_fact f) (adds g) (flat_map adds (filter_map (λ act. result_ok (ground_act d k.instances act)) acts)) (act_none act (action_of d act.action) (ground_act d k.instances act) g refl refl e) rest
+        join_none (same_fact f) (adds d k g) (flat_map (adds d k) (filter_map (λ act. result_ok (ground_act d k.instances act)) acts)) (act_none act (action_of d act.action) (ground_act d k.instances act) g refl refl e) rest
 
-    acts_none : (acts : List Act) → list_any (same_fact f) (flat_map adds (filter_map (λ act. result_ok (ground_act d k.instances act)) acts)) ≡ false
+    acts_none : (acts : List Act) → list_any (same_fact f) (flat_map (adds d k) (filter_map (λ act. result_ok (ground_act d k.instances act)) acts)) ≡ false
     acts_none [] = refl
     acts_none (act ∷ acts) = one_none act acts (ground_act d k.instances act) refl (acts_none acts)
 
@@ -259,6 +272,6 @@ kept_alike heads f g none e =
 pub are_fixed : (d : Domain) (k : Knowledge) (heads : List Name) (others atoms : List Fact) → heads ≡ fold (insert_key name_cmp) [] (all_heads_added d) → others ≡ filter (λ f. not (list_any (same_name f.head) heads)) k.facts → AreAtoms atoms others → AreFixed heads atoms (possible_facts d k)
 are_fixed d k heads others atoms is_heads is_others are f none gone =
     let kept = λ (g : Fact). not (list_any (same_name g.head) heads) in
-    join_none f (same_fact f) k.facts (flat_map adds (grounds d k))
+    join_none (same_fact f) k.facts (flat_map (adds d k) (grounds d k))
     (sym (any-filter_same (same_fact f) kept true (λ g e. kept_alike heads f g none e) k.facts) ∙ ap (list_any (same_fact f)) (sym is_others) ∙ are f gone)
     (acts_none f d k (no_name f.head (all_heads_added d) heads is_heads none) (possible_acts d k))

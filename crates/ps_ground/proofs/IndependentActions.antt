@@ -31,7 +31,7 @@ use Rattle.ps_ground.specs.Orders.{facts_total}
 use Rattle.ps_ground.specs.Prepared.{landed, successor, passes, turned, with_at, without_at}
 use Rattle.ps_ground.specs.States.{State, at, where_so}
 use Rattle.ps_ground.specs.declared.prepared.Change.{Change}
-use Rattle.ps_ground.specs.declared.prepared.Change.TheVariants.{Flags, Effects}
+use Rattle.ps_ground.specs.declared.prepared.Change.TheVariants.{Flags, Effects, Spreads}
 use Rattle.ps_ground.specs.declared.prepared.Prepared.{Prepared}
 use Rattle.ps_ground.specs.declared.prepared.Test.{Test}
 use Rattle.ps_ground.proofs.Bits.{no_share, share, itself as nat_itself}
@@ -116,11 +116,13 @@ module _ (atoms : List Fact) (rise : IsStrictlySortedBy fact_cmp atoms) where
 abbrev altered : List Fact → Change → List Fact → List Fact
 altered atoms (Flags cleared set) fs = fold (with_at atoms) (fold (without_at atoms) fs cleared.items) set.items
 altered atoms (Effects es clash) fs = fs
+altered atoms (Spreads es) fs = fs
 
 -- whether a fact is known after it, by whether it was before
 abbrev stays : List Fact → Change → Fact → Bool → Bool
 stays atoms (Flags cleared set) f b = (b && not (among atoms cleared.items f)) || among atoms set.items f
 stays atoms (Effects es clash) f b = b
+stays atoms (Spreads es) f b = b
 
 module _ (atoms : List Fact) where
   known_with : (f : Fact) (is : List ℕ) (fs : List Fact) → known f (fold (with_at atoms) fs is) ≡ (known f fs || among atoms is f)
@@ -150,6 +152,7 @@ module _ (atoms : List Fact) where
       known_with f set.items (fold (without_at atoms) fs cleared.items)
       ∙ ap (λ b. b || among atoms set.items f) (known_without f cleared.items fs)
   known_altered f (Effects es clash) fs = refl
+  known_altered f (Spreads es) fs = refl
 
   rises_with : (is : List ℕ) (fs : List Fact) → IsStrictlySortedBy fact_cmp fs → IsStrictlySortedBy fact_cmp (fold (with_at atoms) fs is)
   rises_with [] fs s = s
@@ -162,6 +165,7 @@ module _ (atoms : List Fact) where
   rises_altered : (c : Change) (fs : List Fact) → IsStrictlySortedBy fact_cmp fs → IsStrictlySortedBy fact_cmp (altered atoms c fs)
   rises_altered (Flags cleared set) fs s = rises_with set.items (fold (without_at atoms) fs cleared.items) (rises_without cleared.items fs s)
   rises_altered (Effects es clash) fs s = s
+  rises_altered (Spreads es) fs s = s
 
   -- what is at no changed place stays as it was
   stays_there : (f : Fact) (c : Change) (b : Bool) → among atoms (changed_by c) f ≡ false → stays atoms c f b ≡ b
@@ -173,6 +177,7 @@ module _ (atoms : List Fact) where
       same true = refl
       same false = refl
   stays_there f (Effects es clash) b e = refl
+  stays_there f (Spreads es) b e = refl
 
 -- ---- plain ground actions
 
@@ -207,6 +212,7 @@ module _ (d : Domain) (k : Knowledge) (atoms : List Fact) where
   plain_turned : (c : Change) (s : State) → is_plain_change c ≡ true → turned d k atoms c s ≡ Some (record { facts = altered atoms c s.facts; values = s.values })
   plain_turned (Flags cleared set) s e = refl
   plain_turned (Effects es clash) s e = absurd (cc)
+  plain_turned (Spreads es) s e = absurd (cc)
 
   -- a plain ground action leads to the facts that it leaves, where it can step
   plain_successor : (p : Prepared) (s : State) → is_plain p ≡ true → successor d k atoms s p ≡ where_so (can_step atoms p s.facts) (Some (record { facts = left_by atoms p s.facts; values = s.values }))

@@ -1,3 +1,4 @@
+pub mod Alone
 pub mod Below
 pub mod Bits
 pub mod Distinct
@@ -7,6 +8,7 @@ pub mod Gathering
 pub mod IndependentActions
 pub mod Listing
 pub mod Lists
+pub mod MayAdd
 pub mod Places
 pub mod Preparing
 pub mod PuttingIn

@@ -7,6 +7,8 @@ use Rattle.std.specs.BTreeSet.{insert_key}
 use Rattle.std.specs.Result.{result_ok}
 use Rattle.std.proofs.lemmas.Cmp.{eq_by_cmp_equiv}
 use Rattle.std.proofs.lemmas.List.Elements.{filter_map-append}
+use Rattle.std.proofs.lemmas.List.Folds.{list_any-append}
+use Rattle.std.proofs.lemmas.List.Sums.{fold-append}
 use Rattle.std.proofs.lemmas.Bool.{or_from, or_parts}
 use Rattle.ps_world.specs.Facts.{fact_cmp}
 use Rattle.ps_world.specs.Knowledge.{same_fact}
@@ -14,6 +16,7 @@ use Rattle.ps_world.specs.CondViews.{cond_tree}
 use Rattle.ps_world.specs.Trees.{CondTree}
 use Rattle.ps_world.specs.declared.actions.Effect.{Effect}
 use Rattle.ps_world.specs.declared.actions.Effect.TheVariants.{Add, Delete, Number}
+use Rattle.ps_world.specs.declared.actions.Spread.{Spread}
 use Rattle.ps_world.specs.declared.conditions.Cond.{Cond}
 use Rattle.ps_world.specs.declared.domains.Domain.{Domain}
 use Rattle.ps_world.specs.declared.facts.Fact.{Fact}
@@ -21,20 +24,22 @@ use Rattle.ps_world.specs.declared.known.Knowledge.{Knowledge}
 use Rattle.ps_world.specs.declared.names.Name.{Name}
 use Rattle.ps_world.specs.declared.numbers.Num.{Num}
 use Rattle.ps_world.proofs.Truths.{and_true}
-use Rattle.ps_action.specs.Effects.{added_by, deletes, fault_of_effects, faults_from, made, unless, value_set, values_set}
+use Rattle.ps_action.specs.Effects.{added_by, deletes, fault_of_flat, faults_from, flat, made, value_set, values_of_flat}
+use Rattle.ps_action.specs.Refusals.{unless}
 use Rattle.ps_action.specs.Grounding.{put_cond}
 use Rattle.ps_action.specs.Truth.{all_true, is_true}
 use Rattle.ps_action.specs.declared.acts.GroundAction.{GroundAction}
 use Rattle.ps_action.specs.declared.refusals.EffectRefusal.{EffectRefusal}
 use Rattle.ps_action.proofs.Keys.{any-insert_key}
 use Rattle.ps_ground.specs.Orders.{facts_total}
-use Rattle.ps_ground.specs.States.{State, at, changed, ended, state_of, stepped, where_so}
+use Rattle.ps_ground.specs.States.{State, at, changed, changed_flat, ended, state_of, stepped, where_so}
 use Rattle.ps_ground.specs.Moves.{Node, moves}
 use Rattle.ps_ground.specs.Prepared.{AreSound, IsBareTest, IsSound, is_number, known_at, landed, successor_node, successor_nodes, successor, passes, turned, with_at, without_at}
-use Rattle.ps_ground.specs.Atoms.{AddAtoms, AreAtoms, IsOver, adds}
+use Rattle.ps_ground.specs.Atoms.{AddAtoms, AreAtoms, IsOver, MayAddAtoms, adds, may_add}
 use Rattle.ps_ground.specs.declared.prepared.Prepared.{Prepared}
 use Rattle.ps_ground.specs.declared.prepared.Test.{Test}
 use Rattle.ps_ground.proofs.Below.{none_filtered}
+use Rattle.ps_ground.proofs.MayAdd.{always_atoms, split_none}
 use Rattle.ps_ground.proofs.Removed.{filter_either, fold_option}
 use Rattle.ps_ground.proofs.Settled.{both_true}
 
@@ -80,24 +85,17 @@ adds_split atoms e es i split a =
     let parts = λ (f : Fact) (gone : list_any (same_fact f) atoms ≡ false). none_in (same_fact f) (added_by e) (filter_map added_by (drop (i + 1) es)) (ap (λ (l : List Effect). list_any (same_fact f) (filter_map added_by l)) (sym split) ∙ a f gone) in
     (λ f gone. (parts f gone).0, λ f gone. (parts f gone).1)
 
-none_of_both : (p : Fact → Bool) (fs gs : List Fact) → list_any p (fs ++ gs) ≡ false → (list_any p fs ≡ false) × (list_any p gs ≡ false)
-none_of_both p [] gs e = (refl, e)
-none_of_both p (f ∷ fs) gs e =
-    let w = or_parts (p f) (list_any p (fs ++ gs)) e in
-    let rest = none_of_both p fs gs w.1 in
-    (or_from (p f) (list_any p fs) w.0 rest.0, rest.1)
-
 -- where two lists together are atoms, each is
 pub atoms_of_both : (atoms fs gs : List Fact) → AreAtoms atoms (fs ++ gs) → AreAtoms atoms fs × AreAtoms atoms gs
-atoms_of_both atoms fs gs a = (λ f gone. (none_of_both (same_fact f) fs gs (a f gone)).0, λ f gone. (none_of_both (same_fact f) fs gs (a f gone)).1)
+atoms_of_both atoms fs gs a = (λ f gone. (split_none (same_fact f) fs gs (a f gone)).0, λ f gone. (split_none (same_fact f) fs gs (a f gone)).1)
 
--- a ground action that adds atoms alone does so at its start
-pub first_atoms : (atoms : List Fact) (g : GroundAction) → AreAtoms atoms (adds g) → AddAtoms atoms g.effects.at_start
-first_atoms atoms g a = (atoms_of_both atoms (filter_map added_by g.effects.at_start) (filter_map added_by g.effects.at_end) a).0
+-- a ground action that may add atoms alone does so at its start
+pub first_atoms : (d : Domain) (k : Knowledge) (atoms : List Fact) (g : GroundAction) → AreAtoms atoms (adds d k g) → MayAddAtoms d k atoms g.effects.at_start
+first_atoms d k atoms g a = (atoms_of_both atoms (may_add d k [] g.effects.at_start) (may_add d k [] g.effects.at_end) a).0
 
 -- and at its end
-pub last_atoms : (atoms : List Fact) (g : GroundAction) → AreAtoms atoms (adds g) → AddAtoms atoms g.effects.at_end
-last_atoms atoms g a = (atoms_of_both atoms (filter_map added_by g.effects.at_start) (filter_map added_by g.effects.at_end) a).1
+pub last_atoms : (d : Domain) (k : Knowledge) (atoms : List Fact) (g : GroundAction) → AreAtoms atoms (adds d k g) → MayAddAtoms d k atoms g.effects.at_end
+last_atoms d k atoms g a = (atoms_of_both atoms (may_add d k [] g.effects.at_start) (may_add d k [] g.effects.at_end) a).1
 
 -- the first of some facts, and the others, are atoms where all are
 pub facts_split : (atoms : List Fact) (f : Fact) (fs : List Fact) (i : ℕ) → drop i fs ≡ f ∷ drop (i + 1) fs → AreAtoms atoms (drop i fs) → AreAtoms atoms (f ∷ []) × AreAtoms atoms (drop (i + 1) fs)
@@ -120,12 +118,14 @@ module _ (d : Domain) (k : Knowledge) (atoms : List Fact) where
       ap (λ (u : State). list_any (same_fact f) u.facts) (sym same)
       ∙ none_put f (filter_map added_by es) (filter (λ g. not (list_any (deletes g) es)) s.facts) (a f gone) (none_left (same_fact f) (λ g. not (list_any (deletes g) es)) s.facts (o f gone))
 
-  -- effects that add atoms alone lead to a state over the atoms
-  pub changed_over : (s t : State) (es : List Effect) → IsOver atoms s → AddAtoms atoms es → changed d k s es ≡ Some t → IsOver atoms t
-  changed_over s t es o a e = made_over s t es (values_set d (at k s) es) (fault_of_effects d (at k s) es) o a e
+  -- effects that may add atoms alone lead to a state over the atoms
+  pub changed_over : (s t : State) (es : List Spread) → IsOver atoms s → MayAddAtoms d k atoms es → changed d k s es ≡ Some t → IsOver atoms t
+  changed_over s t es o a e =
+      let now = flat d (at k s) es in
+      made_over s t now (values_of_flat (at k s) now) (fault_of_flat (at k s) now) o (always_atoms d k atoms es a s) e
 
-  -- what is the same over the atoms leads to the same from a state that effects that add atoms alone lead to
-  pub goes_alike : (b : Bool) (s : State) (es : List Effect) (f g : State → Option State) → IsOver atoms s → AddAtoms atoms es → ((t : State) → IsOver atoms t → f t ≡ g t) → option_and_then f (where_so b (changed d k s es)) ≡ option_and_then g (where_so b (changed d k s es))
+  -- what is the same over the atoms leads to the same from a state that effects that may add atoms alone lead to
+  pub goes_alike : (b : Bool) (s : State) (es : List Spread) (f g : State → Option State) → IsOver atoms s → MayAddAtoms d k atoms es → ((t : State) → IsOver atoms t → f t ≡ g t) → option_and_then f (where_so b (changed d k s es)) ≡ option_and_then g (where_so b (changed d k s es))
   goes_alike b s es f g o a h = by b (changed d k s es) (λ t e. h t (changed_over s t es o a e))
     where
       by : (b : Bool) (c : Option State) → ((t : State) → c ≡ Some t → f t ≡ g t) → option_and_then f (where_so b c) ≡ option_and_then g (where_so b c)
@@ -146,22 +146,22 @@ module _ (d : Domain) (k : Knowledge) (atoms : List Fact) (g : GroundAction) whe
   abbrev pub AreVain : List CondTree → Type 0
   AreVain cs = (s : State) → IsOver atoms s → all_true d (at k s) cs ≡ false
 
-  no_end : ((t : State) → IsOver atoms t → ended d k g t ≡ None) → AddAtoms atoms g.effects.at_start → (s : State) → IsOver atoms s → stepped d k s g ≡ None
+  no_end : ((t : State) → IsOver atoms t → ended d k g t ≡ None) → MayAddAtoms d k atoms g.effects.at_start → (s : State) → IsOver atoms s → stepped d k s g ≡ None
   no_end h a s o =
       goes_alike d k atoms (all_true d (at k s) g.conditions.at_start) s g.effects.at_start (ended d k g) (λ t. None) o a h
       ∙ nowhere_after (where_so (all_true d (at k s) g.conditions.at_start) (changed d k s g.effects.at_start))
 
   -- an over-all condition that fails after each start
-  pub no_over : AreVain g.conditions.over_all → AddAtoms atoms g.effects.at_start → (s : State) → IsOver atoms s → stepped d k s g ≡ None
+  pub no_over : AreVain g.conditions.over_all → MayAddAtoms d k atoms g.effects.at_start → (s : State) → IsOver atoms s → stepped d k s g ≡ None
   no_over v = no_end (λ t o. ap (λ b. where_so b (where_so (all_true d (at k t) g.conditions.at_end) (changed d k t g.effects.at_end))) (v t o))
 
   -- an end condition that does
-  pub no_last : AreVain g.conditions.at_end → AddAtoms atoms g.effects.at_start → (s : State) → IsOver atoms s → stepped d k s g ≡ None
+  pub no_last : AreVain g.conditions.at_end → MayAddAtoms d k atoms g.effects.at_start → (s : State) → IsOver atoms s → stepped d k s g ≡ None
   no_last v =
       no_end (λ t o. ap (λ b. where_so (all_true d (at k t) g.conditions.over_all) (where_so b (changed d k t g.effects.at_end))) (v t o) ∙ nowhere (all_true d (at k t) g.conditions.over_all))
 
   -- a ground action whose parts were prepared
-  pub leads_alike : (p : Prepared) → ((s : State) → passes d k atoms p.start s ≡ all_true d (at k s) g.conditions.at_start) → ((s : State) → passes d k atoms p.over s ≡ all_true d (at k s) g.conditions.over_all) → ((s : State) → passes d k atoms p.end s ≡ all_true d (at k s) g.conditions.at_end) → ((s : State) → IsOver atoms s → turned d k atoms p.at_start s ≡ changed d k s g.effects.at_start) → ((s : State) → IsOver atoms s → turned d k atoms p.at_end s ≡ changed d k s g.effects.at_end) → AddAtoms atoms g.effects.at_start → (s : State) → IsOver atoms s → successor d k atoms s p ≡ stepped d k s g
+  pub leads_alike : (p : Prepared) → ((s : State) → passes d k atoms p.start s ≡ all_true d (at k s) g.conditions.at_start) → ((s : State) → passes d k atoms p.over s ≡ all_true d (at k s) g.conditions.over_all) → ((s : State) → passes d k atoms p.end s ≡ all_true d (at k s) g.conditions.at_end) → ((s : State) → IsOver atoms s → turned d k atoms p.at_start s ≡ changed d k s g.effects.at_start) → ((s : State) → IsOver atoms s → turned d k atoms p.at_end s ≡ changed d k s g.effects.at_end) → MayAddAtoms d k atoms g.effects.at_start → (s : State) → IsOver atoms s → successor d k atoms s p ≡ stepped d k s g
   leads_alike p start over end at_start at_end a s o =
       (λ i. option_and_then (landed d k atoms p) (where_so (start s i) (at_start s o i)))
       ∙ goes_alike d k atoms (all_true d (at k s) g.conditions.at_start) s g.effects.at_start (landed d k atoms p) (ended d k g) o a (λ t q i. where_so (over t i) (where_so (end t i) (at_end t q i)))
@@ -204,11 +204,11 @@ module _ (atoms : List Fact) where
   without_atoms [] fs a = a
   without_atoms (i ∷ places) fs a = without_atoms places (without_at atoms fs i) (without_atoms_by fs (slice_get atoms i) a)
 
-  -- one more effect that deletes
-  pub deleted_more : (es : List Effect) (i : ℕ) (e : Effect) (fs : List Fact) → drop i es ≡ e ∷ drop (i + 1) es → filter (λ f. not (list_any (deletes f) (drop (i + 1) es))) (filter (λ f. not (deletes f e)) fs) ≡ filter (λ f. not (list_any (deletes f) (drop i es))) fs
-  deleted_more es i e fs split =
-      filter_either (λ f. deletes f e) (λ f. list_any (deletes f) (drop (i + 1) es)) fs
-      ∙ (λ j. filter (λ f. not (list_any (deletes f) (sym split j))) fs)
+  -- the deletes of some effects, and then those of others
+  pub deleted_more : (xs ys : List Effect) (fs : List Fact) → filter (λ f. not (list_any (deletes f) ys)) (filter (λ f. not (list_any (deletes f) xs)) fs) ≡ filter (λ f. not (list_any (deletes f) (xs ++ ys))) fs
+  deleted_more xs ys fs =
+      filter_either (λ f. list_any (deletes f) xs) (λ f. list_any (deletes f) ys) fs
+      ∙ (λ j. filter (λ f. not (sym (list_any-append (deletes f) xs ys) j)) fs)
 
   -- a fact that is no atom is taken out of atoms in vain
   pub vain_delete : (g : Fact) (fs : List Fact) → list_any (same_fact g) atoms ≡ false → AreAtoms atoms fs → fs ≡ filter (λ f. not (same_fact g f)) fs
@@ -228,6 +228,23 @@ added_more es i e fs split =
     fold_option (insert_key fact_cmp) fs (added_by e) (filter_map added_by (drop (i + 1) es))
     ∙ ap (λ (l : List Effect). fold (insert_key fact_cmp) fs (filter_map added_by l)) (sym split)
 
+-- the place of a fact that is added, which is an atom
+pub placed_add : (atoms : List Fact) (g : Fact) (fs : List Fact) (o : Option ℕ) → MatchOption o (list_any (same_fact g) atoms ≡ false) (λ i. slice_get atoms i ≡ Some g) → AreAtoms atoms (g ∷ []) → option_map_or (with_at atoms fs) o fs ≡ insert_key fact_cmp fs g
+placed_add atoms g fs None m a = no_place g atoms m a
+placed_add atoms g fs (Some i) m a = ap (λ o. option_map_or (insert_key fact_cmp fs) o fs) m
+
+-- the adds of some effects, and then those of others
+pub added_both : (xs ys : List Effect) (fs : List Fact) → fold (insert_key fact_cmp) (fold (insert_key fact_cmp) fs (filter_map added_by xs)) (filter_map added_by ys) ≡ fold (insert_key fact_cmp) fs (filter_map added_by (xs ++ ys))
+added_both xs ys fs =
+    sym (fold-append (insert_key fact_cmp) fs (filter_map added_by xs) (filter_map added_by ys))
+    ∙ ap (fold (insert_key fact_cmp) fs) (sym (filter_map-append added_by xs ys))
+
+-- where two lists of effects together add atoms alone, each does
+pub add_atoms_both : (atoms : List Fact) (xs ys : List Effect) → AddAtoms atoms (xs ++ ys) → AddAtoms atoms xs × AddAtoms atoms ys
+add_atoms_both atoms xs ys a =
+    let P : List Fact → Type 0 = AreAtoms atoms in
+    atoms_of_both atoms (filter_map added_by xs) (filter_map added_by ys) (subst P (filter_map-append added_by xs ys) a)
+
 -- ---- effects that give no number
 
 no_fault : (k : Knowledge) (before es : List Effect) → list_any is_number es ≡ false → faults_from k before es ≡ None
@@ -242,12 +259,12 @@ no_values k (Add l ∷ es) e = no_values k es e
 no_values k (Delete l ∷ es) e = no_values k es e
 no_values k (Number how l x ∷ es) e = absurd (cc)
 
-module _ (d : Domain) (k : Knowledge) (s : State) (es : List Effect) (none : list_any is_number es ≡ false) where
-  plainly : changed d k s es ≡ Some (record { facts = fold (insert_key fact_cmp) (filter (λ f. not (list_any (deletes f) es)) s.facts) (filter_map added_by es); values = s.values })
+module _ (k : Knowledge) (s : State) (es : List Effect) (none : list_any is_number es ≡ false) where
+  plainly : changed_flat k s es ≡ Some (record { facts = fold (insert_key fact_cmp) (filter (λ f. not (list_any (deletes f) es)) s.facts) (filter_map added_by es); values = s.values })
   plainly = λ i. option_map state_of (result_ok (unless (no_fault (at k s) [] es none i) (made (at k s) es (no_values (at k s) es none i))))
 
   -- places that are cleared and set make these effects
-  pub flagged : (atoms : List Fact) (cleared set : List ℕ) → IsOver atoms s → ((fs : List Fact) → AreAtoms atoms fs → fold (without_at atoms) fs cleared ≡ filter (λ f. not (list_any (deletes f) es)) fs) → ((fs : List Fact) → fold (with_at atoms) fs set ≡ fold (insert_key fact_cmp) fs (filter_map added_by es)) → Some (record { facts = fold (with_at atoms) (fold (without_at atoms) s.facts cleared) set; values = s.values }) ≡ changed d k s es
+  pub flagged : (atoms : List Fact) (cleared set : List ℕ) → IsOver atoms s → ((fs : List Fact) → AreAtoms atoms fs → fold (without_at atoms) fs cleared ≡ filter (λ f. not (list_any (deletes f) es)) fs) → ((fs : List Fact) → fold (with_at atoms) fs set ≡ fold (insert_key fact_cmp) fs (filter_map added_by es)) → Some (record { facts = fold (with_at atoms) (fold (without_at atoms) s.facts cleared) set; values = s.values }) ≡ changed_flat k s es
   flagged atoms cleared set o del put =
       (λ i. Some (record { facts = (put (fold (without_at atoms) s.facts cleared) ∙ ap (λ fs. fold (insert_key fact_cmp) fs (filter_map added_by es)) (del s.facts o)) i; values = s.values }))
       ∙ sym plainly
@@ -268,16 +285,16 @@ module _ (d : Domain) (k : Knowledge) (atoms : List Fact) (n : Node) where
   prepared_more found p = filter_map-append (successor_node d k atoms n) found (p ∷ [])
 
 -- one more that adds atoms alone
-pub sound_more : (atoms : List Fact) (ps : List Prepared) (p : Prepared) → AreSound atoms ps → IsSound atoms p → AreSound atoms (ps ++ p ∷ [])
-sound_more atoms [] p all one = (one, tt)
-sound_more atoms (q ∷ ps) p all one = (all.0, sound_more atoms ps p all.1 one)
+pub sound_more : (d : Domain) (k : Knowledge) (atoms : List Fact) (ps : List Prepared) (p : Prepared) → AreSound d k atoms ps → IsSound d k atoms p → AreSound d k atoms (ps ++ p ∷ [])
+sound_more d k atoms [] p all one = (one, tt)
+sound_more d k atoms (q ∷ ps) p all one = (all.0, sound_more d k atoms ps p all.1 one)
 
 -- each of those that add atoms alone does
-pub sound_at : (atoms : List Fact) (ps rest : List Prepared) (p : Prepared) (i : ℕ) → drop i ps ≡ p ∷ rest → AreSound atoms ps → IsSound atoms p
-sound_at atoms [] rest p zero e all = absurd (cc)
-sound_at atoms [] rest p (suc i) e all = absurd (cc)
-sound_at atoms (q ∷ ps) rest p zero e all =
-    let P : Prepared → Type 0 = IsSound atoms in
+pub sound_at : (d : Domain) (k : Knowledge) (atoms : List Fact) (ps rest : List Prepared) (p : Prepared) (i : ℕ) → drop i ps ≡ p ∷ rest → AreSound d k atoms ps → IsSound d k atoms p
+sound_at d k atoms [] rest p zero e all = absurd (cc)
+sound_at d k atoms [] rest p (suc i) e all = absurd (cc)
+sound_at d k atoms (q ∷ ps) rest p zero e all =
+    let P : Prepared → Type 0 = IsSound d k atoms in
     let same : q ≡ p = cc in
     subst P same all.0
-sound_at atoms (q ∷ ps) rest p (suc i) e all = sound_at atoms ps rest p i e all.1
+sound_at d k atoms (q ∷ ps) rest p (suc i) e all = sound_at d k atoms ps rest p i e all.1

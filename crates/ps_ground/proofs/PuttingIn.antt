@@ -1,69 +1,38 @@
 -- Conditions and effects with arguments put in.
-use Rattle.std.proofs.Common.{◌≡◌, ℕ, ◌+◌, ◌-◌, Bool, true, false, ◌&&◌, ◌||◌, List, [], ◌∷◌, ◌++◌, Some, drop, length, map, nat_eq, refl, ap, sym, ◌∙◌, arith, eqb-true}
+use Rattle.std.proofs.Common.{◌≡◌, ℕ, Bool, true, false, ◌&&◌, List, [], ◌∷◌, ◌++◌, Some, length, map, nat_eq, refl, ap, sym, ◌∙◌, arith, eqb-true}
 use Rattle.std.specs.Prelude.{slice_get}
 use Rattle.std.specs.List.{list_all, list_any}
 use Rattle.std.specs.Option.{option_map_or}
-use Rattle.std.proofs.lemmas.List.{drop-map}
 use Rattle.std.proofs.lemmas.List.Folds.{list_all-append}
 use Rattle.ps_world.specs.Bound.{ground_in}
 use Rattle.ps_world.specs.Knowledge.{same_fact}
-use Rattle.ps_world.specs.Trees.{ExprTree, number, value_of, negated, operated, CondTree, CondTrees, all_of, any_of, no, implied, holds, same, compares, is_a, for_some, for_all, none, more}
+use Rattle.ps_world.specs.Trees.{CondTree, CondTrees, all_of, any_of, no, implied, holds, same, compares, is_a, for_some, for_all, none, more}
 use Rattle.ps_world.specs.declared.actions.ActionDef.{ActionDef}
-use Rattle.ps_world.specs.declared.actions.Effect.{Effect}
-use Rattle.ps_world.specs.declared.actions.Effect.TheVariants.{Add, Delete, Number}
+use Rattle.ps_world.specs.declared.actions.Guarded.{Guarded}
+use Rattle.ps_world.specs.declared.actions.Guarded.TheVariants.{Plain, When}
+use Rattle.ps_world.specs.declared.actions.Spread.{Spread}
+use Rattle.ps_world.specs.declared.actions.Spread.TheVariants.{Once, ForAll}
+use Rattle.ps_world.specs.declared.conditions.Cond.{Cond}
+use Rattle.ps_world.specs.declared.conditions.Cond.TheVariants as to
 use Rattle.ps_world.specs.declared.domains.Domain.{Domain}
-use Rattle.ps_world.specs.declared.expressions.Expr.{Expr}
-use Rattle.ps_world.specs.declared.expressions.Expr.TheVariants.{Num, Fun, Neg, Bin}
 use Rattle.ps_world.specs.declared.facts.Fact.{Fact}
 use Rattle.ps_world.specs.declared.known.Knowledge.{Knowledge}
 use Rattle.ps_world.specs.declared.names.Name.{Name}
 use Rattle.ps_world.specs.declared.schemas.Lifted.{Lifted}
-use Rattle.ps_world.specs.declared.schemas.Term.{Term}
-use Rattle.ps_world.specs.declared.schemas.Term.TheVariants.{Var, Const}
-use Rattle.ps_action.specs.Grounding.{fitting, grounded, put_cond, put_conds, put_effect, put_expr, put_lifted, put_term, put_tree}
+use Rattle.ps_action.proofs.Plainly.{no_effect, no_effects, no_expr, no_lifted, no_term, no_tree}
+use Rattle.ps_action.specs.Grounding.{fitting, grounded, put_cond, put_conds, put_condition, put_guarded, put_spread}
 use Rattle.ps_action.specs.Truth.{all_true, is_true}
 use Rattle.ps_action.specs.declared.acts.Act.{Act}
 use Rattle.ps_action.specs.declared.acts.GroundAction.{GroundAction}
+use Rattle.ps_ground.specs.Atoms.{AreAtoms, adds, may_add}
 use Rattle.ps_ground.specs.Fitting.{parts_with}
-use Rattle.ps_ground.specs.Prepared.{is_number, known_at, passes}
+use Rattle.ps_ground.specs.Prepared.{known_at, passes}
 use Rattle.ps_ground.specs.States.{State, at, stepped}
 use Rattle.ps_ground.specs.declared.prepared.Test.{Test}
 use Rattle.ps_ground.proofs.Fixedness.{fact_put_in}
 use Rattle.ps_ground.proofs.Settled.{alike_steps, both_true}
 
 -- ---- no arguments
-
-no_term : (t : Term) → put_term [] t ≡ t
-no_term (Var i) = let same : i - 0 ≡ i = omega arith in ap Var same
-no_term (Const n) = refl
-
-no_terms : (ts : List Term) → map (put_term []) ts ≡ ts
-no_terms [] = refl
-no_terms (t ∷ ts) = λ i. no_term t i ∷ no_terms ts i
-
-no_lifted : (l : Lifted) → put_lifted [] l ≡ l
-no_lifted l = λ i. record { head = l.head; terms = no_terms l.terms i }
-
-no_tree : (x : ExprTree) → put_tree [] x ≡ x
-no_tree (number n) = refl
-no_tree (value_of l) = ap value_of (no_lifted l)
-no_tree (negated x) = ap negated (no_tree x)
-no_tree (operated op x y) = λ i. operated op (no_tree x i) (no_tree y i)
-
-no_expr : (x : Expr) → put_expr [] x ≡ x
-no_expr (Num n) = refl
-no_expr (Fun l) = ap Fun (no_lifted l)
-no_expr (Neg x) = ap Neg (no_tree x)
-no_expr (Bin op x y) = λ i. Bin op (no_tree x i) (no_tree y i)
-
-no_effect : (e : Effect) → put_effect [] e ≡ e
-no_effect (Add l) = ap Add (no_lifted l)
-no_effect (Delete l) = ap Delete (no_lifted l)
-no_effect (Number how l x) = λ i. Number how (no_lifted l i) (no_expr x i)
-
-pub no_effects : (es : List Effect) → map (put_effect []) es ≡ es
-no_effects [] = refl
-no_effects (e ∷ es) = λ i. no_effect e i ∷ no_effects es i
 
 mutual
   pub no_cond : (c : CondTree) → put_cond [] c ≡ c
@@ -118,31 +87,46 @@ module _ (d : Domain) (k : Knowledge) (s : State) (args : List Name) (l : Lifted
 
 -- ---- effects
 
-same_kind : (args : List Name) (e : Effect) → is_number (put_effect args e) ≡ is_number e
-same_kind args (Add l) = refl
-same_kind args (Delete l) = refl
-same_kind args (Number how l x) = refl
+no_condition : (c : Cond) → put_condition [] c ≡ c
+no_condition (to.And cs) = ap to.And (no_list cs)
+no_condition (to.Or cs) = ap to.Or (no_list cs)
+no_condition (to.Not c) = ap to.Not (no_cond c)
+no_condition (to.Imply a b) = λ i. to.Imply (no_cond a i) (no_cond b i)
+no_condition (to.Holds l) = ap to.Holds (no_lifted l)
+no_condition (to.Same s t) = λ i. to.Same (no_term s i) (no_term t i)
+no_condition (to.Cmp rel x y) = λ i. to.Cmp rel (no_expr x i) (no_expr y i)
+no_condition (to.IsA t kind) = λ i. to.IsA (no_term t i) kind
+no_condition (to.ForSome ps c) = ap (to.ForSome ps) (no_cond c)
+no_condition (to.ForAll ps c) = ap (to.ForAll ps) (no_cond c)
 
--- arguments make no effect one that gives a number
-pub same_kinds : (args : List Name) (es : List Effect) → list_any is_number (map (put_effect args) es) ≡ list_any is_number es
-same_kinds args [] = refl
-same_kinds args (e ∷ es) = λ i. same_kind args e i || same_kinds args es i
+no_guarded : (g : Guarded) → put_guarded [] g ≡ g
+no_guarded (Plain e) = ap Plain (no_effect e)
+no_guarded (When c es) = λ i. When (no_condition c i) (no_effects es i)
 
--- the first of what is left of a list, where something is made of each
-pub mapped_split : {A B : Type 0} (f : A → B) (xs : List A) (x : A) (i : ℕ) → drop i xs ≡ x ∷ drop (i + 1) xs → drop i (map f xs) ≡ f x ∷ drop (i + 1) (map f xs)
-mapped_split f xs x i e = drop-map f i xs ∙ ap (map f) e ∙ ap (λ l. f x ∷ l) (sym (drop-map f (i + 1) xs))
+no_parts_put : (gs : List Guarded) → map (put_guarded []) gs ≡ gs
+no_parts_put [] = refl
+no_parts_put (g ∷ gs) = λ i. no_guarded g i ∷ no_parts_put gs i
 
-pub mapped_none : {A B : Type 0} (f : A → B) (xs : List A) (i : ℕ) → drop i xs ≡ [] → drop i (map f xs) ≡ []
-mapped_none f xs i e = drop-map f i xs ∙ ap (map f) e
+no_spread : (s : Spread) → put_spread [] s ≡ s
+no_spread (Once g) = ap Once (no_guarded g)
+no_spread (ForAll ps gs) = ap (ForAll ps) (no_parts_put gs)
+
+pub no_spreads : (es : List Spread) → map (put_spread []) es ≡ es
+no_spreads [] = refl
+no_spreads (s ∷ es) = λ i. no_spread s i ∷ no_spreads es i
 
 -- ---- ground actions
+
+-- what a ground action may add, with nothing to put in
+pub no_adds : (d : Domain) (k : Knowledge) (g : GroundAction) (atoms : List Fact) → AreAtoms atoms (adds d k g) → AreAtoms atoms (adds d k (parts_with [] g.conditions g.effects))
+no_adds d k g atoms a f gone = (λ i. list_any (same_fact f) (may_add d k [] (no_spreads g.effects.at_start i) ++ may_add d k [] (no_spreads g.effects.at_end i))) ∙ a f gone
 
 -- a ground action by its own conditions and effects, with nothing to put in
 pub no_parts : (d : Domain) (k : Knowledge) (s : State) (g : GroundAction) → stepped d k s (parts_with [] g.conditions g.effects) ≡ stepped d k s g
 no_parts d k s g =
     alike_steps d k (parts_with [] g.conditions g.effects) g
     (λ t. ap (all_true d (at k t)) (no_list g.conditions.at_start)) (λ t. ap (all_true d (at k t)) (no_list g.conditions.over_all)) (λ t. ap (all_true d (at k t)) (no_list g.conditions.at_end))
-    (no_effects g.effects.at_start) (no_effects g.effects.at_end) s
+    (no_spreads g.effects.at_start) (no_spreads g.effects.at_end) s
 
 module _ (d : Domain) (k : Knowledge) (a : ActionDef) (act : Act) (fit : (s : State) → all_true d (at k s) (fitting a.params act.args) ≡ true) where
   fitted : (cs : List CondTree) (s : State) → all_true d (at k s) (map (put_cond act.args) cs) ≡ all_true d (at k s) (fitting a.params act.args ++ map (put_cond act.args) cs)

@@ -4,6 +4,7 @@ use Rattle.std.specs.Result.{result_ok}
 use Rattle.ps_world.specs.declared.numbers.Num.{Num}
 use Rattle.ps_world.specs.declared.facts.Fact.{Fact}
 use Rattle.ps_world.specs.declared.actions.Effect.{Effect}
+use Rattle.ps_world.specs.declared.actions.Spread.{Spread}
 use Rattle.ps_world.specs.declared.domains.Domain.{Domain}
 use Rattle.ps_world.specs.declared.known.Knowledge.{Knowledge}
 use Rattle.ps_action.specs.declared.acts.Act.{Act}
@@ -12,7 +13,8 @@ use Rattle.ps_action.specs.declared.refusals.EffectRefusal.{EffectRefusal}
 use Rattle.ps_action.specs.declared.refusals.GroundRefusal.{GroundRefusal}
 use Rattle.ps_action.specs.declared.refusals.PlanRefusal.{PlanRefusal}
 use Rattle.ps_action.specs.declared.refusals.PlanRefusal.TheVariants.{Ground, StartFalse, StartEffect, OverAllFalse, EndFalse, EndEffect}
-use Rattle.ps_action.specs.Effects.{effect, fault_of_effects, flat, made, unless, values_set}
+use Rattle.ps_action.specs.Effects.{effect, fault_of_flat, flat, made, values_of_flat}
+use Rattle.ps_action.specs.Refusals.{unless}
 use Rattle.ps_action.specs.Grounding.{ground_act}
 use Rattle.ps_action.specs.Plans.{after_steps, and_then, step, step_of, where_true}
 use Rattle.ps_action.specs.Truth.{all_true}
@@ -24,8 +26,10 @@ module _ (k : Knowledge) where
   effect_at s es ready (Some fault) = refl
 
   -- effects change facts and values alone
-  effect_changes : (d : Domain) (s : State) (es : List Effect) → result_ok (effect d (at k s) es) ≡ option_map (at k) (changed d k s es)
-  effect_changes d s es = effect_at s (flat d (at k s) es) (values_set d (at k s) es) (fault_of_effects d (at k s) es)
+  effect_changes : (d : Domain) (s : State) (es : List Spread) → result_ok (effect d (at k s) es) ≡ option_map (at k) (changed d k s es)
+  effect_changes d s es =
+      let now = flat d (at k s) es in
+      effect_at s now (values_of_flat (at k s) now) (fault_of_flat (at k s) now)
 
 module _ {E : Type 0} (k : Knowledge) where
   where_at : (b : Bool) (why : E) (r : Result Knowledge E) (o : Option State) → result_ok r ≡ option_map (at k) o → result_ok (where_true b why r) ≡ option_map (at k) (where_so b o)

@@ -18,7 +18,7 @@ pub record AreUseful (d : Domain) (k : Knowledge) (acts : List Act) : Type 0 whe
   pub counted : length (all_ground d k.instances) ≤ most_ground
   pub few : length acts ≤ most_ground
   pub fit : AreFit d k acts
-  pub adds : AreAtoms (possible_facts d k) (flat_map adds (grounds_of d k acts))
+  pub adds : AreAtoms (possible_facts d k) (flat_map (adds d k) (grounds_of d k acts))
   pub moves : (n : Node) → IsOver (possible_facts d k) n.state → moves d k (grounds_of d k acts) n ≡ moves d k (grounds d k) n
 
 -- Prepared ground actions that lead to the same nodes as all ground actions, from each node over these atoms, among which are the facts
@@ -27,5 +27,5 @@ pub record AreGrounded (d : Domain) (k : Knowledge) (atoms : List Fact) (ps : Li
   pub counted : length (all_ground d k.instances) ≤ most_ground
   pub few : length ps ≤ most_ground
   pub first : AreAtoms atoms k.facts
-  pub sound : AreSound atoms ps
+  pub sound : AreSound d k atoms ps
   pub moves : (n : Node) → IsOver atoms n.state → successor_nodes d k atoms ps n ≡ moves d k (grounds d k) n

@@ -2,7 +2,7 @@
 use Rattle.std.specs.Prelude.{◌≡◌, ℕ, Bool, true, false, nat_eq, nat_lt, ◌&&◌, ◌*◌, ◌%◌, ◌^◌, bit_and, bit_or, Option, Some, None, List, [], ◌++◌, fold, length, slice_get}
 use Rattle.std.specs.Option.{option_map_or}
 use Rattle.ps_ground.specs.declared.prepared.Change.{Change}
-use Rattle.ps_ground.specs.declared.prepared.Change.TheVariants.{Flags, Effects}
+use Rattle.ps_ground.specs.declared.prepared.Change.TheVariants.{Flags, Effects, Spreads}
 use Rattle.ps_ground.specs.declared.footprints.Footprint.{Footprint}
 use Rattle.ps_ground.specs.declared.prepared.Prepared.{Prepared}
 use Rattle.ps_ground.specs.declared.prepared.Test.{Test}
@@ -17,6 +17,7 @@ is_plain_test t = nat_eq (length t.others) 0
 abbrev pub is_plain_change : Change → Bool
 is_plain_change (Flags cleared set) = true
 is_plain_change (Effects es clash) = false
+is_plain_change (Spreads es) = false
 
 -- whether a ground action is of atoms alone
 abbrev pub is_plain : Prepared → Bool
@@ -26,6 +27,7 @@ is_plain p = is_plain_test p.start && (is_plain_test p.over && (is_plain_test p.
 abbrev pub changed_by : Change → List ℕ
 changed_by (Flags cleared set) = cleared.items ++ set.items
 changed_by (Effects es clash) = []
+changed_by (Spreads es) = []
 
 -- the places that a ground action changes
 abbrev pub changes : Prepared → List ℕ

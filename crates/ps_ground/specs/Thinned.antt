@@ -13,7 +13,7 @@ use Rattle.ps_ground.specs.States.{State, stepped}
 
 -- an act whose ground action, if it has one, leads nowhere from any state over facts among which no others of these predicates are
 abbrev pub IsIdle : Domain → List Name → List Fact → Act → Type 0
-IsIdle d heads fixed act = (k : Knowledge) (g : GroundAction) (facts : List Fact) → ground_act d k.instances act ≡ Ok g → AreFixed heads fixed facts → AreAtoms facts (adds g) → (s : State) → IsOver facts s → stepped d k s g ≡ None
+IsIdle d heads fixed act = (k : Knowledge) (g : GroundAction) (facts : List Fact) → ground_act d k.instances act ≡ Ok g → AreFixed heads fixed facts → AreAtoms facts (adds d k g) → (s : State) → IsOver facts s → stepped d k s g ≡ None
 
 -- so is each act of an action with these last arguments, whatever the so many before them
 abbrev pub IsIdleFrom : Domain → List Name → List Fact → Name → ℕ → List Name → Type 0

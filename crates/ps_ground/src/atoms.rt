@@ -1,20 +1,20 @@
 //! The atoms of a search: the facts that its states may have.
-ghost use Rattle.std.specs.Prelude.{◌≡◌, ◌++◌, None, Some, false, true, filter_map, flat_map, length, map, slice_get, IfOk, MatchOption, OnOk};
+ghost use Rattle.std.specs.Prelude.{◌≡◌, ◌∷◌, ◌++◌, [], Some, false, true, flat_map, slice_get, IfOk, MatchOption, OnOk};
 ghost use Rattle.std.specs.List.{list_any};
 ghost use Rattle.std.specs.List.Sorted.{IsStrictlySortedBy};
 ghost use Rattle.ps_world.specs.Bound.{ground_in};
 ghost use Rattle.ps_world.specs.Facts.{fact_cmp};
 ghost use Rattle.ps_world.specs.Knowledge.{same_fact};
 ghost use Rattle.ps_world.specs.declared.facts.Fact.{Fact as FactView};
-ghost use Rattle.ps_world.specs.declared.known.Knowledge.{Knowledge as KnowledgeView};
-ghost use Rattle.ps_action.specs.Effects.{added_by};
-ghost use Rattle.ps_action.specs.Grounding.{grounded, put_effect};
+ghost use Rattle.ps_action.specs.Bindings.{bindings, bindings_from};
+ghost use Rattle.ps_action.specs.Grounding.{grounded};
 ghost use Rattle.ps_ground.specs.Fitting.{AreFit, grounds_of};
-ghost use Rattle.ps_ground.specs.Atoms.{adds};
+ghost use Rattle.ps_ground.specs.Atoms.{added_in, adds, may_add, may_add_part, may_add_spread};
 
-use ps_action::Act;
+use ps_action::{Act, Known};
 use ps_domain::Expert;
-use ps_world::{ActionDef, Effect, Env, Fact, Lifted, Name};
+use ps_problem::Problem;
+use ps_world::{ActionDef, Effect, Env, Fact, Guarded, Lifted, Name, Param, Spread};
 use std::alloc::{AllocError, Global};
 use std::marker::Model;
 
@@ -109,49 +109,179 @@ pub(crate) fn ground_in(args: &[Name], lifted: &Lifted) -> Fact
     lifted.ground_in(&Env::of(args))
 }
 
-/// The fact that an effect adds, with arguments in place of variables, if it adds one.
-fn fact_added(args: &[Name], effect: &Effect) -> Option<Fact>
-    ensures { result ≡ added_by (put_effect args.now effect.now) }
+/// Puts the fact that an effect adds where variables stand for these names at the end, if it adds one.
+fn push_added(env: &Env, effect: &Effect, facts: &mut Vec<Fact>) -> Result<(), AllocError>
+    ensures { OnOk result (facts.new.items ≡ facts.old.items ++ added_in env.now effect.now) }
 {
-    match effect {
-        Effect::Add(lifted) => Some(ground_in(args, lifted)),
-        Effect::Delete(_) => None,
-        Effect::Number(..) => None,
-    }
-}
-
-/// Puts every fact that one of these effects adds at the end, with arguments in place of variables.
-fn push_added(args: &[Name], effects: &[Effect], facts: &mut Vec<Fact>) -> Result<(), AllocError>
-    ensures { OnOk result (facts.new.items ≡ facts.old.items
-        ++ filter_map added_by (map (put_effect args.now) effects.now)) }
-{
-    for effect in effects {
-        if let Some(fact) = fact_added(args, effect) {
-            facts.push(fact)?;
-        }
+    if let Effect::Add(lifted) = effect {
+        facts.push(lifted.ground_in(env))?;
     }
     Ok(())
 }
 
-/// Puts every fact that an act of this action adds at the end.
-fn push_adds(action: &ActionDef, act: &Act, facts: &mut Vec<Fact>) -> Result<(), AllocError>
+/// Puts every fact that one of these effects adds at the end.
+fn push_all_added(env: &Env, effects: &[Effect], facts: &mut Vec<Fact>) -> Result<(), AllocError>
     ensures { OnOk result (facts.new.items ≡ facts.old.items
-        ++ adds (grounded action.now act.now)) }
+        ++ flat_map (added_in env.now) effects.now) }
 {
-    let args = act.args.as_slice();
-    push_added(args, action.effects.at_start.as_slice(), facts)?;
-    push_added(args, action.effects.at_end.as_slice(), facts)
+    for effect in effects {
+        push_added(env, effect, facts)?;
+    }
+    Ok(())
 }
 
-/// The facts that the ground actions of these acts add, in order.
-pub fn facts_added(alloc: Global, expert: &Expert, acts: &[Act]) -> Result<Vec<Fact>, AllocError>
-    ensures { IfOk result (λ facts. (k : KnowledgeView) → AreFit expert.now k acts.now
-        → facts.items ≡ flat_map adds (grounds_of expert.now k acts.now)) }
+/// Puts every fact that a part may add at the end.
+fn push_part_adds(env: &Env, part: &Guarded, facts: &mut Vec<Fact>) -> Result<(), AllocError>
+    ensures { OnOk result (facts.new.items ≡ facts.old.items ++ may_add_part env.now part.now) }
+{
+    match part {
+        Guarded::Plain(effect) => push_added(env, effect, facts),
+        Guarded::When(_, effects) => push_all_added(env, effects.as_slice(), facts),
+    }
+}
+
+/// Puts every fact that one of these parts may add at the end.
+fn push_parts_adds(env: &Env, parts: &[Guarded], facts: &mut Vec<Fact>) -> Result<(), AllocError>
+    ensures { OnOk result (facts.new.items ≡ facts.old.items
+        ++ flat_map (may_add_part env.now) parts.now) }
+{
+    for part in parts {
+        push_part_adds(env, part, facts)?;
+    }
+    Ok(())
+}
+
+/// Puts every fact that one of these parts may add at the end, once for each choice of instances that fit the variables.
+#[cycle(bindings)]
+#[tactic(auto, using(ps_action::proofs::Spreading::step_on))]
+fn push_bound_adds(
+    expert: &Expert,
+    problem: &Problem,
+    env: &Env,
+    params: &[Param],
+    parts: &[Guarded],
+    facts: &mut Vec<Fact>,
+) -> Result<(), AllocError>
+    ensures { OnOk result (facts.new.items ≡ facts.old.items
+        ++ flat_map (λ e. flat_map (may_add_part e) parts.now)
+        (bindings expert.now problem.now.instances params.now env.now)) }
+{
+    let Some((first, rest)) = params.split_first() else {
+        return push_parts_adds(&*env, parts, facts);
+    };
+    if !expert.is_type(first.kind) {
+        return Ok(());
+    }
+    for instance in Known::instances(problem) {
+        push_instance_adds(expert, problem, &*env, instance, first, rest, parts, facts)?;
+    }
+    Ok(())
+}
+
+/// The same for each choice in which the first variable stands for this instance, if it fits.
+#[cycle(bindings)]
+fn push_instance_adds(
+    expert: &Expert,
+    problem: &Problem,
+    env: &Env,
+    instance: &(Name, Name),
+    first: &Param,
+    rest: &[Param],
+    parts: &[Guarded],
+    facts: &mut Vec<Fact>,
+) -> Result<(), AllocError>
+    ensures { OnOk result (facts.new.items ≡ facts.old.items
+        ++ flat_map (λ e. flat_map (may_add_part e) parts.now)
+        (bindings_from expert.now problem.now.instances first.now rest.now env.now
+        (instance.now ∷ []))) }
+{
+    if expert.is_subtype(instance.1, first.kind) {
+        let inner = Env::with(&*env, instance.0);
+        return push_bound_adds(expert, problem, &inner, rest, parts, facts);
+    }
+    Ok(())
+}
+
+/// Puts every fact that what stands in a list of effects may add at the end.
+fn push_spread_adds(
+    expert: &Expert,
+    problem: &Problem,
+    env: &Env,
+    spread: &Spread,
+    facts: &mut Vec<Fact>,
+) -> Result<(), AllocError>
+    ensures { OnOk result (facts.new.items ≡ facts.old.items
+        ++ may_add_spread expert.now problem.now env.now spread.now) }
+{
+    match spread {
+        Spread::Once(part) => push_part_adds(env, part, facts),
+        Spread::ForAll(params, parts) => {
+            let params = params.as_slice();
+            push_bound_adds(expert, problem, env, params, parts.as_slice(), facts)
+        }
+    }
+}
+
+/// Puts every fact that a list of effects may add at the end.
+fn push_list_adds(
+    expert: &Expert,
+    problem: &Problem,
+    env: &Env,
+    effects: &[Spread],
+    facts: &mut Vec<Fact>,
+) -> Result<(), AllocError>
+    ensures { OnOk result (facts.new.items ≡ facts.old.items
+        ++ may_add expert.now problem.now env.now effects.now) }
+{
+    for spread in effects {
+        push_spread_adds(expert, problem, env, spread, facts)?;
+    }
+    Ok(())
+}
+
+/// Puts every fact that an act of this action may add at the end.
+fn push_adds(
+    expert: &Expert,
+    problem: &Problem,
+    action: &ActionDef,
+    act: &Act,
+    facts: &mut Vec<Fact>,
+) -> Result<(), AllocError>
+    ensures { OnOk result (facts.new.items ≡ facts.old.items
+        ++ adds expert.now problem.now (grounded action.now act.now)) }
+{
+    let env = Env::of(act.args.as_slice());
+    push_list_adds(
+        expert,
+        problem,
+        &env,
+        action.effects.at_start.as_slice(),
+        facts,
+    )?;
+    push_list_adds(
+        expert,
+        problem,
+        &env,
+        action.effects.at_end.as_slice(),
+        facts,
+    )
+}
+
+/// The facts that the ground actions of these acts may add, in order.
+pub fn facts_added(
+    alloc: Global,
+    expert: &Expert,
+    problem: &Problem,
+    acts: &[Act],
+) -> Result<Vec<Fact>, AllocError>
+    requires { AreFit expert.now problem.now acts.now }
+    ensures { IfOk result (λ facts. facts.items
+        ≡ flat_map (adds expert.now problem.now) (grounds_of expert.now problem.now acts.now)) }
 {
     let mut facts = Vec::with_capacity(alloc, acts.len())?;
     for act in acts {
         if let Some(action) = expert.action(act.action) {
-            push_adds(action, act, &mut facts)?;
+            push_adds(expert, problem, action, act, &mut facts)?;
         }
     }
     Ok(facts)

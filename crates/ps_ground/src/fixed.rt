@@ -13,7 +13,7 @@ ghost use Rattle.ps_world.specs.declared.names.Name.{Name as NameView};
 ghost use Rattle.ps_action.specs.Grounding.{grounded, put_cond};
 ghost use Rattle.ps_action.specs.Truth.{all_true, is_true};
 ghost use Rattle.ps_action.specs.declared.acts.Act.{Act as ActView};
-ghost use Rattle.ps_ground.specs.Fixed.{AreFixed, all_heads_added, head_added, heads_added, is_from, possible_facts};
+ghost use Rattle.ps_ground.specs.Fixed.{AreFixed, all_heads_added, head_added, heads_added, heads_in, heads_in_part, is_from, possible_facts};
 ghost use Rattle.ps_ground.specs.Atoms.{AreAtoms, IsOver, adds};
 ghost use Rattle.ps_ground.specs.States.{State, at, stepped};
 ghost use Rattle.ps_ground.specs.Thinned.{IsIdleFrom};
@@ -21,7 +21,9 @@ ghost use Rattle.ps_ground.specs.Thinned.{IsIdleFrom};
 use super::atoms::{Atoms, ground_in};
 use ps_domain::Expert;
 use ps_problem::Problem;
-use ps_world::{ActionDef, Cond, Conds, Effect, Fact, Lifted, MOST_ARGUMENTS, Name, Term};
+use ps_world::{
+    ActionDef, Cond, Conds, Effect, Fact, Guarded, Lifted, MOST_ARGUMENTS, Name, Spread, Term,
+};
 use std::alloc::{AllocError, Global};
 use std::collections::BTreeSet;
 
@@ -54,19 +56,63 @@ fn add_heads(heads: &mut BTreeSet<Name>, effects: &[Effect]) -> Result<(), Alloc
     Ok(())
 }
 
-/// Puts in the predicates of the facts that these actions add. Where memory runs out some of the first may be there.
+/// Puts in the predicates of the facts that a part may add. Where memory runs out some of the first may be there.
+fn add_part_heads(heads: &mut BTreeSet<Name>, part: &Guarded) -> Result<(), AllocError>
+    ensures { OnOk result (heads.new.keys
+        ≡ fold (insert_key name_cmp) heads.old.keys (heads_in_part part.now)) }
+{
+    match part {
+        Guarded::Plain(effect) => add_head(heads, effect),
+        Guarded::When(_, effects) => add_heads(heads, effects.as_slice()),
+    }
+}
+
+/// Puts in the predicates of the facts that these parts may add. Where memory runs out some of the first may be there.
+fn add_parts_heads(heads: &mut BTreeSet<Name>, parts: &[Guarded]) -> Result<(), AllocError>
+    ensures { OnOk result (heads.new.keys
+        ≡ fold (insert_key name_cmp) heads.old.keys (flat_map heads_in_part parts.now)) }
+{
+    for part in parts {
+        add_part_heads(heads, part)?;
+    }
+    Ok(())
+}
+
+/// Puts in those of the facts that what stands in a list of effects may add. Where memory runs out some of the first may be there.
+fn add_spread_heads(heads: &mut BTreeSet<Name>, spread: &Spread) -> Result<(), AllocError>
+    ensures { OnOk result (heads.new.keys
+        ≡ fold (insert_key name_cmp) heads.old.keys (heads_in spread.now)) }
+{
+    match spread {
+        Spread::Once(part) => add_part_heads(heads, part),
+        Spread::ForAll(_, parts) => add_parts_heads(heads, parts.as_slice()),
+    }
+}
+
+/// Puts in the predicates of the facts that a list of effects may add. Where memory runs out some of the first may be there.
+fn add_list_heads(heads: &mut BTreeSet<Name>, effects: &[Spread]) -> Result<(), AllocError>
+    ensures { OnOk result (heads.new.keys
+        ≡ fold (insert_key name_cmp) heads.old.keys (flat_map heads_in effects.now)) }
+{
+    for spread in effects {
+        add_spread_heads(heads, spread)?;
+    }
+    Ok(())
+}
+
+/// Puts in the predicates of the facts that these actions may add. Where memory runs out some of the first may be there.
 fn add_all_heads(heads: &mut BTreeSet<Name>, actions: &[ActionDef]) -> Result<(), AllocError>
     ensures { OnOk result (heads.new.keys
         ≡ fold (insert_key name_cmp) heads.old.keys (flat_map heads_added actions.now)) }
 {
     for action in actions {
-        add_heads(heads, action.effects.at_start.as_slice())?;
-        add_heads(heads, action.effects.at_end.as_slice())?;
+        add_list_heads(heads, action.effects.at_start.as_slice())?;
+        add_list_heads(heads, action.effects.at_end.as_slice())?;
     }
     Ok(())
 }
 
-/// The predicates of the facts that some action adds.
+/// The predicates of the facts that some action may add.
 fn heads_of(alloc: Global, expert: &Expert) -> Result<BTreeSet<Name>, AllocError>
     ensures { IfOk result (λ heads. heads.keys
         ≡ fold (insert_key name_cmp) [] (all_heads_added expert.now)) }
@@ -207,7 +253,7 @@ impl Fixed {
             → act.args ≡ first ++ tail
             → (d : DomainView) (k : KnowledgeView) (facts : List FactView)
             → AreFixed self.now.heads.keys self.now.facts facts
-            → AreAtoms facts (adds (grounded action.now act)) → (s : State) → IsOver facts s
+            → AreAtoms facts (adds d k (grounded action.now act)) → (s : State) → IsOver facts s
             → stepped d k s (grounded action.now act) ≡ None }
     {
         // What no action changes mostly has to hold over all.

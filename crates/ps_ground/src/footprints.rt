@@ -77,6 +77,7 @@ fn is_plain_change(change: &Change) -> bool
     match change {
         Change::Flags { .. } => true,
         Change::Effects { .. } => false,
+        Change::Spreads { .. } => false,
     }
 }
 
@@ -87,6 +88,7 @@ fn with_changed(bits: u64, change: &Change) -> u64
     match change {
         Change::Flags { cleared, set } => with_places(with_places(bits, cleared), set),
         Change::Effects { .. } => bits,
+        Change::Spreads { .. } => bits,
     }
 }
 

@@ -25,7 +25,7 @@ pub struct Grounds {
     pub actions: Vec<Prepared>,
 }
 
-/// The atoms of a search by these acts from what is known: the facts that are known at first, and those that an act adds.
+/// The atoms of a search by these acts from what is known: the facts that are known at first, and those that an act may add.
 fn atoms_of(
     alloc: Global,
     expert: &Expert,
@@ -35,10 +35,10 @@ fn atoms_of(
     requires { AreFit expert.now problem.now acts.now }
     ensures { IfOk result (λ atoms. (f : FactView) → list_any (same_fact f) atoms
         ≡ list_any (same_fact f)
-        (problem.now.facts ++ flat_map adds (grounds_of expert.now problem.now acts.now))) }
+        (problem.now.facts ++ flat_map (adds expert.now problem.now) (grounds_of expert.now problem.now acts.now))) }
 {
     let facts = problem.facts()?;
-    let added = facts_added(alloc, expert, acts)?;
+    let added = facts_added(alloc, expert, problem, acts)?;
     Atoms::of(alloc, &facts, &added)
 }
 

@@ -66,7 +66,8 @@ pub fn lighten<K: Known, T: Types>(
     ensures moves { OnOk result ((n : Node)
         → move (T.types types.now) (K.known given.now) n action.new
         ≡ move (T.types types.now) (K.known given.now) n action.old) }
-    ensures adds { OnOk result (adds action.new ≡ adds action.old) }
+    ensures adds { OnOk result (adds (T.types types.now) (K.known given.now) action.new
+        ≡ adds (T.types types.now) (K.known given.now) action.old) }
 {
     lighten_conds(alloc, given, types, &mut action.conditions.at_start)?;
     lighten_conds(alloc, given, types, &mut action.conditions.over_all)?;

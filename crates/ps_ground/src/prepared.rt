@@ -1,8 +1,8 @@
 //! Ground actions, prepared for steps from row to row.
 ghost use Rattle.std.specs.Prelude.{◌≡◌, ◌≤◌, ◌&&◌, List, [], false, filter, filter_map, flat_map, fold, length, map, not, option_to_list, true, ◌∷◌, IfOk, IfSome, IsSome, None};
 ghost use Rattle.std.specs.Result.{result_ok};
-ghost use Rattle.std.specs.List.{list_any};
-ghost use Rattle.std.specs.Option.{option_map_or};
+ghost use Rattle.std.specs.List.{list_all, list_any};
+ghost use Rattle.std.specs.Option.{option_copied, option_map_or};
 ghost use Rattle.std.specs.BTreeSet.{insert_key};
 ghost use Rattle.ps_world.specs.CondViews.{cond_tree};
 ghost use Rattle.ps_world.specs.Facts.{fact_cmp};
@@ -11,13 +11,13 @@ ghost use Rattle.ps_world.specs.declared.domains.Domain.{Domain as DomainView};
 ghost use Rattle.ps_world.specs.declared.facts.Fact.{Fact as FactView};
 ghost use Rattle.ps_world.specs.declared.known.Knowledge.{Knowledge as KnowledgeView};
 ghost use Rattle.ps_action.specs.Effects.{added_by, deletes};
-ghost use Rattle.ps_action.specs.Grounding.{ground_act, put_cond, put_effect};
+ghost use Rattle.ps_action.specs.Grounding.{ground_act, put_cond, put_effect, put_spread};
 ghost use Rattle.ps_action.specs.Truth.{all_true, is_true};
 ghost use Rattle.ps_ground.specs.States.{State, at, changed, stepped};
 ghost use Rattle.ps_ground.specs.Moves.{Node, move, moves};
 ghost use Rattle.ps_ground.specs.Fitting.{AreFit, IsFit, grounds_of, parts_with};
-ghost use Rattle.ps_ground.specs.Atoms.{AddAtoms, AreAtoms, IsOver, adds};
-ghost use Rattle.ps_ground.specs.Prepared.{AreSound, IsBare, IsBareTest, IsSound, IsSoundChange, is_number, successor_nodes, successor, passes, turned, with_at, without_at};
+ghost use Rattle.ps_ground.specs.Atoms.{AddAtoms, AreAtoms, IsOver, MayAddAtoms, adds};
+ghost use Rattle.ps_ground.specs.Prepared.{AreSound, IsBare, IsBareTest, IsSound, IsSoundChange, alone_in, is_alone, is_flag, is_number, passes, plain_of, put_alone, successor, successor_nodes, turned, with_at, without_at};
 ghost use Rattle.ps_ground.specs.Goals.{MeansGoal};
 
 use super::atoms::{Atoms, ground_in};
@@ -26,7 +26,9 @@ use super::light::lighten;
 use ps_action::{Act, GroundAction, first_clash};
 use ps_domain::Expert;
 use ps_problem::Problem;
-use ps_world::{Cond, Conditions, Conds, Duplicate, Effect, Effects, Failure, Name, Seq};
+use ps_world::{
+    Cond, Conditions, Conds, Duplicate, Effect, Effects, Failure, Guarded, Name, Seq, Spread,
+};
 use smallvec::SmallVec;
 use std::alloc::{AllocError, Global};
 
@@ -50,6 +52,11 @@ pub enum Change {
     Effects {
         effects: Seq<Effect>,
         clash: Option<usize>,
+    },
+    /// The effects, some of which stand under a condition or for each choice of instances: what they stand for is found in each state
+    /// anew.
+    Spreads {
+        effects: Seq<Spread>,
     },
 }
 
@@ -257,16 +264,50 @@ pub fn prepare_goal(alloc: Global, atoms: &Atoms, goal: &Cond) -> Result<Test, A
     Ok(whole)
 }
 
-/// Whether one of these effects gives a number.
-fn has_number(effects: &[Effect]) -> bool
-    ensures { result ≡ list_any is_number effects.now }
+/// Whether an effect gives a number.
+fn is_number(effect: &Effect) -> bool
+    ensures { result ≡ is_number effect.now }
 {
-    for effect in effects {
-        if let Effect::Number(..) = effect {
-            return true;
-        }
+    match effect {
+        Effect::Number(..) => true,
+        Effect::Add(_) => false,
+        Effect::Delete(_) => false,
     }
-    false
+}
+
+/// The effect that stands once, with no condition, if this is one.
+fn plain_of(spread: &Spread) -> Option<&Effect>
+    ensures { option_copied result ≡ plain_of spread.now }
+{
+    match spread {
+        Spread::Once(Guarded::Plain(effect)) => Some(effect),
+        Spread::Once(Guarded::When(..)) => None,
+        Spread::ForAll(..) => None,
+    }
+}
+
+/// Whether this is one that gives no number.
+fn is_flag(spread: &Spread) -> bool
+    ensures { result ≡ is_flag spread.now }
+{
+    match plain_of(spread) {
+        Some(effect) => !is_number(effect),
+        None => false,
+    }
+}
+
+/// Whether each of these is.
+fn are_flags(effects: &[Spread]) -> bool
+    ensures { result ≡ list_all is_flag effects.now }
+{
+    effects.iter().all(is_flag)
+}
+
+/// Whether each of these stands once, with no condition.
+fn are_alone(effects: &[Spread]) -> bool
+    ensures { result ≡ list_all is_alone effects.now }
+{
+    effects.iter().all(|spread| plain_of(spread).is_some())
 }
 
 /// The place of the atom that an effect deletes, if it deletes one.
@@ -282,21 +323,33 @@ fn deleted(atoms: &Atoms, near: usize, args: &[Name], effect: &Effect) -> Option
     }
 }
 
-/// The places of the atoms that these effects delete.
+/// The same where the effect stands once, with no condition.
+fn deleted_alone(atoms: &Atoms, near: usize, args: &[Name], spread: &Spread) -> Option<usize>
+    ensures { (fs : List FactView) → AreAtoms atoms.now fs
+        → option_map_or (without_at atoms.now fs) result fs
+        ≡ filter (λ f. not (list_any (deletes f) (put_alone args.now spread.now))) fs }
+{
+    match plain_of(spread) {
+        Some(effect) => deleted(atoms, near, args, effect),
+        None => None,
+    }
+}
+
+/// The places of the atoms that those of these effects delete which stand once, with no condition.
 fn all_deleted(
     alloc: Global,
     atoms: &Atoms,
     near: usize,
     args: &[Name],
-    effects: &[Effect],
+    effects: &[Spread],
 ) -> Result<SmallVec<usize, 2>, AllocError>
     ensures { IfOk result (λ places. (fs : List FactView) → AreAtoms atoms.now fs
         → fold (without_at atoms.now) fs places.items
-        ≡ filter (λ f. not (list_any (deletes f) (map (put_effect args.now) effects.now))) fs) }
+        ≡ filter (λ f. not (list_any (deletes f) (flat_map (put_alone args.now) effects.now))) fs) }
 {
     let mut places = SmallVec::new(alloc);
     for effect in effects {
-        if let Some(place) = deleted(atoms, near, args, effect) {
+        if let Some(place) = deleted_alone(atoms, near, args, effect) {
             places.push(place)?;
         }
     }
@@ -305,87 +358,144 @@ fn all_deleted(
 
 /// The place of the atom that an effect adds, if it adds one.
 fn added(atoms: &Atoms, near: usize, args: &[Name], effect: &Effect) -> Option<usize>
-    requires { AreAtoms atoms.now (option_to_list (added_by (put_effect args.now effect.now))) }
-    ensures { (fs : List FactView) → option_map_or (with_at atoms.now fs) result fs
+    ensures { AreAtoms atoms.now (option_to_list (added_by (put_effect args.now effect.now)))
+        → (fs : List FactView) → option_map_or (with_at atoms.now fs) result fs
         ≡ fold (insert_key fact_cmp) fs
         (option_to_list (added_by (put_effect args.now effect.now))) }
 {
     match effect {
-        Effect::Add(lifted) => match atoms.place_near(near, &ground_in(args, lifted)) {
-            Some(place) => Some(place),
-            None => unreachable!(),
-        },
+        Effect::Add(lifted) => atoms.place_near(near, &ground_in(args, lifted)),
         Effect::Delete(_) => None,
         Effect::Number(..) => None,
     }
 }
 
-/// The places of the atoms that these effects add.
+/// The same where the effect stands once, with no condition.
+fn added_alone(atoms: &Atoms, near: usize, args: &[Name], spread: &Spread) -> Option<usize>
+    ensures { AddAtoms atoms.now (put_alone args.now spread.now)
+        → (fs : List FactView) → option_map_or (with_at atoms.now fs) result fs
+        ≡ fold (insert_key fact_cmp) fs (filter_map added_by (put_alone args.now spread.now)) }
+{
+    match plain_of(spread) {
+        Some(effect) => added(atoms, near, args, effect),
+        None => None,
+    }
+}
+
+/// The places of the atoms that those of these effects add which stand once, with no condition.
 fn all_added(
     alloc: Global,
     atoms: &Atoms,
     near: usize,
     args: &[Name],
-    effects: &[Effect],
+    effects: &[Spread],
 ) -> Result<SmallVec<usize, 2>, AllocError>
-    requires { AddAtoms atoms.now (map (put_effect args.now) effects.now) }
-    ensures { IfOk result (λ places. (fs : List FactView)
-        → fold (with_at atoms.now) fs places.items
+    ensures { IfOk result (λ places. AddAtoms atoms.now (flat_map (put_alone args.now) effects.now)
+        → (fs : List FactView) → fold (with_at atoms.now) fs places.items
         ≡ fold (insert_key fact_cmp) fs
-        (filter_map added_by (map (put_effect args.now) effects.now))) }
+        (filter_map added_by (flat_map (put_alone args.now) effects.now))) }
 {
     let mut places = SmallVec::new(alloc);
     for effect in effects {
-        if let Some(place) = added(atoms, near, args, effect) {
+        if let Some(place) = added_alone(atoms, near, args, effect) {
             places.push(place)?;
         }
     }
     Ok(places)
 }
 
-/// The change of a list of effects, some of which give numbers, or None where there are arguments to put in.
-fn numbers_of(
-    alloc: Global,
-    args: &[Name],
-    effects: &Seq<Effect>,
-) -> Result<Option<Change>, AllocError>
-    ensures same { IfOk result (λ made. IfSome made (λ change.
-        (d : DomainView) (k : KnowledgeView) (atoms : List FactView) (s : State)
-        → turned d k atoms change s ≡ changed d k s (map (put_effect args.now) effects.now))) }
-    ensures sound { IfOk result (λ made. IfSome made (λ change. (atoms : List FactView)
-        → AddAtoms atoms (map (put_effect args.now) effects.now) → IsSoundChange atoms change)) }
-    ensures ready { args.now ≡ [] → IfOk result (λ made. IsSome made) }
+/// Those of these effects that stand once, with no condition.
+fn plain_effects(alloc: Global, effects: &[Spread]) -> Result<Seq<Effect>, AllocError>
+    ensures { IfOk result (λ plain. plain ≡ flat_map alone_in effects.now) }
 {
-    if !args.is_empty() {
-        return Ok(None);
+    let mut plain = Seq::new(alloc);
+    for spread in effects {
+        if let Some(effect) = plain_of(spread) {
+            plain.push(effect.copy(alloc)?)?;
+        }
     }
-    Ok(Some(Change::Effects {
-        effects: effects.copy(alloc)?,
-        clash: first_clash(effects.as_slice()),
-    }))
+    Ok(plain)
 }
 
-/// The change of a list of effects with their arguments, or None where some give numbers and there are arguments to put in.
+/// The change of effects that stand once, with no condition.
+fn numbers_of(alloc: Global, effects: &[Spread]) -> Result<Change, AllocError>
+    requires { list_all is_alone effects.now ≡ true }
+    ensures same { IfOk result (λ change.
+        (d : DomainView) (k : KnowledgeView) (atoms : List FactView) (s : State)
+        → turned d k atoms change s ≡ changed d k s effects.now) }
+    ensures sound { IfOk result (λ change.
+        (d : DomainView) (k : KnowledgeView) (atoms : List FactView)
+        → MayAddAtoms d k atoms effects.now → IsSoundChange d k atoms change) }
+{
+    let effects = plain_effects(alloc, effects)?;
+    let clash = first_clash(effects.as_slice());
+    Ok(Change::Effects { effects, clash })
+}
+
+/// The change of a list of effects with no arguments to put in.
+fn stated_of(alloc: Global, effects: &Seq<Spread>) -> Result<Change, AllocError>
+    ensures same { IfOk result (λ change.
+        (d : DomainView) (k : KnowledgeView) (atoms : List FactView) (s : State)
+        → turned d k atoms change s ≡ changed d k s effects.now) }
+    ensures sound { IfOk result (λ change.
+        (d : DomainView) (k : KnowledgeView) (atoms : List FactView)
+        → MayAddAtoms d k atoms effects.now → IsSoundChange d k atoms change) }
+{
+    if are_alone(effects.as_slice()) {
+        return numbers_of(alloc, effects.as_slice());
+    }
+    Ok(Change::Spreads {
+        effects: effects.copy(alloc)?,
+    })
+}
+
+/// The change of effects that stand once, with no condition, and give no number.
+fn flags_of(
+    alloc: Global,
+    atoms: &Atoms,
+    near: usize,
+    args: &[Name],
+    effects: &[Spread],
+) -> Result<Change, AllocError>
+    requires { list_all is_flag effects.now ≡ true }
+    ensures same { IfOk result (λ change.
+        (d : DomainView) (k : KnowledgeView) (s : State) → IsOver atoms.now s
+        → MayAddAtoms d k atoms.now (map (put_spread args.now) effects.now)
+        → turned d k atoms.now change s ≡ changed d k s (map (put_spread args.now) effects.now)) }
+    ensures sound { IfOk result (λ change.
+        (d : DomainView) (k : KnowledgeView) → IsSoundChange d k atoms.now change) }
+{
+    let set = all_added(alloc, atoms, near, args, effects)?;
+    let cleared = all_deleted(alloc, atoms, near, args, effects)?;
+    Ok(Change::Flags { cleared, set })
+}
+
+/// The change of a list of effects with their arguments, or None where they don't all add and delete facts, once and with no condition,
+/// and there are arguments to put in.
 fn change_of(
     alloc: Global,
     atoms: &Atoms,
     near: usize,
     args: &[Name],
-    effects: &Seq<Effect>,
+    effects: &Seq<Spread>,
 ) -> Result<Option<Change>, AllocError>
-    requires { AddAtoms atoms.now (map (put_effect args.now) effects.now) }
     ensures same { IfOk result (λ made. IfSome made (λ change.
         (d : DomainView) (k : KnowledgeView) (s : State) → IsOver atoms.now s
-        → turned d k atoms.now change s ≡ changed d k s (map (put_effect args.now) effects.now))) }
-    ensures sound { IfOk result (λ made. IfSome made (IsSoundChange atoms.now)) }
+        → MayAddAtoms d k atoms.now (map (put_spread args.now) effects.now)
+        → turned d k atoms.now change s ≡ changed d k s (map (put_spread args.now) effects.now))) }
+    ensures sound { IfOk result (λ made. IfSome made (λ change.
+        (d : DomainView) (k : KnowledgeView)
+        → MayAddAtoms d k atoms.now (map (put_spread args.now) effects.now)
+        → IsSoundChange d k atoms.now change)) }
     ensures ready { args.now ≡ [] → IfOk result (λ made. IsSome made) }
 {
-    if has_number(effects.as_slice()) {
-        return numbers_of(alloc, args, effects);
+    if are_flags(effects.as_slice()) {
+        return Ok(Some(flags_of(alloc, atoms, near, args, effects.as_slice())?));
     }
-    let set = all_added(alloc, atoms, near, args, effects.as_slice())?;
-    let cleared = all_deleted(alloc, atoms, near, args, effects.as_slice())?;
-    Ok(Some(Change::Flags { cleared, set }))
+    if !args.is_empty() {
+        return Ok(None);
+    }
+    Ok(Some(stated_of(alloc, effects)?))
 }
 
 /// Prepares conditions and effects with their arguments into what is bare. It is vain only where they lead nowhere from any state over
@@ -399,17 +509,22 @@ fn fill(
     effects: &Effects,
     made: &mut Prepared,
 ) -> Result<Taken, AllocError>
-    requires bare { IsBare made.old }
-    requires atoms { AreAtoms atoms.now (adds (parts_with args.now conditions.now effects.now)) }
+    requires { IsBare made.old }
     ensures act { made.new.act ≡ made.old.act }
     ensures same { IfOk result (λ taken. taken ≡ Taken.Whole
-        → (d : DomainView) (k : KnowledgeView) (s : State) → IsOver atoms.now s
-        → successor d k atoms.now s made.new
+        → (d : DomainView) (k : KnowledgeView)
+        → AreAtoms atoms.now (adds d k (parts_with args.now conditions.now effects.now))
+        → (s : State) → IsOver atoms.now s → successor d k atoms.now s made.new
         ≡ stepped d k s (parts_with args.now conditions.now effects.now)) }
     ensures vain { IfOk result (λ taken. taken ≡ Taken.Vain
-        → (d : DomainView) (k : KnowledgeView) (s : State) → IsOver atoms.now s
+        → (d : DomainView) (k : KnowledgeView)
+        → AreAtoms atoms.now (adds d k (parts_with args.now conditions.now effects.now))
+        → (s : State) → IsOver atoms.now s
         → stepped d k s (parts_with args.now conditions.now effects.now) ≡ None) }
-    ensures sound { IfOk result (λ taken. taken ≡ Taken.Whole → IsSound atoms.now made.new) }
+    ensures sound { IfOk result (λ taken. taken ≡ Taken.Whole
+        → (d : DomainView) (k : KnowledgeView)
+        → AreAtoms atoms.now (adds d k (parts_with args.now conditions.now effects.now))
+        → IsSound d k atoms.now made.new) }
     ensures ready { IfOk result (λ taken. taken ≡ Taken.Unready → args.now ≡ [] → ⊥) }
 {
     let start = take_all(
@@ -465,11 +580,13 @@ fn prepare_ground(
     atoms: &Atoms,
     action: &GroundAction,
 ) -> Result<Option<Prepared>, AllocError>
-    requires { AreAtoms atoms.now (adds action.now) }
-    ensures same { IfOk result (λ made. (d : DomainView) (k : KnowledgeView) (n : Node)
-        → IsOver atoms.now n.state → successor_nodes d k atoms.now (option_to_list made) n
+    ensures same { IfOk result (λ made. (d : DomainView) (k : KnowledgeView)
+        → AreAtoms atoms.now (adds d k action.now) → (n : Node) → IsOver atoms.now n.state
+        → successor_nodes d k atoms.now (option_to_list made) n
         ≡ moves d k (action.now ∷ []) n) }
-    ensures sound { IfOk result (λ made. IfSome made (IsSound atoms.now)) }
+    ensures sound { IfOk result (λ made. IfSome made (λ one.
+        (d : DomainView) (k : KnowledgeView) → AreAtoms atoms.now (adds d k action.now)
+        → IsSound d k atoms.now one)) }
 {
     let mut made = Prepared::bare(alloc, action.act);
     match fill(
@@ -496,13 +613,13 @@ fn prepare_made(
     instances: &[(Name, Name)],
     act: &Act,
 ) -> Result<Option<Prepared>, AllocError>
-    requires { AreAtoms atoms.now (flat_map adds
+    requires { AreAtoms atoms.now (flat_map (adds expert.now problem.now)
         (option_to_list (result_ok (ground_act expert.now instances.now act.now)))) }
     ensures same { IfOk result (λ made. (n : Node) → IsOver atoms.now n.state
         → successor_nodes expert.now problem.now atoms.now (option_to_list made) n
         ≡ moves expert.now problem.now
         (option_to_list (result_ok (ground_act expert.now instances.now act.now))) n) }
-    ensures sound { IfOk result (λ made. IfSome made (IsSound atoms.now)) }
+    ensures sound { IfOk result (λ made. IfSome made (IsSound expert.now problem.now atoms.now)) }
 {
     match expert.ground(instances, act) {
         Ok(mut action) => {
@@ -527,13 +644,13 @@ fn prepare(
 ) -> Result<Option<Prepared>, AllocError>
     requires instances { instances.now ≡ problem.now.instances }
     requires fit { IsFit expert.now problem.now act.now }
-    requires atoms { AreAtoms atoms.now (flat_map adds
+    requires atoms { AreAtoms atoms.now (flat_map (adds expert.now problem.now)
         (option_to_list (result_ok (ground_act expert.now problem.now.instances act.now)))) }
     ensures same { IfOk result (λ made. (n : Node) → IsOver atoms.now n.state
         → successor_nodes expert.now problem.now atoms.now (option_to_list made) n
         ≡ moves expert.now problem.now
         (option_to_list (result_ok (ground_act expert.now problem.now.instances act.now))) n) }
-    ensures sound { IfOk result (λ made. IfSome made (IsSound atoms.now)) }
+    ensures sound { IfOk result (λ made. IfSome made (IsSound expert.now problem.now atoms.now)) }
 {
     let Some(action) = expert.action(act.action) else {
         unreachable!()
@@ -567,12 +684,12 @@ pub fn prepare_all(
 ) -> Result<Vec<Prepared>, AllocError>
     requires instances { instances.now ≡ problem.now.instances }
     requires fit { AreFit expert.now problem.now acts.now }
-    requires atoms { AreAtoms atoms.now (flat_map adds
+    requires atoms { AreAtoms atoms.now (flat_map (adds expert.now problem.now)
         (grounds_of expert.now problem.now acts.now)) }
     ensures same { IfOk result (λ all. (n : Node) → IsOver atoms.now n.state
         → successor_nodes expert.now problem.now atoms.now all.items n
         ≡ moves expert.now problem.now (grounds_of expert.now problem.now acts.now) n) }
-    ensures sound { IfOk result (λ all. AreSound atoms.now all.items) }
+    ensures sound { IfOk result (λ all. AreSound expert.now problem.now atoms.now all.items) }
     ensures count { IfOk result (λ all. length all.items ≤ length acts.now) }
 {
     let mut all = Vec::with_capacity(alloc, acts.len())?;

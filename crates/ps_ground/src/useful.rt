@@ -35,12 +35,12 @@ fn push_useful(
         (option_to_list (result_ok (ground_act expert.now problem.now.instances act.now))) n) }
     ensures adds { OnOk result ((f : FactView)
         → list_any (same_fact f)
-        (flat_map adds (grounds_of expert.now problem.now useful.old.items)) ≡ false
-        → list_any (same_fact f) (flat_map adds
+        (flat_map (adds expert.now problem.now) (grounds_of expert.now problem.now useful.old.items)) ≡ false
+        → list_any (same_fact f) (flat_map (adds expert.now problem.now)
         (option_to_list (result_ok (ground_act expert.now problem.now.instances act.now))))
         ≡ false
         → list_any (same_fact f)
-        (flat_map adds (grounds_of expert.now problem.now useful.new.items)) ≡ false) }
+        (flat_map (adds expert.now problem.now) (grounds_of expert.now problem.now useful.new.items)) ≡ false) }
     ensures fit { OnOk result (AreFit expert.now problem.now useful.new.items) }
     ensures count { OnOk result (length useful.new.items ≤ length useful.old.items + 1) }
 {
@@ -63,8 +63,8 @@ fn useful_of(
         → moves expert.now problem.now (grounds_of expert.now problem.now v.items) n
         ≡ moves expert.now problem.now (grounds_of expert.now problem.now acts.now) n) }
     ensures adds { IfOk result (λ v. AreAtoms
-        (flat_map adds (grounds_of expert.now problem.now acts.now))
-        (flat_map adds (grounds_of expert.now problem.now v.items))) }
+        (flat_map (adds expert.now problem.now) (grounds_of expert.now problem.now acts.now))
+        (flat_map (adds expert.now problem.now) (grounds_of expert.now problem.now v.items))) }
     ensures fit { IfOk result (λ v. AreFit expert.now problem.now v.items) }
     ensures count { IfOk result (λ v. length v.items ≤ length acts.now) }
 {

@@ -18,7 +18,8 @@ use Rattle.ps_world.specs.declared.domains.Param.{Param}
 use Rattle.ps_world.specs.declared.known.Knowledge.{Knowledge}
 use Rattle.ps_world.specs.declared.names.Name.{Name}
 use Rattle.ps_world.proofs.Optionals.{or_none}
-use Rattle.ps_action.specs.Effects.{effect, unless}
+use Rattle.ps_action.specs.Effects.{effect}
+use Rattle.ps_action.specs.Refusals.{unless}
 use Rattle.ps_action.specs.Grounding.{first_unfit, ground_act, ground_by, grounded, unfit}
 use Rattle.ps_action.specs.Plans.{after_steps, and_then, judged, judged_by, step, step_of, where_true}
 use Rattle.ps_action.specs.Truth.{all_true, is_true}

@@ -1,10 +1,11 @@
 -- Effects and plans leave the instances as they are.
 use Rattle.std.proofs.Common.{◌≡◌, ℕ, Bool, true, false, Option, Some, None, Result, Ok, Err, List, refl, ◌∙◌}
 use Rattle.std.specs.Result.{IfOk}
-use Rattle.ps_world.specs.declared.actions.Effect.{Effect}
+use Rattle.ps_world.specs.declared.actions.Spread.{Spread}
 use Rattle.ps_world.specs.declared.domains.Domain.{Domain}
 use Rattle.ps_world.specs.declared.known.Knowledge.{Knowledge}
-use Rattle.ps_action.specs.Effects.{effect, flat, fault_of_flat, made, unless, values_of_flat}
+use Rattle.ps_action.specs.Effects.{effect, flat, fault_of_flat, made, values_of_flat}
+use Rattle.ps_action.specs.Refusals.{unless}
 use Rattle.ps_action.specs.Grounding.{ground_act}
 use Rattle.ps_action.specs.Plans.{and_then, step, step_of, where_true}
 use Rattle.ps_action.specs.Truth.{all_true}
@@ -37,7 +38,7 @@ where_true-then Q false why next h = tt
 abbrev pub HasInstancesOf : Knowledge → Knowledge → Type 0
 HasInstancesOf k new = new.instances ≡ k.instances
 
-pub effect-keeps : (d : Domain) (k : Knowledge) (es : List Effect) → IfOk (effect d k es) (HasInstancesOf k)
+pub effect-keeps : (d : Domain) (k : Knowledge) (es : List Spread) → IfOk (effect d k es) (HasInstancesOf k)
 effect-keeps d k es = unless-then (HasInstancesOf k) (fault_of_flat k (flat d k es)) (made k (flat d k es) (values_of_flat k (flat d k es))) refl
 
 step_of-keeps : (d : Domain) (k : Knowledge) (i : ℕ) (g : GroundAction) → IfOk (step_of d k i g) (HasInstancesOf k)

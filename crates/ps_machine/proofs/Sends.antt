@@ -6,6 +6,8 @@ use Rattle.ps_world.specs.contracts.expressions.Expr as Expr
 use Rattle.ps_world.specs.contracts.conditions.Conds as Conds
 use Rattle.ps_world.specs.contracts.conditions.Cond as Cond
 use Rattle.ps_world.specs.contracts.actions.Effect as Effect
+use Rattle.ps_world.specs.contracts.actions.Guarded as Guarded
+use Rattle.ps_world.specs.contracts.actions.Spread as Spread
 use Rattle.ps_world.specs.contracts.actions.Conditions as Conditions
 use Rattle.ps_world.specs.contracts.actions.Effects as Effects
 use Rattle.ps_world.specs.contracts.actions.ActionDef as ActionDef
@@ -39,11 +41,17 @@ cond_send = search (parts, expr_send, conds_send, cond.send-BoxedCond, cond.send
 pub effect_send : IsSend Effect.the_field.row
 effect_send = search (parts, expr_send) depth 12
 
+pub guarded_send : IsSend Guarded.the_field.row
+guarded_send = search (parts, cond_send, effect_send) depth 12
+
+pub spread_send : IsSend Spread.the_field.row
+spread_send = search (parts, guarded_send) depth 12
+
 pub conditions_send : IsSend Conditions.the_field.row
 conditions_send = search (parts, conds_send) depth 12
 
 pub effects_send : IsSend Effects.the_field.row
-effects_send = search (parts, effect_send) depth 12
+effects_send = search (parts, spread_send) depth 12
 
 pub action_send : IsSend ActionDef.the_field.row
 action_send = search (parts, expr_send, conditions_send, effects_send) depth 12
@@ -66,11 +74,17 @@ cond_sync = search (parts, expr_sync, conds_sync, cond.sync-BoxedCond, cond.sync
 pub effect_sync : IsSync Effect.the_field.row
 effect_sync = search (parts, expr_sync) depth 12
 
+pub guarded_sync : IsSync Guarded.the_field.row
+guarded_sync = search (parts, cond_sync, effect_sync) depth 12
+
+pub spread_sync : IsSync Spread.the_field.row
+spread_sync = search (parts, guarded_sync) depth 12
+
 pub conditions_sync : IsSync Conditions.the_field.row
 conditions_sync = search (parts, conds_sync) depth 12
 
 pub effects_sync : IsSync Effects.the_field.row
-effects_sync = search (parts, effect_sync) depth 12
+effects_sync = search (parts, spread_sync) depth 12
 
 pub action_sync : IsSync ActionDef.the_field.row
 action_sync = search (parts, expr_sync, conditions_sync, effects_sync) depth 12

@@ -1,5 +1,5 @@
 -- Lists of variables that a quantifier binds: they follow those in force, and are few.
-use Rattle.std.proofs.Common.{◌≡◌, ◌≤◌, ◌<◌, ◌+◌, nat_le, ℕ, max, min, List, [], ◌∷◌, ◌++◌, drop, length, Ok, Err, refl, sym, ap, subst, ◌∙◌, append_assoc, append-nil, arith}
+use Rattle.std.proofs.Common.{◌≡◌, ◌≤◌, ◌<◌, ◌+◌, nat_le, ℕ, max, List, [], ◌∷◌, ◌++◌, drop, length, Ok, Err, refl, sym, ap, subst, ◌∙◌, append_assoc, append-nil, arith}
 use Rattle.std.specs.List.{list_any}
 use Rattle.std.proofs.lemmas.Bool.{leb-false}
 use Rattle.std.proofs.lemmas.List.{length-append, length-drop}
@@ -97,9 +97,9 @@ module _ (d : Domain) (most : ℕ) where
   pub few : (ts : Nesteds) (before all : List Param) → listed d (Bound most) ts before ≡ Ok all → length all ≤ max most (length before)
   few ts before all e = subst (Sound (IsFew before)) e (listed_few ts before)
 
--- so beside the variables in force below an action of 6 parameters at most, a list binds 6 at most, and there are 8 then
-pub few_bound : (d : Domain) (own : ℕ) (ts : Nesteds) (before all : List Param) → own ≤ 6 → length before ≤ 8 → listed d (Bound (min own (length before) + 2)) ts before ≡ Ok all → (length (drop (length before) all) ≤ 6) × (length (before ++ drop (length before) all) ≤ 8)
-few_bound d own ts before all small less e =
-    let most = few d (min own (length before) + 2) ts before all e in
-    let whole = begins_with d (Bound (min own (length before) + 2)) ts before all e in
-    (omega (arith, length-drop (length before) all, most, small, less), rw whole (omega (arith, most, small, less)))
+-- so where two more may be in force, and eight in all, a list binds 6 at most, and there are 8 then
+pub few_bound : (d : Domain) (most : ℕ) (ts : Nesteds) (before all : List Param) → most ≤ length before + 2 → most ≤ 8 → length before ≤ 8 → listed d (Bound most) ts before ≡ Ok all → (length (drop (length before) all) ≤ 6) × (length (before ++ drop (length before) all) ≤ 8)
+few_bound d most ts before all new in_force less e =
+    let below = few d most ts before all e in
+    let whole = begins_with d (Bound most) ts before all e in
+    (omega (arith, length-drop (length before) all, below, new, in_force, less), rw whole (omega (arith, below, in_force, less)))

@@ -4,6 +4,7 @@ use Rattle.ps_world.specs.Names.{Table, object, name_text}
 use Rattle.ps_world.specs.Trees.{ExprTree, number, value_of, negated, operated, CondTree, CondTrees, all_of, any_of, no, implied, holds, same, compares, is_a, for_some, for_all}
 use Rattle.ps_world.specs.Trees as tree
 use Rattle.ps_world.specs.ExprViews.{expr_tree}
+use Rattle.ps_world.specs.CondViews.{cond_tree}
 use Rattle.ps_world.specs.declared.names.Name.{Name}
 use Rattle.ps_world.specs.declared.schemas.Term.{Term}
 use Rattle.ps_world.specs.declared.schemas.Term.TheVariants.{Var, Const}
@@ -11,12 +12,17 @@ use Rattle.ps_world.specs.declared.schemas.Lifted.{Lifted}
 use Rattle.ps_world.specs.declared.expressions.Op.{Op}
 use Rattle.ps_world.specs.declared.expressions.Op.TheVariants as op
 use Rattle.ps_world.specs.declared.expressions.Expr.{Expr}
+use Rattle.ps_world.specs.declared.conditions.Cond.{Cond}
 use Rattle.ps_world.specs.declared.conditions.Rel.{Rel}
 use Rattle.ps_world.specs.declared.conditions.Rel.TheVariants as rel
 use Rattle.ps_world.specs.declared.actions.NumOp.{NumOp}
 use Rattle.ps_world.specs.declared.actions.NumOp.TheVariants as num_op
 use Rattle.ps_world.specs.declared.actions.Effect.{Effect}
 use Rattle.ps_world.specs.declared.actions.Effect.TheVariants.{Add, Delete, Number}
+use Rattle.ps_world.specs.declared.actions.Guarded.{Guarded}
+use Rattle.ps_world.specs.declared.actions.Guarded.TheVariants.{Plain, When}
+use Rattle.ps_world.specs.declared.actions.Spread.{Spread}
+use Rattle.ps_world.specs.declared.actions.Spread.TheVariants.{Once, ForAll}
 use Rattle.ps_world.specs.declared.actions.ActionDef.{ActionDef}
 use Rattle.ps_world.specs.declared.domains.Param.{Param}
 use Rattle.ps_world.specs.declared.domains.Decl.{Decl}
@@ -153,18 +159,30 @@ num_op_mark num_op.Decrease = mark.Decrease
 num_op_mark num_op.ScaleUp = mark.ScaleUp
 num_op_mark num_op.ScaleDown = mark.ScaleDown
 
--- E that is no `and`
+-- (NAME TERM*) | (not (NAME TERM*)) | (NOP (NAME TERM*) X)
 pub data IsEffectForm (names : Table) (ps : List Param) : Effect → Nested → Type 0 where
   an_addition : (f : Lifted) (t : Nested) → IsLiftedForm names ps f t → IsEffectForm names ps (Add f) t
   a_deletion : (f : Lifted) (l : Lexeme) (t : Nested) → l.mark ≡ mark.Not → IsLiftedForm names ps f t → IsEffectForm names ps (Delete f) (group (more (word l) (more t none)))
   a_change : (how : NumOp) (f : Lifted) (x : Expr) (l : Lexeme) (t u : Nested) → l.mark ≡ num_op_mark how → IsLiftedForm names ps f t → IsExprForm names ps (expr_tree x) u → IsEffectForm names ps (Number how f x) (group (more (word l) (more t (more u none))))
 
--- the effects at the start, or at the end
-abbrev pub IsStartEffect : Table → List Param → Effect → Nested → Type 0
-IsStartEffect names ps e = IsTimed mark.At mark.Start (IsEffectForm names ps e)
+-- the same, or (when C (and G*))
+pub data IsGuardedForm (names : Table) (ps : List Param) : Guarded → Nested → Type 0 where
+  plain_form : (e : Effect) (t : Nested) → IsEffectForm names ps e t → IsGuardedForm names ps (Plain e) t
+  when_form : (c : Cond) (es : List Effect) (l m : Lexeme) (t : Nested) (ts : Nesteds) → l.mark ≡ mark.When → IsCondForm names ps (cond_tree c) t → m.mark ≡ mark.And → AreForms (IsEffectForm names ps) es ts
+      → IsGuardedForm names ps (When c es) (group (more (word l) (more t (more (group (more (word m) ts)) none))))
 
-abbrev pub IsEndEffect : Table → List Param → Effect → Nested → Type 0
-IsEndEffect names ps e = IsTimed mark.At mark.End (IsEffectForm names ps e)
+-- the same, or (forall (VLIST) (and W*))
+pub data IsSpreadForm (names : Table) (ps : List Param) : Spread → Nested → Type 0 where
+  once_form : (g : Guarded) (t : Nested) → IsGuardedForm names ps g t → IsSpreadForm names ps (Once g) t
+  spread_form : (qs : List Param) (gs : List Guarded) (l m : Lexeme) (vs ts : Nesteds) → l.mark ≡ mark.Forall → AreParamForms names qs vs → m.mark ≡ mark.And → AreForms (IsGuardedForm names (ps ++ qs)) gs ts
+      → IsSpreadForm names ps (ForAll qs gs) (group (more (word l) (more (group vs) (more (group (more (word m) ts)) none))))
+
+-- the effects at the start, or at the end
+abbrev pub IsStartEffect : Table → List Param → Spread → Nested → Type 0
+IsStartEffect names ps s = IsTimed mark.At mark.Start (IsSpreadForm names ps s)
+
+abbrev pub IsEndEffect : Table → List Param → Spread → Nested → Type 0
+IsEndEffect names ps s = IsTimed mark.At mark.End (IsSpreadForm names ps s)
 
 -- the parts of an action's effect, in order
 pub data AreEffectParts (names : Table) (a : ActionDef) : Nesteds → Type 0 where

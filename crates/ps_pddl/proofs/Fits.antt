@@ -6,15 +6,21 @@ use Rattle.ps_world.specs.Trees.{ExprTree, number, value_of, negated, operated, 
 use Rattle.ps_world.specs.Trees as tree
 use Rattle.ps_world.specs.Leaves.{Leaves, AllIn, AllInEach}
 use Rattle.ps_world.specs.ExprViews.{expr_tree}
+use Rattle.ps_world.specs.CondViews.{cond_tree}
 use Rattle.ps_world.specs.declared.names.Name.{Name}
 use Rattle.ps_world.specs.declared.schemas.Term.{Term}
 use Rattle.ps_world.specs.declared.schemas.Lifted.{Lifted}
 use Rattle.ps_world.specs.declared.expressions.Op.{Op}
 use Rattle.ps_world.specs.declared.expressions.Expr.{Expr}
+use Rattle.ps_world.specs.declared.conditions.Cond.{Cond}
 use Rattle.ps_world.specs.declared.conditions.Rel.{Rel}
 use Rattle.ps_world.specs.declared.actions.NumOp.{NumOp}
 use Rattle.ps_world.specs.declared.actions.Effect.{Effect}
 use Rattle.ps_world.specs.declared.actions.Effect.TheVariants.{Add, Delete, Number}
+use Rattle.ps_world.specs.declared.actions.Guarded.{Guarded}
+use Rattle.ps_world.specs.declared.actions.Guarded.TheVariants.{Plain, When}
+use Rattle.ps_world.specs.declared.actions.Spread.{Spread}
+use Rattle.ps_world.specs.declared.actions.Spread.TheVariants.{Once, ForAll}
 use Rattle.ps_world.specs.declared.actions.ActionDef.{ActionDef}
 use Rattle.ps_world.specs.declared.domains.Param.{Param}
 use Rattle.ps_world.specs.declared.domains.Decl.{Decl}
@@ -99,6 +105,16 @@ pub data FitsEffect (names : Table) : ℕ → Effect → Type 0 where
   fits_deletion : (room : ℕ) (f : Lifted) → FitsEffect names (suc (suc room)) (Delete f)
   fits_change : (room : ℕ) (how : NumOp) (f : Lifted) (x : Expr) → FitsExpr (suc room) (expr_tree x) → FitsEffect names (suc (suc room)) (Number how f x)
 
+-- an effect, or effects with their condition, with at most so many levels
+pub data FitsGuarded (names : Table) : ℕ → Guarded → Type 0 where
+  fits_plain : (room : ℕ) (e : Effect) → FitsEffect names room e → FitsGuarded names room (Plain e)
+  fits_when : (room : ℕ) (c : Cond) (es : List Effect) → FitsCond names (suc room) (cond_tree c) → All (FitsEffect names room) es → FitsGuarded names (suc (suc room)) (When c es)
+
+-- the same of what stands in a list of effects
+pub data FitsSpread (names : Table) : ℕ → Spread → Type 0 where
+  fits_once : (room : ℕ) (g : Guarded) → FitsGuarded names room g → FitsSpread names room (Once g)
+  fits_for_each : (room : ℕ) (qs : List Param) (gs : List Guarded) → FitParams names qs → All (FitsGuarded names room) gs → FitsSpread names (suc (suc room)) (ForAll qs gs)
+
 -- an action: its duration stands under 3 levels, each condition and effect under 4
 pub record FitsAction (names : Table) (a : ActionDef) : Type 0 where
   pub params : FitParams names a.params
@@ -106,8 +122,8 @@ pub record FitsAction (names : Table) (a : ActionDef) : Type 0 where
   pub start : All (FitsCond names 60) a.conditions.at_start
   pub over : All (FitsCond names 60) a.conditions.over_all
   pub end : All (FitsCond names 60) a.conditions.at_end
-  pub at_start : All (FitsEffect names 60) a.effects.at_start
-  pub at_end : All (FitsEffect names 60) a.effects.at_end
+  pub at_start : All (FitsSpread names 60) a.effects.at_start
+  pub at_end : All (FitsSpread names 60) a.effects.at_end
 
 -- a predicate, which has no name of a form
 pub record FitsPredicate (names : Table) (decl : Decl) : Type 0 where

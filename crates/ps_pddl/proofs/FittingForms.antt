@@ -5,6 +5,7 @@ use Rattle.std.proofs.lemmas.List.Elements.{All-head, All-tail}
 use Rattle.ps_world.specs.Names.{Table, name_text}
 use Rattle.ps_world.specs.Trees.{ExprTree, CondTree, CondTrees}
 use Rattle.ps_world.specs.ExprViews.{expr_tree}
+use Rattle.ps_world.specs.CondViews.{cond_tree}
 use Rattle.ps_world.specs.declared.names.Name.{Name}
 use Rattle.ps_world.specs.declared.schemas.Term.{Term}
 use Rattle.ps_world.specs.declared.schemas.Term.TheVariants.{Var, Const}
@@ -16,27 +17,31 @@ use Rattle.ps_world.specs.declared.conditions.Rel.TheVariants as rel
 use Rattle.ps_world.specs.declared.actions.NumOp.{NumOp}
 use Rattle.ps_world.specs.declared.actions.NumOp.TheVariants as num_op
 use Rattle.ps_world.specs.declared.actions.Effect.{Effect}
+use Rattle.ps_world.specs.declared.actions.Guarded.{Guarded}
+use Rattle.ps_world.specs.declared.actions.Spread.{Spread}
 use Rattle.ps_world.specs.declared.actions.ActionDef.{ActionDef}
 use Rattle.ps_world.specs.declared.domains.Param.{Param}
 use Rattle.ps_world.specs.declared.domains.Decl.{Decl}
 use Rattle.ps_world.specs.declared.domains.Domain.{Domain}
 use Rattle.ps_text.specs.Names.{folded}
 use Rattle.ps_shape.specs.Marks.{is_name, is_change, is_fact_name, is_predicate_name}
-use Rattle.ps_shape.specs.Symbols.{none_seen}
+use Rattle.ps_shape.specs.Symbols.{has_when, none_seen}
 use Rattle.ps_shape.specs.declared.marks.Mark.TheVariants as mark
+use Rattle.ps_shape.specs.declared.symbols.Reach.{Reach}
+use Rattle.ps_shape.specs.declared.symbols.Reach.TheVariants as the
 use Rattle.ps_shape.specs.declared.symbols.Seen.{Seen}
 use Rattle.ps_shape.specs.Marks.{is_term}
 use Rattle.ps_forms.specs.Conditions.{is_operator, is_relation}
 use Rattle.ps_forms.specs.Conditions as written
-use Rattle.ps_forms.specs.Grammar.{AreTerms, IsAtom, IsValue, IsCondition, AreConditions, AreParts, IsEffect, AreChanges, ArePredicates, AreFunctions, AreSections, IsText}
+use Rattle.ps_forms.specs.Grammar.{AreTerms, IsAtom, IsValue, IsCondition, AreConditions, AreParts, IsEffect, IsOneEffect, AreEffectsOf, AreChanges, ArePredicates, AreFunctions, AreSections, IsText}
 use Rattle.ps_forms.specs.TypedLists.{IsTypedList, is_variable}
 use Rattle.ps_forms.specs.TypedLists as list_of_names
 use Rattle.ps_forms.specs.Grammar as grammar
 use Rattle.ps_forms.specs.Lexemes.{fixed_names}
 use Rattle.ps_forms.specs.Nested.{Nested, Nesteds, more}
 use Rattle.ps_forms.specs.declared.lexemes.Lexeme.{Lexeme}
-use Rattle.ps_pddl.proofs.CanonicalForms.{name_mark, op_mark, rel_mark, num_op_mark, joined, IsNamed, IsTermWord, AreTermForms, no_terms, more_terms, IsLiftedForm, lifted, IsExprForm, a_number, a_value, a_negation, an_operation, IsCondForm, all_form, any_form, not_form, imply_form, fact_form, same_form, comparison_form, some_form, each_form, AreCondForms, no_forms, more_forms, timed, AreForms, no_items, more_items, IsStartCond, IsOverCond, IsEndCond, AreConditionParts, condition_parts, IsEffectForm, an_addition, a_deletion, a_change, IsStartEffect, IsEndEffect, AreEffectParts, effect_parts, AreTypedForms, no_typed, more_typed, AreParamForms, no_params, more_params, IsDeclForm, decl_form, IsActionForm, action_form, IsSectionForm, no_section, section, AreSectionForms, sections, IsDomainForm, domain_form}
-use Rattle.ps_pddl.proofs.Fits.{FitsExpr, fits_number, fits_value, fits_negation, fits_operation, FitsCond, fits_all, fits_any, fits_not, fits_implied, fits_some, fits_each, fits_fact, fits_same, fits_comparison, FitConds, fit_none, fit_more, FitsEffect, fits_addition, fits_deletion, fits_change, FitsAction, FitsPredicate, FitsDomain}
+use Rattle.ps_pddl.proofs.CanonicalForms.{name_mark, op_mark, rel_mark, num_op_mark, joined, IsNamed, IsTermWord, AreTermForms, no_terms, more_terms, IsLiftedForm, lifted, IsExprForm, a_number, a_value, a_negation, an_operation, IsCondForm, all_form, any_form, not_form, imply_form, fact_form, same_form, comparison_form, some_form, each_form, AreCondForms, no_forms, more_forms, timed, AreForms, no_items, more_items, IsStartCond, IsOverCond, IsEndCond, AreConditionParts, condition_parts, IsEffectForm, an_addition, a_deletion, a_change, IsGuardedForm, plain_form, when_form, IsSpreadForm, once_form, spread_form, IsStartEffect, IsEndEffect, AreEffectParts, effect_parts, AreTypedForms, no_typed, more_typed, AreParamForms, no_params, more_params, IsDeclForm, decl_form, IsActionForm, action_form, IsSectionForm, no_section, section, AreSectionForms, sections, IsDomainForm, domain_form}
+use Rattle.ps_pddl.proofs.Fits.{FitsExpr, fits_number, fits_value, fits_negation, fits_operation, FitsCond, fits_all, fits_any, fits_not, fits_implied, fits_some, fits_each, fits_fact, fits_same, fits_comparison, FitConds, fit_none, fit_more, FitsEffect, fits_addition, fits_deletion, fits_change, FitsGuarded, fits_plain, fits_when, FitsSpread, fits_once, fits_for_each, FitsAction, FitsPredicate, FitsDomain}
 use Rattle.ps_pddl.proofs.NameMarks.{mark_in-all, name_mark-is_name}
 
 -- ---- marks
@@ -148,30 +153,52 @@ module _ (names : Table) where
 
   -- ---- effects
 
-  addition_grammatical : (ps : List Param) (room : ℕ) (f : Lifted) (t : Nested) → is_predicate_name (name_mark names f.head) ≡ true → IsLiftedForm names ps f t → IsEffect (suc room) t
-  addition_grammatical ps room _ _ fit (lifted f l us h r) = grammar.addition room l us (ap is_predicate_name h.mark ∙ fit) (terms_grammatical ps f.terms us r)
+  module _ (reach : Reach) (ps : List Param) where
+    addition_grammatical : (room : ℕ) (f : Lifted) (t : Nested) → is_predicate_name (name_mark names f.head) ≡ true → IsLiftedForm names ps f t → IsOneEffect reach (suc room) t
+    addition_grammatical room _ _ fit (lifted f l us h r) = grammar.addition reach room l us (ap is_predicate_name h.mark ∙ fit) (terms_grammatical ps f.terms us r)
 
-  effect_grammatical : (ps : List Param) (room : ℕ) (e : Effect) (t : Nested) → FitsEffect names room e → IsEffectForm names ps e t → IsEffect room t
-  effect_grammatical ps _ _ _ (fits_addition room f fit) (an_addition _ t h) = addition_grammatical ps room f t fit h
-  effect_grammatical ps _ _ _ (fits_deletion room f) (a_deletion _ l t m h) = grammar.deletion (suc room) l t m (lifted_grammatical ps room f t h)
-  effect_grammatical ps _ _ _ (fits_change room how f x fit) (a_change _ _ _ l t u m h k) =
-      grammar.change (suc room) l t u (ap is_change m ∙ num_op_mark-is_change how) (lifted_grammatical ps room f t h) (value_grammatical ps (suc room) (expr_tree x) u fit k)
+    flat_grammatical : (room : ℕ) (e : Effect) (t : Nested) → FitsEffect names room e → IsEffectForm names ps e t → IsOneEffect reach room t
+    flat_grammatical _ _ _ (fits_addition room f fit) (an_addition _ t h) = addition_grammatical room f t fit h
+    flat_grammatical _ _ _ (fits_deletion room f) (a_deletion _ l t m h) = grammar.deletion reach (suc room) l t m (lifted_grammatical ps room f t h)
+    flat_grammatical _ _ _ (fits_change room how f x fit) (a_change _ _ _ l t u m h k) =
+        grammar.change reach (suc room) l t u (ap is_change m ∙ num_op_mark-is_change how) (lifted_grammatical ps room f t h) (value_grammatical ps (suc room) (expr_tree x) u fit k)
+
+  -- effects, each of which is one
+  list_grammatical : {A : Type 0} (reach : Reach) (room : ℕ) (P : A → Nested → Type 0) (Q : A → Type 0) → ((x : A) (t : Nested) → Q x → P x t → IsOneEffect reach room t) → (xs : List A) (ts : Nesteds) → All Q xs → AreForms P xs ts → AreEffectsOf reach room ts
+  list_grammatical reach room P Q each _ _ fit no_items = grammar.no_effect reach room
+  list_grammatical reach room P Q each _ _ fit (more_items x xs t ts h hs) =
+      grammar.one_effect reach room t ts (grammar.single reach room t (each x t (All-head Q x xs fit) h)) (list_grammatical reach room P Q each xs ts (All-tail Q x xs fit) hs)
+
+  guarded_grammatical : (reach : Reach) → has_when reach ≡ true → (ps : List Param) (room : ℕ) (g : Guarded) (t : Nested) → FitsGuarded names room g → IsGuardedForm names ps g t → IsOneEffect reach room t
+  guarded_grammatical reach has ps _ _ _ (fits_plain room e fit) (plain_form _ t h) = flat_grammatical reach ps room e t fit h
+  guarded_grammatical reach has ps _ _ _ (fits_when room c es fit fits) (when_form _ _ l m t ts is h and hs) =
+      grammar.conditional reach (suc room) l t _ has is (condition_grammatical ps (suc room) (cond_tree c) t fit h)
+      (grammar.listed_body the.Plain room m ts and (list_grammatical the.Plain room (IsEffectForm names ps) (FitsEffect names room) (flat_grammatical the.Plain ps room) es ts fits hs))
+
+  spread_grammatical : (ps : List Param) (room : ℕ) (s : Spread) (t : Nested) → FitsSpread names room s → IsSpreadForm names ps s t → IsOneEffect the.Spread room t
+  spread_grammatical ps _ _ _ (fits_once room g fit) (once_form _ t h) = guarded_grammatical the.Spread refl ps room g t fit h
+  spread_grammatical ps _ _ _ (fits_for_each room qs gs free fits) (spread_form _ _ l m vs ts is variables and hs) =
+      grammar.for_each the.Spread (suc room) l vs _ refl is (params_grammatical qs vs variables)
+      (grammar.listed_body the.Guarded room m ts and (list_grammatical the.Guarded room (IsGuardedForm names (ps ++ qs)) (FitsGuarded names room) (guarded_grammatical the.Guarded refl (ps ++ qs) room) gs ts fits hs))
+
+  effect_grammatical : (ps : List Param) (room : ℕ) (s : Spread) (t : Nested) → FitsSpread names room s → IsSpreadForm names ps s t → IsEffect room t
+  effect_grammatical ps room s t fit h = grammar.single the.Spread room t (spread_grammatical ps room s t fit h)
 
   changes_joined : (room : ℕ) (ts us : Nesteds) → AreChanges room ts → AreChanges room us → AreChanges room (joined ts us)
   changes_joined _ _ us (grammar.no_change room) k = k
   changes_joined _ _ us (grammar.one_change room t ts h hs) k = grammar.one_change room t (joined ts us) h (changes_joined room ts us hs k)
 
-  start_effects_grammatical : (ps : List Param) (room : ℕ) (es : List Effect) (ts : Nesteds) → All (FitsEffect names room) es → AreForms (IsStartEffect names ps) es ts → AreChanges (suc room) ts
+  start_effects_grammatical : (ps : List Param) (room : ℕ) (es : List Spread) (ts : Nesteds) → All (FitsSpread names room) es → AreForms (IsStartEffect names ps) es ts → AreChanges (suc room) ts
   start_effects_grammatical ps room _ _ fit no_items = grammar.no_change (suc room)
   start_effects_grammatical ps room _ _ fit (more_items e es _ ts (timed l m t first second h) hs) =
-      grammar.one_change (suc room) _ ts (grammar.timed_change room _ (grammar.effect_at room l m t first (ap grammar.is_moment second) (effect_grammatical ps room e t (All-head (FitsEffect names room) e es fit) h)))
-      (start_effects_grammatical ps room es ts (All-tail (FitsEffect names room) e es fit) hs)
+      grammar.one_change (suc room) _ ts (grammar.timed_change room _ (grammar.effect_at room l m t first (ap grammar.is_moment second) (effect_grammatical ps room e t (All-head (FitsSpread names room) e es fit) h)))
+      (start_effects_grammatical ps room es ts (All-tail (FitsSpread names room) e es fit) hs)
 
-  end_effects_grammatical : (ps : List Param) (room : ℕ) (es : List Effect) (ts : Nesteds) → All (FitsEffect names room) es → AreForms (IsEndEffect names ps) es ts → AreChanges (suc room) ts
+  end_effects_grammatical : (ps : List Param) (room : ℕ) (es : List Spread) (ts : Nesteds) → All (FitsSpread names room) es → AreForms (IsEndEffect names ps) es ts → AreChanges (suc room) ts
   end_effects_grammatical ps room _ _ fit no_items = grammar.no_change (suc room)
   end_effects_grammatical ps room _ _ fit (more_items e es _ ts (timed l m t first second h) hs) =
-      grammar.one_change (suc room) _ ts (grammar.timed_change room _ (grammar.effect_at room l m t first (ap grammar.is_moment second) (effect_grammatical ps room e t (All-head (FitsEffect names room) e es fit) h)))
-      (end_effects_grammatical ps room es ts (All-tail (FitsEffect names room) e es fit) hs)
+      grammar.one_change (suc room) _ ts (grammar.timed_change room _ (grammar.effect_at room l m t first (ap grammar.is_moment second) (effect_grammatical ps room e t (All-head (FitsSpread names room) e es fit) h)))
+      (end_effects_grammatical ps room es ts (All-tail (FitsSpread names room) e es fit) hs)
 
   effect_parts_grammatical : (a : ActionDef) (ts : Nesteds) → FitsAction names a → AreEffectParts names a ts → AreChanges 61 ts
   effect_parts_grammatical a _ fit (effect_parts starts ends s e) =

@@ -8,7 +8,7 @@ use Rattle.ps_world.specs.CondViews.{cond_tree}
 use Rattle.ps_world.specs.Knowledge.{is_type, predicate_of}
 use Rattle.ps_world.specs.Leaves.{AllIn, AllInEach}
 use Rattle.ps_world.specs.Names.{Table, same_name}
-use Rattle.ps_world.specs.Trees.{ExprTree, CondTree, CondTrees, all_of, any_of, no, implied, holds, same, compares, is_a, for_some, for_all, cond_trees, list_of}
+use Rattle.ps_world.specs.Trees.{ExprTree, CondTree, CondTrees, all_of, any_of, no, implied, holds, same, compares, is_a, for_some, for_all, cond_trees, list_of, list_of-cond_trees}
 use Rattle.ps_world.specs.Trees as tree
 use Rattle.ps_world.specs.declared.domains.Param.{Param}
 use Rattle.ps_world.specs.declared.domains.Decl.{Decl}
@@ -29,8 +29,7 @@ use Rattle.ps_pddl.specs.Conditions as part
 use Rattle.ps_conditions.specs.Conditions as meant
 use Rattle.ps_conditions.specs.Signs.{head_of, rel_of}
 use Rattle.ps_conditions.specs.declared.signs.Head.TheVariants.{Plain}
-use Rattle.ps_pddl.specs.Lists.{listed}
-use Rattle.ps_pddl.specs.declared.meaning.lists.Listing.{Listing}
+use Rattle.ps_pddl.specs.Lists.{binding, listed}
 use Rattle.ps_pddl.specs.declared.meaning.lists.Listing.TheVariants.{Bound}
 use Rattle.ps_pddl.specs.Steps.{Read, reads}
 use Rattle.ps_pddl.specs.Words.{bound, condition, most_in_force, scopes, words}
@@ -40,7 +39,7 @@ use Rattle.ps_pddl.proofs.CanonicalForms.{name_mark, rel_mark, joined, IsTermWor
 use Rattle.ps_pddl.proofs.CanonicalForms as form
 use Rattle.ps_pddl.proofs.MeanLists.{listed-means, params_listed}
 use Rattle.ps_pddl.proofs.MeanMarks.{head_of-predicate, name-isnt, rel_of-name}
-use Rattle.ps_pddl.proofs.MeanTerms.{TakeFew, found_all, named-is_name, resolved-means, fact-means, untree, expr_tree-untree, value-means}
+use Rattle.ps_pddl.proofs.MeanTerms.{TakeFew, found_all, named-is_name, resolved-means, fact-means, untree, expr_tree-untree, untree-expr_tree, value-means}
 use Rattle.ps_pddl.proofs.SoundTerms.{acting}
 
 -- ---- the condition of a tree
@@ -72,6 +71,18 @@ cond_tree-uncond (compares r x y) = rw (expr_tree-untree x, expr_tree-untree y) 
 cond_tree-uncond (is_a t kind) = refl
 cond_tree-uncond (for_some ps c) = refl
 cond_tree-uncond (for_all ps c) = refl
+
+pub uncond-cond_tree : (c : Cond) → uncond (cond_tree c) ≡ c
+uncond-cond_tree (cond.And cs) = ap cond.And (list_of-cond_trees cs)
+uncond-cond_tree (cond.Or cs) = ap cond.Or (list_of-cond_trees cs)
+uncond-cond_tree (cond.Not c) = refl
+uncond-cond_tree (cond.Imply a b) = refl
+uncond-cond_tree (cond.Holds f) = refl
+uncond-cond_tree (cond.Same s t) = refl
+uncond-cond_tree (cond.Cmp r x y) = rw (untree-expr_tree x, untree-expr_tree y) refl
+uncond-cond_tree (cond.IsA t kind) = refl
+uncond-cond_tree (cond.ForSome ps c) = refl
+uncond-cond_tree (cond.ForAll ps c) = refl
 
 -- ---- heads
 
@@ -142,15 +153,19 @@ module _ (names : Table) (d : Domain) (acts : List ActionDef) (ps : List Param) 
 second_half : (P : Param → Type 0) (ps qs : List Param) → All P (ps ++ qs) → All P qs
 second_half P ps qs h = subst (All P) (drop-append_seam ps qs) (All-drop P (length ps) (ps ++ qs) h)
 
+-- variables that a list binds after these
+pub binding-means : (names : Table) (d : Domain) (acts : List ActionDef) (most : ℕ) (ps qs : List Param) (vs : Nesteds) → AreTyped d most (ps ++ qs) → AreParamForms names qs vs → binding (acting d acts) most ps vs ≡ Ok qs
+binding-means names d acts most ps qs vs h forms =
+    let all : listed (acting d acts) (Bound most) vs ps ≡ Ok (ps ++ qs) =
+    listed-means (acting d acts) (Bound most) qs ps vs h.few h.apart (second_half (λ p. is_type d p.kind ≡ true) ps qs h.kinds) (params_listed names qs vs forms) in
+    rw (all, drop-append_seam ps qs) refl
+
 module _ (names : Table) (d : Domain) (acts : List ActionDef) (own : ℕ) (predicates : TakeFew d.predicates) (functions : TakeFew d.functions) (heads : HaveHeads names d.predicates) where
   -- variables in force, and those of a quantifier after them
   bound-means : (ps qs : List Param) (vs : Nesteds) → own ≤ length ps → AreTyped d (own + 2) (ps ++ qs) → AreParamForms names qs vs → bound (acting d acts) own ps vs ≡ Ok qs
   bound-means ps qs vs many h forms =
       let few = h.few in
-      let listing : Listing = Bound (most_in_force own ps) in
-      let all : listed (acting d acts) listing vs ps ≡ Ok (ps ++ qs) =
-      listed-means (acting d acts) listing qs ps vs (omega (arith, few, many)) h.apart (second_half (λ p. is_type d p.kind ≡ true) ps qs h.kinds) (params_listed names qs vs forms) in
-      rw (all, drop-append_seam ps qs) refl
+      binding-means names d acts (most_in_force own ps) ps qs vs (record { few = omega (arith, few, many); apart = h.apart; kinds = h.kinds }) forms
 
   mutual
     pub condition-means : (ps : List Param) → AreApart (λ p. p.name) ps → own ≤ length ps → (c : CondTree) (t : Nested) → AllIn (declared_leaves d own) ps c → IsCondForm names ps c t → meant.condition reads (scopes (acting d acts) own) ps t ≡ Ok (uncond c)

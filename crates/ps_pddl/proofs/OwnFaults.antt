@@ -1,8 +1,8 @@
 -- What lists mean has no fault but that of a meaning.
-use Rattle.std.proofs.Common.{◌≡◌, ◌==◌, ℕ, nat_le, Bool, true, false, List, [], ◌∷◌, ◌++◌, drop, length, Option, Some, None, Ok, Err, refl, subst}
+use Rattle.std.proofs.Common.{◌≡◌, ◌==◌, ◌+◌, ℕ, nat_le, Bool, true, false, List, [], ◌∷◌, ◌++◌, drop, length, Option, Some, None, Ok, Err, refl, subst}
 use Rattle.std.specs.Bool.{if◌then◌else◌}
 use Rattle.std.specs.List.{list_any, find}
-use Rattle.std.specs.Option.{ok_or}
+use Rattle.std.specs.Option.{ok_or, option_map}
 use Rattle.ps_world.specs.Names.{same_name}
 use Rattle.ps_world.specs.Knowledge.{is_type, is_below, predicate_of, function_of}
 use Rattle.ps_world.specs.declared.names.Name.{Name}
@@ -13,7 +13,10 @@ use Rattle.ps_world.specs.declared.schemas.Term.{Term}
 use Rattle.ps_world.specs.declared.actions.ActionDef.{ActionDef}
 use Rattle.ps_world.specs.declared.actions.Effect.{Effect}
 use Rattle.ps_world.specs.declared.actions.Effect.TheVariants as effects
+use Rattle.ps_world.specs.declared.actions.Guarded.TheVariants.{Plain, When}
 use Rattle.ps_world.specs.declared.actions.NumOp.{NumOp}
+use Rattle.ps_world.specs.declared.actions.Spread.{Spread}
+use Rattle.ps_world.specs.declared.actions.Spread.TheVariants.{Once, ForAll}
 use Rattle.ps_world.specs.declared.expressions.Expr.{Expr}
 use Rattle.ps_world.specs.declared.expressions.Expr.TheVariants.{Num}
 use Rattle.ps_shape.specs.Marks.{is}
@@ -22,16 +25,17 @@ use Rattle.ps_shape.specs.declared.marks.Mark.TheVariants as mark
 use Rattle.ps_pddl.specs.Conditions as part
 use Rattle.ps_pddl.specs.Effects as effect
 use Rattle.ps_pddl.specs.Laws.{MeaningsHaveOwnFaults, is_of_meaning}
-use Rattle.ps_pddl.specs.Lists.{cap_of, most_of, counted, kept, kind_ahead, listed, listed_type, with_name}
+use Rattle.ps_pddl.specs.Lists.{binding, cap_of, most_of, counted, kept, kind_ahead, listed, listed_type, with_name}
 use Rattle.ps_pddl.specs.Meaning as meaning
 use Rattle.ps_pddl.specs.Meaning.{domain_of}
 use Rattle.ps_forms.specs.Nested.{Nested, Nesteds, word, group, none, more}
 use Rattle.ps_forms.specs.Places.{items, items_at, at, head, rest, after, section, word_of, count}
+use Rattle.ps_conditions.specs.Conditions as meant
 use Rattle.ps_conditions.specs.Steps.{◌>>=◌}
-use Rattle.ps_pddl.specs.Steps.{Read, unless}
+use Rattle.ps_pddl.specs.Steps.{Read, reads, unless}
 use Rattle.ps_pddl.specs.Terms.{argument, arguments, applied, fact, lifted, resolved, term_of, value_of}
 use Rattle.ps_pddl.specs.Types.{acyclic, is_cyclic, names_of, with_types}
-use Rattle.ps_pddl.specs.Words.{bound, condition, most_in_force, plain_value, scopes, second, term, value, words}
+use Rattle.ps_pddl.specs.Words.{condition, most_in_force, plain_value, scopes, second, term, value, words}
 use Rattle.ps_conditions.proofs.Refusals.{AreRefused, Refuses, condition_refuses, value_refuses}
 use Rattle.ps_forms.specs.declared.lexemes.Lexeme.{Lexeme}
 use Rattle.ps_world.specs.declared.actions.Effects.{Effects}
@@ -152,16 +156,17 @@ words_own d ps = record {
   function = value_of_own d ps;
 }
 
-bound_own : (d : Domain) (own : ℕ) (ps : List Param) (ts : Nesteds) → Own (bound d own ps ts)
-bound_own d own ps ts =
-    let listing : Listing = Bound (most_in_force own ps) in
-    then_own (listed d listing ts ps) (λ all. Ok (drop (length ps) all)) (listed_own d listing ts ps) (λ all. tt)
+binding_own : (d : Domain) (most : ℕ) (ps : List Param) (ts : Nesteds) → Own (binding d most ps ts)
+binding_own d most ps ts = then_own (listed d (Bound most) ts ps) (λ all. Ok (drop (length ps) all)) (listed_own d (Bound most) ts ps) (λ all. tt)
 
 value_own : (d : Domain) (ps : List Param) (t : Nested) → Own (value d ps t)
 value_own d ps t = value_refuses DomainRefusal IsOwn (words d ps) (words_own d ps) t
 
+held_own : (d : Domain) (own : ℕ) (ps : List Param) (t : Nested) → Own (meant.condition reads (scopes d own) ps t)
+held_own d own ps t = condition_refuses DomainRefusal IsOwn (scopes d own) (record { words = words_own d; bound = λ ps ts. binding_own d (most_in_force own ps) ps ts }) ps t
+
 condition_own : (d : Domain) (ps : List Param) (t : Nested) → Own (condition d ps t)
-condition_own d ps t = condition_refuses DomainRefusal IsOwn (scopes d (length ps)) (record { words = words_own d; bound = bound_own d (length ps) }) ps t
+condition_own d ps t = held_own d (length ps) ps t
 
 -- ---- the parts of an action's condition
 
@@ -191,48 +196,76 @@ mutual
 
 -- ---- effects
 
-added_own : (d : Domain) (ps : List Param) (l : Lexeme) (ts : Nesteds) (before : List Effect) → Own (effect.added d ps l ts before)
-added_own d ps l ts before = then_own (fact d ps l ts) (λ f. Ok (before ++ effects.Add f ∷ [])) (fact_own d ps l ts) (λ f. tt)
+added_own : (d : Domain) (ps : List Param) (l : Lexeme) (ts : Nesteds) → Own (effect.added d ps l ts)
+added_own d ps l ts = then_own (fact d ps l ts) (λ f. Ok (Some (effects.Add f))) (fact_own d ps l ts) (λ f. tt)
 
-deleted_own : (d : Domain) (ps : List Param) (a : Nested) (before : List Effect) → Own (effect.deleted d ps a before)
-deleted_own d ps a before =
-    then_own (fact d ps (head (items a)) (rest (items a))) (λ f. Ok (before ++ effects.Delete f ∷ [])) (fact_own d ps (head (items a)) (rest (items a))) (λ f. tt)
+deleted_own : (d : Domain) (ps : List Param) (a : Nested) → Own (effect.deleted d ps a)
+deleted_own d ps a = then_own (fact d ps (head (items a)) (rest (items a))) (λ f. Ok (Some (effects.Delete f))) (fact_own d ps (head (items a)) (rest (items a))) (λ f. tt)
 
-changed_own : (d : Domain) (ps : List Param) (how : NumOp) (a x : Nested) (before : List Effect) → Own (effect.changed d ps how a x before)
-changed_own d ps how a x before =
-    then_own (value_of d ps (head (items a)) (rest (items a))) (λ l. value d ps x >>= λ v. Ok (before ++ effects.Number how l v ∷ [])) (value_of_own d ps (head (items a)) (rest (items a)))
-    (λ l. then_own (value d ps x) (λ v. Ok (before ++ effects.Number how l v ∷ [])) (value_own d ps x) (λ v. tt))
+changed_own : (d : Domain) (ps : List Param) (how : NumOp) (a x : Nested) → Own (effect.changed d ps how a x)
+changed_own d ps how a x =
+    then_own (value_of d ps (head (items a)) (rest (items a))) (λ l. value d ps x >>= λ v. Ok (Some (effects.Number how l v))) (value_of_own d ps (head (items a)) (rest (items a)))
+    (λ l. then_own (value d ps x) (λ v. Ok (Some (effects.Number how l v))) (value_own d ps x) (λ v. tt))
 
-changed_or_own : (d : Domain) (ps : List Param) (how : Option NumOp) (a x : Nested) (before : List Effect) (other : Read (List Effect)) → Own other → Own (effect.changed_or d ps how a x before other)
-changed_or_own d ps None a x before other o = o
-changed_or_own d ps (Some how) a x before other o = changed_own d ps how a x before
+changed_or_own : (d : Domain) (ps : List Param) (how : Option NumOp) (a x : Nested) (other : Read (Option Effect)) → Own other → Own (effect.changed_or d ps how a x other)
+changed_or_own d ps None a x other o = o
+changed_or_own d ps (Some how) a x other o = changed_own d ps how a x
 
-plain_effect_own : (d : Domain) (ps : List Param) (l : Lexeme) (ts : Nesteds) (before : List Effect) → Own (effect.plain_effect d ps l ts before)
-plain_effect_own d ps l none before = added_own d ps l none before
-plain_effect_own d ps l (more a none) before = added_own d ps l (more a none) before
-plain_effect_own d ps l (more a (more x ts)) before =
-    changed_or_own d ps (effect.change_of l.mark) a x before (effect.added d ps l (more a (more x ts)) before) (added_own d ps l (more a (more x ts)) before)
+plain_effect_own : (d : Domain) (ps : List Param) (l : Lexeme) (ts : Nesteds) → Own (effect.plain_effect d ps l ts)
+plain_effect_own d ps l none = added_own d ps l none
+plain_effect_own d ps l (more a none) = added_own d ps l (more a none)
+plain_effect_own d ps l (more a (more x ts)) =
+    changed_or_own d ps (effect.change_of l.mark) a x (effect.added d ps l (more a (more x ts))) (added_own d ps l (more a (more x ts)))
 
-deletion_own : (d : Domain) (ps : List Param) (ts : Nesteds) (before : List Effect) → Own (effect.deletion d ps ts before)
-deletion_own d ps none before = tt
-deletion_own d ps (more a ts) before = deleted_own d ps a before
+deletion_own : (d : Domain) (ps : List Param) (ts : Nesteds) → Own (effect.deletion d ps ts)
+deletion_own d ps none = tt
+deletion_own d ps (more a ts) = deleted_own d ps a
 
-mutual
-  effect_own : (d : Domain) (ps : List Param) (t : Nested) (before : List Effect) → Own (effect.effect d ps t before)
-  effect_own d ps (word l) before = tt
-  effect_own d ps (group ts) before = effect_form_own d ps ts before
+flat_one_own : (d : Domain) (ps : List Param) (l : Lexeme) (ts : Nesteds) → Own (effect.flat_one d ps l ts)
+flat_one_own d ps l ts = either_own (is mark.Not l.mark) (effect.deletion d ps ts) (effect.plain_effect d ps l ts) (deletion_own d ps ts) (plain_effect_own d ps l ts)
 
-  effect_form_own : (d : Domain) (ps : List Param) (ts : Nesteds) (before : List Effect) → Own (effect.form d ps ts before)
-  effect_form_own d ps none before = tt
-  effect_form_own d ps (more f ts) before =
-      either_own (is mark.And (word_of f).mark) (effect.effects d ps ts before)
-      (if is mark.Not (word_of f).mark then effect.deletion d ps ts before else effect.plain_effect d ps (word_of f) ts before)
-      (effects_own d ps ts before)
-      (either_own (is mark.Not (word_of f).mark) (effect.deletion d ps ts before) (effect.plain_effect d ps (word_of f) ts before) (deletion_own d ps ts before) (plain_effect_own d ps (word_of f) ts before))
+module _ {A : Type 0} (one : Lexeme → Nesteds → Read (Option A)) (own : (l : Lexeme) (ts : Nesteds) → Own (one l ts)) where
+  mutual
+    flattened_own : (t : Nested) (before : List A) → Own (effect.flattened one t before)
+    flattened_own (word l) before = tt
+    flattened_own (group ts) before = flattened_form_own ts before
 
-  effects_own : (d : Domain) (ps : List Param) (ts : Nesteds) (before : List Effect) → Own (effect.effects d ps ts before)
-  effects_own d ps none before = tt
-  effects_own d ps (more e es) before = then_own (effect.effect d ps e before) (λ x. effect.effects d ps es x) (effect_own d ps e before) (λ x. effects_own d ps es x)
+    flattened_form_own : (ts : Nesteds) (before : List A) → Own (effect.flattened_form one ts before)
+    flattened_form_own none before = tt
+    flattened_form_own (more f ts) before =
+        either_own (is mark.And (word_of f).mark) (effect.all_flattened one ts before) (one (word_of f) ts >>= λ x. Ok (effect.followed_by before x)) (all_flattened_own ts before)
+        (then_own (one (word_of f) ts) (λ x. Ok (effect.followed_by before x)) (own (word_of f) ts) (λ x. tt))
+
+    all_flattened_own : (ts : Nesteds) (before : List A) → Own (effect.all_flattened one ts before)
+    all_flattened_own none before = tt
+    all_flattened_own (more e es) before = then_own (effect.flattened one e before) (λ x. effect.all_flattened one es x) (flattened_own e before) (λ x. all_flattened_own es x)
+
+conditional_own : (d : Domain) (own : ℕ) (ps : List Param) (ts : Nesteds) → Own (effect.conditional d own ps ts)
+conditional_own d own ps none = tt
+conditional_own d own ps (more c none) = tt
+conditional_own d own ps (more c (more e ts)) =
+    then_own (meant.condition reads (scopes d own) ps c) (λ x. effect.flat d ps e >>= λ es. Ok (Some (When x es))) (held_own d own ps c)
+    (λ x. then_own (effect.flat d ps e) (λ es. Ok (Some (When x es))) (flattened_own (effect.flat_one d ps) (flat_one_own d ps) e []) (λ es. tt))
+
+guarded_one_own : (d : Domain) (own : ℕ) (ps : List Param) (l : Lexeme) (ts : Nesteds) → Own (effect.guarded_one d own ps l ts)
+guarded_one_own d own ps l ts =
+    either_own (is mark.When l.mark) (effect.conditional d own ps ts) (effect.flat_one d ps l ts >>= λ e. Ok (option_map Plain e)) (conditional_own d own ps ts)
+    (then_own (effect.flat_one d ps l ts) (λ e. Ok (option_map Plain e)) (flat_one_own d ps l ts) (λ e. tt))
+
+for_each_own : (d : Domain) (ps : List Param) (ts : Nesteds) → Own (effect.for_each d ps ts)
+for_each_own d ps none = tt
+for_each_own d ps (more vs none) = tt
+for_each_own d ps (more vs (more e ts)) =
+    then_own (effect.bound_once d ps (items vs)) (λ qs. effect.guarded d (length ps) (ps ++ qs) e >>= λ gs. Ok (Some (ForAll qs gs))) (binding_own d (length ps + 1) ps (items vs))
+    (λ qs. then_own (effect.guarded d (length ps) (ps ++ qs) e) (λ gs. Ok (Some (ForAll qs gs))) (flattened_own (effect.guarded_one d (length ps) (ps ++ qs)) (guarded_one_own d (length ps) (ps ++ qs)) e []) (λ gs. tt))
+
+spread_one_own : (d : Domain) (ps : List Param) (l : Lexeme) (ts : Nesteds) → Own (effect.spread_one d ps l ts)
+spread_one_own d ps l ts =
+    either_own (is mark.Forall l.mark) (effect.for_each d ps ts) (effect.guarded_one d (length ps) ps l ts >>= λ g. Ok (option_map Once g)) (for_each_own d ps ts)
+    (then_own (effect.guarded_one d (length ps) ps l ts) (λ g. Ok (option_map Once g)) (guarded_one_own d (length ps) ps l ts) (λ g. tt))
+
+effect_own : (d : Domain) (ps : List Param) (t : Nested) (before : List Spread) → Own (effect.effect d ps t before)
+effect_own d ps t before = flattened_own (effect.spread_one d ps) (spread_one_own d ps) t before
 
 effect_time_own : (d : Domain) (ps : List Param) (m : Mark) (e : Nested) (changes : Effects) → Own (effect.at_time d ps m e changes)
 effect_time_own d ps mark.Start e changes = then_own (effect.effect d ps e changes.at_start) (λ es. Ok (effect.at_start changes es)) (effect_own d ps e changes.at_start) (λ es. tt)

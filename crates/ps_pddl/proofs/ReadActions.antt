@@ -9,7 +9,7 @@ use Rattle.ps_world.specs.declared.names.Name.{Name}
 use Rattle.ps_world.specs.declared.domains.Param.{Param}
 use Rattle.ps_world.specs.declared.domains.Domain.{Domain}
 use Rattle.ps_world.specs.declared.actions.ActionDef.{ActionDef}
-use Rattle.ps_world.specs.declared.actions.Effect.{Effect}
+use Rattle.ps_world.specs.declared.actions.Spread.{Spread}
 use Rattle.ps_world.specs.declared.expressions.Expr.{Expr}
 use Rattle.ps_shape.specs.Marks.{is, is_name}
 use Rattle.ps_shape.specs.declared.marks.Mark.{Mark}
@@ -19,7 +19,7 @@ use Rattle.ps_forms.specs.Grammar as grammar
 use Rattle.ps_forms.specs.Nested.{Nested, Nesteds, word, group, none, more}
 use Rattle.ps_forms.specs.Places as place
 use Rattle.ps_forms.specs.Places.{at, items_at, word_of}
-use Rattle.ps_print.specs.CanonicalWords.{IsActionOf, IsCondOf, IsEffectOf}
+use Rattle.ps_print.specs.CanonicalWords.{IsActionOf, IsCondOf, IsSpreadOf}
 use Rattle.ps_pddl.specs.Lists.{listed}
 use Rattle.ps_pddl.specs.Meaning as meaning
 use Rattle.ps_conditions.specs.Steps.{◌>>=◌}
@@ -29,9 +29,9 @@ use Rattle.ps_pddl.specs.declared.meaning.lists.Listing.TheVariants.{Params}
 use Rattle.ps_world.specs.declared.actions.Conditions.{Conditions}
 use Rattle.ps_pddl.specs.declared.refusals.Cap.TheVariants as cap
 use Rattle.ps_pddl.specs.declared.refusals.DomainRefusal.TheVariants.{Limit, Twice}
-use Rattle.ps_pddl.proofs.Fits.{FitsAction, FitsCond, FitsEffect, fits_number}
+use Rattle.ps_pddl.proofs.Fits.{FitsAction, FitsCond, FitsSpread, fits_number}
 use Rattle.ps_pddl.proofs.ReadConditions.{ArePartsHere, IsTreeHere, condition_form_here, expr_fits_more}
-use Rattle.ps_pddl.proofs.ReadEffects.{AreChangesHere, IsEffectHere, effect_form_here}
+use Rattle.ps_pddl.proofs.ReadEffects.{AreChangesHere, IsSpreadHere, effect_form_here}
 use Rattle.ps_pddl.proofs.ReadLists.{AreParamsHere, params_here}
 use Rattle.ps_pddl.proofs.ReadMarks.{no_has, yes_has}
 use Rattle.ps_pddl.proofs.ReadNames.{AllTold, AreTold}
@@ -116,9 +116,9 @@ module _ (after : Table) (first : 0 < length after) (d : Domain) where
   parts_here ps params None h = (All-nil _, All-nil _, All-nil _)
   parts_here ps params (Some t) h = condition_form_here after first d ps params 60 h.0 t (record { at_start = []; over_all = []; at_end = [] }) h.2 (omega (arith, h.1)) h.3 (All-nil _, All-nil _, All-nil _)
 
-  changes_here : (ps : List Param) (o : Option Nested) → Fits IsEffectThere o → Sound (AreChangesHere after first d ps 60) (meaning.changes d ps o)
-  changes_here ps None h = (All-nil _, All-nil _)
-  changes_here ps (Some t) h = effect_form_here after first d ps 60 h.0 t (record { at_start = []; at_end = [] }) h.2 (omega (arith, h.1)) h.3 (All-nil _, All-nil _)
+  changes_here : (ps : List Param) (params : AreParamsHere after first ps) (o : Option Nested) → Fits IsEffectThere o → Sound (AreChangesHere after first d ps params 60) (meaning.changes d ps o)
+  changes_here ps params None h = (All-nil _, All-nil _)
+  changes_here ps params (Some t) h = effect_form_here after first d ps params 60 h.0 t (record { at_start = []; at_end = [] }) h.2 (omega (arith, h.1)) h.3 (All-nil _, All-nil _)
 
   -- an action of what is there, with few enough levels
   abbrev pub IsActionHere : ActionDef → Type 0
@@ -139,12 +139,12 @@ module _ (after : Table) (first : 0 < length after) (d : Domain) where
       let IsTree = IsTreeHere after first d ps 60 in
       let IsCond : CondTree → Type 0 = λ c. IsCondOf (length after) ps c in
       let IsLow : CondTree → Type 0 = λ c. FitsCond after 60 c in
-      let IsDone = IsEffectHere after first d ps 60 in
-      let IsAct : Effect → Type 0 = λ e. IsEffectOf (length after) (length ps) e in
-      let IsShort : Effect → Type 0 = λ e. FitsEffect after 60 e in
+      let IsDone = IsSpreadHere after first d ps params 60 in
+      let IsAct : Spread → Type 0 = λ s. IsSpreadOf (length after) ps s in
+      let IsShort : Spread → Type 0 = λ s. FitsSpread after 60 s in
       then_sound (IsValueHere after first d ps 61) IsActionHere (meaning.duration d ps time) (λ x. meaning.parts d ps form >>= λ y. meaning.changes d ps change >>= λ z. Ok (made x y z)) (duration_here ps time time_form)
       (λ x one. then_sound (ArePartsHere after first d ps params 60) IsActionHere (meaning.parts d ps form) (λ y. meaning.changes d ps change >>= λ z. Ok (made x y z)) (parts_here ps params form condition_form)
-      (λ y two. then_sound (AreChangesHere after first d ps 60) IsActionHere (meaning.changes d ps change) (λ z. Ok (made x y z)) (changes_here ps change effect_form)
+      (λ y two. then_sound (AreChangesHere after first d ps params 60) IsActionHere (meaning.changes d ps change) (λ z. Ok (made x y z)) (changes_here ps params change effect_form)
       (λ z three. (
         record {
           name = lt;

@@ -30,12 +30,12 @@ use Rattle.ps_conditions.specs.Signs.{rel_of}
 use Rattle.ps_conditions.specs.Steps.{◌>>=◌}
 use Rattle.ps_pddl.specs.Steps.{Read, reads}
 use Rattle.ps_pddl.specs.Terms.{fact, resolved}
-use Rattle.ps_pddl.specs.Words.{bound, condition, scopes, second, term, value, words}
+use Rattle.ps_pddl.specs.Words.{bound, condition, most_in_force, scopes, second, term, value, words}
 use Rattle.ps_world.specs.declared.actions.Conditions.{Conditions}
 use Rattle.ps_pddl.specs.declared.refusals.DomainRefusal.TheVariants.{Kind}
 use Rattle.ps_pddl.proofs.CanonicalForms.{name_mark}
 use Rattle.ps_pddl.proofs.Fits.{FitsExpr, fits_number, fits_value, fits_negation, fits_operation, IsVariableName, FitsCond, fits_all, fits_any, fits_not, fits_implied, fits_some, fits_each, fits_fact, fits_same, fits_comparison, FitConds, fit_none, fit_more}
-use Rattle.ps_pddl.proofs.ReadLists.{AreParamsHere, bound_here}
+use Rattle.ps_pddl.proofs.ReadLists.{AreParamsHere, binding_here}
 use Rattle.ps_pddl.proofs.ReadMarks.{fact-is_name, fact_no_rel, no_sound, relation_there, yes_sound}
 use Rattle.ps_pddl.proofs.ReadNames.{IsTold, AllTold, AreTold}
 use Rattle.ps_pddl.proofs.ReadValues.{IsHeadHere, IsTermHere, IsTypedHere, IsValueHere, fact_here, resolved_here, value_here}
@@ -55,7 +55,7 @@ expr_fits_more _ (suc most) _ (fits_operation room o x y h k) le =
     fits_operation most o x y (expr_fits_more room most x h (omega (arith, le))) (expr_fits_more room most y k (omega (arith, le)))
 
 mutual
-  cond_fits_more : (names : Table) (room most : ℕ) (c : CondTree) → FitsCond names room c → room ≤ most → FitsCond names most c
+  pub cond_fits_more : (names : Table) (room most : ℕ) (c : CondTree) → FitsCond names room c → room ≤ most → FitsCond names most c
   cond_fits_more names _ zero _ (fits_all room cs h) le = absurd (omega (arith, le))
   cond_fits_more names _ (suc most) _ (fits_all room cs h) le = fits_all most cs (conds_fit_more names room most cs h (omega (arith, le)))
   cond_fits_more names _ zero _ (fits_not room c h) le = absurd (omega (arith, le))
@@ -175,7 +175,7 @@ module _ (after : Table) (first : 0 < length after) (d : Domain) (own : ℕ) whe
   some_here ps qs room true c h k = ((h.0, k.0), fits_each room qs c h.1 k.1)
   some_here ps qs room false c h k = ((h.0, k.0), fits_some room qs c h.1 k.1)
 
-  both_here : (ps qs : List Param) → AreParamsHere after first ps → AreParamsHere after first qs → AreParamsHere after first (ps ++ qs)
+  pub both_here : (ps qs : List Param) → AreParamsHere after first ps → AreParamsHere after first qs → AreParamsHere after first (ps ++ qs)
   both_here ps qs h k = (All-append (IsParamOf (length after)) ps qs h.0 k.0, All-append (λ (p : Param). IsVariableName after p.name) ps qs h.1 k.1)
 
   mutual
@@ -194,11 +194,11 @@ module _ (after : Table) (first : 0 < length after) (d : Domain) (own : ℕ) whe
         (λ x j. then_sound (IsCondHere after first d ps room) (IsCondHere after first d ps (suc room)) (meant.condition reads (scopes d own) ps b) (λ y. Ok (cond.Imply (cond_tree x) (cond_tree y))) (condition_here ps f room b other h.1.1.0)
         (λ y k. ((tt, (j.0, k.0)), fits_implied room (cond_tree x) (cond_tree y) j.1 k.1))))
     condition_here ps f _ _ (written.some_choice room l vs c m typed one) h =
-        rw m (then_sound (AreParamsHere after first) (IsCondHere after first d ps (suc room)) (bound d own ps vs) (λ qs. meant.condition reads (scopes d own) (ps ++ qs) c >>= λ x. Ok (meant.quantifier false qs (cond_tree x))) (bound_here after first d own ps vs typed h.1.0 f)
+        rw m (then_sound (AreParamsHere after first) (IsCondHere after first d ps (suc room)) (bound d own ps vs) (λ qs. meant.condition reads (scopes d own) (ps ++ qs) c >>= λ x. Ok (meant.quantifier false qs (cond_tree x))) (binding_here after first d (most_in_force own ps) ps vs typed h.1.0 f)
         (λ qs g. then_sound (IsCondHere after first d (ps ++ qs) room) (IsCondHere after first d ps (suc room)) (meant.condition reads (scopes d own) (ps ++ qs) c) (λ x. Ok (meant.quantifier false qs (cond_tree x))) (condition_here (ps ++ qs) (both_here ps qs f g) room c one h.1.1.0)
         (λ x k. some_here ps qs room false (cond_tree x) g k)))
     condition_here ps f _ _ (written.each_choice room l vs c m typed one) h =
-        rw m (then_sound (AreParamsHere after first) (IsCondHere after first d ps (suc room)) (bound d own ps vs) (λ qs. meant.condition reads (scopes d own) (ps ++ qs) c >>= λ x. Ok (meant.quantifier true qs (cond_tree x))) (bound_here after first d own ps vs typed h.1.0 f)
+        rw m (then_sound (AreParamsHere after first) (IsCondHere after first d ps (suc room)) (bound d own ps vs) (λ qs. meant.condition reads (scopes d own) (ps ++ qs) c >>= λ x. Ok (meant.quantifier true qs (cond_tree x))) (binding_here after first d (most_in_force own ps) ps vs typed h.1.0 f)
         (λ qs g. then_sound (IsCondHere after first d (ps ++ qs) room) (IsCondHere after first d ps (suc room)) (meant.condition reads (scopes d own) (ps ++ qs) c) (λ x. Ok (meant.quantifier true qs (cond_tree x))) (condition_here (ps ++ qs) (both_here ps qs f g) room c one h.1.1.0)
         (λ x k. some_here ps qs room true (cond_tree x) g k)))
     condition_here ps f _ _ (written.a_fact room l ts m r few) h = rw (head_of-fact l.mark m) (plain_here after first d ps room l ts m h.0 h.1)

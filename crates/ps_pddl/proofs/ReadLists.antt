@@ -20,9 +20,8 @@ use Rattle.ps_forms.specs.Nested.{Nested, Nesteds, word, none, more}
 use Rattle.ps_forms.specs.Places.{head, word_of}
 use Rattle.ps_forms.specs.declared.lexemes.Lexeme.{Lexeme}
 use Rattle.ps_print.specs.CanonicalWords.{IsDeclOf, IsNameOf, IsParamOf}
-use Rattle.ps_pddl.specs.Lists.{counts, kept, kind_ahead, listed, listed_type, with_name}
+use Rattle.ps_pddl.specs.Lists.{binding, counts, kept, kind_ahead, listed, listed_type, with_name}
 use Rattle.ps_pddl.specs.Meaning as meaning
-use Rattle.ps_pddl.specs.Words.{bound, most_in_force}
 use Rattle.ps_conditions.specs.Steps.{◌>>=◌}
 use Rattle.ps_pddl.specs.Types.{acyclic, is_cyclic, names_of, with_types}
 use Rattle.ps_pddl.specs.declared.meaning.lists.Listing.{Listing}
@@ -104,11 +103,10 @@ module _ (after : Table) (first : 0 < length after) where
   pub params_here : (d : Domain) (ts : Nesteds) → IsTypedList is_variable ts → AreTold after ts → Sound AreParamsHere (listed d Params ts [])
   params_here d ts g h = params_after d Params ts [] g h (All-nil (IsParamOf (length after)), All-nil (λ (p : Param). IsVariableName after p.name))
 
-  -- so may the variables of a quantifier, after others that may
-  pub bound_here : (d : Domain) (own : ℕ) (ps : List Param) (ts : Nesteds) → IsTypedList is_variable ts → AreTold after ts → AreParamsHere ps → Sound AreParamsHere (bound d own ps ts)
-  bound_here d own ps ts g h k =
-      let listing : Listing = Bound (most_in_force own ps) in
-      then_sound AreParamsHere AreParamsHere (listed d listing ts ps) (λ all. Ok (drop (length ps) all)) (params_after d listing ts ps g h k)
+  -- so may the variables that a list binds, after others that may
+  pub binding_here : (d : Domain) (most : ℕ) (ps : List Param) (ts : Nesteds) → IsTypedList is_variable ts → AreTold after ts → AreParamsHere ps → Sound AreParamsHere (binding d most ps ts)
+  binding_here d most ps ts g h k =
+      then_sound AreParamsHere AreParamsHere (listed d (Bound most) ts ps) (λ all. Ok (drop (length ps) all)) (params_after d (Bound most) ts ps g h k)
       (λ all p. (All-drop (IsParamOf (length after)) (length ps) all p.0, All-drop (λ (p : Param). IsVariableName after p.name) (length ps) all p.1))
 
   -- ---- types

@@ -111,9 +111,9 @@ module _ (d : Domain) (acts : List ActionDef) where
   parts_sound ps typed None h = (none_all _, none_all _, none_all _)
   parts_sound ps typed (Some t) h = timed_sound d acts ps typed t (record { at_start = []; over_all = []; at_end = [] }) h (none_all _, none_all _, none_all _)
 
-  both_changes_sound : (ps : List Param) (t : Option Nested) → Fits IsCounted t → Sound (AreChanges d acts ps) (meaning.changes d ps t)
-  both_changes_sound ps None h = (none_all _, none_all _)
-  both_changes_sound ps (Some t) h = changes_sound d acts ps t (record { at_start = []; at_end = [] }) h (none_all _, none_all _)
+  both_changes_sound : (ps : List Param) (typed : AreTyped (acting d acts) 6 ps) (t : Option Nested) → Fits IsCounted t → Sound (AreChanges d acts ps typed) (meaning.changes d ps t)
+  both_changes_sound ps typed None h = (none_all _, none_all _)
+  both_changes_sound ps typed (Some t) h = changes_sound d acts ps typed t (record { at_start = []; at_end = [] }) h (none_all _, none_all _)
 
   -- an action with this name
   abbrev IsNamed : Name → ActionDef → Type 0
@@ -135,8 +135,8 @@ module _ (d : Domain) (acts : List ActionDef) where
       (duration_sound ps time (at_counted (items_at (after mark.DurationKey ts)) 2 (items_at_counted (after mark.DurationKey ts) (after_counted mark.DurationKey ts h))))
       (λ x one. then_sound (AreParts d acts ps k) (IsNamed n) (meaning.parts d ps form) (λ y. meaning.changes d ps change >>= λ z. Ok (made x y z))
       (parts_sound ps k form (at_counted (after mark.ConditionKey ts) 0 (after_counted mark.ConditionKey ts h)))
-      (λ y two. then_sound (AreChanges d acts ps) (IsNamed n) (meaning.changes d ps change) (λ z. Ok (made x y z))
-      (both_changes_sound ps change (at_counted (after mark.EffectKey ts) 0 (after_counted mark.EffectKey ts h)))
+      (λ y two. then_sound (AreChanges d acts ps k) (IsNamed n) (meaning.changes d ps change) (λ z. Ok (made x y z))
+      (both_changes_sound ps k change (at_counted (after mark.EffectKey ts) 0 (after_counted mark.EffectKey ts h)))
       (λ z three. (
         refl,
         record {

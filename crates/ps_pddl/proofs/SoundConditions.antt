@@ -24,7 +24,7 @@ use Rattle.ps_conditions.specs.Signs.{head_of, rel_of}
 use Rattle.ps_conditions.specs.Steps.{◌>>=◌}
 use Rattle.ps_pddl.specs.Steps.{Read, reads}
 use Rattle.ps_pddl.specs.Terms.{fact, resolved}
-use Rattle.ps_pddl.specs.Lists.{kept, listed}
+use Rattle.ps_pddl.specs.Lists.{binding, kept, listed}
 use Rattle.ps_pddl.specs.Words.{bound, condition, most_in_force, scopes, second, term, value, words}
 use Rattle.ps_pddl.specs.WellFormed.{AreCounted, AreTyped, HasKind, IsCond, IsCounted, IsFactOf, IsTerm, declared_leaves}
 use Rattle.ps_forms.specs.declared.lexemes.Lexeme.{Lexeme}
@@ -32,7 +32,7 @@ use Rattle.ps_world.specs.declared.actions.Conditions.{Conditions}
 use Rattle.ps_pddl.specs.declared.refusals.DomainRefusal.TheVariants.{Kind}
 use Rattle.ps_pddl.specs.declared.meaning.lists.Listing.TheVariants.{Bound}
 use Rattle.ps_pddl.proofs.BoundLists.{kept_bound, listed_begins}
-use Rattle.ps_pddl.proofs.Sound.{Sound, both_sound, by_head_sound, then_sound, either_sound}
+use Rattle.ps_pddl.proofs.Sound.{Sound, also_sound, both_sound, by_head_sound, then_sound, either_sound}
 use Rattle.ps_pddl.proofs.SoundLists.{AreFew, AreFine, AreKnown, listed_after_sound}
 use Rattle.ps_pddl.proofs.SoundTerms.{acting, IsValue, fact_sound, resolved_sound, value_sound}
 
@@ -98,27 +98,37 @@ module _ (d : Domain) (acts : List ActionDef) (own : ℕ) (ps : List Param) wher
 
 -- ---- quantifiers
 
+module _ (d : Domain) (acts : List ActionDef) (most : ℕ) where
+  -- so many variables at most: apart and of declared types
+  abbrev AreBelow : List Param → Type 0
+  AreBelow ps = AreTyped (acting d acts) most ps
+
+  listed_below : (ps all : List Param) → AreFine d (Bound most) all × (ps ++ drop (length ps) all ≡ all) → AreBelow (ps ++ drop (length ps) all)
+  listed_below ps all h =
+      let fine = subst (λ (x : List Param). AreFew most x × All (λ (p : Param). is_type d p.kind ≡ true) x) (kept_bound most all) h.0 in
+      subst AreBelow (sym h.1) (record { few = fine.0.0; apart = fine.0.1; kinds = fine.1 })
+
+  -- what a list binds after variables in force
+  pub binding_sound : (ps : List Param) (ts : Nesteds) → AreBelow ps → Sound (λ qs. AreBelow (ps ++ qs)) (binding d most ps ts)
+  binding_sound ps ts h =
+      let start : AreFew most (kept (Bound most) ps) × AreKnown d (Bound most) ps =
+      subst (λ (x : List Param). AreFew most x × All (λ (p : Param). is_type d p.kind ≡ true) x) (sym (kept_bound most ps)) ((h.few, h.apart), h.kinds) in
+      then_sound (λ all. AreFine d (Bound most) all × (ps ++ drop (length ps) all ≡ all)) (λ qs. AreBelow (ps ++ qs)) (listed d (Bound most) ts ps) (λ all. Ok (drop (length ps) all))
+      (both_sound (AreFine d (Bound most)) (λ all. ps ++ drop (length ps) all ≡ all) (listed d (Bound most) ts ps) (listed_after_sound d (Bound most) ts ps start.0 start.1) (listed_begins d (Bound most) ts ps))
+      (λ all p. listed_below ps all p)
+
 module _ (d : Domain) (acts : List ActionDef) (own : ℕ) where
   -- variables in force: few, apart and of declared types
   abbrev AreInForce : List Param → Type 0
   AreInForce ps = AreTyped (acting d acts) (own + 2) ps
 
-  listed_in_force : (ps all : List Param) → AreFine d (Bound (most_in_force own ps)) all × (ps ++ drop (length ps) all ≡ all) → AreInForce (ps ++ drop (length ps) all)
-  listed_in_force ps all h =
-      let most = most_in_force own ps in
-      let fine = subst (λ (x : List Param). AreFew most x × All (λ (p : Param). is_type d p.kind ≡ true) x) (kept_bound most all) h.0 in
-      let few = fine.0.0 in
-      subst AreInForce (sym h.1) (record { few = omega (arith, few); apart = fine.0.1; kinds = fine.1 })
-
   bound_sound : (ps : List Param) (ts : Nesteds) → AreInForce ps → Sound (λ qs. AreInForce (ps ++ qs)) (bound d own ps ts)
   bound_sound ps ts h =
       let most = most_in_force own ps in
       let few = h.few in
-      let start : AreFew most (kept (Bound most) ps) × AreKnown d (Bound most) ps =
-      subst (λ (x : List Param). AreFew most x × All (λ (p : Param). is_type d p.kind ≡ true) x) (sym (kept_bound most ps)) ((omega (arith, few), h.apart), h.kinds) in
-      then_sound (λ all. AreFine d (Bound most) all × (ps ++ drop (length ps) all ≡ all)) (λ qs. AreInForce (ps ++ qs)) (listed d (Bound most) ts ps) (λ all. Ok (drop (length ps) all))
-      (both_sound (AreFine d (Bound most)) (λ all. ps ++ drop (length ps) all ≡ all) (listed d (Bound most) ts ps) (listed_after_sound d (Bound most) ts ps start.0 start.1) (listed_begins d (Bound most) ts ps))
-      (λ all p. listed_in_force ps all p)
+      also_sound (λ qs. AreTyped (acting d acts) most (ps ++ qs)) (λ qs. AreInForce (ps ++ qs)) (bound d own ps ts)
+      (binding_sound d acts most ps ts (record { few = omega (arith, few); apart = h.apart; kinds = h.kinds }))
+      (λ qs k. let less = k.few in record { few = omega (arith, less); apart = k.apart; kinds = k.kinds })
 
   quantifier_held : (ps qs : List Param) (each : Bool) (c : CondTree) → AreInForce (ps ++ qs) → IsHeldTree d acts own (ps ++ qs) c → IsHeld d acts own ps (meant.quantifier each qs c)
   quantifier_held ps qs true c h k = (h, k)

@@ -6,7 +6,7 @@ use Rattle.std.specs.List.{All, flat_map}
 use Rattle.ps_world.specs.Names.{Table, name_text}
 use Rattle.ps_world.specs.Trees.{CondTree}
 use Rattle.ps_world.specs.ExprViews.{expr_tree}
-use Rattle.ps_world.specs.declared.actions.Effect.{Effect}
+use Rattle.ps_world.specs.declared.actions.Spread.{Spread}
 use Rattle.ps_world.specs.declared.actions.ActionDef.{ActionDef}
 use Rattle.ps_world.specs.declared.domains.Param.{Param}
 use Rattle.ps_world.specs.declared.domains.Decl.{Decl}
@@ -19,8 +19,8 @@ use Rattle.ps_shape.specs.declared.marks.Mark.TheVariants as mark
 use Rattle.ps_forms.specs.Lexemes.{mark_of}
 use Rattle.ps_forms.specs.Nested.{Nested, Nesteds, word, group, none, more}
 use Rattle.ps_forms.specs.declared.lexemes.Lexeme.{Lexeme}
-use Rattle.ps_print.specs.CanonicalWords.{grouped, typed_words, param_words, decl_words, expr_words, cond_words, effect_words, timed_words, conditions_words, effects_words, action_words, section_words, domain_words, IsParamOf, IsDeclOf, IsCondOf, IsEffectOf, IsActionOf, IsDomainOf}
-use Rattle.ps_pddl.proofs.CanonicalForms.{IsNamed, IsExprForm, IsCondForm, IsTimed, AreForms, joined, AreConditionParts, IsEffectForm, AreEffectParts, AreTypedForms, AreParamForms, IsDeclForm, IsActionForm, IsSectionForm, AreSectionForms, IsDomainForm}
+use Rattle.ps_print.specs.CanonicalWords.{grouped, typed_words, param_words, decl_words, expr_words, cond_words, spread_words, timed_words, conditions_words, effects_words, action_words, section_words, domain_words, IsParamOf, IsDeclOf, IsCondOf, IsSpreadOf, IsActionOf, IsDomainOf}
+use Rattle.ps_pddl.proofs.CanonicalForms.{IsNamed, IsExprForm, IsCondForm, IsTimed, AreForms, joined, AreConditionParts, IsSpreadForm, AreEffectParts, AreTypedForms, AreParamForms, IsDeclForm, IsActionForm, IsSectionForm, AreSectionForms, IsDomainForm}
 use Rattle.ps_pddl.proofs.CanonicalForms.IsTimed.{timed}
 use Rattle.ps_pddl.proofs.CanonicalForms.AreForms.{no_items, more_items}
 use Rattle.ps_pddl.proofs.CanonicalForms.AreConditionParts.{condition_parts}
@@ -31,18 +31,14 @@ use Rattle.ps_pddl.proofs.CanonicalForms.IsActionForm.{action_form}
 use Rattle.ps_pddl.proofs.CanonicalForms.IsSectionForm.{no_section, section}
 use Rattle.ps_pddl.proofs.CanonicalForms.AreSectionForms.{sections}
 use Rattle.ps_pddl.proofs.CanonicalForms.IsDomainForm.{domain_form}
-use Rattle.ps_pddl.proofs.Fits.{FitParams, FitsCond, FitsAction, FitsDomain, fits_free}
-use Rattle.ps_pddl.proofs.SpeltParts.{name_first, spelt_params, spelt_expr, spelt_cond, spelt_effect}
-use Rattle.ps_pddl.proofs.SpeltWords.{Spelt, AllSpelt, is_plain, word_first, nothing_spelt, one_first, all_first, one_last, all_last, group_spelt, group_first, group_last}
+use Rattle.ps_pddl.proofs.Fits.{FitParams, FitsCond, FitsSpread, FitsAction, FitsDomain, fits_free}
+use Rattle.ps_pddl.proofs.SpeltParts.{name_first, spelt_params, spelt_expr, spelt_cond, spelt_spread}
+use Rattle.ps_pddl.proofs.SpeltWords.{Spelt, AllSpelt, AfterWord, after_word, is_plain, word_first, nothing_spelt, all_first, one_last, all_last, group_spelt, group_first, group_last, spelt_and, spelt_each}
 
 both : {X : Type 0} (P Q : X → Type 0) (xs : List X) → All P xs → All Q xs → All (λ x. P x × Q x) xs
 both P Q xs p q = λ k d h. (p k d h, q k d h)
 
 -- ---- forms that stand within others
-
--- a word with this mark, and what follows it
-data AfterWord (m : Mark) (P : Nesteds → Type 0) : Nesteds → Type 0 where
-  after_word : (l : Lexeme) (ts : Nesteds) → l.mark ≡ m → P ts → AfterWord m P (more (word l) ts)
 
 -- = ?duration X
 data IsDurationForm (names : Table) (a : ActionDef) : Nesteds → Type 0 where
@@ -103,12 +99,6 @@ module _ (names : Table) (good : AreNames names) where
 
   -- ---- lists
 
-  spelt_each : {X : Type 0} (R : X → Type 0) (f : X → List (List ℕ)) (P : X → Nested → Type 0) → ((x : X) → R x → Spelt names (f x) (P x)) → (xs : List X) → All R xs → AllSpelt names (flat_map f xs) (AreForms P xs)
-  spelt_each R f P each [] h = nothing_spelt no_items
-  spelt_each R f P each (x ∷ xs) h =
-      one_first (each x (All-head R x xs h)) (λ t form.
-      all_last (spelt_each R f P each xs (All-tail R x xs h)) (λ ts forms. more_items x xs t ts form forms))
-
   spelt_typed : (ps : List Param) → All (IsParamOf count) ps → AllSpelt names (flat_map (λ part. part) (map (typed_words names) ps)) (AreTypedForms names ps)
   spelt_typed [] h = nothing_spelt no_typed
   spelt_typed (p ∷ ps) h =
@@ -133,7 +123,7 @@ module _ (names : Table) (good : AreNames names) where
     spelt_timed : {X : Type 0} (R : X → Type 0) (f : X → List (List ℕ)) (Q : X → Nested → Type 0) → ((x : X) → R x → Spelt names (f x) (Q x)) → (xs : List X) → All R xs → AllSpelt names (timed_words (v ∷ w ∷ []) (map f xs)) (AreForms (λ x. IsTimed first second (Q x)) xs)
     spelt_timed R f Q each xs h =
         subst (λ ws. AllSpelt names ws (AreForms (λ x. IsTimed first second (Q x)) xs)) (sym (flat_map-map (λ part. grouped (v ∷ w ∷ part)) f xs))
-        (spelt_each R (λ x. grouped (v ∷ w ∷ f x)) (λ x. IsTimed first second (Q x)) (λ x r. spelt_timed_one (each x r)) xs h)
+        (spelt_each names R (λ x. grouped (v ∷ w ∷ f x)) (λ x. IsTimed first second (Q x)) (λ x r. spelt_timed_one (each x r)) xs h)
 
   -- ---- actions
 
@@ -150,19 +140,18 @@ module _ (names : Table) (good : AreNames names) where
 
     spelt_effects : AllSpelt names (effects_words names a) (AreEffectParts names a)
     spelt_effects =
-        let R : Effect → Type 0 = IsEffectOf count (length a.params) in
-        let each = spelt_effect names good a.params h.params fits.params in
-        all_first (spelt_timed (codes "at") (codes "start") mark.At mark.Start refl refl refl refl refl refl R (effect_words names a.params) (IsEffectForm names a.params) each a.effects.at_start h.effects_at_start) (λ starts s.
-        all_last (spelt_timed (codes "at") (codes "end") mark.At mark.End refl refl refl refl refl refl R (effect_words names a.params) (IsEffectForm names a.params) each a.effects.at_end h.effects_at_end) (λ ends e. effect_parts starts ends s e))
+        let R : Spread → Type 0 = λ s. IsSpreadOf count a.params s × FitsSpread names 60 s in
+        let each : (s : Spread) → R s → Spelt names (spread_words names a.params s) (IsSpreadForm names a.params s) =
+        λ s r. spelt_spread names good a.params h.params fits.params 60 s r.0 r.1 in
+        let are = both (IsSpreadOf count a.params) (FitsSpread names 60) in
+        all_first (spelt_timed (codes "at") (codes "start") mark.At mark.Start refl refl refl refl refl refl R (spread_words names a.params) (IsSpreadForm names a.params) each a.effects.at_start (are a.effects.at_start h.effects_at_start fits.at_start)) (λ starts s.
+        all_last (spelt_timed (codes "at") (codes "end") mark.At mark.End refl refl refl refl refl refl R (spread_words names a.params) (IsSpreadForm names a.params) each a.effects.at_end (are a.effects.at_end h.effects_at_end fits.at_end)) (λ ends e. effect_parts starts ends s e))
 
     spelt_duration : AllSpelt names (codes "=" ∷ codes "?duration" ∷ expr_words names a.params (expr_tree a.duration)) (IsDurationForm names a)
     spelt_duration =
         word_first (codes "=") class.Sign refl refl (λ e equal.
         word_first (codes "?duration") class.Variable refl refl (λ q duration.
         one_last (spelt_expr names good a.params h.params fits.params (expr_tree a.duration) h.duration) (λ x form. duration_form e q x (equal.mark class.Sign refl) (duration.mark class.Variable refl) form)))
-
-    spelt_and : {ws : List (List ℕ)} {P : Nesteds → Type 0} → AllSpelt names ws P → AllSpelt names (codes "and" ∷ ws) (AfterWord mark.And P)
-    spelt_and s = word_first (codes "and") class.Name refl refl (λ l is. all_last s (λ ts p. after_word l ts (is.mark class.Name refl) p))
 
     spelt_action : Spelt names (action_words names a) (IsActionForm names a)
     spelt_action =
@@ -201,7 +190,7 @@ module _ (names : Table) (good : AreNames names) where
       let R : Decl → Type 0 = λ decl. IsDeclOf count decl × FitParams names decl.params in
       spelt_section (decl_words names) (AreForms (IsDeclForm names)) key m c is p no_items (forms_several (IsDeclForm names)) decls
       (subst (λ ws. AllSpelt names ws (AreForms (IsDeclForm names) decls)) (sym (flat_map-map (λ part. part) (decl_words names) decls))
-      (spelt_each R (decl_words names) (IsDeclForm names) (λ decl r. spelt_decl decl r.0 r.1) decls (both (IsDeclOf count) (λ decl. FitParams names decl.params) decls h free)))
+      (spelt_each names R (decl_words names) (IsDeclForm names) (λ decl r. spelt_decl decl r.0 r.1) decls (both (IsDeclOf count) (λ decl. FitParams names decl.params) decls h free)))
 
   -- ---- a domain
 
@@ -209,7 +198,7 @@ module _ (names : Table) (good : AreNames names) where
     spelt_actions : AllSpelt names (flat_map (action_words names) d.actions) (AreForms (IsActionForm names) d.actions)
     spelt_actions =
         let R : ActionDef → Type 0 = λ a. IsActionOf count a × FitsAction names a in
-        spelt_each R (action_words names) (IsActionForm names) (λ a r. spelt_action a r.0 r.1) d.actions (both (IsActionOf count) (FitsAction names) d.actions h.actions fits.actions)
+        spelt_each names R (action_words names) (IsActionForm names) (λ a r. spelt_action a r.0 r.1) d.actions (both (IsActionOf count) (FitsAction names) d.actions h.actions fits.actions)
 
     spelt_head : AllSpelt names (codes "domain" ∷ name_text names d.name ∷ []) (IsDomainHead names d)
     spelt_head =

@@ -9,6 +9,7 @@ use Rattle.ps_world.specs.DomainTexts.{term_text, op_text, rel_text, num_op_text
 use Rattle.ps_world.specs.Trees.{ExprTree, number, value_of, negated, operated, CondTree, CondTrees, all_of, any_of, no, implied, holds, same, compares, is_a, for_some, for_all}
 use Rattle.ps_world.specs.Trees as tree
 use Rattle.ps_world.specs.ExprViews.{expr_tree}
+use Rattle.ps_world.specs.CondViews.{cond_tree}
 use Rattle.ps_world.specs.declared.names.Name.{Name}
 use Rattle.ps_world.specs.declared.schemas.Term.{Term}
 use Rattle.ps_world.specs.declared.schemas.Term.TheVariants.{Var, Const}
@@ -21,6 +22,11 @@ use Rattle.ps_world.specs.declared.actions.NumOp.{NumOp}
 use Rattle.ps_world.specs.declared.actions.NumOp.TheVariants as num_op
 use Rattle.ps_world.specs.declared.actions.Effect.{Effect}
 use Rattle.ps_world.specs.declared.actions.Effect.TheVariants.{Add, Delete, Number}
+use Rattle.ps_world.specs.declared.actions.Guarded.{Guarded}
+use Rattle.ps_world.specs.declared.actions.Guarded.TheVariants.{When}
+use Rattle.ps_world.specs.declared.actions.Spread.{Spread}
+use Rattle.ps_world.specs.declared.actions.Spread.TheVariants.{ForAll}
+use Rattle.ps_world.specs.declared.conditions.Cond.{Cond}
 use Rattle.ps_world.specs.declared.domains.Param.{Param}
 use Rattle.ps_text.specs.Names.{folded, AreNames, IsNameText}
 use Rattle.ps_text.specs.Tokens.{class_of}
@@ -28,10 +34,10 @@ use Rattle.ps_text.specs.declared.lexing.Class.TheVariants as class
 use Rattle.ps_text.proofs.Printed.{number_of-printed}
 use Rattle.ps_shape.specs.declared.marks.Mark.TheVariants as mark
 use Rattle.ps_forms.specs.Lexemes.{fixed_names, mark_of}
-use Rattle.ps_forms.specs.Nested.{Nesteds, word, more}
+use Rattle.ps_forms.specs.Nested.{Nested, Nesteds, word, group, none, more}
 use Rattle.ps_forms.specs.declared.lexemes.Lexeme.{Lexeme}
-use Rattle.ps_print.specs.CanonicalWords.{param_words, term_words, lifted_words, expr_words, cond_words, conds_words, effect_words, IsNameOf, IsParamOf, IsTermOf, IsLiftedOf, IsExprOf, IsCondOf, AreCondsOf, IsEffectOf}
-use Rattle.ps_pddl.proofs.CanonicalForms.{name_mark, IsNamed, IsVariable, param_name, IsTermWord, AreTermForms, IsLiftedForm, op_mark, IsExprForm, rel_mark, AreParamForms, IsCondForm, AreCondForms, num_op_mark, IsEffectForm}
+use Rattle.ps_print.specs.CanonicalWords.{param_words, term_words, lifted_words, expr_words, cond_words, conds_words, effect_words, guarded_words, spread_words, IsNameOf, IsParamOf, IsTermOf, IsLiftedOf, IsExprOf, IsCondOf, AreCondsOf, IsEffectOf, IsGuardedOf, IsSpreadOf}
+use Rattle.ps_pddl.proofs.CanonicalForms.{name_mark, IsNamed, IsVariable, param_name, IsTermWord, AreTermForms, IsLiftedForm, op_mark, IsExprForm, rel_mark, AreParamForms, IsCondForm, AreCondForms, num_op_mark, IsEffectForm, IsGuardedForm, plain_form, when_form, IsSpreadForm, once_form, spread_form, AreForms}
 use Rattle.ps_pddl.proofs.CanonicalForms.AreTermForms.{no_terms, more_terms}
 use Rattle.ps_pddl.proofs.CanonicalForms.IsLiftedForm.{lifted}
 use Rattle.ps_pddl.proofs.CanonicalForms.IsExprForm.{a_number, a_value, a_negation, an_operation}
@@ -39,9 +45,9 @@ use Rattle.ps_pddl.proofs.CanonicalForms.AreParamForms.{no_params, more_params}
 use Rattle.ps_pddl.proofs.CanonicalForms.IsCondForm.{all_form, any_form, not_form, imply_form, fact_form, same_form, comparison_form, some_form, each_form}
 use Rattle.ps_pddl.proofs.CanonicalForms.AreCondForms.{no_forms, more_forms}
 use Rattle.ps_pddl.proofs.CanonicalForms.IsEffectForm.{an_addition, a_deletion, a_change}
-use Rattle.ps_pddl.proofs.Fits.{IsVariableName, FitParams, BindsFree, BindFree}
+use Rattle.ps_pddl.proofs.Fits.{IsVariableName, FitParams, BindsFree, BindFree, fits_free, FitsGuarded, fits_plain, fits_when, FitsSpread, fits_once, fits_for_each}
 use Rattle.ps_pddl.proofs.NameMarks.{mark_in-all}
-use Rattle.ps_pddl.proofs.SpeltWords.{Spelt, AllSpelt, is_plain, word_alone, word_first, nothing_spelt, one_as, one_first, one_last, all_last, group_first, group_spelt}
+use Rattle.ps_pddl.proofs.SpeltWords.{Spelt, AllSpelt, AfterWord, after_word, is_plain, word_alone, word_first, nothing_spelt, one_as, one_first, one_last, all_last, group_first, group_last, group_spelt, spelt_and, spelt_each}
 use Rattle.ps_pddl.proofs.WordClasses.{class_of-name, class_of-variable, class_of-number}
 use Rattle.ps_pddl.proofs.WordLexemes.{IsLexemeOf}
 
@@ -224,3 +230,28 @@ module _ (names : Table) (good : AreNames names) where
     spelt_conds : (ps : List Param) → All (IsParamOf count) ps → FitParams names ps → (cs : CondTrees) → AreCondsOf count ps cs → BindFree names ps cs → AllSpelt names (conds_words names ps cs) (AreCondForms names ps cs)
     spelt_conds ps known free tree.none h b = nothing_spelt (no_forms ps)
     spelt_conds ps known free (tree.more c cs) h b = one_first (spelt_cond ps known free c h.0 b.0) (λ t form. all_last (spelt_conds ps known free cs h.1 b.1) (λ ts forms. more_forms ps c cs t ts form forms))
+
+  -- ---- effects with their conditions, and for each choice of a variable
+
+  when_built : (ps : List Param) (c : Cond) (es : List Effect) (l : Lexeme) (t : Nested) (ts : Nesteds) → l.mark ≡ mark.When → IsCondForm names ps (cond_tree c) t → AfterWord mark.And (AreForms (IsEffectForm names ps) es) ts → IsGuardedForm names ps (When c es) (group (more (word l) (more t (more (group ts) none))))
+  when_built ps c es l t _ w form (after_word m ts and forms) = when_form c es l m t ts w form and forms
+
+  spread_built : (ps qs : List Param) (gs : List Guarded) (l : Lexeme) (vs ts : Nesteds) → l.mark ≡ mark.Forall → AreParamForms names qs vs → AfterWord mark.And (AreForms (IsGuardedForm names (ps ++ qs)) gs) ts → IsSpreadForm names ps (ForAll qs gs) (group (more (word l) (more (group vs) (more (group ts) none))))
+  spread_built ps qs gs l vs _ w variables (after_word m ts and forms) = spread_form qs gs l m vs ts w variables and forms
+
+  spelt_guarded : (ps : List Param) → All (IsParamOf count) ps → FitParams names ps → (room : ℕ) (g : Guarded) → IsGuardedOf count ps g → FitsGuarded names room g → Spelt names (guarded_words names ps g) (IsGuardedForm names ps g)
+  spelt_guarded ps known free _ _ h (fits_plain room e fit) = one_as (spelt_effect ps known free e h) (λ t form. plain_form e t form)
+  spelt_guarded ps known free _ _ h (fits_when room c es fit fits) =
+      group_spelt (word_first (codes "when") class.Name refl refl (λ l is.
+      one_first (spelt_cond ps known free (cond_tree c) h.0 (fits_free names (suc room) ps (cond_tree c) fit)) (λ t held.
+      group_last (spelt_and (spelt_each names (IsEffectOf count (length ps)) (effect_words names ps) (IsEffectForm names ps) (spelt_effect ps known free) es h.1)) (λ ts body.
+      when_built ps c es l t ts (is.mark class.Name refl) held body))))
+
+  pub spelt_spread : (ps : List Param) → All (IsParamOf count) ps → FitParams names ps → (room : ℕ) (s : Spread) → IsSpreadOf count ps s → FitsSpread names room s → Spelt names (spread_words names ps s) (IsSpreadForm names ps s)
+  spelt_spread ps known free _ _ h (fits_once room g fit) = one_as (spelt_guarded ps known free room g h fit) (λ t form. once_form g t form)
+  spelt_spread ps known free _ _ h (fits_for_each room qs gs own fits) =
+      let R : Guarded → Type 0 = λ g. IsGuardedOf count (ps ++ qs) g × FitsGuarded names room g in
+      group_spelt (word_first (codes "forall") class.Name refl refl (λ l is.
+      group_first (spelt_params qs h.0 own) (λ vs variables.
+      group_last (spelt_and (spelt_each names R (guarded_words names (ps ++ qs)) (IsGuardedForm names (ps ++ qs)) (λ g r. spelt_guarded (ps ++ qs) (All-append (IsParamOf count) ps qs known h.0) (both_free ps qs free own) room g r.0 r.1) gs (λ k g lt. (h.1 k g lt, fits k g lt)))) (λ ts body.
+      spread_built ps qs gs l vs ts (is.mark class.Name refl) variables body))))

@@ -1,5 +1,7 @@
 -- Words that spell a word or a list with some property, wherever the words stand.
 use Rattle.std.proofs.Common.{◌≡◌, ℕ, Bool, true, false, Some, List, [], ◌∷◌, ◌++◌, codes, refl, sym, ap, ◌∙◌, subst, append_assoc, append-nil}
+use Rattle.std.specs.List.{All, flat_map}
+use Rattle.std.proofs.lemmas.List.Elements.{All-head, All-tail}
 use Rattle.ps_world.specs.Names.{Table}
 use Rattle.ps_text.specs.Tokens.{class_of}
 use Rattle.ps_text.specs.declared.lexing.Class.{Class}
@@ -13,7 +15,7 @@ use Rattle.ps_forms.specs.Spelling.Spells.{plain, between}
 use Rattle.ps_forms.specs.Spelling.SpellAll.{nothing, one_more}
 use Rattle.ps_forms.specs.declared.lexemes.Lexeme.{Lexeme}
 use Rattle.ps_print.specs.CanonicalWords.{grouped}
-use Rattle.ps_pddl.proofs.CanonicalForms.{joined}
+use Rattle.ps_pddl.proofs.CanonicalForms.{joined, AreForms, no_items, more_items}
 use Rattle.ps_pddl.proofs.WordLexemes.{IsLexemeOf, AreLexemes}
 use Rattle.ps_pddl.proofs.WordLexemes.AreLexemes.{no_words, more_words}
 
@@ -160,3 +162,18 @@ group_first {names} {ws} {us} {Q} {P} s next = one_first (grouping_spelt s) (λ 
 -- words between two parentheses, and no others
 pub group_last : {names : Table} {ws : List (List ℕ)} {Q P : Nesteds → Type 0} → AllSpelt names ws Q → ((ts : Nesteds) → Q ts → P (more (group ts) none)) → AllSpelt names (grouped ws) P
 group_last {names} {ws} {Q} {P} s next = one_last (grouping_spelt s) (λ t g. subst (λ x. P (more x none)) g.is (next g.inner g.form))
+
+-- ---- lists
+
+pub spelt_each : (names : Table) {X : Type 0} (R : X → Type 0) (f : X → List (List ℕ)) (P : X → Nested → Type 0) → ((x : X) → R x → Spelt names (f x) (P x)) → (xs : List X) → All R xs → AllSpelt names (flat_map f xs) (AreForms P xs)
+spelt_each names R f P each [] h = nothing_spelt no_items
+spelt_each names R f P each (x ∷ xs) h =
+    one_first (each x (All-head R x xs h)) (λ t form.
+    all_last (spelt_each names R f P each xs (All-tail R x xs h)) (λ ts forms. more_items x xs t ts form forms))
+
+-- a word with this mark, and what follows it
+pub data AfterWord (m : Mark) (P : Nesteds → Type 0) : Nesteds → Type 0 where
+  after_word : (l : Lexeme) (ts : Nesteds) → l.mark ≡ m → P ts → AfterWord m P (more (word l) ts)
+
+pub spelt_and : {names : Table} {ws : List (List ℕ)} {P : Nesteds → Type 0} → AllSpelt names ws P → AllSpelt names (codes "and" ∷ ws) (AfterWord mark.And P)
+spelt_and s = word_first (codes "and") class.Name refl refl (λ l is. all_last s (λ ts p. after_word l ts (is.mark class.Name refl) p))

@@ -14,6 +14,7 @@ use Rattle.ps_world.specs.DomainTexts.{op_text, rel_text, num_op_text}
 use Rattle.ps_world.specs.Trees.{ExprTree, number, value_of, negated, operated, CondTree, CondTrees, all_of, any_of, no, implied, holds, same, compares, is_a, for_some, for_all}
 use Rattle.ps_world.specs.Trees as tree
 use Rattle.ps_world.specs.ExprViews.{expr_tree}
+use Rattle.ps_world.specs.CondViews.{cond_tree}
 use Rattle.ps_world.specs.declared.names.Name.{Name}
 use Rattle.ps_world.specs.declared.schemas.Term.{Term}
 use Rattle.ps_world.specs.declared.schemas.Term.TheVariants.{Var, Const}
@@ -26,6 +27,10 @@ use Rattle.ps_world.specs.declared.actions.NumOp.{NumOp}
 use Rattle.ps_world.specs.declared.actions.NumOp.TheVariants as num_op
 use Rattle.ps_world.specs.declared.actions.Effect.{Effect}
 use Rattle.ps_world.specs.declared.actions.Effect.TheVariants.{Add, Delete, Number}
+use Rattle.ps_world.specs.declared.actions.Guarded.{Guarded}
+use Rattle.ps_world.specs.declared.actions.Guarded.TheVariants.{Plain, When}
+use Rattle.ps_world.specs.declared.actions.Spread.{Spread}
+use Rattle.ps_world.specs.declared.actions.Spread.TheVariants.{Once, ForAll}
 use Rattle.ps_world.specs.declared.actions.ActionDef.{ActionDef}
 use Rattle.ps_world.specs.declared.domains.Param.{Param}
 use Rattle.ps_world.specs.declared.domains.Decl.{Decl}
@@ -37,7 +42,7 @@ use Rattle.ps_text.specs.declared.lexing.Class.{Class}
 use Rattle.ps_text.specs.declared.lexing.Class.TheVariants as class
 use Rattle.ps_text.proofs.Printed.{number_of-printed, no_minus, is_digit}
 use Rattle.ps_forms.proofs.ClassNumbers.{first_number, minus_class}
-use Rattle.ps_print.specs.CanonicalWords.{grouped, typed_words, param_words, decl_words, term_words, lifted_words, expr_words, bound_words, cond_words, conds_words, effect_words, timed_words, at_start, over_all, at_end, conditions_words, effects_words, action_words, section_words, domain_words, IsNameOf, IsParamOf, IsDeclOf, IsTermOf, IsLiftedOf, IsExprOf, IsCondOf, AreCondsOf, IsEffectOf, IsActionOf, IsDomainOf}
+use Rattle.ps_print.specs.CanonicalWords.{grouped, typed_words, param_words, decl_words, term_words, lifted_words, expr_words, bound_words, cond_words, conds_words, effect_words, guarded_words, spread_words, timed_words, at_start, over_all, at_end, conditions_words, effects_words, action_words, section_words, domain_words, IsNameOf, IsParamOf, IsDeclOf, IsTermOf, IsLiftedOf, IsExprOf, IsCondOf, AreCondsOf, IsEffectOf, IsGuardedOf, IsSpreadOf, IsActionOf, IsDomainOf}
 use Rattle.ps_pddl.proofs.CanonicalForms.{param_name}
 
 -- ---- the class of a name
@@ -264,6 +269,20 @@ module _ (names : Table) (good : AreNames names) where
     classed_conds ps known tree.none h = classed_none
     classed_conds ps known (tree.more c cs) h = classed_parts (classed_cond ps known c h.0) (classed_conds ps known cs h.1)
 
+  -- a body
+  classed_body : {X : Type 0} (P : X → Type 0) (f : X → List (List ℕ)) → ((x : X) → P x → Classed (f x)) → (xs : List X) → All P xs → Classed (grouped (codes "and" ∷ flat_map f xs))
+  classed_body P f each xs h = classed_group (classed_more (codes "and") refl (classed_each P f each xs h))
+
+  classed_guarded : (ps : List Param) → All (IsParamOf count) ps → (g : Guarded) → IsGuardedOf count ps g → Classed (guarded_words names ps g)
+  classed_guarded ps known (Plain e) h = classed_effect ps known e h
+  classed_guarded ps known (When c es) h =
+      classed_group (classed_more (codes "when") refl (classed_parts (classed_cond ps known (cond_tree c) h.0) (classed_body (IsEffectOf count (length ps)) (effect_words names ps) (classed_effect ps known) es h.1)))
+
+  classed_spread : (ps : List Param) → All (IsParamOf count) ps → (s : Spread) → IsSpreadOf count ps s → Classed (spread_words names ps s)
+  classed_spread ps known (Once g) h = classed_guarded ps known g h
+  classed_spread ps known (ForAll qs gs) h =
+      classed_bound (codes "forall") qs refl h.0 (classed_body (IsGuardedOf count (ps ++ qs)) (guarded_words names (ps ++ qs)) (classed_guarded (ps ++ qs) (All-append (IsParamOf count) ps qs known h.0)) gs h.1)
+
   -- parts with the same time
   classed_timed : {X : Type 0} (P : X → Type 0) (f : X → List (List ℕ)) → ((x : X) → P x → Classed (f x)) → (time : List (List ℕ)) → Classed time → (xs : List X) → All P xs → Classed (timed_words time (map f xs))
   classed_timed P f each time timed xs h =
@@ -284,10 +303,10 @@ module _ (names : Table) (good : AreNames names) where
 
     classed_effects : Classed (effects_words names a)
     classed_effects =
-        let each = classed_effect a.params h.params in
-        let P : Effect → Type 0 = IsEffectOf count (length a.params) in
-        classed_parts (classed_timed P (effect_words names a.params) each at_start (classed_two (codes "at") (codes "start") refl refl) a.effects.at_start h.effects_at_start)
-        (classed_timed P (effect_words names a.params) each at_end (classed_two (codes "at") (codes "end") refl refl) a.effects.at_end h.effects_at_end)
+        let each = classed_spread a.params h.params in
+        let P : Spread → Type 0 = IsSpreadOf count a.params in
+        classed_parts (classed_timed P (spread_words names a.params) each at_start (classed_two (codes "at") (codes "start") refl refl) a.effects.at_start h.effects_at_start)
+        (classed_timed P (spread_words names a.params) each at_end (classed_two (codes "at") (codes "end") refl refl) a.effects.at_end h.effects_at_end)
 
     classed_action : Classed (action_words names a)
     classed_action =

@@ -81,6 +81,10 @@ abbrev mutual
       if is_type d (word_of t).name then listed d listing ts before
       else Err (Unknown (word_of t).at (word_of t).name)
 
+-- the variables that a list binds after these, of which there may be so many then: no name is that of one of these
+abbrev pub binding : Domain → ℕ → List Param → Nesteds → Read (List Param)
+binding d most ps ts = listed d (Bound most) ts ps >>= λ all. Ok (drop (length ps) all)
+
 -- the name of a type at this place is passed over in every list, or every list is refused for it
 abbrev pub PassesType : Domain → List Tree → ℕ → Read (Unit {0}) → Type 0
 PassesType d ts at (Ok done) =

@@ -7,12 +7,17 @@ use Rattle.ps_world.specs.Knowledge.{is_type, is_below, predicate_of, function_o
 use Rattle.ps_world.specs.Trees.{ExprTree, number, value_of, negated, operated, CondTree}
 use Rattle.ps_world.specs.Leaves.{Leaves, AllIn}
 use Rattle.ps_world.specs.ExprViews.{expr_tree}
+use Rattle.ps_world.specs.CondViews.{cond_tree}
 use Rattle.ps_world.specs.declared.names.Name.{Name}
 use Rattle.ps_world.specs.declared.schemas.Term.{Term}
 use Rattle.ps_world.specs.declared.schemas.Term.TheVariants.{Var, Const}
 use Rattle.ps_world.specs.declared.schemas.Lifted.{Lifted}
 use Rattle.ps_world.specs.declared.actions.Effect.{Effect}
 use Rattle.ps_world.specs.declared.actions.Effect.TheVariants as effect
+use Rattle.ps_world.specs.declared.actions.Guarded.{Guarded}
+use Rattle.ps_world.specs.declared.actions.Guarded.TheVariants.{Plain, When}
+use Rattle.ps_world.specs.declared.actions.Spread.{Spread}
+use Rattle.ps_world.specs.declared.actions.Spread.TheVariants.{Once, ForAll}
 use Rattle.ps_world.specs.declared.actions.ActionDef.{ActionDef}
 use Rattle.ps_world.specs.declared.domains.Param.{Param}
 use Rattle.ps_world.specs.declared.domains.Decl.{Decl}
@@ -102,6 +107,17 @@ IsEffect d ps (effect.Add l) = IsFactOf d ps l
 IsEffect d ps (effect.Delete l) = IsFactOf d ps l
 IsEffect d ps (effect.Number how l x) = IsValueOf d ps l × IsExpr d ps (expr_tree x)
 
+-- the same of an effect with its condition, in an action with so many parameters
+abbrev pub IsGuarded : Domain → ℕ → List Param → Guarded → Type 0
+IsGuarded d own ps (Plain e) = IsEffect d ps e
+IsGuarded d own ps (When c es) = AllIn (declared_leaves d own) ps (cond_tree c) × All (IsEffect d ps) es
+
+-- the same of what stands in a list of effects of an action with these parameters: a `forall` binds one variable at most, whose name is that of
+-- none of these, of a declared type
+abbrev pub IsSpread : Domain → List Param → Spread → Type 0
+IsSpread d ps (Once g) = IsGuarded d (length ps) ps g
+IsSpread d ps (ForAll qs gs) = AreTyped d (length ps + 1) (ps ++ qs) × All (IsGuarded d (length ps) (ps ++ qs)) gs
+
 -- an action with sound parameters, conditions and effects
 pub record IsAction (d : Domain) (a : ActionDef) : Type 0 where
   pub params : AreTyped d 6 a.params
@@ -109,8 +125,8 @@ pub record IsAction (d : Domain) (a : ActionDef) : Type 0 where
   pub start : All (IsCond d a.params) a.conditions.at_start
   pub over : All (IsCond d a.params) a.conditions.over_all
   pub end : All (IsCond d a.params) a.conditions.at_end
-  pub at_start : All (IsEffect d a.params) a.effects.at_start
-  pub at_end : All (IsEffect d a.params) a.effects.at_end
+  pub at_start : All (IsSpread d a.params) a.effects.at_start
+  pub at_end : All (IsSpread d a.params) a.effects.at_end
 
 -- a domain as reading gives it
 pub record IsWellFormed (d : Domain) : Type 0 where

@@ -1,5 +1,5 @@
 -- What words, values and conditions mean in an action.
-use Rattle.std.specs.Prelude.{ℕ, ◌+◌, min, if◌then◌else◌, Ok, Err, List, drop, length}
+use Rattle.std.specs.Prelude.{ℕ, ◌+◌, min, if◌then◌else◌, Ok, Err, List, length}
 use Rattle.ps_world.specs.declared.domains.Param.{Param}
 use Rattle.ps_world.specs.declared.domains.Domain.{Domain}
 use Rattle.ps_world.specs.declared.schemas.Term.{Term}
@@ -14,10 +14,9 @@ use Rattle.ps_conditions.specs.Conditions as meant
 use Rattle.ps_conditions.specs.Steps.{◌>>=◌}
 use Rattle.ps_conditions.specs.Values as worth
 use Rattle.ps_conditions.specs.Words.{Scopes, Words}
-use Rattle.ps_pddl.specs.Lists.{listed}
+use Rattle.ps_pddl.specs.Lists.{binding}
 use Rattle.ps_pddl.specs.Steps.{Read, reads}
 use Rattle.ps_pddl.specs.Terms.{fact, resolved, value_of}
-use Rattle.ps_pddl.specs.declared.meaning.lists.Listing.TheVariants.{Bound}
 use Rattle.ps_pddl.specs.declared.refusals.DomainRefusal.TheVariants.{Kind}
 
 -- the term that a word is
@@ -53,7 +52,7 @@ most_in_force own ps = min own (length ps) + 2
 
 -- the variables that a list binds where these are in force: no name is that of one of these
 abbrev pub bound : Domain → ℕ → List Param → Nesteds → Read (List Param)
-bound d own ps ts = listed d (Bound (most_in_force own ps)) ts ps >>= λ all. Ok (drop (length ps) all)
+bound d own ps ts = binding d (most_in_force own ps) ps ts
 
 -- what words mean in an action with so many parameters, and what lists of variables bind
 abbrev pub scopes : Domain → ℕ → Scopes reads

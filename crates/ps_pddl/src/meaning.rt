@@ -7,6 +7,7 @@ mod actions;
 mod changes;
 mod declarations;
 mod effects;
+mod flattening;
 mod lists;
 mod parts;
 mod rooms;

@@ -7,8 +7,8 @@ ghost use Rattle.ps_action.specs.Truth.{is_true};
 ghost use Rattle.ps_plain.specs.NoTypes.{HasNoType};
 
 use super::effect_lists::{facts_added, facts_kept, values_with};
-use ps_action::{EffectRefusal, Types, fault_of_effects, is_true, values_set};
-use ps_world::{Cond, Domain, Duplicate, Effect, Fact, Failure, Knowledge, Name, Num, Seq};
+use ps_action::{EffectRefusal, Types, fault_of_flat, is_true, unfold, values_of_flat};
+use ps_world::{Cond, Domain, Duplicate, Effect, Fact, Failure, Knowledge, Name, Num, Seq, Spread};
 use std::alloc::{AllocError, Global};
 
 /// The types of a domain that declares nothing, where each type stands below itself alone.
@@ -37,23 +37,25 @@ pub fn holds_plain(known: &Knowledge, cond: &Cond) -> bool
     is_true(known, &NoTypes, cond)
 }
 
-/// The knowledge after a list of effects, all of which read what is known before: deletes are made first, then adds, then new values.
+/// The knowledge after the effects for which a list stands, all of which read what is known before: deletes are made first, then adds,
+/// then new values.
 ///
-/// It is refused at the first effect, in the order of the list, that has a fault; the faults of one effect come in this order:
+/// It is refused at the first of these effects, in their order, that has a fault; the faults of one effect come in this order:
 /// `Clash` where an earlier effect gives the same term a value, `Undefined`, `Range`.
 pub fn apply_plain(
     alloc: Global,
     domain: &Domain,
     known: &Knowledge,
-    effects: &[Effect],
+    effects: &[Spread],
 ) -> Result<Knowledge, Failure<EffectRefusal>>
     ensures { Applies domain.now known.now effects.now result }
 {
-    if let Some(fault) = fault_of_effects(known, domain, effects) {
+    let flat = unfold(alloc, known, domain, effects)?;
+    if let Some(fault) = fault_of_flat(known, &flat) {
         return Err(Failure::Refused(fault));
     }
-    let ready = values_set(alloc, known, domain, effects)?;
-    Ok(make(alloc, known, effects, &ready)?)
+    let ready = values_of_flat(alloc, known, &flat)?;
+    Ok(make(alloc, known, &flat, &ready)?)
 }
 
 /// What is known, copied, with the deletes of flat effects made, then their adds, then these values put in.

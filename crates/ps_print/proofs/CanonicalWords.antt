@@ -1,5 +1,5 @@
 -- The canonical text of a domain writes its words.
-use Rattle.std.proofs.Common.{◌≡◌, ℕ, suc, ◌+◌, ◌/◌, ◌%◌, ◌<◌, ◌≤◌, ◌^◌, Bool, true, false, not, cond, Some, None, pos, negsuc, position, List, [], ◌∷◌, ◌++◌, map, length, codes, slice_index_or, refl, sym, ap, ◌∙◌, arith, append_assoc, inl, inr}
+use Rattle.std.proofs.Common.{◌≡◌, ℕ, suc, ◌+◌, ◌/◌, ◌%◌, ◌<◌, ◌≤◌, ◌^◌, Bool, true, false, not, cond, Some, None, pos, negsuc, position, List, [], ◌∷◌, ◌++◌, map, length, codes, slice_index_or, refl, sym, ap, subst, ◌∙◌, arith, append_assoc, inl, inr}
 use Rattle.std.proofs.lemmas.Bool.{and_from, cases_Bool}
 use Rattle.std.proofs.lemmas.Bool.Decides.{nat_tests}
 use Rattle.std.proofs.lemmas.Fmt.{decimal_by_steps}
@@ -13,6 +13,7 @@ use Rattle.ps_world.specs.DomainTexts as text
 use Rattle.ps_world.specs.DomainTexts.{domain_text}
 use Rattle.ps_world.specs.Trees.{ExprTree, number, value_of, negated, operated, CondTree, CondTrees, all_of, any_of, no, implied, holds, same, compares, is_a, for_some, for_all, none, more}
 use Rattle.ps_world.specs.ExprViews.{expr_tree}
+use Rattle.ps_world.specs.CondViews.{cond_tree}
 use Rattle.ps_world.specs.declared.names.Name.{Name}
 use Rattle.ps_world.specs.declared.schemas.Term.{Term}
 use Rattle.ps_world.specs.declared.schemas.Term.TheVariants.{Var, Const}
@@ -25,6 +26,10 @@ use Rattle.ps_world.specs.declared.actions.NumOp.{NumOp}
 use Rattle.ps_world.specs.declared.actions.NumOp.TheVariants as numeric
 use Rattle.ps_world.specs.declared.actions.Effect.{Effect}
 use Rattle.ps_world.specs.declared.actions.Effect.TheVariants as effect
+use Rattle.ps_world.specs.declared.actions.Guarded.{Guarded}
+use Rattle.ps_world.specs.declared.actions.Guarded.TheVariants.{Plain, When}
+use Rattle.ps_world.specs.declared.actions.Spread.{Spread}
+use Rattle.ps_world.specs.declared.actions.Spread.TheVariants.{Once, ForAll}
 use Rattle.ps_world.specs.declared.actions.ActionDef.{ActionDef}
 use Rattle.ps_world.specs.declared.domains.Param.{Param}
 use Rattle.ps_world.specs.declared.domains.Decl.{Decl}
@@ -34,7 +39,7 @@ use Rattle.ps_text.specs.Words.{is_run_byte}
 use Rattle.ps_text.proofs.Pieces.{first-yes, first-no}
 use Rattle.ps_text.proofs.NameRuns.{no_position-by, no_bad_place}
 use Rattle.ps_print.specs.CanonicalWords as canonical
-use Rattle.ps_print.specs.CanonicalWords.{IsNameOf, IsParamOf, IsDeclOf, IsTermOf, IsLiftedOf, IsExprOf, IsCondOf, AreCondsOf, IsEffectOf, IsActionOf, IsDomainOf}
+use Rattle.ps_print.specs.CanonicalWords.{IsNameOf, IsParamOf, IsDeclOf, IsTermOf, IsLiftedOf, IsExprOf, IsCondOf, AreCondsOf, IsEffectOf, IsGuardedOf, IsSpreadOf, IsActionOf, IsDomainOf}
 use Rattle.ps_print.specs.Laws.{CanonicalWords}
 use Rattle.ps_print.proofs.Writing.{Writes, Whole, Later, Ending, whole_whole, whole_writes, writes_later, writes_ending, later_later, later_ending, writes_of, whole_is, later_blank, ending_blank, open_paren, close_paren, is_run, one_word, list_all-is_run, is_run-append, each_after_space, each_spaced, each_timed, Lines, no_lines, one_line, line_lines, lines_lines, words-whole}
 
@@ -142,6 +147,9 @@ open_exists = record { whole = λ rest. refl }
 
 open_forall : Whole (codes "(forall ") (codes "(" ∷ codes "forall" ∷ [])
 open_forall = record { whole = λ rest. refl }
+
+open_when : Whole (codes "(when ") (codes "(" ∷ codes "when" ∷ [])
+open_when = record { whole = λ rest. refl }
 
 at : Whole (codes "at ") (codes "at" ∷ [])
 at = record { whole = λ rest. refl }
@@ -269,6 +277,35 @@ module _ (names : Table) (good : AreNames names) where
     conditions ps known none h = record { writes = λ rest e. refl; apart = λ rest e. e }
     conditions ps known (more c cs) h = later_blank (writes_later (condition ps known c h.0) (conditions ps known cs h.1))
 
+  -- ---- effects
+
+  -- parts after `and`, between two parentheses
+  body : {X : Type 0} (P : X → Type 0) (f : X → List ℕ) (g : X → List (List ℕ)) → ((x : X) → P x → Writes (f x) (g x)) → (xs : List X) → All P xs
+      → Writes (codes "(and" ++ (text.after_spaces (map f xs) ++ codes ")")) (canonical.grouped (codes "and" ∷ flat_map g xs))
+  body P f g each xs h = writes_of (writes_ending open_and (later_ending (each_after_space P f g each xs h) close_paren))
+
+  -- a form's first part, and a body
+  with_body : {X : Type 0} {start part : List ℕ} {first : List ℕ} {ws : List (List ℕ)} (P : X → Type 0) (f : X → List ℕ) (g : X → List (List ℕ)) → ((x : X) → P x → Writes (f x) (g x)) → (xs : List X) → All P xs
+      → Whole start (codes "(" ∷ first ∷ []) → Writes part ws
+      → Writes (start ++ (part ++ (codes " (and" ++ (text.after_spaces (map f xs) ++ codes "))")))) (canonical.grouped (first ∷ (ws ++ canonical.grouped (codes "and" ∷ flat_map g xs))))
+  with_body {X} {start} {part} {first} {ws} P f g each xs h s p =
+      let same : (codes "(and" ++ (text.after_spaces (map f xs) ++ codes ")")) ++ codes ")" ≡ codes "(and" ++ (text.after_spaces (map f xs) ++ codes "))") =
+      ap (λ l. codes "(and" ++ l) (append_assoc (text.after_spaces (map f xs)) (codes ")") (codes ")")) in
+      subst (λ l. Writes (start ++ (part ++ (codes " " ++ l))) (canonical.grouped (first ∷ (ws ++ canonical.grouped (codes "and" ∷ flat_map g xs))))) same
+      (writes_of (after_start s p (body P f g each xs h)))
+
+  guarded : (ps : List Param) → All (IsParamOf count) ps → (g : Guarded) → IsGuardedOf count ps g → Writes (text.guarded_text names ps g) (canonical.guarded_words names ps g)
+  guarded ps known (Plain e) h = one_effect ps known e h
+  guarded ps known (When c es) h =
+      with_body (IsEffectOf count (length ps)) (text.effect_text names ps) (canonical.effect_words names ps) (one_effect ps known) es h.1
+      open_when (condition ps known (cond_tree c) h.0)
+
+  spread : (ps : List Param) → All (IsParamOf count) ps → (s : Spread) → IsSpreadOf count ps s → Writes (text.spread_text names ps s) (canonical.spread_words names ps s)
+  spread ps known (Once g) h = guarded ps known g h
+  spread ps known (ForAll qs gs) h =
+      with_body (IsGuardedOf count (ps ++ qs)) (text.guarded_text names (ps ++ qs)) (canonical.guarded_words names (ps ++ qs))
+      (guarded (ps ++ qs) (All-append (IsParamOf count) ps qs known h.0)) gs h.1 open_forall (writes_of (bound qs h.0))
+
   -- ---- actions
 
   module _ (a : ActionDef) (h : IsActionOf count a) where
@@ -276,9 +313,9 @@ module _ (names : Table) (good : AreNames names) where
         → Later (text.timed_text time (map (text.cond_text names a.params) cs)) (canonical.timed_words ts (map (canonical.cond_words names a.params) cs))
     timed_condition time ts w = each_timed (IsCondOf count a.params) (text.cond_text names a.params) (canonical.cond_words names a.params) (condition a.params h.params) time ts w
 
-    timed_effect : (time : List ℕ) (ts : List (List ℕ)) → Writes time ts → (es : List Effect) → All (IsEffectOf count (length a.params)) es
-        → Later (text.timed_text time (map (text.effect_text names a.params) es)) (canonical.timed_words ts (map (canonical.effect_words names a.params) es))
-    timed_effect time ts w = each_timed (IsEffectOf count (length a.params)) (text.effect_text names a.params) (canonical.effect_words names a.params) (one_effect a.params h.params) time ts w
+    timed_effect : (time : List ℕ) (ts : List (List ℕ)) → Writes time ts → (es : List Spread) → All (IsSpreadOf count a.params) es
+        → Later (text.timed_text time (map (text.spread_text names a.params) es)) (canonical.timed_words ts (map (canonical.spread_words names a.params) es))
+    timed_effect time ts w = each_timed (IsSpreadOf count a.params) (text.spread_text names a.params) (canonical.spread_words names a.params) (spread a.params h.params) time ts w
 
     all_conditions : Later (text.conditions_text names a) (canonical.conditions_words names a)
     all_conditions =

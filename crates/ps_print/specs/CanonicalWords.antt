@@ -8,12 +8,17 @@ use Rattle.ps_world.specs.Trees.{ExprTree, number, value_of, negated, operated, 
 use Rattle.ps_world.specs.Leaves.{AllIn, AllInEach}
 use Rattle.ps_world.specs.Tables.{goal_leaves}
 use Rattle.ps_world.specs.ExprViews.{expr_tree}
+use Rattle.ps_world.specs.CondViews.{cond_tree}
 use Rattle.ps_world.specs.declared.names.Name.{Name}
 use Rattle.ps_world.specs.declared.schemas.Term.{Term}
 use Rattle.ps_world.specs.declared.schemas.Term.TheVariants.{Var, Const}
 use Rattle.ps_world.specs.declared.schemas.Lifted.{Lifted}
 use Rattle.ps_world.specs.declared.actions.Effect.{Effect}
 use Rattle.ps_world.specs.declared.actions.Effect.TheVariants as effect
+use Rattle.ps_world.specs.declared.actions.Guarded.{Guarded}
+use Rattle.ps_world.specs.declared.actions.Guarded.TheVariants.{Plain, When}
+use Rattle.ps_world.specs.declared.actions.Spread.{Spread}
+use Rattle.ps_world.specs.declared.actions.Spread.TheVariants.{Once, ForAll}
 use Rattle.ps_world.specs.declared.actions.ActionDef.{ActionDef}
 use Rattle.ps_world.specs.declared.domains.Param.{Param}
 use Rattle.ps_world.specs.declared.domains.Decl.{Decl}
@@ -82,6 +87,18 @@ effect_words names ps (effect.Delete l) = grouped (codes "not" ∷ lifted_words 
 effect_words names ps (effect.Number how l x) =
     grouped (num_op_text how ∷ (lifted_words names ps l ++ expr_words names ps (expr_tree x)))
 
+-- an effect, or (when C (and G*))
+abbrev pub guarded_words : Table → List Param → Guarded → List (List ℕ)
+guarded_words names ps (Plain e) = effect_words names ps e
+guarded_words names ps (When c es) =
+    grouped (codes "when" ∷ (cond_words names ps (cond_tree c) ++ grouped (codes "and" ∷ flat_map (effect_words names ps) es)))
+
+-- what stands once, or (forall (VLIST) (and W*))
+abbrev pub spread_words : Table → List Param → Spread → List (List ℕ)
+spread_words names ps (Once g) = guarded_words names ps g
+spread_words names ps (ForAll qs gs) =
+    grouped (codes "forall" ∷ (bound_words names qs ++ grouped (codes "and" ∷ flat_map (guarded_words names (ps ++ qs)) gs)))
+
 -- parts with the same time
 abbrev pub timed_words : List (List ℕ) → List (List (List ℕ)) → List (List ℕ)
 timed_words time parts = flat_map (λ part. grouped (time ++ part)) parts
@@ -106,8 +123,8 @@ conditions_words names a =
 -- the parts of an action's effect
 abbrev pub effects_words : Table → ActionDef → List (List ℕ)
 effects_words names a =
-    timed_words at_start (map (effect_words names a.params) a.effects.at_start)
-    ++ timed_words at_end (map (effect_words names a.params) a.effects.at_end)
+    timed_words at_start (map (spread_words names a.params) a.effects.at_start)
+    ++ timed_words at_end (map (spread_words names a.params) a.effects.at_end)
 
 -- an action
 abbrev pub action_words : Table → ActionDef → List (List ℕ)
@@ -178,6 +195,16 @@ IsEffectOf count params (effect.Add l) = IsLiftedOf count params l
 IsEffectOf count params (effect.Delete l) = IsLiftedOf count params l
 IsEffectOf count params (effect.Number how l x) = IsLiftedOf count params l × IsExprOf count params (expr_tree x)
 
+-- the same of an effect, or of effects with their condition, where these variables are in force
+abbrev pub IsGuardedOf : ℕ → List Param → Guarded → Type 0
+IsGuardedOf count ps (Plain e) = IsEffectOf count (length ps) e
+IsGuardedOf count ps (When c es) = IsCondOf count ps (cond_tree c) × All (IsEffectOf count (length ps)) es
+
+-- the same of what stands in a list of effects
+abbrev pub IsSpreadOf : ℕ → List Param → Spread → Type 0
+IsSpreadOf count ps (Once g) = IsGuardedOf count ps g
+IsSpreadOf count ps (ForAll qs gs) = All (IsParamOf count) qs × All (IsGuardedOf count (ps ++ qs)) gs
+
 -- the same of an action and its own parameters
 pub record IsActionOf (count : ℕ) (a : ActionDef) : Type 0 where
   pub name : IsNameOf count a.name
@@ -186,8 +213,8 @@ pub record IsActionOf (count : ℕ) (a : ActionDef) : Type 0 where
   pub conditions_at_start : All (IsCondOf count a.params) a.conditions.at_start
   pub conditions_over_all : All (IsCondOf count a.params) a.conditions.over_all
   pub conditions_at_end : All (IsCondOf count a.params) a.conditions.at_end
-  pub effects_at_start : All (IsEffectOf count (length a.params)) a.effects.at_start
-  pub effects_at_end : All (IsEffectOf count (length a.params)) a.effects.at_end
+  pub effects_at_start : All (IsSpreadOf count a.params) a.effects.at_start
+  pub effects_at_end : All (IsSpreadOf count a.params) a.effects.at_end
 
 -- each name of a domain is one of so many, each variable one of those in force, and no condition says that an instance has a type
 pub record IsDomainOf (count : ℕ) (d : Domain) : Type 0 where

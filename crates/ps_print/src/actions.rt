@@ -2,15 +2,15 @@
 ghost use Rattle.std.specs.Prelude.{◌≡◌, [], ◌++◌, codes, map, slice_index_or, OnOk};
 ghost use Rattle.std.specs.List.{flat_map};
 ghost use Rattle.ps_world.specs.Lines.{line_end};
-ghost use Rattle.ps_world.specs.DomainTexts.{cond_text, effect_text, conditions_text, effects_text, action_lines};
+ghost use Rattle.ps_world.specs.DomainTexts.{cond_text, spread_text, conditions_text, effects_text, action_lines};
 
 use super::conditions::write_condition;
 use super::declared::{write_name, write_params};
-use super::effects::write_effect;
+use super::effects::write_spread;
 use super::expressions::write_expression;
 use super::writer::Writer;
 use ps_text::Names;
-use ps_world::{ActionDef, Conds, Effect, Param};
+use ps_world::{ActionDef, Conds, Param, Spread};
 use std::alloc::AllocError;
 
 /// Adds conditions with the same time, each after a space, a parenthesis and the time.
@@ -39,15 +39,15 @@ fn write_timed_effects(
     names: &Names,
     params: &[Param],
     opening: &[u8],
-    effects: &[Effect],
+    effects: &[Spread],
 ) -> Result<(), AllocError>
     ensures { OnOk result (text.new ≡ text.old
         ++ flat_map (λ effect. opening.now ++ (effect ++ codes ")"))
-        (map (effect_text names.now params.now) effects.now)) }
+        (map (spread_text names.now params.now) effects.now)) }
 {
     for effect in effects {
         text.extend_from_slice(opening)?;
-        write_effect(text, names, params, effect)?;
+        write_spread(text, names, params, effect)?;
         text.push(b')')?;
     }
     Ok(())

@@ -71,7 +71,11 @@ fn write_same(
 }
 
 /// Adds the variables of a quantifier, each with its type.
-fn write_bound(text: &mut Writer, names: &Names, bound: &[Param]) -> Result<(), AllocError>
+pub(crate) fn write_bound(
+    text: &mut Writer,
+    names: &Names,
+    bound: &[Param],
+) -> Result<(), AllocError>
     ensures { OnOk result (text.new ≡ text.old ++ bound_text names.now bound.now) }
 {
     text.push(b'(')?;
@@ -81,7 +85,11 @@ fn write_bound(text: &mut Writer, names: &Names, bound: &[Param]) -> Result<(), 
 }
 
 /// The variables in force below a quantifier: these, and then its own.
-fn in_force(alloc: Global, params: &[Param], bound: &[Param]) -> Result<Vec<Param>, AllocError>
+pub(crate) fn in_force(
+    alloc: Global,
+    params: &[Param],
+    bound: &[Param],
+) -> Result<Vec<Param>, AllocError>
     ensures { IfOk result (λ all. all.items ≡ params.now ++ bound.now) }
 {
     let mut all = Vec::new(alloc);

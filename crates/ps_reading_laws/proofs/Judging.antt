@@ -1,27 +1,27 @@
 -- Marks are derived from what is wanted, and shallow, or they have a first fault.
-use Rattle.std.proofs.Common.{◌≡◌, ◌⊎◌, ℕ, zero, suc, ◌+◌, ◌≤◌, List, [], ◌∷◌, length, get_or, Option, None, Some, Err, slice_get, refl, inl, inr, arith}
-use Rattle.std.proofs.lemmas.Bool.{cases_lt}
+use Rattle.std.proofs.Common.{◌≡◌, ◌⊎◌, ℕ, zero, suc, ◌+◌, ◌≤◌, Bool, true, false, List, [], ◌∷◌, length, get_or, Option, None, Some, Err, slice_get, refl, sym, ◌∙◌, inl, inr, arith}
+use Rattle.std.proofs.lemmas.Bool.{cases_Bool, cases_lt}
 use Rattle.std.proofs.lemmas.Option.{slice_get-get_or}
 use Rattle.ps_world.specs.declared.failures.Failure.TheVariants.{Refused}
-use Rattle.ps_shape.specs.Forms.{told_at}
-use Rattle.ps_shape.specs.Shape.{Derives, IsDomainShape, IsFirstFaultFrom, IsShallow, IsShallowFrom, Refuses, deepest, next_wanted, text_start}
+use Rattle.ps_shape.specs.Forms.{opened_at, told_at}
+use Rattle.ps_shape.specs.Shape.{Derives, IsDomainShape, IsFirstFaultFrom, IsShallow, IsShallowFrom, Refuses, deepest, next_wanted, opens_level, text_start}
 use Rattle.ps_shape.specs.Steps.{Fails, IsOver, Passes, Stops, form_of}
 use Rattle.ps_shape.specs.Symbols.{level}
 use Rattle.ps_shape.specs.declared.faults.ShapeFault.{ShapeFault}
 use Rattle.ps_shape.specs.declared.faults.ShapeFault.TheVariants.{Unsupported, Depth, Unexpected}
 use Rattle.ps_shape.specs.declared.marks.Mark.{Mark}
-use Rattle.ps_shape.specs.declared.marks.Mark.TheVariants.{Open, Close}
+use Rattle.ps_shape.specs.declared.marks.Mark.TheVariants.{Close}
 use Rattle.ps_shape.specs.declared.symbols.Symbol.{Symbol}
 use Rattle.ps_shape.proofs.FirstFaults.{Reached, first_fault_end, first_fault_here, reached_more, reached_start, refused, unfinished, whole}
-use Rattle.ps_reading_laws.proofs.Cases.{found, this_or_other}
+use Rattle.ps_reading_laws.proofs.Cases.{found}
 
 -- ---- one mark
 
 -- a mark opens a level too many, or doesn't
 over_or_not : (st : List Symbol) (m : Mark) → IsOver st m ⊎ (IsOver st m → ⊥)
 over_or_not st m =
-    elim (this_or_other Open m) [
-      | inr other ↦ inr (λ over. other over.0)
+    elim (cases_Bool (opens_level st (Some m))) [
+      | inr other ↦ inr (λ over. let clash : ◌≡◌ {A = Bool} true false = sym over.0 ∙ other in absurd (cc))
       | inl opens ↦ elim (cases_lt (level st) deepest) [
         | inl room ↦ inr (λ over. let deep : deepest ≤ level st = over.1 in omega arith)
         | inr deep ↦ inl (opens, deep)
@@ -51,7 +51,7 @@ misfits st m next at none flat =
 passes_or_fails : (st : List Symbol) (m : Mark) (next : Option Mark) (at : ℕ) → ((new : List Symbol) × Passes st m new) ⊎ ((fault : ShapeFault) × Fails st m next at fault)
 passes_or_fails st m next at =
     elim (over_or_not st m) [
-      | inl over ↦ inr (Depth at, (refl, over))
+      | inl over ↦ inr (Depth (opened_at (slice_get st 0) at), (refl, over))
       | inr flat ↦ elim (found (next_wanted st m)) [
         | inl new ↦ inl (new.0, (new.1, flat))
         | inr none ↦ inr (misfits st m next at none flat)

@@ -10,7 +10,8 @@ pub mod LineReadings
 pub mod MemberForms
 pub mod MemberReadings
 pub mod Nesting
-pub mod Phases
+pub mod OpenForms
+pub mod TextSymbols
 pub mod Ways
 pub mod WordsJudged
 pub mod WritableDomains

@@ -1,15 +1,15 @@
 -- In a line of a form a parenthesis opens a level too many exactly where as many stand open as levels may.
-use Rattle.std.proofs.Common.{◌≡◌, ◌⊎◌, ℕ, ◌≤◌, Bool, true, ◌&&◌, List, [], ◌∷◌, ◌++◌, Option, None, Some, take, refl, ◌∙◌, subst, inl, inr, arith}
+use Rattle.std.proofs.Common.{◌≡◌, ◌⊎◌, ℕ, ◌≤◌, Bool, true, false, ◌&&◌, List, [], ◌∷◌, ◌++◌, Option, None, Some, slice_get, take, refl, sym, ◌∙◌, ap, subst, inl, inr, arith}
 use Rattle.std.specs.List.{list_all}
 use Rattle.std.proofs.lemmas.Bool.{and_parts}
 use Rattle.ps_shape.specs.Marks.{is}
 use Rattle.ps_shape.specs.Rules.{step}
-use Rattle.ps_shape.specs.Shape.{deepest, next_wanted, wanted_from}
+use Rattle.ps_shape.specs.Shape.{deepest, next_wanted, opens_level, wanted_from}
 use Rattle.ps_shape.specs.Symbols.{level, weight}
 use Rattle.ps_shape.specs.declared.marks.Mark.{Mark}
 use Rattle.ps_shape.specs.declared.marks.Mark.TheVariants.{Open}
 use Rattle.ps_shape.specs.declared.symbols.Symbol.{Symbol}
-use Rattle.ps_shape.specs.declared.symbols.Symbol.TheVariants.{The, AnyName}
+use Rattle.ps_shape.specs.declared.symbols.Symbol.TheVariants.{The, AnyName, InEffect}
 use Rattle.ps_shape.proofs.Levels.{level_more}
 use Rattle.ps_forms.proofs.Balance.{each_mark}
 use Rattle.ps_script.specs.Forms as script
@@ -22,8 +22,8 @@ use Rattle.ps_members.specs.declared.forms.Form.TheVariants.{Edit}
 use Rattle.ps_reading_laws.specs.Laws.{LineDepthsAreParentheses, MemberDepthsAreParentheses}
 use Rattle.ps_reading_laws.specs.Levels.{CountsParentheses, open_after, opened, opened_by}
 use Rattle.ps_reading_laws.proofs.Cases.{mark_is}
-use Rattle.ps_reading_laws.proofs.LevelSymbols.{inner_fits, inner_step, is_inner, is_none, moves}
-use Rattle.ps_reading_laws.proofs.Levels.{inner_more, none_of, opens_so}
+use Rattle.ps_reading_laws.proofs.LevelSymbols.{inner_fits, inner_more, inner_step, is_inner, is_none, moves, none_of, opens_so}
+use Rattle.ps_reading_laws.proofs.TextSymbols.{is_body_head, opens_elsewhere}
 use Rattle.ps_reading_laws.proofs.Ways.{Leads, first_leads, front_leads}
 use Rattle.ps_reading_laws.proofs.Ways.Leads.{no_mark, one_mark}
 
@@ -98,12 +98,32 @@ depths_agree : (a n : ℕ) → (a ≡ n) ⊎ ((a ≡ 1) × (n ≡ 0)) → (deepe
 depths_agree a n (inl same) = (λ h. omega arith, λ h. omega arith)
 depths_agree a n (inr begun) = (let one : a ≡ 1 = begun.0 in let zero : n ≡ 0 = begun.1 in (λ h. absurd (omega arith), λ h. absurd (omega arith)))
 
+-- no body of an effect is wanted
+inner_no_body : (s : Symbol) → is_inner s ≡ true → is_body_head (Some s) ≡ false
+inner_no_body (InEffect part) e = absurd (cc)
+inner_no_body _ e = refl
+
+no_body : (st : List Symbol) (n : ℕ) → Agrees st n → is_body_head (slice_get st 0) ≡ false
+no_body _ _ (goes_on [] n all sum) = refl
+no_body _ _ (goes_on (s ∷ st) n all sum) = inner_no_body s (and_parts (is_inner s) (list_all is_inner st) all).0
+no_body _ _ (begins _ (opens rest all one)) = refl
+no_body _ _ (begins _ (name st b)) = refl
+
+-- so a level is opened by a parenthesis alone
+opened_so : (st : List Symbol) (o : Option Mark) → is_body_head (slice_get st 0) ≡ false → (opens_level st o ≡ true → o ≡ Some Open) × (o ≡ Some Open → opens_level st o ≡ true)
+opened_so st None h = (λ e. absurd (cc), λ e. absurd (cc))
+opened_so st (Some m) h =
+    let same = opens_elsewhere (slice_get st 0) m h in
+    (λ e. ap Some (mark_is Open m (sym same ∙ e)), λ e. let here : m ≡ Open = cc in same ∙ rw here refl)
+
 counts : (start : List Symbol) → Agrees start 0 → CountsParentheses start
 counts start agrees ms at front =
     let now : List Symbol = wanted_from start (take at ms) in
     let n : ℕ = open_after (take at ms) in
-    let deep = depths_agree (level now) n (levels_agree now n (agrees_all start now 0 (take at ms) agrees (front_leads start (take at ms) front))) in
-    (λ h. (h.0, deep.0 h.1), λ h. (h.0, deep.1 h.1))
+    let end : Agrees now n = agrees_all start now 0 (take at ms) agrees (front_leads start (take at ms) front) in
+    let deep = depths_agree (level now) n (levels_agree now n end) in
+    let opens = opened_so now (slice_get ms at) (no_body now n end) in
+    (λ h. (opens.0 h.0, deep.0 h.1), λ h. (opens.1 h.0, deep.1 h.1))
 
 -- ---- lines
 

@@ -1,5 +1,5 @@
 -- A condition, an effect or an expression fits the grammar's levels exactly where its text has few enough parentheses open at one place.
-use Rattle.std.proofs.Common.{◌≡◌, ℕ, zero, suc, ◌≤◌, false, List, ◌++◌, length, codes, get_or, refl, sym, ◌∙◌, inl, inr, arith}
+use Rattle.std.proofs.Common.{◌≡◌, ℕ, zero, suc, ◌+◌, ◌≤◌, false, List, [], ◌++◌, length, codes, get_or, refl, sym, ◌∙◌, inl, inr, arith}
 use Rattle.std.specs.List.{All}
 use Rattle.std.proofs.lemmas.Bool.{cases_Bool}
 use Rattle.std.proofs.lemmas.List.Elements.{All-weaker}
@@ -12,20 +12,28 @@ use Rattle.ps_text.specs.Names.{AreNames, folded}
 use Rattle.ps_world.specs.Trees.{ExprTree, number, value_of, negated, operated, CondTree, CondTrees, all_of, any_of, no, implied, holds, same, compares, is_a, for_some, for_all}
 use Rattle.ps_world.specs.Trees as tree
 use Rattle.ps_world.specs.ExprViews.{expr_tree}
+use Rattle.ps_world.specs.CondViews.{cond_tree}
 use Rattle.ps_world.specs.declared.actions.Effect.{Effect}
 use Rattle.ps_world.specs.declared.actions.Effect.TheVariants.{Add, Delete, Number}
+use Rattle.ps_world.specs.declared.actions.Guarded.{Guarded}
+use Rattle.ps_world.specs.declared.actions.Guarded.TheVariants.{Plain, When}
+use Rattle.ps_world.specs.declared.actions.Spread.{Spread}
+use Rattle.ps_world.specs.declared.actions.Spread.TheVariants.{Once, ForAll}
 use Rattle.ps_world.specs.declared.domains.Param.{Param}
 use Rattle.ps_world.specs.declared.domains.Domain.{Domain}
 use Rattle.ps_rules.specs.Sound.{cond_opens, conds_open, expr_opens}
-use Rattle.ps_print.specs.CanonicalWords.{AreCondsOf, IsCondOf, IsNameOf, IsParamOf}
-use Rattle.ps_pddl.specs.WellFormed.{IsEffect}
-use Rattle.ps_pddl.proofs.Fits.{FitParams, FitsCond, FitConds, FitsEffect, FitsExpr, IsVariableName}
+use Rattle.ps_shape.specs.Shape.{deepest}
+use Rattle.ps_print.specs.CanonicalWords.{AreCondsOf, IsCondOf, IsGuardedOf, IsNameOf, IsParamOf, IsSpreadOf}
+use Rattle.ps_pddl.specs.WellFormed.{IsEffect, IsGuarded, IsSpread}
+use Rattle.ps_pddl.proofs.Fits.{FitParams, FitsCond, FitConds, FitsEffect, FitsExpr, FitsGuarded, FitsSpread, IsVariableName}
 use Rattle.ps_pddl.proofs.Fits.FitsCond.{fits_all, fits_any, fits_comparison, fits_each, fits_fact, fits_implied, fits_not, fits_same, fits_some}
 use Rattle.ps_pddl.proofs.Fits.FitConds.{fit_more, fit_none}
 use Rattle.ps_pddl.proofs.Fits.FitsEffect.{fits_addition, fits_change, fits_deletion}
+use Rattle.ps_pddl.proofs.Fits.FitsGuarded.{fits_plain, fits_when}
+use Rattle.ps_pddl.proofs.Fits.FitsSpread.{fits_for_each, fits_once}
 use Rattle.ps_pddl.proofs.Fits.FitsExpr.{fits_negation, fits_number, fits_operation, fits_value}
 use Rattle.ps_pddl.proofs.MeanConditions.{HaveHeads, fact-head}
-use Rattle.ps_reading_laws.specs.Writable.{AreParamNames, effect_opens, headed_leaves}
+use Rattle.ps_reading_laws.specs.Writable.{AreParamNames, IsWritableEffect, IsWritableGuarded, IsWritableSpread, effect_opens, headed_leaves}
 
 -- ---- expressions
 
@@ -174,7 +182,7 @@ module _ (names : Table) where
   -- ---- effects
 
   -- the head of an added fact is a declared predicate, which has no name of a form
-  pub effect_fits : (d : Domain) (ps : List Param) (room : ℕ) (e : Effect) → HaveHeads names d.predicates → IsEffect d ps e → effect_opens e ≤ room → FitsEffect names room e
+  effect_fits : (d : Domain) (ps : List Param) (room : ℕ) (e : Effect) → HaveHeads names d.predicates → IsEffect d ps e → effect_opens e ≤ room → FitsEffect names room e
   effect_fits d ps zero (Add l) heads sound few = absurd (omega (arith, few))
   effect_fits d ps (suc room) (Add l) heads sound few = fits_addition room l (fact-head names d ps l heads sound)
   effect_fits d ps zero (Delete l) heads sound few = absurd (omega (arith, few))
@@ -184,9 +192,42 @@ module _ (names : Table) where
   effect_fits d ps (suc zero) (Number how l x) heads sound few = absurd (omega (arith, few))
   effect_fits d ps (suc (suc room)) (Number how l x) heads sound few = fits_change room how l x (expr_fits (suc room) (expr_tree x) (omega (arith, few)))
 
-  pub effect_opens_few : (room : ℕ) (e : Effect) → FitsEffect names room e → effect_opens e ≤ room
+  effect_opens_few : (room : ℕ) (e : Effect) → FitsEffect names room e → effect_opens e ≤ room
   effect_opens_few _ _ (fits_addition room l head) = omega arith
   effect_opens_few _ _ (fits_deletion room l) = omega arith
   effect_opens_few _ _ (fits_change room how l x fit) =
       let below = expr_opens_few (suc room) (expr_tree x) fit in
       omega (arith, below)
+
+  -- ---- effects with their conditions, and for each choice
+
+  effects_fit : (d : Domain) (ps : List Param) (room outer : ℕ) → outer + room ≡ deepest → HaveHeads names d.predicates → (es : List Effect) → All (IsEffect d ps) es → All (IsWritableEffect outer) es → All (FitsEffect names room) es
+  effects_fit d ps room outer all heads es sound written = λ k e lt. effect_fits d ps room (get_or es k e) heads (sound k e lt) (let few : outer + effect_opens (get_or es k e) ≤ deepest = written k e lt in omega (arith, few, all))
+
+  effects_written : (room outer : ℕ) → outer + room ≡ deepest → (es : List Effect) → All (FitsEffect names room) es → All (IsWritableEffect outer) es
+  effects_written room outer all es fit = λ k e lt. omega (arith, effect_opens_few room (get_or es k e) (fit k e lt), all)
+
+  -- effects with their condition, where these variables are in force
+  guarded_fits : AreNames names → (d : Domain) (own : ℕ) (ps : List Param) (room outer : ℕ) → outer + suc (suc room) ≡ deepest → HaveHeads names d.predicates → (g : Guarded) → IsGuardedOf (length names) ps g → IsGuarded d own ps g → IsWritableGuarded names outer g
+      → FitsGuarded names (suc (suc room)) g
+  guarded_fits good d own ps room outer all heads (Plain e) known sound written = fits_plain (suc (suc room)) e (effect_fits d ps (suc (suc room)) e heads sound (omega (arith, written, all)))
+  guarded_fits good d own ps room outer all heads (When c es) known sound written =
+      fits_when room c es (cond_fits good ps [] (suc room) (cond_tree c) known.0 written.0.0 (let few : outer + 1 + cond_opens (cond_tree c) ≤ deepest = written.0.1 in omega (arith, few, all)))
+      (effects_fit d ps room (outer + 2) (omega (arith, all)) heads es sound.1 written.1)
+
+  guarded_written : (room outer : ℕ) (g : Guarded) → outer + room ≡ deepest → FitsGuarded names room g → IsWritableGuarded names outer g
+  guarded_written _ outer _ all (fits_plain room e fit) = omega (arith, effect_opens_few room e fit, all)
+  guarded_written _ outer _ all (fits_when room c es fit also) =
+      ((cond_heads [] (suc room) (cond_tree c) fit, omega (arith, cond_opens_few (suc room) (cond_tree c) fit, all)), effects_written room (outer + 2) (omega (arith, all)) es also)
+
+  -- what stands in a list of effects
+  pub spread_fits : AreNames names → (d : Domain) (ps : List Param) (room outer : ℕ) → outer + suc (suc (suc (suc room))) ≡ deepest → HaveHeads names d.predicates → (s : Spread) → IsSpreadOf (length names) ps s → IsSpread d ps s → IsWritableSpread names outer s
+      → FitsSpread names (suc (suc (suc (suc room)))) s
+  spread_fits good d ps room outer all heads (Once g) known sound written = fits_once (suc (suc (suc (suc room)))) g (guarded_fits good d (length ps) ps (suc (suc room)) outer all heads g known sound written)
+  spread_fits good d ps room outer all heads (ForAll qs gs) known sound written =
+      fits_for_each (suc (suc room)) qs gs (params_fit good qs known.0 written.0)
+      (λ k g lt. guarded_fits good d (length ps) (ps ++ qs) room (outer + 2) (omega (arith, all)) heads (get_or gs k g) (known.1 k g lt) (sound.1 k g lt) (written.1 k g lt))
+
+  pub spread_written : (room outer : ℕ) (s : Spread) → outer + room ≡ deepest → FitsSpread names room s → IsWritableSpread names outer s
+  spread_written _ outer _ all (fits_once room g fit) = guarded_written room outer g all fit
+  spread_written _ outer _ all (fits_for_each room qs gs free fit) = (params_written qs free, λ k g lt. guarded_written room (outer + 2) (get_or gs k g) (omega (arith, all)) (fit k g lt))

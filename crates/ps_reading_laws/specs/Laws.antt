@@ -1,12 +1,13 @@
 -- Each text is read as something, levels of depth are parentheses, and each domain that can be written is read back from its text.
-use Rattle.std.specs.Prelude.{◌≡◌, ℕ, List, Result, Ok}
+use Rattle.std.specs.Prelude.{◌≡◌, ℕ, ◌≤◌, ◌↔◌, true, List, Result, Ok, slice_get, take}
 use Rattle.ps_world.specs.DomainTexts.{domain_text}
 use Rattle.ps_world.specs.Names.{Table}
 use Rattle.ps_world.specs.declared.domains.Domain.{Domain}
 use Rattle.ps_machine.specs.declared.members.Member.{Member}
 use Rattle.ps_text.specs.Names.{AreNames}
+use Rattle.ps_shape.specs.Forms.{opened_at}
 use Rattle.ps_shape.specs.Fronts.{IsFront}
-use Rattle.ps_shape.specs.Shape.{IsDomainShape, wanted}
+use Rattle.ps_shape.specs.Shape.{IsDomainShape, IsTooDeep, deepest, wanted}
 use Rattle.ps_shape.specs.Symbols.{level}
 use Rattle.ps_shape.specs.declared.marks.Mark.{Mark}
 use Rattle.ps_script.specs.Lines as script
@@ -20,7 +21,7 @@ use Rattle.ps_members.specs.declared.refusals.ScriptRefusal.{ScriptRefusal}
 use Rattle.ps_pddl.specs.Reading as domain
 use Rattle.ps_pddl.specs.WellFormed.{IsWellFormed}
 use Rattle.ps_pddl.specs.declared.refusals.DomainRefusal.{DomainRefusal}
-use Rattle.ps_reading_laws.specs.Levels.{CountsParentheses, IsLevel}
+use Rattle.ps_reading_laws.specs.Levels.{CountsParentheses, levels_after, open_forms, opened_in, opens_in}
 use Rattle.ps_reading_laws.specs.Writable.{IsWritableDomain}
 
 -- Every text is read as a domain or has a first fault, whatever the table of names.
@@ -35,10 +36,19 @@ EveryLineIsRead = (table : Table) (bytes : List ℕ) → (read : Read) × (after
 abbrev pub EveryMemberIsRead : Type 0
 EveryMemberIsRead = (d : Domain) (table : Table) (bytes : List ℕ) → (read : Result Member ScriptRefusal) × (after : Table) × IsMember d table bytes read after
 
--- After marks that begin a domain's text, the level that counts against the limit is the number of parentheses open, and one more
--- within a timed form that stands alone.
+-- After marks that begin a domain's text, the level that counts against the limit is the number of parentheses open, and one more for each
+-- of them whose form stands alone.
 abbrev pub LevelsAreParentheses : Type 0
-LevelsAreParentheses = (ms : List Mark) → IsFront IsDomainShape ms → IsLevel ms (level (wanted ms))
+LevelsAreParentheses = (ms : List Mark) → IsFront IsDomainShape ms → level (wanted ms) ≡ levels_after ms
+
+-- After marks that begin a domain's text, the mark here opens a level too many exactly where it opens one among the open forms, and as many
+-- levels count as may.
+abbrev pub DepthsAreParentheses : Type 0
+DepthsAreParentheses = (ms : List Mark) (at : ℕ) → IsFront IsDomainShape (take at ms) → IsTooDeep ms at ↔ ((opens_in (open_forms (take at ms)) (slice_get ms at) ≡ true) × (deepest ≤ levels_after (take at ms)))
+
+-- Such a level is refused at the parenthesis to which it belongs.
+abbrev pub DepthsAreToldThere : Type 0
+DepthsAreToldThere = (ms : List Mark) (at : ℕ) → IsFront IsDomainShape ms → opened_at (slice_get (wanted ms) 0) at ≡ opened_in (open_forms ms) at
 
 -- In a line of a script a parenthesis opens a level too many exactly where as many stand open as levels may.
 abbrev pub LineDepthsAreParentheses : Type 0

@@ -4,9 +4,14 @@ use Rattle.ps_world.specs.Names.{Table, name_text}
 use Rattle.ps_world.specs.Trees.{CondTree, CondTrees}
 use Rattle.ps_world.specs.Leaves.{Leaves, AllIn, AllInEach}
 use Rattle.ps_world.specs.ExprViews.{expr_tree}
+use Rattle.ps_world.specs.CondViews.{cond_tree}
 use Rattle.ps_world.specs.declared.names.Name.{Name}
 use Rattle.ps_world.specs.declared.actions.Effect.{Effect}
 use Rattle.ps_world.specs.declared.actions.Effect.TheVariants.{Add, Delete, Number}
+use Rattle.ps_world.specs.declared.actions.Guarded.{Guarded}
+use Rattle.ps_world.specs.declared.actions.Guarded.TheVariants.{Plain, When}
+use Rattle.ps_world.specs.declared.actions.Spread.{Spread}
+use Rattle.ps_world.specs.declared.actions.Spread.TheVariants.{Once, ForAll}
 use Rattle.ps_world.specs.declared.actions.ActionDef.{ActionDef}
 use Rattle.ps_world.specs.declared.domains.Param.{Param}
 use Rattle.ps_world.specs.declared.domains.Decl.{Decl}
@@ -61,14 +66,24 @@ effect_opens (Add l) = 1
 effect_opens (Delete l) = 2
 effect_opens (Number how l x) = suc (max 1 (expr_opens (expr_tree x)))
 
--- a condition that an action can have: the heads of its facts may stand there, no variable that it binds is named `duration`, and with the 4
--- parentheses around it at most 64 are open at one place
-abbrev pub IsWritableCond : Table → CondTree → Type 0
-IsWritableCond names c = HasFactHeads names c × (4 + cond_opens c ≤ deepest)
+-- a condition that can stand under so many parentheses: the heads of its facts may stand there, no variable that it binds is named
+-- `duration`, and with the parentheses around it at most 64 are open at one place
+abbrev pub IsWritableCond : Table → ℕ → CondTree → Type 0
+IsWritableCond names outer c = HasFactHeads names c × (outer + cond_opens c ≤ deepest)
 
--- an effect that an action can have: with the 4 parentheses around it at most 64 are open at one place
-abbrev pub IsWritableEffect : Effect → Type 0
-IsWritableEffect e = 4 + effect_opens e ≤ deepest
+-- an effect that can stand under so many parentheses: with them at most 64 are open at one place
+abbrev pub IsWritableEffect : ℕ → Effect → Type 0
+IsWritableEffect outer e = outer + effect_opens e ≤ deepest
+
+-- the same of an effect, or of effects with their condition: these stand in an `and`
+abbrev pub IsWritableGuarded : Table → ℕ → Guarded → Type 0
+IsWritableGuarded names outer (Plain e) = IsWritableEffect outer e
+IsWritableGuarded names outer (When c es) = IsWritableCond names (outer + 1) (cond_tree c) × All (IsWritableEffect (outer + 2)) es
+
+-- the same of what stands in a list of effects: no variable of a `forall` is named `duration`, and what it has stands in an `and`
+abbrev pub IsWritableSpread : Table → ℕ → Spread → Type 0
+IsWritableSpread names outer (Once g) = IsWritableGuarded names outer g
+IsWritableSpread names outer (ForAll qs gs) = AreParamNames names qs × All (IsWritableGuarded names (outer + 2)) gs
 
 -- ---- domains
 
@@ -77,16 +92,16 @@ pub record IsWritablePredicate (names : Table) (decl : Decl) : Type 0 where
   pub name : IsPredicateName names decl.name
   pub params : AreParamNames names decl.params
 
--- an action that a domain can have: none of its parameters is named `duration`, its conditions and effects can be written, and with the 3
--- parentheses around its duration at most 64 are open at one place
+-- an action that a domain can have: none of its parameters is named `duration`, its conditions and effects can stand under 4 parentheses, and
+-- with the 3 around its duration at most 64 are open at one place
 pub record IsWritableAction (names : Table) (a : ActionDef) : Type 0 where
   pub params : AreParamNames names a.params
   pub duration : 3 + expr_opens (expr_tree a.duration) ≤ deepest
-  pub start : All (IsWritableCond names) a.conditions.at_start
-  pub over : All (IsWritableCond names) a.conditions.over_all
-  pub end : All (IsWritableCond names) a.conditions.at_end
-  pub at_start : All IsWritableEffect a.effects.at_start
-  pub at_end : All IsWritableEffect a.effects.at_end
+  pub start : All (IsWritableCond names 4) a.conditions.at_start
+  pub over : All (IsWritableCond names 4) a.conditions.over_all
+  pub end : All (IsWritableCond names 4) a.conditions.at_end
+  pub at_start : All (IsWritableSpread names 4) a.effects.at_start
+  pub at_end : All (IsWritableSpread names 4) a.effects.at_end
 
 -- A domain that a text can write: its names stand in the table, its predicates and actions can be written, and no parameter of a function is
 -- named `duration`.

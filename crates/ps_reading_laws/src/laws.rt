@@ -1,5 +1,6 @@
 //! Laws of the definitions: each is the contract of a function that does nothing.
-ghost use Rattle.ps_reading_laws.specs.Laws.{DomainsAreReadBack, EveryLineIsRead, EveryMemberIsRead, EveryTextIsRead, LevelsAreParentheses, LineDepthsAreParentheses, MemberDepthsAreParentheses, PrintedDomainsAreOne, ReadDomainsAreWritable};
+ghost use Rattle.ps_reading_laws.specs.Laws.{DepthsAreParentheses, DepthsAreToldThere, DomainsAreReadBack, EveryLineIsRead, EveryMemberIsRead, EveryTextIsRead, LevelsAreParentheses, LineDepthsAreParentheses, MemberDepthsAreParentheses, PrintedDomainsAreOne, ReadDomainsAreWritable};
+ghost use Rattle.ps_reading_laws.specs.Samples.{SamplesCount};
 
 /// Every text is read as a domain or has a first fault.
 pub fn every_text_is_read()
@@ -16,10 +17,25 @@ pub fn every_member_is_read()
     ensures { EveryMemberIsRead }
 {}
 
-/// The level at a place of a domain's text is the number of parentheses open there, and one more within a timed form that stands
-/// alone.
+/// The level at a place of a domain's text is the number of parentheses open there, and one more for each of them whose form
+/// stands alone.
 pub fn levels_are_parentheses()
     ensures { LevelsAreParentheses }
+{}
+
+/// In a domain's text a level too many is opened exactly where a level is and as many count as may.
+pub fn depths_are_parentheses()
+    ensures { DepthsAreParentheses }
+{}
+
+/// In a domain's text a level too many is told at the parenthesis to which it belongs.
+pub fn depths_are_told_there()
+    ensures { DepthsAreToldThere }
+{}
+
+/// Samples with forms that stand alone: how many levels count in them.
+pub fn samples_count()
+    ensures { SamplesCount }
 {}
 
 /// In a line of a script a parenthesis opens a level too many exactly where as many stand open as levels may.

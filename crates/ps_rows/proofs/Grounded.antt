@@ -9,7 +9,7 @@ use Rattle.ps_world.specs.declared.actions.ActionDef.{ActionDef}
 use Rattle.ps_world.specs.declared.domains.Domain.{Domain}
 use Rattle.ps_world.specs.declared.known.Knowledge.{Knowledge}
 use Rattle.ps_world.specs.declared.names.Name.{Name}
-use Rattle.ps_action.specs.Effects.{unless}
+use Rattle.ps_action.specs.Refusals.{unless}
 use Rattle.ps_action.specs.Grounding.{ground_act, ground_by, grounded}
 use Rattle.ps_action.specs.Plans.{judged}
 use Rattle.ps_action.specs.declared.acts.Act.{Act}

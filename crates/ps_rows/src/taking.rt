@@ -22,11 +22,11 @@ use ps_ledger::Ledger;
 use ps_machine::{Event, Input, Member};
 use ps_problem::Problem;
 use ps_tree::Tree;
-use ps_world::{Duplicate, Edit, Effect, Failure, Name};
+use ps_world::{Duplicate, Edit, Failure, Name, Spread};
 use std::alloc::{AllocError, Global};
 
 /// The start effects of the ground action at this place.
-fn start_effects(grounds: &[GroundAction], act: u32) -> &[Effect]
+fn start_effects(grounds: &[GroundAction], act: u32) -> &[Spread]
     ensures { result.now ≡ part_of (λ g. g.effects.at_start) grounds.now act }
 {
     match grounds.get(act as usize) {
@@ -36,7 +36,7 @@ fn start_effects(grounds: &[GroundAction], act: u32) -> &[Effect]
 }
 
 /// The end effects of the ground action at this place.
-fn end_effects(grounds: &[GroundAction], act: u32) -> &[Effect]
+fn end_effects(grounds: &[GroundAction], act: u32) -> &[Spread]
     ensures { result.now ≡ part_of (λ g. g.effects.at_end) grounds.now act }
 {
     match grounds.get(act as usize) {
@@ -46,7 +46,7 @@ fn end_effects(grounds: &[GroundAction], act: u32) -> &[Effect]
 }
 
 /// Makes effects, if they are defined. Where memory runs out nothing changes.
-fn change(expert: &Expert, problem: &mut Problem, effects: &[Effect]) -> Result<(), AllocError>
+fn change(expert: &Expert, problem: &mut Problem, effects: &[Spread]) -> Result<(), AllocError>
     ensures ok { OnOk result
         (problem.new ≡ kept problem.old (changed expert.now problem.old effects.now)) }
     ensures err { OnErr result (problem.new ≡ problem.old) }

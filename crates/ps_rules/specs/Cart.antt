@@ -11,6 +11,7 @@ use Rattle.ps_world.specs.declared.expressions.Expr.TheVariants.{Num, Fun}
 use Rattle.ps_world.specs.Trees.{holds}
 use Rattle.ps_world.specs.declared.edits.Edit.{Edit}
 use Rattle.ps_world.specs.declared.edits.Edit.TheVariants.{AddInstance, AddFact, SetValue}
+use Rattle.ps_action.specs.Effects.{plainly}
 use Rattle.ps_action.specs.declared.acts.Act.{Act}
 use Rattle.ps_action.specs.declared.answers.Answer.TheVariants.{NoPlan}
 use Rattle.ps_machine.specs.declared.inputs.Query.TheVariants.{ProblemFunctions}
@@ -73,7 +74,7 @@ depot = record {
     };
     effects = record {
       at_start = [];
-      at_end = Number Increase (record { head = name 3; terms = Var 0 ∷ [] }) (Fun (record { head = name 4; terms = [] })) ∷ [];
+      at_end = plainly (Number Increase (record { head = name 3; terms = Var 0 ∷ [] }) (Fun (record { head = name 4; terms = [] })) ∷ []);
     };
   } ∷ [];
 }

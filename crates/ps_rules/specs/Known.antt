@@ -5,7 +5,7 @@ use Rattle.ps_world.specs.Trees.{CondTree}
 use Rattle.ps_world.specs.Knowledge.{action_of, edited, opening}
 use Rattle.ps_world.specs.declared.domains.Domain.{Domain}
 use Rattle.ps_world.specs.declared.known.Knowledge.{Knowledge}
-use Rattle.ps_world.specs.declared.actions.Effect.{Effect}
+use Rattle.ps_world.specs.declared.actions.Spread.{Spread}
 use Rattle.ps_action.specs.Effects.{effect}
 use Rattle.ps_action.specs.Grounding.{grounded}
 use Rattle.ps_action.specs.Truth.{all_true}
@@ -40,11 +40,11 @@ abbrev pub hold : Domain → Knowledge → List CondTree → Bool
 hold d k cs = all_true d k cs
 
 -- the knowledge after effects, or their first fault
-abbrev pub changed : Domain → Knowledge → List Effect → Result Knowledge EffectRefusal
+abbrev pub changed : Domain → Knowledge → List Spread → Result Knowledge EffectRefusal
 changed d k es = effect d k es
 
 -- whether effects are defined
-abbrev pub are_defined : Domain → Knowledge → List Effect → Bool
+abbrev pub are_defined : Domain → Knowledge → List Spread → Bool
 are_defined d k es = is_ok (changed d k es)
 
 -- ---- what is known

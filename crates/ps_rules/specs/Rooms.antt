@@ -14,6 +14,7 @@ use Rattle.ps_world.specs.declared.actions.Effect.TheVariants.{Add, Delete}
 use Rattle.ps_world.specs.declared.expressions.Expr.TheVariants.{Num}
 use Rattle.ps_world.specs.declared.edits.Edit.TheVariants.{AddInstance, AddFact, RemoveFact, SetGoal}
 use Rattle.ps_world.specs.declared.facts.Fact.{Fact}
+use Rattle.ps_action.specs.Effects.{plainly}
 use Rattle.ps_action.specs.declared.acts.Act.{Act}
 use Rattle.ps_action.specs.declared.acts.PlanStep.{PlanStep}
 use Rattle.ps_action.specs.declared.answers.Answer.TheVariants.{NoPlan, Plan}
@@ -152,7 +153,7 @@ five_seconds n params start over first last = record {
   params = params;
   duration = Num (pos 5000);
   conditions = record { at_start = start; over_all = over; at_end = [] };
-  effects = record { at_start = first; at_end = last };
+  effects = record { at_start = plainly first; at_end = plainly last };
 }
 
 -- a robot goes from a room to one that it is connected to, while its battery is full

@@ -8,7 +8,7 @@ use Rattle.std.proofs.lemmas.List.Elements.{All-head, All-tail}
 use Rattle.ps_world.specs.CondViews.{cond_tree}
 use Rattle.ps_world.specs.Knowledge.{name_of}
 use Rattle.ps_world.specs.Names.{Table, object, same_name}
-use Rattle.ps_world.specs.Trees.{ExprTree, CondTree, CondTrees, list_of, list_of-cond_trees}
+use Rattle.ps_world.specs.Trees.{ExprTree, CondTree, CondTrees, list_of}
 use Rattle.ps_world.specs.declared.domains.Param.{Param}
 use Rattle.ps_world.specs.declared.facts.Fact.{Fact}
 use Rattle.ps_world.specs.declared.names.Name.{Name}
@@ -37,10 +37,10 @@ use Rattle.ps_script.specs.Goals.{bound, condition, fact_of, lifted, line_scopes
 use Rattle.ps_pddl.proofs.CanonicalForms.{IsNamed, IsTermWord, AreTermForms, no_terms, more_terms, AreParamForms, no_params, more_params, param_name, IsLiftedForm, op_mark, IsExprForm, a_number, a_value, a_negation, an_operation, rel_mark, IsCondForm, all_form, any_form, not_form, imply_form, fact_form, same_form, comparison_form, some_form, each_form, AreCondForms, no_forms, more_forms}
 use Rattle.ps_pddl.proofs.CanonicalForms as form
 use Rattle.ps_pddl.specs.WellFormed.{AreApart}
-use Rattle.ps_pddl.proofs.MeanConditions.{uncond, cond_tree-uncond, head_of-rel, rel_of-rel}
+use Rattle.ps_pddl.proofs.MeanConditions.{uncond, cond_tree-uncond, uncond-cond_tree, head_of-rel, rel_of-rel}
 use Rattle.ps_pddl.proofs.SoundLists.{same_turned}
 use Rattle.ps_pddl.proofs.MeanMarks.{name-isnt, operator_of-name, rel_of-name}
-use Rattle.ps_pddl.proofs.MeanTerms.{named-is_name, untree, expr_tree-untree, untree-expr_tree, operator_of-op}
+use Rattle.ps_pddl.proofs.MeanTerms.{named-is_name, untree, expr_tree-untree, operator_of-op}
 use Rattle.ps_script_laws.specs.Sayable.{IsShort, IsShortExpr, HasGoalHeads, HaveGoalHeads}
 
 -- ---- facts as conditions
@@ -48,18 +48,6 @@ use Rattle.ps_script_laws.specs.Sayable.{IsShort, IsShortExpr, HasGoalHeads, Hav
 -- a fact as a condition holds it
 abbrev pub lifted_fact : Fact → Lifted
 lifted_fact f = record { head = f.head; terms = map Const f.args }
-
-pub uncond-cond_tree : (c : Cond) → uncond (cond_tree c) ≡ c
-uncond-cond_tree (cond.And cs) = ap cond.And (list_of-cond_trees cs)
-uncond-cond_tree (cond.Or cs) = ap cond.Or (list_of-cond_trees cs)
-uncond-cond_tree (cond.Not c) = refl
-uncond-cond_tree (cond.Imply a b) = refl
-uncond-cond_tree (cond.Holds f) = refl
-uncond-cond_tree (cond.Same a b) = refl
-uncond-cond_tree (cond.Cmp r x y) = rw (untree-expr_tree x, untree-expr_tree y) refl
-uncond-cond_tree (cond.IsA t kind) = refl
-uncond-cond_tree (cond.ForSome ps c) = refl
-uncond-cond_tree (cond.ForAll ps c) = refl
 
 names_again : (ns : List Name) → map name_of (map Const ns) ≡ ns
 names_again [] = refl

@@ -1,5 +1,5 @@
 -- What one mark after a clear beginning says of the whole list, whatever was wanted before it.
-use Rattle.std.proofs.Common.{◌≡◌, ℕ, ◌+◌, ◌<◌, ◌≤◌, List, [], ◌∷◌, length, take, Option, None, Some, IfSome, Result, Ok, Err, slice_get, unwrap_or, refl, sym, ◌∙◌, ap, subst, inl, inr, arith}
+use Rattle.std.proofs.Common.{◌≡◌, ℕ, ◌+◌, ◌<◌, ◌≤◌, true, List, [], ◌∷◌, length, take, Option, None, Some, IfSome, Result, Ok, Err, slice_get, unwrap_or, refl, sym, ◌∙◌, ap, subst, inl, inr, arith}
 use Rattle.std.specs.Option.{option_and_then}
 use Rattle.std.proofs.lemmas.Bool.{cases_lt}
 use Rattle.std.proofs.lemmas.List.{take_all, take-take}
@@ -8,12 +8,10 @@ use Rattle.ps_world.specs.Failures.{refusal_of}
 use Rattle.ps_world.specs.declared.failures.Failure.{Failure}
 use Rattle.ps_world.specs.declared.failures.Failure.TheVariants.{Refused, OutOfMemory}
 use Rattle.ps_shape.specs.Fronts.{IsFirstMisfit}
-use Rattle.ps_shape.specs.Symbols.{level}
-use Rattle.ps_shape.specs.Forms.{unsupported}
-use Rattle.ps_shape.specs.Shape.{Derives, IsTooDeepFrom, IsShallowFrom, IsDepth, IsUnexpected, IsFirstFaultFrom, Refuses, deepest, form_here, next_wanted, run, text_start, wanted, wanted_from}
+use Rattle.ps_shape.specs.Forms.{unsupported, opened_at}
+use Rattle.ps_shape.specs.Shape.{Derives, OpensTooMany, opens_level, IsTooDeepFrom, IsShallowFrom, IsUnexpected, IsFirstFaultFrom, Refuses, form_here, next_wanted, run, text_start, wanted, wanted_from}
 use Rattle.ps_shape.specs.Steps.{IsOver, Passes, Stops, Fails, form_of}
 use Rattle.ps_shape.specs.declared.marks.Mark.{Mark}
-use Rattle.ps_shape.specs.declared.marks.Mark.TheVariants.{Open}
 use Rattle.ps_shape.specs.declared.symbols.Symbol.{Symbol}
 use Rattle.ps_shape.specs.declared.faults.ShapeFault.{ShapeFault}
 use Rattle.ps_shape.specs.declared.faults.ShapeFault.TheVariants.{Unsupported, Depth, Unexpected}
@@ -25,12 +23,35 @@ pub record Reached (start : List Symbol) (ms : List Mark) (at : ℕ) (st : List 
   pub fits : run start (take at ms) ≡ Some st
   pub flat : (k : ℕ) → k < at → IsTooDeepFrom start ms k → ⊥
 
+-- where no mark is, none opens a level
+opens_nothing : (st : List Symbol) (here : Option Mark) → here ≡ None → opens_level st here ≡ true → ⊥
+opens_nothing st None e opens = absurd (cc)
+opens_nothing st (Some m) e opens = absurd (cc)
+
+inside_of_opening : (st : List Symbol) (ms : List Mark) (at : ℕ) (here : Option Mark) → slice_get ms at ≡ here → opens_level st here ≡ true → at < length ms
+inside_of_opening st ms at None e opens = absurd (cc)
+inside_of_opening st ms at (Some m) e opens = slice_get_within ms at m e
+
+-- a mark that opens a level too many is one of the list
+pub inside_of_deep : (start : List Symbol) (ms : List Mark) (at : ℕ) → IsTooDeepFrom start ms at → at < length ms
+inside_of_deep start ms at deep = inside_of_opening (wanted_from start (take at ms)) ms at (slice_get ms at) refl deep.0
+
+-- what opens too many levels in a beginning does so in the list
+deep_out : (start : List Symbol) (ms : List Mark) (n at : ℕ) → at < n → IsTooDeepFrom start (take n ms) at → IsTooDeepFrom start ms at
+deep_out start ms n at h deep =
+    subst (λ (x : List Mark). OpensTooMany (wanted_from start x) (slice_get ms at)) (take-take at n ms (omega arith)) (subst (λ (o : Option Mark). OpensTooMany (wanted_from start (take at (take n ms))) o) (slice_get-take n ms at h) deep)
+
+-- and the other way round
+pub deep_in : (start : List Symbol) (ms : List Mark) (n at : ℕ) → at < n → IsTooDeepFrom start ms at → IsTooDeepFrom start (take n ms) at
+deep_in start ms n at h deep =
+    subst (λ (o : Option Mark). OpensTooMany (wanted_from start (take at (take n ms))) o) (sym (slice_get-take n ms at h)) (subst (λ (x : List Mark). OpensTooMany (wanted_from start x) (slice_get ms at)) (sym (take-take at n ms (omega arith))) deep)
+
 -- a beginning is as deep as the list is there
 shallow : (start : List Symbol) (ms : List Mark) (n : ℕ) → ((k : ℕ) → k < n → IsTooDeepFrom start ms k → ⊥) → IsShallowFrom start (take n ms)
 shallow start ms n flat k deep =
     elim (cases_lt k n) [
-      | inl h ↦ flat k h (sym (slice_get-take n ms k h) ∙ deep.0, subst (λ (x : List Mark). deepest ≤ level (wanted_from start x)) (take-take k n ms (omega arith)) deep.1)
-      | inr h ↦ let none = slice_get-take_past n ms k h in absurd (cc)
+      | inl h ↦ flat k h (deep_out start ms n k h deep)
+      | inr h ↦ absurd (opens_nothing (wanted_from start (take k (take n ms))) (slice_get (take n ms) k) (slice_get-take_past n ms k h) deep.0)
     ]
 
 one_step : (o : Option (List Symbol)) → option_and_then (λ next. Some next) o ≡ o
@@ -47,10 +68,12 @@ wanted_is : (start : List Symbol) (ms : List Mark) (st : List Symbol) → run st
 wanted_is start ms st fits = ap (λ o. unwrap_or o []) fits
 
 over_of_deep : (start : List Symbol) (ms : List Mark) (at : ℕ) (st : List Symbol) (m : Mark) → run start (take at ms) ≡ Some st → slice_get ms at ≡ Some m → IsTooDeepFrom start ms at → IsOver st m
-over_of_deep start ms at st m fits here deep = (cc, subst (λ (x : List Symbol). deepest ≤ level x) (wanted_is start (take at ms) st fits) deep.1)
+over_of_deep start ms at st m fits here deep =
+    subst (λ (x : List Symbol). OpensTooMany x (Some m)) (wanted_is start (take at ms) st fits) (subst (λ (o : Option Mark). OpensTooMany (wanted_from start (take at ms)) o) here deep)
 
 deep_of_over : (start : List Symbol) (ms : List Mark) (at : ℕ) (st : List Symbol) (m : Mark) → run start (take at ms) ≡ Some st → slice_get ms at ≡ Some m → IsOver st m → IsTooDeepFrom start ms at
-deep_of_over start ms at st m fits here over = (cc, subst (λ (x : List Symbol). deepest ≤ level x) (sym (wanted_is start (take at ms) st fits)) over.1)
+deep_of_over start ms at st m fits here over =
+    subst (λ (o : Option Mark). OpensTooMany (wanted_from start (take at ms)) o) (sym here) (subst (λ (x : List Symbol). OpensTooMany x (Some m)) (sym (wanted_is start (take at ms) st fits)) over)
 
 -- what was wanted before the marks may be named otherwise
 pub reached_from : (start other : List Symbol) (ms : List Mark) (at : ℕ) (st : List Symbol) → other ≡ start → run other (take at ms) ≡ Some st → ((k : ℕ) → k < at → IsTooDeepFrom other ms k → ⊥) → Reached start ms at st
@@ -105,12 +128,15 @@ refuses (Unsupported place what) ms at st m r here fails = (
     form = form_is ms at st m r.fits here ∙ fails.3;
   },
 )
-refuses (Depth place) ms at st m r here fails =
-    subst (λ (x : ℕ). IsDepth ms x) (sym fails.0) (record {
-      before = front_of_run text_start (take at ms) st r.fits;
-      shallow = shallow text_start ms at r.flat;
-      deep = deep_of_over text_start ms at st m r.fits here fails.1;
-    })
+refuses (Depth place) ms at st m r here fails = (
+  at,
+  fails.0 ∙ ap (λ x. opened_at (slice_get x 0) at) (sym (wanted_is text_start (take at ms) st r.fits)),
+  record {
+    before = front_of_run text_start (take at ms) st r.fits;
+    shallow = shallow text_start ms at r.flat;
+    deep = deep_of_over text_start ms at st m r.fits here fails.1;
+  },
+)
 refuses (Unexpected place) ms at st m r here fails =
     subst (λ (x : ℕ). IsUnexpected ms x) (sym fails.0) (record {
       misfit = misfit text_start ms at st m r here fails.1;
@@ -129,7 +155,7 @@ whole_run start ms at st past r = ap (λ x. run start x) (sym (take_all at ms pa
 
 -- no parenthesis opens too many levels where all marks are reached
 flat_whole : (start : List Symbol) (ms : List Mark) (at : ℕ) (st : List Symbol) → length ms ≤ at → Reached start ms at st → IsShallowFrom start ms
-flat_whole start ms at st past r k deep = r.flat k (let inside : k < length ms = slice_get_within ms k Open deep.0 in omega arith) deep
+flat_whole start ms at st past r k deep = r.flat k (let inside : k < length ms = inside_of_deep start ms k deep in omega arith) deep
 
 -- where nothing more is wanted the marks are derived
 pub whole : (start : List Symbol) (ms : List Mark) (at : ℕ) (st : List Symbol) → length ms ≤ at → st ≡ [] → Reached start ms at st → Derives start ms × IsShallowFrom start ms

@@ -1,5 +1,5 @@
 -- Levels of parentheses.
-use Rattle.std.proofs.Common.{◌≡◌, ◌+◌, ◌-◌, ◌≤◌, ◌<◌, ℕ, List, [], ◌∷◌, ◌++◌, drop, take, set, get_or, length, reverse, ap, Option, None, Some, IfSome, slice_get, refl, arith}
+use Rattle.std.proofs.Common.{◌≡◌, ◌+◌, ◌-◌, ◌≤◌, ◌<◌, ℕ, Bool, true, false, if◌then◌else◌, List, [], ◌∷◌, ◌++◌, drop, take, set, get_or, length, reverse, ap, Option, None, Some, IfSome, slice_get, refl, sym, subst, arith}
 use Rattle.std.proofs.lemmas.List.{take_more, take_more_set, take_all, reverse-append, length-set, length-reverse}
 use Rattle.ps_shape.specs.Symbols.{level, symbols, weight}
 use Rattle.ps_shape.specs.declared.symbols.Symbol.{Symbol}
@@ -17,6 +17,11 @@ rises s (t ∷ st) (Some next) e few =
     let same : t ≡ s = cc in
     let sum : level (symbols next ++ st) ≡ level (symbols next) + level st = level_more (symbols next) st in
     rw same (omega (arith, few, sum))
+
+-- what a mark leads to where it fits opens one level at most
+pub few_where : (fits : Bool) (next : Then) (o : Option Then) → o ≡ (if fits then Some next else None) → level (symbols next) ≤ 2 → IfSome o (λ next. level (symbols next) ≤ 2)
+few_where true next o e few = subst (λ (x : Option Then). IfSome x (λ next. level (symbols next) ≤ 2)) (sym e) few
+few_where false next o e few = subst (λ (x : Option Then). IfSome x (λ next. level (symbols next) ≤ 2)) (sym e) tt
 
 -- the last symbol counts beside those before it
 pub level_last : (l : List Symbol) (n : ℕ) (d : Symbol) → n < length l → level (reverse (take (n + 1) l)) ≡ weight (get_or l n d) + level (reverse (take n l))

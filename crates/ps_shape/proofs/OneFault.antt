@@ -1,18 +1,15 @@
 -- A text's fault is the only one, is told by the marks up to it, and is none of a domain's text.
-use Rattle.std.proofs.Common.{◌≡◌, ℕ, ◌+◌, ◌<◌, ◌≤◌, List, [], ◌++◌, length, take, drop, None, Some, sym, ◌∙◌, ap, subst, inl, inr, append_assoc, append-nil, arith}
+use Rattle.std.proofs.Common.{◌≡◌, ℕ, ◌+◌, ◌<◌, ◌≤◌, List, [], ◌++◌, length, take, drop, None, Some, slice_get, sym, ◌∙◌, ap, subst, inl, inr, append_assoc, append-nil, arith}
 use Rattle.std.proofs.lemmas.Bool.{cases_lt}
 use Rattle.std.proofs.lemmas.List.{take_all, take-take, take-append-drop}
-use Rattle.std.proofs.lemmas.Option.{slice_get_within}
 use Rattle.ps_shape.specs.Fronts.{IsFront, IsFirstMisfit}
-use Rattle.ps_shape.specs.Symbols.{level}
-use Rattle.ps_shape.specs.Forms.{told_at}
+use Rattle.ps_shape.specs.Forms.{told_at, opened_at}
 use Rattle.ps_shape.specs.Laws.{FaultsAreFirst, FaultsAreReal, FirstFaultsAreOne, FirstFaultsAreReal}
-use Rattle.ps_shape.specs.Shape.{Derives, IsDomainShape, IsTooDeepFrom, IsShallow, IsDepth, IsFirstFaultFrom, deepest, form_here, text_start, wanted_from}
+use Rattle.ps_shape.specs.Shape.{Derives, IsDomainShape, IsShallow, IsDepth, IsFirstFaultFrom, form_here, text_start, wanted}
 use Rattle.ps_shape.specs.declared.marks.Mark.{Mark}
-use Rattle.ps_shape.specs.declared.marks.Mark.TheVariants.{Open}
 use Rattle.ps_shape.specs.declared.symbols.Symbol.{Symbol}
 use Rattle.ps_shape.specs.declared.faults.ShapeFault.TheVariants.{Unsupported, Depth, Unexpected}
-use Rattle.ps_shape.proofs.Places.{slice_get-take}
+use Rattle.ps_shape.proofs.FirstFaults.{deep_in, inside_of_deep}
 
 -- a beginning of a front is a front
 front_take : {T : Type 0} (L : List T → Type 0) (k n : ℕ) (ts : List T) → k ≤ n → IsFront L (take n ts) → IsFront L (take k ts)
@@ -29,13 +26,9 @@ first_at_or_after L ts a b f within bad =
       | inr h ↦ h
     ]
 
--- the level at a place is that of the beginning
-deep_in : (start : List Symbol) (ms : List Mark) (n at : ℕ) → at < n → IsTooDeepFrom start ms at → IsTooDeepFrom start (take n ms) at
-deep_in start ms n at h deep = (slice_get-take n ms at h ∙ deep.0, subst (λ (x : List Mark). deepest ≤ level (wanted_from start x)) (sym (take-take at n ms (omega arith))) deep.1)
-
 misfit_after_depth : (ms : List Mark) (deep at : ℕ) → IsDepth ms deep → IsFirstMisfit IsDomainShape ms at → IsShallow (take (at + 1) ms) → ⊥
 misfit_after_depth ms deep at d bad shallow =
-    let inside : deep < length ms = slice_get_within ms deep Open d.deep.0 in
+    let inside : deep < length ms = inside_of_deep text_start ms deep d.deep in
     let after : deep ≤ at = first_at_or_after IsDomainShape ms at deep d.before (omega arith) bad in
     shallow deep (deep_in text_start ms (at + 1) deep (omega arith) d.deep)
 
@@ -60,25 +53,26 @@ faults_are_first (Unsupported at what) (Unsupported there other) ms x y =
     let what_is : what ≡ other = cc in
     let here : at ≡ there = x.1 ∙ ap (λ f. told_at f x.0) what_is ∙ ap (λ k. told_at other k) same ∙ sym y.1 in
     cc
-faults_are_first (Unsupported at what) (Depth there) ms x y = absurd (misfit_after_depth ms there x.0 y x.2.misfit x.2.shallow)
+faults_are_first (Unsupported at what) (Depth there) ms x y = absurd (misfit_after_depth ms y.0 x.0 y.2 x.2.misfit x.2.shallow)
 faults_are_first (Unsupported at what) (Unexpected there) ms x y =
     let same : x.0 ≡ there = same_misfit ms x.0 there x.2.misfit y.misfit in
     let form : form_here ms there ≡ Some what = subst (λ (k : ℕ). form_here ms k ≡ Some what) same x.2.form in
     let none : form_here ms there ≡ None = y.supported in
     cc
-faults_are_first (Depth at) (Unsupported there other) ms x y = absurd (misfit_after_depth ms at y.0 x y.2.misfit y.2.shallow)
+faults_are_first (Depth at) (Unsupported there other) ms x y = absurd (misfit_after_depth ms x.0 y.0 x.2 y.2.misfit y.2.shallow)
 faults_are_first (Depth at) (Depth there) ms x y =
-    let h : there ≤ at = depth_order ms at there x y in
-    let k : at ≤ there = depth_order ms there at y x in
-    let same : at ≡ there = omega arith in
-    ap Depth same
-faults_are_first (Depth at) (Unexpected there) ms x y = absurd (misfit_after_depth ms at there x y.misfit y.shallow)
+    let h : y.0 ≤ x.0 = depth_order ms x.0 y.0 x.2 y.2 in
+    let k : x.0 ≤ y.0 = depth_order ms y.0 x.0 y.2 x.2 in
+    let same : x.0 ≡ y.0 = omega arith in
+    let here : at ≡ there = x.1 ∙ ap (λ n. opened_at (slice_get (wanted (take n ms)) 0) n) same ∙ sym y.1 in
+    ap Depth here
+faults_are_first (Depth at) (Unexpected there) ms x y = absurd (misfit_after_depth ms x.0 there x.2 y.misfit y.shallow)
 faults_are_first (Unexpected at) (Unsupported there other) ms x y =
     let same : at ≡ y.0 = same_misfit ms at y.0 x.misfit y.2.misfit in
     let form : form_here ms at ≡ Some other = subst (λ (k : ℕ). form_here ms k ≡ Some other) (sym same) y.2.form in
     let none : form_here ms at ≡ None = x.supported in
     cc
-faults_are_first (Unexpected at) (Depth there) ms x y = absurd (misfit_after_depth ms there at y x.misfit x.shallow)
+faults_are_first (Unexpected at) (Depth there) ms x y = absurd (misfit_after_depth ms y.0 at y.2 x.misfit x.shallow)
 faults_are_first (Unexpected at) (Unexpected there) ms x y = ap Unexpected (same_misfit ms at there x.misfit y.misfit)
 
 -- a list of the language has no misfit
@@ -91,7 +85,7 @@ no_misfit L ms at bad good =
 
 pub faults_are_real : FaultsAreReal
 faults_are_real (Unsupported at what) ms x good flat = no_misfit IsDomainShape ms x.0 x.2.misfit good
-faults_are_real (Depth at) ms x good flat = flat at x.deep
+faults_are_real (Depth at) ms x good flat = flat x.0 x.2.deep
 faults_are_real (Unexpected at) ms x good flat = no_misfit IsDomainShape ms at x.misfit good
 
 -- ---- whatever is wanted
@@ -99,7 +93,7 @@ faults_are_real (Unexpected at) ms x good flat = no_misfit IsDomainShape ms at x
 within_of_fault : (start : List Symbol) (ms : List Mark) (at : ℕ) → IsFirstFaultFrom start ms at → at ≤ length ms
 within_of_fault start ms at x =
     elim x.here [
-      | inl deep ↦ let inside : at < length ms = slice_get_within ms at Open deep.0 in omega arith
+      | inl deep ↦ let inside : at < length ms = inside_of_deep start ms at deep in omega arith
       | inr bad ↦ bad.within
     ]
 

@@ -5,10 +5,9 @@ use Rattle.std.proofs.lemmas.List.{take_all, take-take, length-take}
 use Rattle.std.proofs.lemmas.Option.{slice_get_past, slice_get_within, slice_get-get_or}
 use Rattle.std.specs.Option.{option_and_then}
 use Rattle.ps_shape.specs.Fronts.{IsFront, IsFirstMisfit}
-use Rattle.ps_shape.specs.Symbols.{level}
-use Rattle.ps_shape.specs.Forms.{unsupported}
+use Rattle.ps_shape.specs.Forms.{unsupported, opened_at}
 use Rattle.ps_shape.specs.Laws.{FaultsAreTold}
-use Rattle.ps_shape.specs.Shape.{IsDomainShape, IsShallow, IsUnsupported, IsUnexpected, deepest, form_here, wanted}
+use Rattle.ps_shape.specs.Shape.{IsDomainShape, IsShallow, OpensTooMany, IsUnsupported, IsUnexpected, form_here, wanted}
 use Rattle.ps_shape.specs.declared.marks.Mark.{Mark}
 use Rattle.ps_shape.specs.declared.marks.Mark.TheVariants as mark
 use Rattle.ps_shape.specs.declared.symbols.Symbol.{Symbol}
@@ -54,7 +53,8 @@ told_alone (Some (InList list.FunctionType)) mark.Open (Some mark.Either) other 
 told_alone (Some (InList list.TypeName)) mark.Open after other what plain e = absurd (cc)
 told_alone (Some (InList list.FunctionType)) mark.Open after other what plain e = absurd (cc)
 told_alone (Some (InCondition condition.Head)) m after other what plain e = e
-told_alone (Some (InEffect effect.Head)) m after other what plain e = e
+told_alone (Some (InEffect (effect.Head reach))) m after other what plain e = e
+told_alone (Some (InEffect (effect.BodyHead reach))) m after other what plain e = e
 told_alone (Some s) m after other what plain e = e
 
 told_alone_by : (here : Option Mark) (w : Option Symbol) (after other : Option Mark) (what : Form) → (what ≡ Either → ⊥) → option_and_then (λ m. unsupported w m after) here ≡ Some what → option_and_then (λ m. unsupported w m other) here ≡ Some what
@@ -105,6 +105,11 @@ alike_whole n ms others h e =
     let short : length others ≤ n = omega (arith, length-take n ms, length-take n others) in
     sym (take_all n ms (omega arith)) ∙ e ∙ take_all n others short
 
+-- the mark that opens a level stands at its parenthesis or right after it
+opened_near : (w : Option Symbol) (n at : ℕ) → at ≡ opened_at w n → n ≤ at + 1
+opened_near (Some (InEffect (effect.BodyHead reach))) n at e = omega (arith, e)
+opened_near w n at e = omega (arith, e)
+
 pub faults_are_told : FaultsAreTold
 faults_are_told (Unsupported at Either) ms others e x =
     let two : take (x.0 + 2) ms ≡ take (x.0 + 2) others = alike_take (at + 1) (x.0 + 2) ms others (omega (arith, x.1)) e in
@@ -112,11 +117,18 @@ faults_are_told (Unsupported at Either) ms others e x =
 faults_are_told (Unsupported at what) ms others e x =
     let one : take (x.0 + 1) ms ≡ take (x.0 + 1) others = alike_take (at + 1) (x.0 + 1) ms others (omega (arith, x.1)) e in
     (x.0, x.1, unsupported_alike (x.0 + 1) x.0 ms others what (omega arith) one (form_alone (x.0 + 1) x.0 ms others what (omega arith) one (λ same. cc) x.2.form) x.2)
-faults_are_told (Depth at) ms others e x = record {
-  before = subst (λ (y : List Mark). IsFront IsDomainShape y) (alike_take (at + 1) at ms others (omega arith) e) x.before;
-  shallow = shallow_alike _ _ (alike_take (at + 1) at ms others (omega arith) e) x.shallow;
-  deep = (sym (alike_get (at + 1) at ms others (omega arith) e) ∙ x.deep.0, subst (λ (y : List Mark). deepest ≤ level (wanted y)) (alike_take (at + 1) at ms others (omega arith) e) x.deep.1);
-}
+faults_are_told (Depth at) ms others e x =
+    let near : x.0 ≤ at + 1 = opened_near (slice_get (wanted (take x.0 ms)) 0) x.0 at x.1 in
+    let before : take x.0 ms ≡ take x.0 others = alike_take (at + 2) x.0 ms others (omega (arith, near)) e in
+    let here : slice_get ms x.0 ≡ slice_get others x.0 = alike_get (at + 2) x.0 ms others (omega (arith, near)) e in (
+      x.0,
+      x.1 ∙ ap (λ y. opened_at (slice_get (wanted y) 0) x.0) before,
+      record {
+        before = subst (λ (y : List Mark). IsFront IsDomainShape y) before x.2.before;
+        shallow = shallow_alike _ _ before x.2.shallow;
+        deep = subst (λ (o : Option Mark). OpensTooMany (wanted (take x.0 others)) o) here (subst (λ (y : List Mark). OpensTooMany (wanted y) (slice_get ms x.0)) before x.2.deep);
+      },
+    )
 faults_are_told (Unexpected at) ms others e x =
     elim (cases_lt at (length ms)) [
       | inl h ↦ unexpected_inside at ms others h e x

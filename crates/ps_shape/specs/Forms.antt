@@ -1,7 +1,7 @@
 -- The forms that aren't supported, by what is wanted and the mark that doesn't fit there.
-use Rattle.std.specs.Prelude.{ℕ, ◌+◌, Option, None, Some, if◌then◌else◌}
+use Rattle.std.specs.Prelude.{ℕ, ◌+◌, ◌-◌, Bool, true, false, not, Option, None, Some, if◌then◌else◌}
 use Rattle.std.specs.Option.{option_or}
-use Rattle.ps_shape.specs.Marks.{is_quantified}
+use Rattle.ps_shape.specs.Marks.{is, is_quantified}
 use Rattle.ps_shape.specs.declared.marks.Mark.{Mark}
 use Rattle.ps_shape.specs.declared.marks.Mark.TheVariants as mark
 use Rattle.ps_shape.specs.declared.symbols.Symbol.{Symbol}
@@ -47,7 +47,8 @@ form_at (InCondition condition.TimedHead) m next = form_of_condition m
 form_at (InCondition condition.Head) m next = form_of_condition m
 form_at (InEffect effect.FormHead) m next = form_of_effect m
 form_at (InEffect effect.TimedHead) m next = form_of_effect m
-form_at (InEffect effect.Head) m next = form_of_effect m
+form_at (InEffect (effect.Head reach)) m next = form_of_effect m
+form_at (InEffect (effect.BodyHead reach)) m next = form_of_effect m
 form_at _ _ _ = None
 
 -- a form in place of what is wanted, or after the text's end
@@ -69,3 +70,16 @@ unsupported wanted m next = option_or (option_or (form_of_keyword m) (form_where
 abbrev pub told_at : Form → ℕ → ℕ
 told_at Either at = at + 1
 told_at _ at = at
+
+-- where this symbol is wanted, the mark opens a level of parentheses: a parenthesis does, and so does the word that begins one effect alone
+-- in a `forall` or a `when`, as if it stood in an `and`
+abbrev pub opens : Option Symbol → Mark → Bool
+opens wanted mark.Open = true
+opens wanted mark.Close = false
+opens (Some (InEffect (effect.BodyHead reach))) m = not (is mark.And m)
+opens wanted m = false
+
+-- the place of the parenthesis that opens a level, by the mark that does: such a word follows it
+abbrev pub opened_at : Option Symbol → ℕ → ℕ
+opened_at (Some (InEffect (effect.BodyHead reach))) at = at - 1
+opened_at wanted at = at

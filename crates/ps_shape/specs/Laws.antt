@@ -6,10 +6,11 @@ use Rattle.ps_shape.specs.declared.symbols.Symbol.{Symbol}
 use Rattle.ps_shape.specs.declared.faults.ShapeFault.{ShapeFault}
 use Rattle.ps_shape.specs.declared.faults.ShapeFault.TheVariants.{Unsupported, Depth, Unexpected}
 
--- how many marks tell the fault: where a mark fits nothing, the mark after it might have told `either`
+-- how many marks tell the fault: where a parenthesis opens too many levels, the mark after it may have told that an effect stands alone, and
+-- where a mark fits nothing, the mark after it might have told `either`
 abbrev pub told_by : ShapeFault → ℕ
 told_by (Unsupported at what) = at + 1
-told_by (Depth at) = at + 1
+told_by (Depth at) = at + 2
 told_by (Unexpected at) = at + 2
 
 -- A fault is one whatever follows the marks that tell it.

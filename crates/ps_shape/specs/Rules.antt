@@ -1,9 +1,9 @@
 -- The grammar of a domain's text and of goals, a rule a line: the symbol wanted, the mark that it may begin with, and what is wanted after that mark.
 use Rattle.std.specs.Prelude.{ℕ, zero, suc, Bool, true, List, [], ◌∷◌, Option, None, Some, if◌then◌else◌}
-use Rattle.ps_shape.specs.Symbols.{none_seen}
+use Rattle.ps_shape.specs.Symbols.{has_forall, has_when, none_seen}
 use Rattle.ps_shape.specs.Marks.{is, is_name, is_term, is_keyword, is_change, is_predicate_name, is_fact_name, is_goal_name}
 use Rattle.ps_shape.specs.declared.marks.Mark.{Mark}
-use Rattle.ps_shape.specs.declared.marks.Mark.TheVariants.{Open, Close, Plus, Times, Divide, Equal, Less, Greater, LessEqual, GreaterEqual, Minus, Duration, Variable, Requirements, Types, Constants, Predicates, Functions, DurativeAction, Parameters, DurationKey, ConditionKey, EffectKey, Number, Define, Domain, At, Over, Start, End, All, And, Not, Or, Imply, Exists, Forall, NumberWord}
+use Rattle.ps_shape.specs.declared.marks.Mark.TheVariants.{Open, Close, Plus, Times, Divide, Equal, Less, Greater, LessEqual, GreaterEqual, Minus, Duration, Variable, Requirements, Types, Constants, Predicates, Functions, DurativeAction, Parameters, DurationKey, ConditionKey, EffectKey, Number, Define, Domain, At, Over, Start, End, All, And, Not, Or, Imply, Exists, Forall, When, NumberWord}
 use Rattle.ps_shape.specs.declared.symbols.Symbol.{Symbol}
 use Rattle.ps_shape.specs.declared.symbols.Symbol.TheVariants.{The, AnyName, InText, InList, InAction, InCondition, InEffect, InValue, InGoal}
 use Rattle.ps_shape.specs.declared.symbols.Seen.{Seen}
@@ -12,6 +12,8 @@ use Rattle.ps_shape.specs.declared.symbols.ListPart.{ListPart}
 use Rattle.ps_shape.specs.declared.symbols.ActionPart.{ActionPart}
 use Rattle.ps_shape.specs.declared.symbols.ConditionPart.{ConditionPart}
 use Rattle.ps_shape.specs.declared.symbols.EffectPart.{EffectPart}
+use Rattle.ps_shape.specs.declared.symbols.Reach.{Reach}
+use Rattle.ps_shape.specs.declared.symbols.Reach.TheVariants.{Spread, Guarded, Plain}
 use Rattle.ps_shape.specs.declared.symbols.ValuePart.{ValuePart}
 use Rattle.ps_shape.specs.declared.symbols.GoalPart.{GoalPart}
 use Rattle.ps_shape.specs.declared.symbols.TextPart.TheVariants as text
@@ -127,30 +129,52 @@ condition_rule condition.Conditions Open = Some (InCondition condition.Head ∷ 
 condition_rule condition.Head m = condition_head_rule m
 condition_rule _ _ = None
 
--- E: (and E*) | (NAME TERM*) | (not (NAME TERM*)) | (NOP (NAME TERM*) X), where NOP is assign increase decrease scale-up scale-down
-abbrev pub effect_head_rule : Mark → Option (List Symbol)
-effect_head_rule And = Some (InEffect effect.Effects ∷ [])
-effect_head_rule Not = Some (InValue value.Atom ∷ The Close ∷ [])
-effect_head_rule m =
+-- (NAME TERM*) | (not (NAME TERM*)) | (NOP (NAME TERM*) X) | (when C G) | (forall (VLIST) W), where NOP is assign increase decrease scale-up
+-- scale-down; the two symbols are those of terms and of the parenthesis that ends an effect
+abbrev pub one_effect_rule : Reach → Symbol → Symbol → Mark → Option (List Symbol)
+one_effect_rule reach terms end Not = Some (InValue value.Atom ∷ end ∷ [])
+one_effect_rule reach terms end When = where_it_is (has_when reach) (InCondition condition.Condition ∷ InEffect (effect.Body Plain) ∷ end ∷ [])
+one_effect_rule reach terms end Forall = where_it_is (has_forall reach) (InAction action.Parameters ∷ InEffect (effect.Body Guarded) ∷ end ∷ [])
+one_effect_rule reach terms end m =
     if is_change m
-    then Some (InValue value.Atom ∷ InValue value.Value ∷ The Close ∷ [])
-    else where_it_is (is_predicate_name m) (InValue value.Terms ∷ [])
+    then Some (InValue value.Atom ∷ InValue value.Value ∷ end ∷ [])
+    else where_it_is (is_predicate_name m) (terms ∷ [])
+
+-- E: (and E*) | (NAME TERM*) | (not (NAME TERM*)) | (NOP (NAME TERM*) X) | (when C G) | (forall (VLIST) W)
+-- W: (and W*) | the same without forall
+-- G: (and G*) | the same without forall and when
+abbrev pub effect_head_rule : Reach → Mark → Option (List Symbol)
+effect_head_rule reach And = Some (InEffect (effect.Effects reach) ∷ [])
+effect_head_rule reach m = one_effect_rule reach (InValue value.Terms) (The Close) m
+
+-- W in a `forall` and G in a `when`
+abbrev pub body_head_rule : Reach → Mark → Option (List Symbol)
+body_head_rule reach And = Some (InEffect (effect.Effects reach) ∷ [])
+body_head_rule reach m = one_effect_rule reach (InEffect effect.LoneTerms) (InEffect effect.FormEnd) m
+
+-- the terms of a fact alone in a `forall` or a `when`
+abbrev pub lone_terms_rule : Mark → Option (List Symbol)
+lone_terms_rule Close = Some []
+lone_terms_rule m = where_it_is (is_term m) (InEffect effect.LoneTerms ∷ [])
 
 -- TE: () | (and TE*) | (at start E) | (at end E)
 abbrev pub effect_rule : EffectPart → Mark → Option (List Symbol)
 effect_rule effect.Form Open = Some (InEffect effect.FormHead ∷ [])
 effect_rule effect.FormHead Close = Some []
 effect_rule effect.FormHead And = Some (InEffect effect.TimedList ∷ [])
-effect_rule effect.FormHead At = Some (InEffect effect.StartOrEnd ∷ InEffect effect.Effect ∷ InEffect effect.FormEnd ∷ [])
+effect_rule effect.FormHead At = Some (InEffect effect.StartOrEnd ∷ InEffect (effect.Effect Spread) ∷ InEffect effect.FormEnd ∷ [])
 effect_rule effect.TimedList Close = Some []
 effect_rule effect.TimedList Open = Some (InEffect effect.TimedHead ∷ InEffect effect.TimedList ∷ [])
 effect_rule effect.TimedHead Close = Some []
 effect_rule effect.TimedHead And = Some (InEffect effect.TimedList ∷ [])
-effect_rule effect.TimedHead At = Some (InEffect effect.StartOrEnd ∷ InEffect effect.Effect ∷ The Close ∷ [])
-effect_rule effect.Effect Open = Some (InEffect effect.Head ∷ [])
-effect_rule effect.Effects Close = Some []
-effect_rule effect.Effects Open = Some (InEffect effect.Head ∷ InEffect effect.Effects ∷ [])
-effect_rule effect.Head m = effect_head_rule m
+effect_rule effect.TimedHead At = Some (InEffect effect.StartOrEnd ∷ InEffect (effect.Effect Spread) ∷ The Close ∷ [])
+effect_rule (effect.Effect reach) Open = Some (InEffect (effect.Head reach) ∷ [])
+effect_rule (effect.Effects reach) Close = Some []
+effect_rule (effect.Effects reach) Open = Some (InEffect (effect.Head reach) ∷ InEffect (effect.Effects reach) ∷ [])
+effect_rule (effect.Head reach) m = effect_head_rule reach m
+effect_rule (effect.Body reach) Open = Some (InEffect (effect.BodyHead reach) ∷ [])
+effect_rule (effect.BodyHead reach) m = body_head_rule reach m
+effect_rule effect.LoneTerms m = lone_terms_rule m
 effect_rule effect.StartOrEnd Start = Some []
 effect_rule effect.StartOrEnd End = Some []
 effect_rule effect.FormEnd Close = Some []

@@ -1,12 +1,11 @@
 -- The shape of a domain's text and of other lists of marks, and the first fault of each.
-use Rattle.std.specs.Prelude.{◌≡◌, ℕ, ◌+◌, ◌≤◌, List, [], ◌∷◌, ◌++◌, ◌⊎◌, Option, None, Some, take, slice_get, unwrap_or}
+use Rattle.std.specs.Prelude.{◌≡◌, ℕ, ◌+◌, ◌≤◌, Bool, true, false, List, [], ◌∷◌, ◌++◌, ◌⊎◌, Option, None, Some, take, slice_get, unwrap_or}
 use Rattle.std.specs.Option.{option_and_then}
 use Rattle.ps_shape.specs.Fronts.{IsFront, IsFirstMisfit}
 use Rattle.ps_shape.specs.Symbols.{level}
 use Rattle.ps_shape.specs.Rules.{step}
-use Rattle.ps_shape.specs.Forms.{unsupported, told_at}
+use Rattle.ps_shape.specs.Forms.{unsupported, told_at, opens, opened_at}
 use Rattle.ps_shape.specs.declared.marks.Mark.{Mark}
-use Rattle.ps_shape.specs.declared.marks.Mark.TheVariants.{Open}
 use Rattle.ps_shape.specs.declared.symbols.Symbol.{Symbol}
 use Rattle.ps_shape.specs.declared.symbols.Symbol.TheVariants.{InText}
 use Rattle.ps_shape.specs.declared.symbols.TextPart.TheVariants.{Whole}
@@ -49,11 +48,20 @@ wanted ms = wanted_from text_start ms
 abbrev pub deepest : ℕ
 deepest = 64
 
--- the mark here is a parenthesis that opens one level too many, where these symbols were wanted before the marks
-abbrev pub IsTooDeepFrom : List Symbol → List Mark → ℕ → Type 0
-IsTooDeepFrom start ms at = (slice_get ms at ≡ Some Open) × (deepest ≤ level (wanted_from start (take at ms)))
+-- the mark, if there is one, opens a level where these symbols are wanted
+abbrev pub opens_level : List Symbol → Option Mark → Bool
+opens_level st None = false
+opens_level st (Some m) = opens (slice_get st 0) m
 
--- no parenthesis opens too many levels, where these symbols were wanted before the marks
+-- and it opens one level too many
+abbrev pub OpensTooMany : List Symbol → Option Mark → Type 0
+OpensTooMany st m = (opens_level st m ≡ true) × (deepest ≤ level st)
+
+-- the mark here opens one level too many, where these symbols were wanted before the marks
+abbrev pub IsTooDeepFrom : List Symbol → List Mark → ℕ → Type 0
+IsTooDeepFrom start ms at = OpensTooMany (wanted_from start (take at ms)) (slice_get ms at)
+
+-- no mark opens too many levels, where these symbols were wanted before the marks
 abbrev pub IsShallowFrom : List Symbol → List Mark → Type 0
 IsShallowFrom start ms = (at : ℕ) → IsTooDeepFrom start ms at → ⊥
 
@@ -63,11 +71,11 @@ pub record IsFirstFaultFrom (start : List Symbol) (ms : List Mark) (at : ℕ) : 
   pub shallow : IsShallowFrom start (take at ms)
   pub here : IsTooDeepFrom start ms at ⊎ IsFirstMisfit (Derives start) ms at
 
--- the mark here is a parenthesis that opens one level too many
+-- the mark here opens one level too many
 abbrev pub IsTooDeep : List Mark → ℕ → Type 0
 IsTooDeep ms at = IsTooDeepFrom text_start ms at
 
--- no parenthesis opens too many levels
+-- no mark opens too many levels
 abbrev pub IsShallow : List Mark → Type 0
 IsShallow ms = IsShallowFrom text_start ms
 
@@ -75,19 +83,19 @@ IsShallow ms = IsShallowFrom text_start ms
 abbrev pub form_here : List Mark → ℕ → Option Form
 form_here ms at = option_and_then (λ m. unsupported (slice_get (wanted (take at ms)) 0) m (slice_get ms (at + 1))) (slice_get ms at)
 
--- The mark here is the first that doesn't fit, no parenthesis up to it opens too many levels, and it begins an unsupported form.
+-- The mark here is the first that doesn't fit, no mark up to it opens too many levels, and it begins an unsupported form.
 pub record IsUnsupported (ms : List Mark) (at : ℕ) (what : Form) : Type 0 where
   pub misfit : IsFirstMisfit IsDomainShape ms at
   pub shallow : IsShallow (take (at + 1) ms)
   pub form : form_here ms at ≡ Some what
 
--- The marks before begin a domain's text, and the parenthesis here is the first that opens too many levels.
+-- The marks before begin a domain's text, and the mark here is the first that opens too many levels.
 pub record IsDepth (ms : List Mark) (at : ℕ) : Type 0 where
   pub before : IsFront IsDomainShape (take at ms)
   pub shallow : IsShallow (take at ms)
   pub deep : IsTooDeep ms at
 
--- The mark here is the first that doesn't fit, or more is wanted; no parenthesis up to it opens too many levels, and it begins no unsupported form.
+-- The mark here is the first that doesn't fit, or more is wanted; no mark up to it opens too many levels, and it begins no unsupported form.
 pub record IsUnexpected (ms : List Mark) (at : ℕ) : Type 0 where
   pub misfit : IsFirstMisfit IsDomainShape ms at
   pub shallow : IsShallow (take (at + 1) ms)
@@ -96,5 +104,5 @@ pub record IsUnexpected (ms : List Mark) (at : ℕ) : Type 0 where
 -- this is the first fault of the marks
 abbrev pub Refuses : ShapeFault → List Mark → Type 0
 Refuses (Unsupported at what) ms = (begins : ℕ) × (at ≡ told_at what begins) × IsUnsupported ms begins what
-Refuses (Depth at) ms = IsDepth ms at
+Refuses (Depth at) ms = (over : ℕ) × (at ≡ opened_at (slice_get (wanted (take over ms)) 0) over) × IsDepth ms over
 Refuses (Unexpected at) ms = IsUnexpected ms at

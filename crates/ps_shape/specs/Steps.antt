@@ -1,10 +1,8 @@
 -- One mark, where some symbols are wanted.
-use Rattle.std.specs.Prelude.{◌≡◌, ℕ, ◌≤◌, ◌⊎◌, List, Option, None, Some, slice_get}
-use Rattle.ps_shape.specs.Symbols.{level}
-use Rattle.ps_shape.specs.Forms.{unsupported, told_at}
-use Rattle.ps_shape.specs.Shape.{next_wanted, deepest}
+use Rattle.std.specs.Prelude.{◌≡◌, ℕ, ◌⊎◌, List, Option, None, Some, slice_get}
+use Rattle.ps_shape.specs.Forms.{unsupported, told_at, opened_at}
+use Rattle.ps_shape.specs.Shape.{next_wanted, OpensTooMany}
 use Rattle.ps_shape.specs.declared.marks.Mark.{Mark}
-use Rattle.ps_shape.specs.declared.marks.Mark.TheVariants.{Open}
 use Rattle.ps_shape.specs.declared.symbols.Symbol.{Symbol}
 use Rattle.ps_shape.specs.declared.faults.Form.{Form}
 use Rattle.ps_shape.specs.declared.faults.ShapeFault.{ShapeFault}
@@ -12,7 +10,7 @@ use Rattle.ps_shape.specs.declared.faults.ShapeFault.TheVariants.{Unsupported, D
 
 -- the mark opens a level too many
 abbrev pub IsOver : List Symbol → Mark → Type 0
-IsOver st m = (m ≡ Open) × (deepest ≤ level st)
+IsOver st m = OpensTooMany st (Some m)
 
 -- the mark fits, and these symbols are wanted after it
 abbrev pub Passes : List Symbol → Mark → List Symbol → Type 0
@@ -29,5 +27,5 @@ form_of st m after = unsupported (slice_get st 0) m after
 -- this is the fault at the mark
 abbrev pub Fails : List Symbol → Mark → Option Mark → ℕ → ShapeFault → Type 0
 Fails st m after at (Unsupported place what) = (place ≡ told_at what at) × (next_wanted st m ≡ None) × (IsOver st m → ⊥) × (form_of st m after ≡ Some what)
-Fails st m after at (Depth place) = (place ≡ at) × IsOver st m
+Fails st m after at (Depth place) = (place ≡ opened_at (slice_get st 0) at) × IsOver st m
 Fails st m after at (Unexpected place) = (place ≡ at) × (next_wanted st m ≡ None) × (IsOver st m → ⊥) × (form_of st m after ≡ None)

@@ -1,5 +1,5 @@
 -- What the symbols of the grammar count for.
-use Rattle.std.specs.Prelude.{ℕ, ◌+◌, false, List, [], ◌∷◌}
+use Rattle.std.specs.Prelude.{ℕ, ◌+◌, Bool, true, false, List, [], ◌∷◌}
 use Rattle.ps_shape.specs.declared.marks.Mark.TheVariants.{Close}
 use Rattle.ps_shape.specs.declared.symbols.Symbol.{Symbol}
 use Rattle.ps_shape.specs.declared.symbols.Symbol.TheVariants.{The, AnyName, InText, InList, InAction, InCondition, InEffect, InValue, InGoal}
@@ -10,6 +10,8 @@ use Rattle.ps_shape.specs.declared.symbols.ConditionPart.TheVariants as conditio
 use Rattle.ps_shape.specs.declared.symbols.EffectPart.TheVariants as effect
 use Rattle.ps_shape.specs.declared.symbols.ValuePart.TheVariants as value
 use Rattle.ps_shape.specs.declared.symbols.GoalPart.TheVariants as goal
+use Rattle.ps_shape.specs.declared.symbols.Reach.{Reach}
+use Rattle.ps_shape.specs.declared.symbols.Reach.TheVariants.{Spread, Guarded, Plain}
 use Rattle.ps_shape.specs.declared.symbols.Seen.{Seen}
 use Rattle.ps_shape.specs.declared.symbols.Then.{Then}
 use Rattle.ps_shape.specs.declared.symbols.Then.TheVariants.{Nothing, One, Two, Three}
@@ -25,7 +27,20 @@ symbols (Three a b c) = a ∷ b ∷ c ∷ []
 abbrev pub none_seen : Seen
 none_seen = record { requirements = false; types = false; constants = false; predicates = false; functions = false }
 
--- how many levels of parentheses end with what the symbol stands for: a timed form alone in its section counts for two
+-- a `forall` may stand among such effects
+abbrev pub has_forall : Reach → Bool
+has_forall Spread = true
+has_forall Guarded = false
+has_forall Plain = false
+
+-- a `when` may stand among such effects
+abbrev pub has_when : Reach → Bool
+has_when Spread = true
+has_when Guarded = true
+has_when Plain = false
+
+-- how many levels of parentheses end with what the symbol stands for: a timed form alone in its section counts for two, and so does one
+-- effect alone in a `forall` or a `when`
 abbrev pub weight : Symbol → ℕ
 weight (The Close) = 1
 weight (The m) = 0
@@ -42,7 +57,9 @@ weight (InAction action.Duration) = 0
 weight (InCondition condition.Form) = 0
 weight (InCondition condition.Condition) = 0
 weight (InEffect effect.Form) = 0
-weight (InEffect effect.Effect) = 0
+weight (InEffect (effect.Effect reach)) = 0
+weight (InEffect (effect.Body reach)) = 0
+weight (InEffect effect.LoneTerms) = 2
 weight (InEffect effect.StartOrEnd) = 0
 weight (InEffect effect.FormEnd) = 2
 weight (InValue value.Atom) = 0

@@ -1,6 +1,6 @@
 //! What is wrong with the shape of a domain's text.
 ghost use Rattle.std.specs.Prelude.{◌≡◌, Some, slice_get};
-ghost use Rattle.ps_shape.specs.Forms.{unsupported, form_of_keyword, form_where, form_anywhere};
+ghost use Rattle.ps_shape.specs.Forms.{unsupported, form_of_keyword, form_where, form_anywhere, opens, opened_at};
 
 use super::marks::Mark;
 use super::symbols::{ActionPart, ConditionPart, EffectPart, ListPart, Symbol, TextPart};
@@ -35,7 +35,7 @@ pub enum Form {
 pub enum ShapeFault {
     /// A form of the language that isn't supported stands here.
     Unsupported { at: usize, what: Form },
-    /// The parenthesis here opens more than 64 levels.
+    /// The parenthesis here opens more than 64 levels, of which one effect alone in a `forall` or a `when` counts for two.
     Depth { at: usize },
     /// The mark here fits nothing, or more is wanted at the text's end.
     Unexpected { at: usize },
@@ -85,7 +85,12 @@ fn form_where(wanted: Option<Symbol>, mark: Mark, next: Option<Mark>) -> Option<
             Symbol::InCondition(
                 ConditionPart::FormHead | ConditionPart::TimedHead | ConditionPart::Head,
             )
-            | Symbol::InEffect(EffectPart::FormHead | EffectPart::TimedHead | EffectPart::Head),
+            | Symbol::InEffect(
+                EffectPart::FormHead
+                | EffectPart::TimedHead
+                | EffectPart::Head(_)
+                | EffectPart::BodyHead(_),
+            ),
             Mark::Or | Mark::Imply | Mark::Exists | Mark::Forall | Mark::When,
         ) => Some(Form::Quantified),
         _ => None,
@@ -99,5 +104,28 @@ fn form_anywhere(mark: Mark) -> Option<Form>
         Mark::Duration => Some(Form::DurationUse),
         Mark::Continuous => Some(Form::Continuous),
         _ => None,
+    }
+}
+
+/// Whether the mark opens a level of parentheses where the symbol is wanted: a parenthesis does, and so does the word that begins one
+/// effect alone in a `forall` or a `when`, as if it stood in an `and`.
+pub fn opens(wanted: Option<Symbol>, mark: Mark) -> bool
+    ensures { result ≡ opens wanted mark }
+{
+    match (wanted, mark) {
+        (_, Mark::Open) => true,
+        (_, Mark::Close) => false,
+        (Some(Symbol::InEffect(EffectPart::BodyHead(_))), _) => mark != Mark::And,
+        _ => false,
+    }
+}
+
+/// The place of the parenthesis that opens a level, by that of the mark that does.
+pub fn opened_at(wanted: Option<Symbol>, at: usize) -> usize
+    ensures { result ≡ opened_at wanted at }
+{
+    match wanted {
+        Some(Symbol::InEffect(EffectPart::BodyHead(_))) => at.saturating_sub(1),
+        _ => at,
     }
 }

@@ -16,5 +16,6 @@ pub use laws::{
 pub use marks::Mark;
 pub use shape::{first_fault, judge};
 pub use symbols::{
-    ActionPart, ConditionPart, EffectPart, GoalPart, ListPart, Seen, Symbol, TextPart, ValuePart,
+    ActionPart, ConditionPart, EffectPart, GoalPart, ListPart, Reach, Seen, Symbol, TextPart,
+    ValuePart,
 };

@@ -1,7 +1,7 @@
 //! The grammar of a domain's text and of goals as a table: what a symbol leads to at a mark.
 ghost use Rattle.std.specs.Prelude.{◌≡◌, ◌≤◌, ◌+◌, Some, None, IfSome, option_map, if◌then◌else◌};
 ghost use Rattle.ps_shape.specs.Symbols.{weight, level, symbols};
-ghost use Rattle.ps_shape.specs.Rules.{step, text_rule, section_rule, list_rule, action_rule, condition_rule, condition_head_rule, effect_rule, effect_head_rule, value_rule, goal_rule, goal_head_rule, goal_value_rule, operand_rule, name_rule, once};
+ghost use Rattle.ps_shape.specs.Rules.{step, text_rule, section_rule, list_rule, action_rule, condition_rule, condition_head_rule, effect_rule, effect_head_rule, body_head_rule, one_effect_rule, lone_terms_rule, value_rule, goal_rule, goal_head_rule, goal_value_rule, operand_rule, name_rule, once};
 ghost use Rattle.ps_shape.specs.declared.symbols.Symbol.TheVariants.{InText, InList, InAction, InCondition, InEffect, InValue, InGoal};
 ghost use Rattle.ps_shape.specs.declared.symbols.ListPart.TheVariants as list;
 ghost use Rattle.ps_shape.specs.declared.symbols.ValuePart.TheVariants as value;
@@ -12,7 +12,7 @@ use super::symbols::Symbol::{
 };
 use super::symbols::Then::{Nothing, One, Three, Two};
 use super::symbols::{
-    ActionPart, ConditionPart, EffectPart, GoalPart, ListPart, Seen, Symbol, TextPart, Then,
+    ActionPart, ConditionPart, EffectPart, GoalPart, ListPart, Reach, Seen, Symbol, TextPart, Then,
     ValuePart,
 };
 
@@ -306,8 +306,7 @@ fn effect_rule(part: EffectPart, mark: Mark) -> Option<Then>
     ensures few { IfSome result (λ next. level (symbols next) ≤ weight (InEffect part) + 1) }
 {
     let time = InEffect(EffectPart::StartOrEnd);
-    let effect = InEffect(EffectPart::Effect);
-    let head = InEffect(EffectPart::Head);
+    let effect = InEffect(EffectPart::Effect(Reach::Spread));
     let timed_head = InEffect(EffectPart::TimedHead);
     let timed_list = InEffect(EffectPart::TimedList);
     match (part, mark) {
@@ -322,29 +321,84 @@ fn effect_rule(part: EffectPart, mark: Mark) -> Option<Then>
         (EffectPart::TimedHead, Mark::Close) => Some(Nothing),
         (EffectPart::TimedHead, Mark::And) => Some(One(timed_list)),
         (EffectPart::TimedHead, Mark::At) => Some(Three(time, effect, The(Mark::Close))),
-        (EffectPart::Effect, Mark::Open) => Some(One(head)),
-        (EffectPart::Effects, Mark::Close) => Some(Nothing),
-        (EffectPart::Effects, Mark::Open) => Some(Two(head, InEffect(part))),
-        (EffectPart::Head, _) => effect_head_rule(mark),
+        (EffectPart::Effect(reach), Mark::Open) => Some(One(InEffect(EffectPart::Head(reach)))),
+        (EffectPart::Effects(_), Mark::Close) => Some(Nothing),
+        (EffectPart::Effects(reach), Mark::Open) => {
+            Some(Two(InEffect(EffectPart::Head(reach)), InEffect(part)))
+        }
+        (EffectPart::Head(reach), _) => effect_head_rule(reach, mark),
+        (EffectPart::Body(reach), Mark::Open) => Some(One(InEffect(EffectPart::BodyHead(reach)))),
+        (EffectPart::BodyHead(reach), _) => body_head_rule(reach, mark),
+        (EffectPart::LoneTerms, _) => lone_terms_rule(mark),
         (EffectPart::StartOrEnd, Mark::Start | Mark::End) => Some(Nothing),
         (EffectPart::FormEnd, Mark::Close) => Some(Nothing),
         _ => None,
     }
 }
 
-fn effect_head_rule(mark: Mark) -> Option<Then>
-    ensures rule { option_map symbols result ≡ effect_head_rule mark }
+fn effect_head_rule(reach: Reach, mark: Mark) -> Option<Then>
+    ensures rule { option_map symbols result ≡ effect_head_rule reach mark }
+    ensures few { IfSome result (λ next. level (symbols next) ≤ 2) }
+{
+    match mark {
+        Mark::And => Some(One(InEffect(EffectPart::Effects(reach)))),
+        _ => one_effect_rule(reach, InValue(ValuePart::Terms), The(Mark::Close), mark),
+    }
+}
+
+/// What follows the first parenthesis in a `forall` or a `when`.
+fn body_head_rule(reach: Reach, mark: Mark) -> Option<Then>
+    ensures rule { option_map symbols result ≡ body_head_rule reach mark }
+    ensures few { IfSome result (λ next. level (symbols next) ≤ 2) }
+{
+    match mark {
+        Mark::And => Some(One(InEffect(EffectPart::Effects(reach)))),
+        _ => {
+            let terms = InEffect(EffectPart::LoneTerms);
+            one_effect_rule(reach, terms, InEffect(EffectPart::FormEnd), mark)
+        }
+    }
+}
+
+/// The head of an effect but `and`; `terms` are its terms and `end` is the parenthesis that ends it.
+fn one_effect_rule(reach: Reach, terms: Symbol, end: Symbol, mark: Mark) -> Option<Then>
+    requires terms { weight terms ≤ 2 }
+    requires end { weight end ≤ 2 }
+    ensures rule { option_map symbols result ≡ one_effect_rule reach terms end mark }
     ensures few { IfSome result (λ next. level (symbols next) ≤ 2) }
 {
     let atom = InValue(ValuePart::Atom);
-    let end = The(Mark::Close);
     match mark {
-        Mark::And => Some(One(InEffect(EffectPart::Effects))),
         Mark::Not => Some(Two(atom, end)),
+        Mark::When => {
+            let body = InEffect(EffectPart::Body(Reach::Plain));
+            at(
+                reach.has_when(),
+                Three(InCondition(ConditionPart::Condition), body, end),
+            )
+        }
+        Mark::Forall => {
+            let body = InEffect(EffectPart::Body(Reach::Guarded));
+            at(
+                reach.has_forall(),
+                Three(InAction(ActionPart::Parameters), body, end),
+            )
+        }
         Mark::Assign | Mark::Increase | Mark::Decrease | Mark::ScaleUp | Mark::ScaleDown => {
             Some(Three(atom, InValue(ValuePart::Value), end))
         }
-        _ => at(mark.is_predicate_name(), One(InValue(ValuePart::Terms))),
+        _ => at(mark.is_predicate_name(), One(terms)),
+    }
+}
+
+/// Terms of a fact alone in a `forall` or a `when`.
+fn lone_terms_rule(mark: Mark) -> Option<Then>
+    ensures rule { option_map symbols result ≡ lone_terms_rule mark }
+    ensures few { IfSome result (λ next. level (symbols next) ≤ 2) }
+{
+    match mark {
+        Mark::Close => Some(Nothing),
+        _ => at(mark.is_term(), One(InEffect(EffectPart::LoneTerms))),
     }
 }
 

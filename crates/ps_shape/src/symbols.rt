@@ -1,6 +1,6 @@
 //! What a domain's text wants next.
 ghost use Rattle.std.specs.Prelude.{◌≡◌, ◌≤◌, true};
-ghost use Rattle.ps_shape.specs.Symbols.{none_seen, weight, level, symbols};
+ghost use Rattle.ps_shape.specs.Symbols.{none_seen, has_forall, has_when, weight, level, symbols};
 
 use super::marks::Mark;
 
@@ -182,6 +182,39 @@ pub enum ConditionPart {
     Head,
 }
 
+/// Which effects may stand at a place, beside those on one fact or value.
+#[derive(Clone, Copy)]
+pub enum Reach {
+    /// `forall` and `when`.
+    Spread,
+    /// `when` alone: in a `forall`.
+    Guarded,
+    /// None more: in a `when`.
+    Plain,
+}
+
+impl Reach {
+    /// Whether a `forall` may stand there.
+    pub fn has_forall(self) -> bool
+        ensures { result ≡ has_forall self }
+    {
+        match self {
+            Reach::Spread => true,
+            Reach::Guarded | Reach::Plain => false,
+        }
+    }
+
+    /// Whether a `when` may stand there.
+    pub fn has_when(self) -> bool
+        ensures { result ≡ has_when self }
+    {
+        match self {
+            Reach::Spread | Reach::Guarded => true,
+            Reach::Plain => false,
+        }
+    }
+}
+
 /// Effects, and what they share with conditions.
 #[derive(Clone, Copy)]
 pub enum EffectPart {
@@ -194,14 +227,20 @@ pub enum EffectPart {
     /// An effect with a time, without its first parenthesis.
     TimedHead,
     /// An effect.
-    Effect,
+    Effect(Reach),
     /// Effects, and the parenthesis that ends them.
-    Effects,
+    Effects(Reach),
     /// An effect without its first parenthesis.
-    Head,
+    Head(Reach),
+    /// What a `forall` or a `when` makes: effects in an `and`, or one alone, which counts a level more.
+    Body(Reach),
+    /// The same without its first parenthesis.
+    BodyHead(Reach),
+    /// The terms of a fact that stands alone so, and the parenthesis that ends them.
+    LoneTerms,
     /// `start` or `end`.
     StartOrEnd,
-    /// The parenthesis that ends a form with a time, in which a level more is counted.
+    /// The parenthesis that ends what counts a level more: a form with a time, or a body, that stands alone.
     FormEnd,
 }
 
@@ -272,12 +311,18 @@ impl Symbol {
             | Symbol::InList(ListPart::TypeName | ListPart::PredicateHead | ListPart::FunctionType)
             | Symbol::InAction(ActionPart::Parameters | ActionPart::Duration)
             | Symbol::InCondition(ConditionPart::Form | ConditionPart::Condition)
-            | Symbol::InEffect(EffectPart::Form | EffectPart::Effect | EffectPart::StartOrEnd)
+            | Symbol::InEffect(
+                EffectPart::Form
+                | EffectPart::Effect(_)
+                | EffectPart::Body(_)
+                | EffectPart::StartOrEnd,
+            )
             | Symbol::InValue(ValuePart::Atom | ValuePart::Value)
             | Symbol::InGoal(
                 GoalPart::Condition | GoalPart::Atom | GoalPart::Term | GoalPart::Value,
             ) => 0,
-            Symbol::InText(TextPart::SectionHead(_)) | Symbol::InEffect(EffectPart::FormEnd) => 2,
+            Symbol::InText(TextPart::SectionHead(_))
+            | Symbol::InEffect(EffectPart::LoneTerms | EffectPart::FormEnd) => 2,
             _ => 1,
         }
     }

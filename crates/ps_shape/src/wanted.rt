@@ -7,7 +7,7 @@ ghost use Rattle.ps_shape.specs.Shape.{next_wanted, run, IsTooDeepFrom, deepest}
 ghost use Rattle.ps_shape.specs.Steps.{IsOver, Passes, Stops, Fails, form_of};
 ghost use Rattle.ps_shape.specs.Forms.{told_at};
 
-use super::faults::{Form, ShapeFault, unsupported};
+use super::faults::{Form, ShapeFault, opened_at, opens, unsupported};
 use super::marks::Mark;
 use super::rules::step;
 use super::symbols::{Symbol, TextPart, Then};
@@ -22,8 +22,7 @@ pub const DEEPEST: usize = 64;
 pub struct Wanted {
     /// The first one wanted stands last.
     items: Vec<Symbol>,
-    /// For so many marks more no parenthesis can open a level too many, as each opens one at most. So the levels needn't be counted at
-    /// each mark.
+    /// For so many marks more none can open a level too many, as each opens one at most. So the levels needn't be counted at each mark.
     left: usize,
 }
 
@@ -89,10 +88,7 @@ impl Wanted {
         ensures over { IsTrue result ↔ IsOver self.old mark }
         ensures kept { self.new ≡ self.old }
     {
-        match mark {
-            Mark::Open => self.left == 0 && self.is_deepest(),
-            _ => false,
-        }
+        self.left == 0 && opens(self.first(), mark) && self.is_deepest()
     }
 
     /// Whether no level more may be opened, by counting them.
@@ -205,7 +201,9 @@ impl Wanted {
         ensures { Fails self.old mark after at result }
     {
         if self.is_over(mark) {
-            ShapeFault::Depth { at }
+            ShapeFault::Depth {
+                at: opened_at(self.first(), at),
+            }
         } else {
             self.misfit(at, mark, after)
         }

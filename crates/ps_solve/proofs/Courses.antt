@@ -15,7 +15,7 @@ use Rattle.ps_action.specs.declared.acts.GroundAction.{GroundAction}
 use Rattle.ps_action.specs.declared.refusals.GroundRefusal.{GroundRefusal}
 use Rattle.ps_action.specs.declared.refusals.PlanRefusal.{PlanRefusal}
 use Rattle.ps_action.specs.declared.refusals.PlanRefusal.TheVariants.{GoalFalse}
-use Rattle.ps_action.specs.Effects.{unless}
+use Rattle.ps_action.specs.Refusals.{unless}
 use Rattle.ps_action.specs.Grounding.{first_unfit, ground_act, ground_by, grounded}
 use Rattle.ps_action.specs.Plans.{after_steps, and_then, judged, judged_by, where_true}
 use Rattle.ps_action.specs.Search.{after, ends, least_plan, plans_of, possible_acts}

@@ -25,13 +25,13 @@ use Rattle.ps_solve.proofs.SameStates.{met_more, state_same}
 use Rattle.ps_solve.proofs.Firsts.{met_stays, met_now}
 
 -- each of those that are sound is
-pub sound_there : (atoms : List Fact) (i : ℕ) (qs : List Prepared) (b : Prepared) → slice_get qs i ≡ Some b → AreSound atoms qs → IsSound atoms b
-sound_there atoms i [] b e all = absurd (cc)
-sound_there atoms zero (q ∷ qs) b e all =
+pub sound_there : (d : Domain) (k : Knowledge) (atoms : List Fact) (i : ℕ) (qs : List Prepared) (b : Prepared) → slice_get qs i ≡ Some b → AreSound d k atoms qs → IsSound d k atoms b
+sound_there d k atoms i [] b e all = absurd (cc)
+sound_there d k atoms zero (q ∷ qs) b e all =
     let same : q ≡ b = cc in
-    let P : Prepared → Type 0 = IsSound atoms in
+    let P : Prepared → Type 0 = IsSound d k atoms in
     subst P same all.0
-sound_there atoms (suc i) (q ∷ qs) b e all = sound_there atoms i qs b e all.1
+sound_there d k atoms (suc i) (q ∷ qs) b e all = sound_there d k atoms i qs b e all.1
 
 pub below : {A : Type 0} (i : ℕ) (xs : List A) (x : A) → slice_get xs i ≡ Some x → i < length xs
 below i [] x e = absurd (cc)
@@ -156,7 +156,7 @@ module _ (d : Domain) (k : Knowledge) (atoms : List Fact) (ps : List Prepared) w
 
   -- ---- the leads of one that is expanded
 
-  module _ (rise : IsStrictlySortedBy fact_cmp atoms) (sound : AreSound atoms ps) (good : State → Bool) (most : ℕ) (l : Lead) (sorted : IsStrictlySortedBy fact_cmp l.state.facts) where
+  module _ (rise : IsStrictlySortedBy fact_cmp atoms) (sound : AreSound d k atoms ps) (good : State → Bool) (most : ℕ) (l : Lead) (sorted : IsStrictlySortedBy fact_cmp l.state.facts) where
     -- what the first so many ground actions lead to from it was looked at
     abbrev pub TriedTo : ℕ → List Lead → Type 0
     TriedTo i ls = (j : ℕ) (b : Prepared) (t : State) → j < i → slice_get ps j ≡ Some b → successor d k atoms l.state b ≡ Some t → IsTried good most ls t
@@ -185,7 +185,7 @@ module _ (d : Domain) (k : Knowledge) (atoms : List Fact) (ps : List Prepared) w
     pub new_pruned : (i : ℕ) (a : Prepared) (t : State) (ls : List Lead) → slice_get ps i ≡ Some a → successor d k atoms l.state a ≡ Some t → length ls < most → TriedTo i ls → IsPruned d k atoms ps (states ls) (lead_to i t)
     new_pruned i a t ls at led room tried j b u here pruned on =
         let w = pruned_by i j a b at (ap (λ o. is_pruned ps o j b) (sym (last-push None l.places i)) ∙ pruned) in
-        let other = successor-swap d k atoms rise a b (sound_there atoms i ps a at sound).footprint (sound_there atoms j ps b here sound).footprint w.1 l.state t u sorted led on in
+        let other = successor-swap d k atoms rise a b (sound_there d k atoms i ps a at sound).footprint (sound_there d k atoms j ps b here sound).footprint w.1 l.state t u sorted led on in
         (other.0, met_there ls other.0 room (tried j b other.0 w.0 here other.1), (i, a, at, other.2))
 
     one_more : (i : ℕ) (a : Prepared) (ls : List Lead) → slice_get ps i ≡ Some a → TriedTo i ls → ((t : State) → successor d k atoms l.state a ≡ Some t → IsTried good most ls t) → TriedTo (suc i) ls

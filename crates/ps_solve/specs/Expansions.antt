@@ -57,7 +57,7 @@ IsNext e reached = IsQueue e.task.now.expert.now e.task.now.problem.now e.task.n
 
 -- a ground action can be tried: it is sound, and this row has a flag for each atom
 pub record CanTry (e : Expansion) (action : Prepared) (next : Row) : Type 0 where
-  pub sound : IsSound e.task.now.grounds.atoms action
+  pub sound : IsSound e.task.now.expert.now e.task.now.problem.now e.task.now.grounds.atoms action
   pub wide : length next.flags ≡ length e.task.now.grounds.atoms
 
 -- all can be tried: the row that is expanded is the next of the queue, this ground action led to it, and this row has a flag for each atom

@@ -18,7 +18,7 @@ use Rattle.ps_ground.specs.Moves.{Node}
 use Rattle.ps_ground.specs.Prepared.{AreSound, IsSound, IsSoundChange}
 use Rattle.ps_ground.specs.States.{State}
 use Rattle.ps_ground.specs.declared.prepared.Change.{Change}
-use Rattle.ps_ground.specs.declared.prepared.Change.TheVariants.{Flags, Effects}
+use Rattle.ps_ground.specs.declared.prepared.Change.TheVariants.{Flags, Effects, Spreads}
 use Rattle.ps_ground.specs.declared.prepared.Prepared.{Prepared}
 use Rattle.ps_ground.specs.declared.prepared.Test.{Test}
 
@@ -48,16 +48,17 @@ state_set = hlevel (props, fact_set, num_set)
 node_set : IsSet Node
 node_set = hlevel (props, state_set, act_set)
 
-change_prop : (atoms : List Fact) (c : Change) → IsProp (IsSoundChange atoms c)
-change_prop atoms (Flags cleared set) = hlevel props
-change_prop atoms (Effects es clash) = hlevel props
+change_prop : (d : Domain) (k : Knowledge) (atoms : List Fact) (c : Change) → IsProp (IsSoundChange d k atoms c)
+change_prop d k atoms (Flags cleared set) = hlevel props
+change_prop d k atoms (Effects es clash) = hlevel props
+change_prop d k atoms (Spreads es) = hlevel props
 
-sound_prop : (atoms : List Fact) (p : Prepared) → IsProp (IsSound atoms p)
-sound_prop atoms p = hlevel (props, change_prop)
+sound_prop : (d : Domain) (k : Knowledge) (atoms : List Fact) (p : Prepared) → IsProp (IsSound d k atoms p)
+sound_prop d k atoms p = hlevel (props, change_prop)
 
-all_sound_prop : (atoms : List Fact) (ps : List Prepared) → IsProp (AreSound atoms ps)
-all_sound_prop atoms [] = Unit-prop
-all_sound_prop atoms (p ∷ ps) = ×_prop (sound_prop atoms p) (all_sound_prop atoms ps)
+all_sound_prop : (d : Domain) (k : Knowledge) (atoms : List Fact) (ps : List Prepared) → IsProp (AreSound d k atoms ps)
+all_sound_prop d k atoms [] = Unit-prop
+all_sound_prop d k atoms (p ∷ ps) = ×_prop (sound_prop d k atoms p) (all_sound_prop d k atoms ps)
 
 grounded_prop : (d : Domain) (k : Knowledge) (atoms : List Fact) (ps : List Prepared) → IsProp (AreGrounded d k atoms ps)
 grounded_prop d k atoms ps = hlevel (props, node_set, all_sound_prop)

@@ -1,17 +1,17 @@
 //! Steps from a state to the next.
 ghost use Rattle.std.specs.Prelude.{◌≡◌, Some, None, if◌then◌else◌, option_and_then, length, IfOk, OnOk};
-ghost use Rattle.ps_action.specs.Effects.{first_clash};
+ghost use Rattle.ps_action.specs.Effects.{first_clash, flat};
 ghost use Rattle.ps_ground.specs.Atoms.{AddAtoms};
 ghost use Rattle.ps_ground.specs.Prepared.{IsSound, IsSoundChange, landed, passes, successor, turned};
-ghost use Rattle.ps_ground.specs.States.{changed};
+ghost use Rattle.ps_ground.specs.States.{State, at, changed, changed_flat};
 ghost use Rattle.ps_solve.specs.Rows.{plain_state};
 
 use super::rows::{Row, are_known};
 use super::task::Task;
-use ps_action::{Known, all_true, fault_with, values_set};
+use ps_action::{Known, all_true, fault_of_flat_with, first_clash, unfold, values_of_flat};
 use ps_ground::{Atoms, Change, Prepared, Test};
 use ps_problem::Problem;
-use ps_world::{Effect, Fact, Name, Num};
+use ps_world::{Effect, Fact, Name, Num, Spread};
 use std::alloc::AllocError;
 
 /// What is known in a state. The instances, which no step changes, are those of what was known at first.
@@ -71,8 +71,8 @@ impl<'a> Task<'a> {
             && all_true(&self.at(row), self.expert, &test.others)
     }
 
-    /// Makes a list of effects in a state, where this is the place of their first clash, and answers whether it could: false where one
-    /// has a fault. Where memory runs out the row may have changed.
+    /// Makes flat effects in a state, where this is the place of their first clash, and answers whether it could: false where one has a
+    /// fault. Where memory runs out the row may have changed.
     fn change(
         &self,
         row: &mut Row,
@@ -84,6 +84,31 @@ impl<'a> Task<'a> {
         requires clash { clash ≡ first_clash effects.now }
         ensures state { IfOk result (λ made.
             (if made then Some (plain_state self.now.grounds.atoms row.new) else None)
+            ≡ changed_flat self.now.problem.now
+            (plain_state self.now.grounds.atoms row.old) effects.now) }
+        ensures wide { OnOk result (length row.new.flags ≡ length row.old.flags) }
+    {
+        let here = At {
+            given: self.problem,
+            atoms: &self.grounds.atoms,
+            row: &*row,
+        };
+        if fault_of_flat_with(&here, effects, clash).is_some() {
+            return Ok(false);
+        }
+        let ready = values_of_flat(self.alloc, &here, effects)?;
+        row.put(self.alloc, &self.grounds.atoms, effects, &ready)?;
+        Ok(true)
+    }
+
+    /// Makes the effects for which a list stands in a state, and answers whether it could: false where one has a fault. Where memory runs
+    /// out the row may have changed.
+    fn change_spread(&self, row: &mut Row, effects: &[Spread]) -> Result<bool, AllocError>
+        requires wide { length row.old.flags ≡ length self.now.grounds.atoms }
+        requires atoms { (s : State) → AddAtoms self.now.grounds.atoms
+            (flat self.now.expert.now (at self.now.problem.now s) effects.now) }
+        ensures state { IfOk result (λ made.
+            (if made then Some (plain_state self.now.grounds.atoms row.new) else None)
             ≡ changed self.now.expert.now self.now.problem.now
             (plain_state self.now.grounds.atoms row.old) effects.now) }
         ensures wide { OnOk result (length row.new.flags ≡ length row.old.flags) }
@@ -93,19 +118,17 @@ impl<'a> Task<'a> {
             atoms: &self.grounds.atoms,
             row: &*row,
         };
-        if fault_with(&here, self.expert, effects, clash).is_some() {
-            return Ok(false);
-        }
-        let ready = values_set(self.alloc, &here, self.expert, effects)?;
-        row.put(self.alloc, &self.grounds.atoms, effects, &ready)?;
-        Ok(true)
+        let flat = unfold(self.alloc, &here, self.expert, effects)?;
+        let clash = first_clash(&flat);
+        self.change(row, &flat, clash)
     }
 
     /// Makes a prepared change in a row, and answers whether it could: false where an effect has a fault. Where memory runs out the row
     /// may have changed.
     fn turn(&self, row: &mut Row, by: &Change) -> Result<bool, AllocError>
         requires wide { length row.old.flags ≡ length self.now.grounds.atoms }
-        requires sound { IsSoundChange self.now.grounds.atoms by.now }
+        requires sound { IsSoundChange self.now.expert.now self.now.problem.now
+            self.now.grounds.atoms by.now }
         ensures state { IfOk result (λ made.
             (if made then Some (plain_state self.now.grounds.atoms row.new) else None)
             ≡ turned self.now.expert.now self.now.problem.now self.now.grounds.atoms by.now
@@ -119,6 +142,7 @@ impl<'a> Task<'a> {
                 Ok(true)
             }
             Change::Effects { effects, clash } => self.change(row, effects.as_slice(), *clash),
+            Change::Spreads { effects } => self.change_spread(row, effects.as_slice()),
         }
     }
 
@@ -126,7 +150,8 @@ impl<'a> Task<'a> {
     /// may have changed.
     fn end(&self, row: &mut Row, action: &Prepared) -> Result<bool, AllocError>
         requires wide { length row.old.flags ≡ length self.now.grounds.atoms }
-        requires sound { IsSound self.now.grounds.atoms action.now }
+        requires sound { IsSound self.now.expert.now self.now.problem.now
+            self.now.grounds.atoms action.now }
         ensures state { IfOk result (λ made.
             (if made then Some (plain_state self.now.grounds.atoms row.new) else None)
             ≡ landed self.now.expert.now self.now.problem.now self.now.grounds.atoms action.now
@@ -143,7 +168,8 @@ impl<'a> Task<'a> {
     /// row may have changed.
     fn go_on(&self, row: &mut Row, action: &Prepared) -> Result<bool, AllocError>
         requires wide { length row.old.flags ≡ length self.now.grounds.atoms }
-        requires sound { IsSound self.now.grounds.atoms action.now }
+        requires sound { IsSound self.now.expert.now self.now.problem.now
+            self.now.grounds.atoms action.now }
         ensures state { IfOk result (λ made.
             (if made then Some (plain_state self.now.grounds.atoms row.new) else None)
             ≡ option_and_then
@@ -165,7 +191,8 @@ impl<'a> Task<'a> {
     pub fn step(&self, row: &Row, action: &Prepared, next: &mut Row) -> Result<bool, AllocError>
         requires wide { length row.now.flags ≡ length self.now.grounds.atoms }
         requires next { length next.old.flags ≡ length self.now.grounds.atoms }
-        requires sound { IsSound self.now.grounds.atoms action.now }
+        requires sound { IsSound self.now.expert.now self.now.problem.now
+            self.now.grounds.atoms action.now }
         ensures state { IfOk result (λ made.
             (if made then Some (plain_state self.now.grounds.atoms next.new) else None)
             ≡ successor self.now.expert.now self.now.problem.now self.now.grounds.atoms

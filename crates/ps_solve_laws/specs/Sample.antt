@@ -11,6 +11,7 @@ use Rattle.ps_world.specs.declared.actions.ActionDef.{ActionDef}
 use Rattle.ps_world.specs.declared.domains.Domain.{Domain}
 use Rattle.ps_world.specs.declared.known.Knowledge.{Knowledge}
 use Rattle.ps_world.specs.CondViews.{cond_tree}
+use Rattle.ps_action.specs.Effects.{plainly}
 use Rattle.ps_action.specs.declared.acts.Act.{Act}
 use Rattle.ps_action.specs.declared.answers.Answer.TheVariants.{Plan, NoPlan, Spent}
 use Rattle.ps_action.specs.Search.{answer}
@@ -32,7 +33,7 @@ move = record {
   params = record { name = name 9; kind = name 2 } ∷ record { name = name 10; kind = name 2 } ∷ [];
   duration = Num (pos 1000);
   conditions = record { at_start = cond_tree (Holds (at_parameter 0)) ∷ []; over_all = []; at_end = [] };
-  effects = record { at_start = Delete (at_parameter 0) ∷ []; at_end = Add (at_parameter 1) ∷ [] };
+  effects = record { at_start = plainly (Delete (at_parameter 0) ∷ []); at_end = plainly (Add (at_parameter 1) ∷ []) };
 }
 
 abbrev pub rooms : Domain

@@ -1,9 +1,9 @@
 -- Marks that symbols derive, without too many levels.
-use Rattle.std.proofs.Common.{◌≡◌, suc, ◌<◌, ◌≤◌, List, [], ◌∷◌, ◌++◌, take, Some, unwrap_or, sym, ap, subst, inl, inr}
+use Rattle.std.proofs.Common.{◌≡◌, suc, ◌<◌, true, List, [], ◌∷◌, ◌++◌, take, Some, slice_get, unwrap_or, refl, sym, ap, subst, inl, inr}
 use Rattle.std.specs.Option.{option_and_then}
 use Rattle.std.proofs.lemmas.Bool.{cases_lt}
 use Rattle.ps_shape.specs.Rules.{step}
-use Rattle.ps_shape.specs.Shape.{Derives, IsShallowFrom, deepest, run}
+use Rattle.ps_shape.specs.Shape.{Derives, IsShallowFrom, OpensTooMany, deepest, opens_level, run}
 use Rattle.ps_shape.specs.Shape.Derives.{nothing, by_rule}
 use Rattle.ps_shape.specs.Symbols.{level}
 use Rattle.ps_shape.specs.declared.marks.Mark.{Mark}
@@ -23,13 +23,13 @@ room_of : (s : Symbol) (st : List Symbol) (m : Mark) (ms : List Mark) → IsShal
 room_of s st m ms flat opens =
     elim (cases_lt (level (s ∷ st)) deepest) [
       | inl h ↦ h
-      | inr h ↦ absurd (flat 0 (ap Some opens, h))
+      | inr h ↦ absurd (flat 0 (subst (λ (x : Mark). opens_level (s ∷ st) (Some x) ≡ true) (sym opens) refl, h))
     ]
 
 later_flat : (s : Symbol) (st : List Symbol) (m : Mark) (ms : List Mark) (new : List Symbol) → step s m ≡ Some new → IsShallowFrom (s ∷ st) (m ∷ ms) → IsShallowFrom (new ++ st) ms
 later_flat s st m ms new leads flat at deep =
     let same : run (s ∷ st) (m ∷ take at ms) ≡ run (new ++ st) (take at ms) = ap (λ o. option_and_then (λ next. run next (take at ms)) (option_and_then (λ x. Some (x ++ st)) o)) leads in
-    flat (suc at) (deep.0, subst (λ o. deepest ≤ level (unwrap_or o [])) (sym same) deep.1)
+    flat (suc at) (subst (λ o. OpensTooMany (unwrap_or o []) (slice_get ms at)) (sym same) deep)
 
 pub runs_of : (st : List Symbol) (ms : List Mark) → Derives st ms → IsShallowFrom st ms → Runs st ms
 runs_of _ _ nothing flat = ends

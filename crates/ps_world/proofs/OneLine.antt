@@ -10,7 +10,7 @@ use Rattle.ps_world.specs.Lines.{AreLines, is_line}
 use Rattle.ps_world.specs.Trees.{ExprTree, number, value_of, negated, operated, CondTree, CondTrees, all_of, any_of, no, implied, holds, same, compares, is_a, for_some, for_all, none, more}
 use Rattle.ps_world.specs.ExprViews.{expr_tree}
 use Rattle.ps_world.specs.CondViews.{cond_tree}
-use Rattle.ps_world.specs.DomainTexts.{after_spaces, spaced, typed_text, param_text, decl_text, term_text, lifted_text, op_text, expr_text, rel_text, bound_text, cond_text, conds_text, num_op_text, effect_text, timed_text, conditions_text, effects_text, action_lines, section_lines, domain_lines}
+use Rattle.ps_world.specs.DomainTexts.{after_spaces, spaced, typed_text, param_text, decl_text, term_text, lifted_text, op_text, expr_text, rel_text, bound_text, cond_text, conds_text, num_op_text, effect_text, guarded_text, spread_text, timed_text, conditions_text, effects_text, action_lines, section_lines, domain_lines}
 use Rattle.ps_world.specs.Texts.{args_text, fact_text, value_text, goal_text, edit_text, edit_refusal_text}
 use Rattle.ps_world.specs.declared.names.Name.{Name}
 use Rattle.ps_world.specs.declared.numbers.Num.{Num}
@@ -27,6 +27,10 @@ use Rattle.ps_world.specs.declared.actions.NumOp.{NumOp}
 use Rattle.ps_world.specs.declared.actions.NumOp.TheVariants as numeric
 use Rattle.ps_world.specs.declared.actions.Effect.{Effect}
 use Rattle.ps_world.specs.declared.actions.Effect.TheVariants as effect
+use Rattle.ps_world.specs.declared.actions.Guarded.{Guarded}
+use Rattle.ps_world.specs.declared.actions.Guarded.TheVariants.{Plain, When}
+use Rattle.ps_world.specs.declared.actions.Spread.{Spread}
+use Rattle.ps_world.specs.declared.actions.Spread.TheVariants.{Once, ForAll}
 use Rattle.ps_world.specs.declared.actions.ActionDef.{ActionDef}
 use Rattle.ps_world.specs.declared.domains.Param.{Param}
 use Rattle.ps_world.specs.declared.domains.Decl.{Decl}
@@ -218,6 +222,22 @@ module _ (names : Table) (named : AreLines names) where
   is_line-effect ps (effect.Number how l x) =
       is_line-pair (num_op_text how) (lifted_text names ps l) (expr_text names ps (expr_tree x)) (is_line-num_op how) (is_line-lifted ps l) (is_line-expr ps (expr_tree x))
 
+  -- parts after (and, with the parentheses that close them and what stands round them
+  is_line-body : {X : Type 0} (text : X → List ℕ) (xs : List X) → ((x : X) → is_line (text x) ≡ true) → is_line (codes " (and" ++ (after_spaces (map text xs) ++ codes "))")) ≡ true
+  is_line-body text xs h = is_line-append (after_spaces (map text xs)) (codes "))") (is_line-after_spaces text xs h) refl
+
+  is_line-guarded : (ps : List Param) (g : Guarded) → is_line (guarded_text names ps g) ≡ true
+  is_line-guarded ps (Plain e) = is_line-effect ps e
+  is_line-guarded ps (When c es) =
+      is_line-append (cond_text names ps (cond_tree c)) (codes " (and" ++ (after_spaces (map (effect_text names ps) es) ++ codes "))"))
+      (is_line-cond ps (cond_tree c)) (is_line-body (effect_text names ps) es (is_line-effect ps))
+
+  is_line-spread : (ps : List Param) (s : Spread) → is_line (spread_text names ps s) ≡ true
+  is_line-spread ps (Once g) = is_line-guarded ps g
+  is_line-spread ps (ForAll qs gs) =
+      is_line-append (bound_text names qs) (codes " (and" ++ (after_spaces (map (guarded_text names (ps ++ qs)) gs) ++ codes "))"))
+      (is_line-bound qs) (is_line-body (guarded_text names (ps ++ qs)) gs (is_line-guarded (ps ++ qs)))
+
   is_line-conditions : (a : ActionDef) → is_line (conditions_text names a) ≡ true
   is_line-conditions a =
       let text = cond_text names a.params in
@@ -229,8 +249,8 @@ module _ (names : Table) (named : AreLines names) where
 
   is_line-effects : (a : ActionDef) → is_line (effects_text names a) ≡ true
   is_line-effects a =
-      let text = effect_text names a.params in
-      let one = is_line-effect a.params in
+      let text = spread_text names a.params in
+      let one = is_line-spread a.params in
       is_line-append (timed_text (codes "at start") (map text a.effects.at_start)) (timed_text (codes "at end") (map text a.effects.at_end))
       (is_line-timed (codes "at start") text a.effects.at_start refl one) (is_line-timed (codes "at end") text a.effects.at_end refl one)
 

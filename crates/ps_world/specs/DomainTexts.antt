@@ -6,6 +6,7 @@ use Rattle.ps_world.specs.Names.{Table, object, name_text}
 use Rattle.ps_world.specs.Numbers.{number_text}
 use Rattle.ps_world.specs.Trees.{ExprTree, number, value_of, negated, operated, CondTree, CondTrees, all_of, any_of, no, implied, holds, same, compares, is_a, for_some, for_all, none, more}
 use Rattle.ps_world.specs.ExprViews.{expr_tree}
+use Rattle.ps_world.specs.CondViews.{cond_tree}
 use Rattle.ps_world.specs.declared.schemas.Term.{Term}
 use Rattle.ps_world.specs.declared.schemas.Term.TheVariants.{Var, Const}
 use Rattle.ps_world.specs.declared.schemas.Lifted.{Lifted}
@@ -17,6 +18,10 @@ use Rattle.ps_world.specs.declared.actions.NumOp.{NumOp}
 use Rattle.ps_world.specs.declared.actions.NumOp.TheVariants as numeric
 use Rattle.ps_world.specs.declared.actions.Effect.{Effect}
 use Rattle.ps_world.specs.declared.actions.Effect.TheVariants as effect
+use Rattle.ps_world.specs.declared.actions.Guarded.{Guarded}
+use Rattle.ps_world.specs.declared.actions.Guarded.TheVariants.{Plain, When}
+use Rattle.ps_world.specs.declared.actions.Spread.{Spread}
+use Rattle.ps_world.specs.declared.actions.Spread.TheVariants.{Once, ForAll}
 use Rattle.ps_world.specs.declared.actions.ActionDef.{ActionDef}
 use Rattle.ps_world.specs.declared.domains.Param.{Param}
 use Rattle.ps_world.specs.declared.domains.Decl.{Decl}
@@ -129,6 +134,18 @@ effect_text names ps (effect.Delete l) = codes "(not " ++ (lifted_text names ps 
 effect_text names ps (effect.Number how l x) =
     codes "(" ++ (num_op_text how ++ (codes " " ++ (lifted_text names ps l ++ (codes " " ++ (expr_text names ps (expr_tree x) ++ codes ")")))))
 
+-- an effect, or (when C (and G*))
+abbrev pub guarded_text : Table → List Param → Guarded → List ℕ
+guarded_text names ps (Plain e) = effect_text names ps e
+guarded_text names ps (When c es) =
+    codes "(when " ++ (cond_text names ps (cond_tree c) ++ (codes " (and" ++ (after_spaces (map (effect_text names ps) es) ++ codes "))")))
+
+-- what stands once, or (forall (VLIST) (and W*))
+abbrev pub spread_text : Table → List Param → Spread → List ℕ
+spread_text names ps (Once g) = guarded_text names ps g
+spread_text names ps (ForAll qs gs) =
+    codes "(forall " ++ (bound_text names qs ++ (codes " (and" ++ (after_spaces (map (guarded_text names (ps ++ qs)) gs) ++ codes "))")))
+
 -- ---- actions
 
 -- parts with the same time, each after a space: (at start C), (over all C) or (at end C), and the same of effects
@@ -145,8 +162,8 @@ conditions_text names a =
 -- the parts of an action's effect: those of the start, and those of the end
 abbrev pub effects_text : Table → ActionDef → List ℕ
 effects_text names a =
-    timed_text (codes "at start") (map (effect_text names a.params) a.effects.at_start)
-    ++ timed_text (codes "at end") (map (effect_text names a.params) a.effects.at_end)
+    timed_text (codes "at start") (map (spread_text names a.params) a.effects.at_start)
+    ++ timed_text (codes "at end") (map (spread_text names a.params) a.effects.at_end)
 
 -- the five lines of an action
 abbrev pub action_lines : Table → ActionDef → List (List ℕ)

@@ -1,5 +1,5 @@
 //! Actions and their effects.
-use super::conditions::Conds;
+use super::conditions::{Cond, Conds};
 use super::domains::Params;
 use super::expressions::Expr;
 use super::lists::{Duplicate, Seq};
@@ -17,7 +17,7 @@ pub enum NumOp {
     ScaleDown,
 }
 
-/// An effect of an action.
+/// An effect on one fact or one value.
 #[derive(PartialEq, Eq, Drop)]
 pub enum Effect {
     Add(Lifted),
@@ -32,6 +32,46 @@ impl Duplicate for Effect {
             Effect::Add(lifted) => Ok(Effect::Add(*lifted)),
             Effect::Delete(lifted) => Ok(Effect::Delete(*lifted)),
             Effect::Number(how, lifted, by) => Ok(Effect::Number(*how, *lifted, by.copy(alloc)?)),
+        }
+    }
+}
+
+/// An effect, or effects that are made where a condition holds.
+#[derive(PartialEq, Eq, Drop)]
+pub enum Guarded {
+    Plain(Effect),
+    /// These, where the condition holds in what is known before.
+    When(Cond, Seq<Effect>),
+}
+
+impl Duplicate for Guarded {
+    fn copy(&self, alloc: Global) -> Result<Self, AllocError> {
+        match self {
+            Guarded::Plain(effect) => Ok(Guarded::Plain(effect.copy(alloc)?)),
+            Guarded::When(cond, effects) => {
+                let cond = cond.copy(alloc)?;
+                Ok(Guarded::When(cond, effects.copy(alloc)?))
+            }
+        }
+    }
+}
+
+/// What stands in a list of effects: once, or once for each choice of instances.
+#[derive(PartialEq, Eq, Drop)]
+pub enum Spread {
+    Once(Guarded),
+    /// These, for each choice of instances that fit these variables. In them they are numbered after the variables outside.
+    ForAll(Params, Seq<Guarded>),
+}
+
+impl Duplicate for Spread {
+    fn copy(&self, alloc: Global) -> Result<Self, AllocError> {
+        match self {
+            Spread::Once(part) => Ok(Spread::Once(part.copy(alloc)?)),
+            Spread::ForAll(params, parts) => {
+                let params = params.copy(alloc)?;
+                Ok(Spread::ForAll(params, parts.copy(alloc)?))
+            }
         }
     }
 }
@@ -60,8 +100,8 @@ impl Duplicate for Conditions {
 /// The effects of an action.
 #[derive(PartialEq, Eq, Drop)]
 pub struct Effects {
-    pub at_start: Seq<Effect>,
-    pub at_end: Seq<Effect>,
+    pub at_start: Seq<Spread>,
+    pub at_end: Seq<Spread>,
 }
 
 impl Duplicate for Effects {

@@ -16,7 +16,7 @@ mod naming;
 mod numbers;
 mod schemas;
 
-pub use actions::{ActionDef, Conditions, Effect, Effects, NumOp};
+pub use actions::{ActionDef, Conditions, Effect, Effects, Guarded, NumOp, Spread};
 pub use bound::Env;
 pub use conditions::{BoxedCond, Cond, Conds, Rel};
 pub use domains::{Decl, Domain, Param, Params};

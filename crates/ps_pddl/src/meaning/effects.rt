@@ -1,18 +1,21 @@
 //! What an effect means (PDDL 2.1, section 5).
-ghost use Rattle.std.specs.Prelude.{◌≡◌};
+ghost use Rattle.std.specs.Prelude.{◌≡◌, ◌≤◌, ◌++◌, length, [], IfOk};
 ghost use Rattle.ps_world.specs.Failures.{Gives};
+ghost use Rattle.ps_conditions.specs.declared.scopes.TheConstants.{MOST_IN_FORCE};
 ghost use Rattle.ps_forms.specs.NestedViews.{nested};
-ghost use Rattle.ps_pddl.specs.Effects.{added, change_of, changed, deleted, deletion, effect, effects, form, plain_effect};
+ghost use Rattle.ps_pddl.specs.Effects.{added, bound_once, change_of, changed, conditional, deleted, deletion, effect, flat_one, for_each, guarded_one, plain_effect, spread_one};
 ghost use Rattle.ps_pddl.specs.Forms.{forms};
 
-use super::scope::ActionScope;
+use super::flattening::{Level, flattened};
+use super::lists::binding;
+use super::scope::{ActionScope, Binder, InForce};
 use super::terms::{fact, value_of};
 use crate::refusals::DomainRefusal;
-use ps_conditions::{is_and, is_not, value};
-use ps_forms::{Lexeme, Tree, count, head, items, rest};
+use ps_conditions::{condition, is_not, value};
+use ps_forms::{Lexeme, Tree, head, items, rest};
 use ps_shape::Mark;
-use ps_world::{Effect, Failure, NumOp, Seq};
-use std::alloc::Global;
+use ps_world::{Effect, Failure, Guarded, NumOp, Param, Params, Seq, Spread};
+use std::alloc::{AllocError, Global};
 
 /// How the head of an effect changes a number.
 fn change_of(mark: Mark) -> Option<NumOp>
@@ -28,152 +31,323 @@ fn change_of(mark: Mark) -> Option<NumOp>
     }
 }
 
-/// Puts the effect that a fact is known.
+/// That a fact is known then.
 fn added(
-    alloc: Global,
-    scope: &ActionScope,
+    binder: &Binder,
+    params: &[Param],
     word: Lexeme,
     trees: &[Tree],
-    all: &mut Seq<Effect>,
-) -> Result<(), Failure<DomainRefusal>>
-    ensures { Gives (λ _. all.new) result
-        (added scope.now.domain.now scope.now.params.now word (forms trees.now) all.old) }
+) -> Result<Option<Effect>, Failure<DomainRefusal>>
+    requires { length params.now ≤ MOST_IN_FORCE }
+    ensures { Gives (λ e. e) result
+        (added binder.now.domain.now params.now word (forms trees.now)) }
 {
-    let fact = fact(&scope.in_force(), word, trees).map_err(Failure::Refused)?;
-    all.push(Effect::Add(fact))?;
-    Ok(())
+    let scope = InForce {
+        domain: binder.domain,
+        params,
+    };
+    let fact = fact(&scope, word, trees).map_err(Failure::Refused)?;
+    Ok(Some(Effect::Add(fact)))
 }
 
-/// Puts the effect that a fact is no longer known.
+/// That a fact is no longer known.
 fn deleted(
-    alloc: Global,
-    scope: &ActionScope,
+    binder: &Binder,
+    params: &[Param],
     tree: &Tree,
-    all: &mut Seq<Effect>,
-) -> Result<(), Failure<DomainRefusal>>
-    ensures { Gives (λ _. all.new) result
-        (deleted scope.now.domain.now scope.now.params.now (nested tree.now) all.old) }
+) -> Result<Option<Effect>, Failure<DomainRefusal>>
+    requires { length params.now ≤ MOST_IN_FORCE }
+    ensures { Gives (λ e. e) result
+        (deleted binder.now.domain.now params.now (nested tree.now)) }
 {
+    let scope = InForce {
+        domain: binder.domain,
+        params,
+    };
     let inside = items(tree);
-    let fact = fact(&scope.in_force(), head(inside), rest(inside)).map_err(Failure::Refused)?;
-    all.push(Effect::Delete(fact))?;
-    Ok(())
+    let fact = fact(&scope, head(inside), rest(inside)).map_err(Failure::Refused)?;
+    Ok(Some(Effect::Delete(fact)))
 }
 
-/// Puts the effect that a function's value changes.
+/// That a function's value changes.
 fn changed(
     alloc: Global,
-    scope: &ActionScope,
+    binder: &Binder,
+    params: &[Param],
     how: NumOp,
     term: &Tree,
     by: &Tree,
-    all: &mut Seq<Effect>,
-) -> Result<(), Failure<DomainRefusal>>
-    ensures { Gives (λ _. all.new) result
-        (changed scope.now.domain.now scope.now.params.now
-        how (nested term.now) (nested by.now) all.old) }
+) -> Result<Option<Effect>, Failure<DomainRefusal>>
+    requires { length params.now ≤ MOST_IN_FORCE }
+    ensures { Gives (λ e. e) result
+        (changed binder.now.domain.now params.now
+        how (nested term.now) (nested by.now)) }
 {
+    let scope = InForce {
+        domain: binder.domain,
+        params,
+    };
     let inside = items(term);
-    let function = value_of(&scope.in_force(), head(inside), rest(inside)).map_err(
-        Failure::Refused,
-    )?;
-    let amount = value(alloc, &scope.binder(), scope.params, by)?;
-    all.push(Effect::Number(how, function, amount))?;
-    Ok(())
+    let function = value_of(&scope, head(inside), rest(inside)).map_err(Failure::Refused)?;
+    let amount = value(alloc, binder, params, by)?;
+    Ok(Some(Effect::Number(how, function, amount)))
 }
 
-/// Puts an effect on a fact or a function's value.
+/// An effect on a fact or a function's value.
 fn plain_effect(
     alloc: Global,
-    scope: &ActionScope,
+    binder: &Binder,
+    params: &[Param],
     word: Lexeme,
     trees: &[Tree],
-    all: &mut Seq<Effect>,
-) -> Result<(), Failure<DomainRefusal>>
-    ensures { Gives (λ _. all.new) result
-        (plain_effect scope.now.domain.now scope.now.params.now word (forms trees.now) all.old) }
+) -> Result<Option<Effect>, Failure<DomainRefusal>>
+    requires { length params.now ≤ MOST_IN_FORCE }
+    ensures { Gives (λ e. e) result
+        (plain_effect binder.now.domain.now params.now word (forms trees.now)) }
 {
     match trees {
-        [] => added(alloc, scope, word, trees, all),
-        [_] => added(alloc, scope, word, trees, all),
+        [] => added(binder, params, word, trees),
+        [_] => added(binder, params, word, trees),
         [term, by, ..] => match change_of(word.mark) {
-            Some(how) => changed(alloc, scope, how, term, by, all),
-            None => added(alloc, scope, word, trees, all),
+            Some(how) => changed(alloc, binder, params, how, term, by),
+            None => added(binder, params, word, trees),
         },
     }
 }
 
-/// Puts the deletion of the first of these.
+/// The deletion of the first of these.
 fn deletion(
-    alloc: Global,
-    scope: &ActionScope,
+    binder: &Binder,
+    params: &[Param],
     trees: &[Tree],
-    all: &mut Seq<Effect>,
-) -> Result<(), Failure<DomainRefusal>>
-    ensures { Gives (λ _. all.new) result
-        (deletion scope.now.domain.now scope.now.params.now (forms trees.now) all.old) }
+) -> Result<Option<Effect>, Failure<DomainRefusal>>
+    requires { length params.now ≤ MOST_IN_FORCE }
+    ensures { Gives (λ e. e) result
+        (deletion binder.now.domain.now params.now (forms trees.now)) }
 {
     match trees {
-        [] => Ok(()),
-        [first, ..] => deleted(alloc, scope, first, all),
+        [] => Ok(None),
+        [first, ..] => deleted(binder, params, first),
     }
 }
 
-/// Puts these effects, one after another.
-#[cycle(effect)]
-fn effects(
+/// An effect on a fact or a function's value, or a deletion.
+fn flat_one(
     alloc: Global,
-    scope: &ActionScope,
+    binder: &Binder,
+    params: &[Param],
+    word: Lexeme,
     trees: &[Tree],
-    all: &mut Seq<Effect>,
-) -> Result<(), Failure<DomainRefusal>>
-    ensures { Gives (λ _. all.new) result
-        (effects scope.now.domain.now scope.now.params.now (forms trees.now) all.old) }
+) -> Result<Option<Effect>, Failure<DomainRefusal>>
+    requires { length params.now ≤ MOST_IN_FORCE }
+    ensures { Gives (λ e. e) result
+        (flat_one binder.now.domain.now params.now word (forms trees.now)) }
 {
-    for tree in trees {
-        effect(alloc, scope, tree, all)?;
-    }
-    Ok(())
-}
-
-/// Puts the effects of a head and what follows it.
-#[cycle(effect)]
-fn form(
-    alloc: Global,
-    scope: &ActionScope,
-    trees: &[Tree],
-    all: &mut Seq<Effect>,
-) -> Result<(), Failure<DomainRefusal>>
-    ensures { Gives (λ _. all.new) result
-        (form scope.now.domain.now scope.now.params.now (forms trees.now) all.old) }
-{
-    if count(trees) == 0 {
-        return Ok(());
-    }
-    let word = head(trees);
-    let operands = rest(trees);
-    if is_and(word.mark) {
-        return effects(alloc, scope, operands, all);
-    }
     if is_not(word.mark) {
-        return deletion(alloc, scope, operands, all);
+        return deletion(binder, params, trees);
     }
-    plain_effect(alloc, scope, word, operands, all)
+    plain_effect(alloc, binder, params, word, trees)
+}
+
+/// The effects of a `when`, where these variables are in force.
+#[derive(Clone, Copy)]
+struct Flats<'a> {
+    binder: &'a Binder<'a>,
+    params: &'a [Param],
+    ghost few: { length params.now ≤ MOST_IN_FORCE },
+}
+
+impl<'a> Level for Flats<'a> {
+    type One = Effect;
+
+    ghost one = { λ s. flat_one s.binder.now.domain.now s.params.now };
+
+    fn read(
+        &self,
+        alloc: Global,
+        word: Lexeme,
+        trees: &[Tree],
+    ) -> Result<Option<Effect>, Failure<DomainRefusal>> {
+        flat_one(alloc, self.binder, self.params, word, trees)
+    }
+}
+
+/// Effects that are made where a condition holds.
+fn conditional(
+    alloc: Global,
+    binder: &Binder,
+    params: &[Param],
+    trees: &[Tree],
+) -> Result<Option<Guarded>, Failure<DomainRefusal>>
+    requires { length params.now ≤ MOST_IN_FORCE }
+    ensures { Gives (λ g. g) result
+        (conditional binder.now.domain.now binder.now.own params.now
+        (forms trees.now)) }
+{
+    match trees {
+        [cond, tree, ..] => {
+            let cond = condition(alloc, binder, params, cond)?;
+            let mut all = Seq::new(alloc);
+            flattened(alloc, &Flats { binder, params }, tree, &mut all)?;
+            Ok(Some(Guarded::When(cond, all)))
+        }
+        _ => Ok(None),
+    }
+}
+
+/// An effect, or effects with their condition.
+fn guarded_one(
+    alloc: Global,
+    binder: &Binder,
+    params: &[Param],
+    word: Lexeme,
+    trees: &[Tree],
+) -> Result<Option<Guarded>, Failure<DomainRefusal>>
+    requires { length params.now ≤ MOST_IN_FORCE }
+    ensures { Gives (λ g. g) result
+        (guarded_one binder.now.domain.now binder.now.own params.now word
+        (forms trees.now)) }
+{
+    if word.mark == Mark::When {
+        return conditional(alloc, binder, params, trees);
+    }
+    let one = flat_one(alloc, binder, params, word, trees)?;
+    Ok(one.map(Guarded::Plain))
+}
+
+/// The effects of a `forall`, where these variables are in force.
+#[derive(Clone, Copy)]
+struct Guards<'a> {
+    binder: &'a Binder<'a>,
+    params: &'a [Param],
+    ghost few: { length params.now ≤ MOST_IN_FORCE },
+}
+
+impl<'a> Level for Guards<'a> {
+    type One = Guarded;
+
+    ghost one = { λ s. guarded_one s.binder.now.domain.now s.binder.now.own s.params.now };
+
+    fn read(
+        &self,
+        alloc: Global,
+        word: Lexeme,
+        trees: &[Tree],
+    ) -> Result<Option<Guarded>, Failure<DomainRefusal>> {
+        guarded_one(alloc, self.binder, self.params, word, trees)
+    }
+}
+
+/// The variable that an effect's list binds, if it binds one: its name is that of no parameter.
+fn bound_once(
+    alloc: Global,
+    scope: &ActionScope,
+    trees: &[Tree],
+) -> Result<Params, Failure<DomainRefusal>>
+    ensures value { Gives (λ qs. qs) result
+        (bound_once scope.now.domain.now scope.now.params.now (forms trees.now)) }
+    ensures few { IfOk result (λ qs. length (scope.now.params.now ++ qs) ≤ MOST_IN_FORCE) }
+{
+    let most = scope.params.len() + 1;
+    binding(alloc, scope.domain, most, scope.params, trees)
+}
+
+/// The parameters, and the variables that a list binds after them.
+fn in_force(alloc: Global, params: &[Param], bound: &[Param]) -> Result<Vec<Param>, AllocError>
+    ensures { IfOk result (λ all. all.items ≡ params.now ++ bound.now) }
+{
+    let mut all = Vec::new(alloc);
+    all.extend_from_slice(params)?;
+    all.extend_from_slice(bound)?;
+    Ok(all)
+}
+
+/// Effects that are made once for each choice of their variables.
+fn for_each(
+    alloc: Global,
+    scope: &ActionScope,
+    trees: &[Tree],
+) -> Result<Option<Spread>, Failure<DomainRefusal>>
+    ensures { Gives (λ s. s) result
+        (for_each scope.now.domain.now scope.now.params.now (forms trees.now)) }
+{
+    match trees {
+        [vars, tree, ..] => {
+            let bound = bound_once(alloc, scope, items(vars))?;
+            let params = in_force(alloc, scope.params, bound.as_slice())?;
+            let mut all = Seq::new(alloc);
+            let guards = Guards {
+                binder: &scope.binder(),
+                params: &params,
+            };
+            flattened(alloc, &guards, tree, &mut all)?;
+            Ok(Some(Spread::ForAll(bound, all)))
+        }
+        _ => Ok(None),
+    }
+}
+
+/// An effect, or effects with their condition, where no `forall` binds.
+fn once(
+    alloc: Global,
+    scope: &ActionScope,
+    word: Lexeme,
+    trees: &[Tree],
+) -> Result<Option<Guarded>, Failure<DomainRefusal>>
+    ensures { Gives (λ g. g) result
+        (guarded_one scope.now.domain.now (length scope.now.params.now) scope.now.params.now word
+        (forms trees.now)) }
+{
+    guarded_one(alloc, &scope.binder(), scope.params, word, trees)
+}
+
+/// What stands in a list of effects but an `and`.
+fn spread_one(
+    alloc: Global,
+    scope: &ActionScope,
+    word: Lexeme,
+    trees: &[Tree],
+) -> Result<Option<Spread>, Failure<DomainRefusal>>
+    ensures { Gives (λ s. s) result
+        (spread_one scope.now.domain.now scope.now.params.now word (forms trees.now)) }
+{
+    if word.mark == Mark::Forall {
+        return for_each(alloc, scope, trees);
+    }
+    let one = once(alloc, scope, word, trees)?;
+    Ok(one.map(Spread::Once))
+}
+
+/// The effects of an action.
+#[derive(Clone, Copy)]
+struct Spreads<'a> {
+    scope: &'a ActionScope<'a>,
+}
+
+impl<'a> Level for Spreads<'a> {
+    type One = Spread;
+
+    ghost one = { λ s. spread_one s.scope.now.domain.now s.scope.now.params.now };
+
+    fn read(
+        &self,
+        alloc: Global,
+        word: Lexeme,
+        trees: &[Tree],
+    ) -> Result<Option<Spread>, Failure<DomainRefusal>> {
+        spread_one(alloc, self.scope, word, trees)
+    }
 }
 
 /// Puts what an effect means at the end; `and` is flattened.
-#[cycle(effect)]
 pub fn effect(
     alloc: Global,
     scope: &ActionScope,
     tree: &Tree,
-    all: &mut Seq<Effect>,
+    all: &mut Seq<Spread>,
 ) -> Result<(), Failure<DomainRefusal>>
     ensures { Gives (λ _. all.new) result
         (effect scope.now.domain.now scope.now.params.now (nested tree.now) all.old) }
 {
-    match tree {
-        Tree::Word(_) => Ok(()),
-        Tree::Group(trees) => form(alloc, scope, trees.as_slice(), all),
-    }
+    flattened(alloc, &Spreads { scope }, tree, all)
 }

@@ -1,10 +1,11 @@
 //! What a list of typed names declares.
-ghost use Rattle.std.specs.Prelude.{◌≡◌, drop, true, false, IfErr, OnErr, OnOk};
+ghost use Rattle.std.specs.Prelude.{◌≡◌, ◌≤◌, ◌+◌, ◌++◌, drop, length, true, false, IfErr, IfOk, OnErr, OnOk};
 ghost use Rattle.std.specs.List.{list_any};
 ghost use Rattle.ps_world.specs.Failures.{Gives};
 ghost use Rattle.ps_world.specs.Names.{same_name};
 ghost use Rattle.ps_world.specs.Knowledge.{is_type};
-ghost use Rattle.ps_pddl.specs.Lists.{PassesType, cap_of, counted, counts, fault_of_new, kind_ahead, listed, most_of, with_name};
+ghost use Rattle.ps_conditions.specs.declared.scopes.TheConstants.{MOST_IN_FORCE};
+ghost use Rattle.ps_pddl.specs.Lists.{PassesType, binding, cap_of, counted, counts, fault_of_new, kind_ahead, listed, most_of, with_name};
 ghost use Rattle.ps_pddl.specs.Forms.{forms};
 ghost use Rattle.ps_pddl.specs.declared.refusals.DomainRefusal.TheVariants.{Unknown};
 
@@ -12,7 +13,7 @@ use crate::refusals::{Cap, DomainRefusal};
 use ps_domain::Declared;
 use ps_forms::{Lexeme, Tree, head, word_of};
 use ps_shape::Mark;
-use ps_world::{Failure, MOST_ARGUMENTS, MOST_INSTANCES, Name, Param};
+use ps_world::{Failure, MOST_ARGUMENTS, MOST_INSTANCES, Name, Param, Params};
 use std::alloc::Global;
 
 /// How many types a domain has at most.
@@ -27,7 +28,7 @@ pub enum Listing {
     Constants,
     /// The parameters of a predicate, a function or an action.
     Params,
-    /// The variables of a quantifier after those in force, with so many at most in all.
+    /// The variables that a list binds after those in force, with so many at most in all.
     Bound(usize),
 }
 
@@ -199,4 +200,25 @@ pub fn listed(
         }
     }
     Ok(all)
+}
+
+/// The variables that a list binds after these, of which there are so many at most then.
+pub fn binding(
+    alloc: Global,
+    d: &Declared,
+    most: usize,
+    params: &[Param],
+    trees: &[Tree],
+) -> Result<Params, Failure<DomainRefusal>>
+    requires new { most ≤ length params.now + 2 }
+    requires in_force { most ≤ MOST_IN_FORCE }
+    requires before { length params.now ≤ MOST_IN_FORCE }
+    ensures value { Gives (λ qs. qs) result (binding d.now most params.now (forms trees.now)) }
+    ensures few { IfOk result (λ qs. length (params.now ++ qs) ≤ MOST_IN_FORCE) }
+{
+    let all = listed(alloc, d, Listing::Bound(most), params, trees)?;
+    let mut own = Vec::new(alloc);
+    let listed = all.as_slice();
+    own.extend_from_slice(&listed[params.len()..])?;
+    Ok(Params::of(own))
 }

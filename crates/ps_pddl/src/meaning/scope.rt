@@ -34,17 +34,6 @@ pub struct Binder<'a> {
 }
 
 impl<'a> ActionScope<'a> {
-    /// Where no quantifier binds.
-    pub fn in_force(&self) -> InForce<'a>
-        ensures domain { result.domain.now ≡ self.now.domain.now }
-        ensures params { result.params.now ≡ self.now.params.now }
-    {
-        InForce {
-            domain: self.domain,
-            params: self.params,
-        }
-    }
-
     /// Where quantifiers may bind.
     pub fn binder(&self) -> Binder<'a>
         ensures domain { result.domain.now ≡ self.now.domain.now }

@@ -6,7 +6,7 @@ ghost use Rattle.ps_forms.specs.Nested.{nesteds};
 ghost use Rattle.ps_forms.specs.NestedViews.{nested};
 ghost use Rattle.ps_pddl.specs.Words.{bound, plain_value, scopes, second, term, words};
 
-use super::lists::{Listing, listed};
+use super::lists::binding;
 use super::scope::{Binder, InForce};
 use super::terms::{fact, resolved, value_of};
 use crate::refusals::DomainRefusal;
@@ -67,11 +67,7 @@ fn bound(
     ensures few { IfOk result (λ qs. length (params.now ++ qs) ≤ MOST_IN_FORCE) }
 {
     let most = binder.own.min(params.len()) + 2;
-    let all = listed(alloc, binder.domain, Listing::Bound(most), params, trees)?;
-    let mut own = Vec::new(alloc);
-    let listed = all.as_slice();
-    own.extend_from_slice(&listed[params.len()..])?;
-    Ok(Params::of(own))
+    binding(alloc, binder.domain, most, params, trees)
 }
 
 impl<'a> Scope for Binder<'a> {

@@ -2,9 +2,8 @@ use Rattle.std.proofs.Common.{◌≡◌, ◌+◌, ◌*◌, length, map, drop}
 use Rattle.std.specs.List.{list_all, list_any}
 use Rattle.ps_world.specs.Trees.{cond_trees, cond_rank, conds_rank}
 use Rattle.ps_world.specs.CondViews.{cond_tree}
-use Rattle.ps_action.specs.Bindings.{bindings}
+use Rattle.ps_action.specs.Bindings.{bindings, bindings_from}
 use Rattle.ps_action.specs.Truth.{are_true_with, is_one_true_with, is_true_with}
-use Rattle.ps_action.proofs.Bindings.{bindings_from}
 use Rattle.ps_action.proofs.truth.+truth.Given as goal
 
 -- a condition stands below the list, the box or the variables that it is in

@@ -4,13 +4,13 @@ use Rattle.ps_world.proofs.CondRanks.{rank_in}
 use Rattle.ps_domain.proofs.PutParts.{put_all}
 use Rattle.ps_domain.proofs.putting.+put_cond.Goals as goal
 
-pub put_cond-returns-in_ok-put_conds-in-And : goal.put_cond-returns-in_ok-put_conds-in-And
-put_cond-returns-in_ok-put_conds-in-And t c =
-    rw (c.in-And.is, c.in_ok-put_conds-in-And.ensures) (ap all_of (put_all c.args.args.now c.in-And.parts))
+pub put_cond-returns-in_ok-put_conds-in-And-clause-tree : goal.put_cond-returns-in_ok-put_conds-in-And-clause-tree
+put_cond-returns-in_ok-put_conds-in-And-clause-tree t c =
+    rw (c.in-And.is, c.in_ok-put_conds-in-And.ensures) (ap all_of (put_all c.args.env.now c.in-And.parts))
 
-pub put_cond-returns-in_ok-put_conds-in-Or : goal.put_cond-returns-in_ok-put_conds-in-Or
-put_cond-returns-in_ok-put_conds-in-Or t c =
-    rw (c.in-Or.is, c.in_ok-put_conds-in-Or.ensures) (ap any_of (put_all c.args.args.now c.in-Or.parts))
+pub put_cond-returns-in_ok-put_conds-in-Or-clause-tree : goal.put_cond-returns-in_ok-put_conds-in-Or-clause-tree
+put_cond-returns-in_ok-put_conds-in-Or-clause-tree t c =
+    rw (c.in-Or.is, c.in_ok-put_conds-in-Or.ensures) (ap any_of (put_all c.args.env.now c.in-Or.parts))
 
 pub put_conds-put_cond-requires : goal.put_conds-put_cond-requires
 put_conds-put_cond-requires t c =

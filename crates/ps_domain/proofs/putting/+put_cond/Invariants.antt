@@ -15,4 +15,4 @@ abbrev pub decreases-put_conds : goal.decreases-put_conds
 decreases-put_conds l = 2 * conds_rank l.conds.now + 1
 
 abbrev pub invariant-put_conds-loop-cond : goal.invariant-put_conds-loop-cond
-invariant-put_conds-loop-cond l = l.put ≡ map (put_cond l.args) (map cond_tree (take l.cond-index l.cond-items))
+invariant-put_conds-loop-cond l = l.put ≡ map (put_cond l.env) (map cond_tree (take l.cond-index l.cond-items))

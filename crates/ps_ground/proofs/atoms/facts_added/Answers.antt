@@ -14,29 +14,29 @@ use Rattle.ps_ground.proofs.atoms.facts_added.Goals.{in-Some+in_ok-push_adds, in
 pub loop-act-preserved : goal.loop-act-preserved
 loop-act-preserved c =
     let d = c.args.expert.now in
+    let k = c.args.problem.now in
     let acts = c.args.acts.now in
     let i = c.loop-act.act-index in
     let x = c.act-item.result in
     let old = c.loop-act.facts.items in
     let split : drop i acts ≡ x ∷ drop (i + 1) acts = drop_more acts i x (omega arith) ∙ ap (λ (y : Act). y ∷ drop (i + 1) acts) (sym c.act-item.is) in
-    λ k fit.
     let P : List Act → Type 0 = AreFit d k in
-    let rest = flat_map adds (grounds_of d k (drop (i + 1) acts)) in
-    let there = c.loop-act.invariant k fit in
-    let fits : IsFit d k x × AreFit d k (drop (i + 1) acts) = subst P split there.1 in
-    elim c.match-action.branch [
-      | in-Some+in_ok-push_adds w ↦
-          let a = w.in-Some.action.now in
-          let is : action_of d x.action ≡ Some a = sym (rw w.in-Some.is at c.action.ensures) in (
+    let rest = flat_map (adds d k) (grounds_of d k (drop (i + 1) acts)) in
+    let fits : IsFit d k x × AreFit d k (drop (i + 1) acts) = subst P split c.loop-act.invariant.fit in
+    record {
+      facts = elim c.match-action.branch [
+        | in-Some+in_ok-push_adds w ↦
+            let a = w.in-Some.action.now in
+            let is : action_of d x.action ≡ Some a = sym (rw w.in-Some.is at c.action.ensures) in
             ap (λ (v : Vec Fact Global). v.items ++ rest) w.facts-is
-                ∙ ap (λ (l : List Fact). l ++ rest) w.in_ok-push_adds.ensures
-                ∙ append_assoc old (adds (grounded a x)) rest
-                ∙ (λ j. old ++ flat_map adds (cons_option (sym (fit_grounds d k x a is fits.0) j) (grounds_of d k (drop (i + 1) acts))))
-                ∙ (λ j. old ++ flat_map adds (grounds_of d k (sym split j)))
-                ∙ there.0,
-            fits.1,
-          )
-      | in_default w ↦
-          let none = rw w.in_default.is at c.action.ensures in
-          absurd (cc (none, fits.0.declared))
-    ]
+            ∙ ap (λ (l : List Fact). l ++ rest) w.in_ok-push_adds.ensures
+            ∙ append_assoc old (adds d k (grounded a x)) rest
+            ∙ (λ j. old ++ flat_map (adds d k) (cons_option (sym (fit_grounds d k x a is fits.0) j) (grounds_of d k (drop (i + 1) acts))))
+            ∙ (λ j. old ++ flat_map (adds d k) (grounds_of d k (sym split j)))
+            ∙ c.loop-act.invariant.facts
+        | in_default w ↦
+            let none = rw w.in_default.is at c.action.ensures in
+            absurd (cc (none, fits.0.declared))
+      ];
+      fit = fits.1;
+    }

@@ -8,4 +8,4 @@ use Rattle.ps_ground.proofs.grounds.atoms_of.Goals as goal
 pub returns : goal.returns
 returns c =
     let P : List Fact → Type 0 = λ fs. IfOk c.of.result (λ atoms. (f : Fact) → list_any (same_fact f) atoms ≡ list_any (same_fact f) fs) in
-    subst P (λ i. (c.deref.ensures.value ∙ c.in_ok-facts.ensures.items) i ++ (c.deref-2.ensures.value ∙ c.in_ok-added.ensures c.args.problem.now c.requires) i) c.of.ensures
+    subst P (λ i. (c.deref.ensures.value ∙ c.in_ok-facts.ensures.items) i ++ (c.deref-2.ensures.value ∙ c.in_ok-added.ensures) i) c.of.ensures

@@ -1,5 +1,4 @@
-use Rattle.std.proofs.Common.{◌∷◌, [], List, option_to_list, fold, ap, sym, ◌∙◌, subst}
-use Rattle.std.specs.Option.{option_map_or}
+use Rattle.std.proofs.Common.{◌∷◌, [], option_to_list, fold, ap, sym, ◌∙◌, subst}
 use Rattle.std.specs.BTreeSet.{insert_key}
 use Rattle.ps_world.specs.Facts.{fact_cmp}
 use Rattle.ps_world.specs.declared.actions.Effect.{Effect}
@@ -8,17 +7,17 @@ use Rattle.ps_action.specs.Effects.{added_by}
 use Rattle.ps_action.specs.Grounding.{put_effect}
 use Rattle.ps_ground.specs.Atoms.{AreAtoms}
 use Rattle.ps_ground.proofs.Fixedness.{fact_put_in}
-use Rattle.ps_ground.proofs.Preparing.{no_place}
+use Rattle.ps_ground.proofs.Preparing.{placed_add}
 use Rattle.ps_ground.proofs.prepared.added.Goals as goal
 
-pub unreachable-requires : goal.unreachable-requires
-unreachable-requires c =
+pub returns-in-Add : goal.returns-in-Add
+returns-in-Add c =
     let atoms = c.args.atoms.now in
-    let P : List Fact → Type 0 = λ fs. AreAtoms atoms fs in
-    no_place c.ground_in.result atoms c.in-None.ensures.place (subst P (ap (λ (e : Effect). option_to_list (added_by (put_effect c.args.args.now e))) c.in-Add.is ∙ ap (λ (g : Fact). g ∷ []) (fact_put_in c.args.args.now c.in-Add.lifted ∙ sym c.ground_in.ensures)) c.requires)
-
-pub returns-in-Some : goal.returns-in-Some
-returns-in-Some c = λ fs.
-    (λ i. option_map_or (insert_key fact_cmp fs) (c.in-Some.ensures.place i) fs)
-    ∙ ap (insert_key fact_cmp fs) (c.ground_in.ensures ∙ sym (fact_put_in c.args.args.now c.in-Add.lifted))
-    ∙ (λ i. fold (insert_key fact_cmp) fs (option_to_list (added_by (put_effect c.args.args.now (sym c.in-Add.is i)))))
+    let args = c.args.args.now in
+    let l = c.in-Add.lifted in
+    let P : Effect → Type 0 = λ e. AreAtoms atoms (option_to_list (added_by (put_effect args e))) in
+    let Q : Fact → Type 0 = λ g. AreAtoms atoms (g ∷ []) in
+    λ all fs.
+    placed_add atoms c.ground_in.result fs c.place_near.result c.place_near.ensures.place (subst Q (fact_put_in args l ∙ sym c.ground_in.ensures) (subst P c.in-Add.is all))
+    ∙ ap (insert_key fact_cmp fs) (c.ground_in.ensures ∙ sym (fact_put_in args l))
+    ∙ (λ i. fold (insert_key fact_cmp) fs (option_to_list (added_by (put_effect args (sym c.in-Add.is i)))))

@@ -4,6 +4,7 @@ use Rattle.std.proofs.lemmas.List.{append-nil, drop_more, length-append}
 use Rattle.ps_action.specs.Grounding.{ground_act}
 use Rattle.ps_action.specs.declared.acts.Act.{Act}
 use Rattle.ps_action.specs.declared.acts.GroundAction.{GroundAction}
+use Rattle.ps_ground.specs.Atoms.{adds}
 use Rattle.ps_ground.specs.Fitting.{AreFit}
 use Rattle.ps_ground.specs.Moves.{Node}
 use Rattle.ps_ground.specs.Prepared.{AreSound, successor_nodes}
@@ -49,10 +50,10 @@ loop-act-preserved c =
       sound = elim c.match-branch-3.branch [
         | in-Some+in_ok-push w ↦
             let one = rw w.in-Some.is at c.in_ok-one.ensures.sound in
-            let P : List Prepared → Type 0 = AreSound atoms in
-            subst P (sym (ap (λ (v : Vec Prepared Global). v.items) w.all-is ∙ w.in_ok-push.ensures.items)) (sound_more atoms found w.in-Some.one c.loop-act.invariant.sound one)
+            let P : List Prepared → Type 0 = AreSound d k atoms in
+            subst P (sym (ap (λ (v : Vec Prepared Global). v.items) w.all-is ∙ w.in_ok-push.ensures.items)) (sound_more d k atoms found w.in-Some.one c.loop-act.invariant.sound one)
         | in_default w ↦
-            let P : List Prepared → Type 0 = AreSound atoms in
+            let P : List Prepared → Type 0 = AreSound d k atoms in
             subst P (sym (ap (λ (v : Vec Prepared Global). v.items) w.all-is)) c.loop-act.invariant.sound
       ];
       count = elim c.match-branch-3.branch [
@@ -75,7 +76,7 @@ prepare-requires-clause-atoms c =
     let x = c.act-item.result in
     let ground : Act → Option GroundAction = λ act. result_ok (ground_act d k.instances act) in
     let split : drop i acts ≡ x ∷ drop (i + 1) acts = drop_more acts i x (omega arith) ∙ ap (λ (y : Act). y ∷ drop (i + 1) acts) (sym c.act-item.is) in
-    one_given ground i acts (drop (i + 1) acts) x c.args.atoms.now split c.requires.atoms
+    one_given (adds d k) ground i acts (drop (i + 1) acts) x c.args.atoms.now split c.requires.atoms
 
 pub prepare-requires-clause-fit : goal.prepare-requires-clause-fit
 prepare-requires-clause-fit c =

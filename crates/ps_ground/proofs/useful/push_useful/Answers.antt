@@ -36,7 +36,7 @@ returns-clause-adds c =
     let k = c.args.problem.now in
     let ground : Act → Option GroundAction = λ act. result_ok (ground_act d k.instances act) in
     λ f old new.
-    ap (λ (acts : List Act). list_any (same_fact f) (flat_map adds (grounds_of d k acts))) c.in_ok-push.ensures.items ∙ more_added ground f c.args.useful.now.items c.args.act.now old new
+    ap (λ (acts : List Act). list_any (same_fact f) (flat_map (adds d k) (grounds_of d k acts))) c.in_ok-push.ensures.items ∙ more_added (adds d k) ground f c.args.useful.now.items c.args.act.now old new
 
 pub returns-clause-fit : goal.returns-clause-fit
 returns-clause-fit c =

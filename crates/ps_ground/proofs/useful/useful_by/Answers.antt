@@ -35,7 +35,7 @@ returns-in_ok-useful_of-in-Some c =
       few = omega (arith, made.ensures.count, ap length same, fewer, many, here.1);
       fit = made.ensures.fit;
       adds = λ f gone. made.ensures.adds f (
-          let Q : List Act → Type 0 = λ l. AreAtoms (possible_facts d k) (flat_map adds (grounds_of d k l)) in
+          let Q : List Act → Type 0 = λ l. AreAtoms (possible_facts d k) (flat_map (adds d k) (grounds_of d k l)) in
           subst Q (sym same) (thinned_adds d k idle (possible_facts d k) acts (possible_acts d k) thinned (grounds_possible d k)) f gone);
       moves = λ n over.
           made.ensures.moves n

@@ -23,7 +23,7 @@ loop-act-preserved c =
       moves = λ n.
           gathered d k n ground all i a (moves d k (grounds_of d k c.loop-act.useful.items) n) (moves d k (grounds_of d k c.push_useful.new.useful.items) n) split (c.in_ok-push_useful.ensures.moves n)
           ∙ c.loop-act.invariant.moves n;
-      adds = λ f gone. c.in_ok-push_useful.ensures.adds f (c.loop-act.invariant.adds f gone) (one_given ground i all (drop (i + 1) all) a (flat_map adds (filter_map ground all)) split (λ g h. h) f gone);
+      adds = λ f gone. c.in_ok-push_useful.ensures.adds f (c.loop-act.invariant.adds f gone) (one_given (adds d k) ground i all (drop (i + 1) all) a (flat_map (adds d k) (filter_map ground all)) split (λ g h. h) f gone);
       count = omega (arith, c.in_ok-push_useful.ensures.count, c.loop-act.invariant.count);
       fit = c.in_ok-push_useful.ensures.fit;
     }

@@ -10,7 +10,7 @@ invariant-loop-act l = record {
   moves : (n : Node)
       → moves l.expert l.problem (grounds_of l.expert l.problem l.useful.items) n ++ moves l.expert l.problem (grounds_of l.expert l.problem (drop l.act-index l.acts)) n
       ≡ moves l.expert l.problem (grounds_of l.expert l.problem l.acts) n;
-  adds : AreAtoms (flat_map adds (grounds_of l.expert l.problem l.acts)) (flat_map adds (grounds_of l.expert l.problem l.useful.items));
+  adds : AreAtoms (flat_map (adds l.expert l.problem) (grounds_of l.expert l.problem l.acts)) (flat_map (adds l.expert l.problem) (grounds_of l.expert l.problem l.useful.items));
   count : length l.useful.items ≤ l.act-index;
   fit : AreFit l.expert l.problem l.useful.items;
 }

@@ -35,5 +35,5 @@ returns-then-is_asked-clause-idle c =
     λ yes tail laid first length-same k g facts e fixed atoms s over.
     let act : Act = record { action = c.args.name; args = first ++ tail } in
     let same : g ≡ grounded a act = grounded_of d k.instances act g a is e in
-    let P : GroundAction → Type 0 = λ x. AreAtoms facts (adds x) in
+    let P : GroundAction → Type 0 = λ x. AreAtoms facts (adds d k x) in
     ap (λ (x : GroundAction). stepped d k s x) same ∙ c.bars.ensures yes tail laid act first length-same refl d k facts fixed (subst P same atoms) s over

@@ -34,7 +34,7 @@ attempt-requires-clause-able c =
     let q = c.index-actions-i.result in
     let within : i < length xs = omega (arith, c.loop-i-test.true) in
     record {
-      sound = sound_there t.grounds.atoms i t.grounds.actions.items q (there_at xs t.grounds.actions.items i q c.as_slice-actions.ensures.value within c.index-actions-i.is) t.prepared.grounded.sound;
+      sound = sound_there t.expert.now t.problem.now t.grounds.atoms i t.grounds.actions.items q (there_at xs t.grounds.actions.items i q c.as_slice-actions.ensures.value within c.index-actions-i.is) t.prepared.grounded.sound;
       wide = c.loop-i.invariant.wide;
     }
 
