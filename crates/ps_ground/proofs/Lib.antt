@@ -1,11 +1,13 @@
 pub mod Alone
 pub mod Below
 pub mod Bits
+pub mod Chosen
 pub mod Distinct
 pub mod Fitted
 pub mod Fixedness
 pub mod Gathering
 pub mod IndependentActions
+pub mod KeptActs
 pub mod Listing
 pub mod Lists
 pub mod MayAdd

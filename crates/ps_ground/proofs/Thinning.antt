@@ -60,6 +60,10 @@ module _ {A : Type 0} (P : A → Type 0) where
     pub goes_on : (left new xs done : List A) → IsThinned P new xs → GoesOn P (xs ++ left) whole done → GoesOn P left whole (done ++ new)
     goes_on left new xs done t on ks u = subst (λ (l : List A). IsThinned P l whole) (sym (append_assoc done new ks)) (on (new ++ ks) (thin_both new ks xs left t u))
 
+    -- with the first of those that are still to come
+    pub goes_pushed : (x : A) (left done more : List A) → more ≡ done ++ x ∷ [] → GoesOn P (x ∷ left) whole done → GoesOn P left whole more
+    goes_pushed x left done more e on = subst (λ (l : List A). GoesOn P left whole l) (sym e) (goes_on left (x ∷ []) (x ∷ []) done (thin_none (x ∷ [])) on)
+
     -- the same items are still to come
     pub goes_same : (left more done : List A) → left ≡ more → GoesOn P left whole done → GoesOn P more whole done
     goes_same left more done e on = subst (λ (l : List A). GoesOn P l whole done) e on

@@ -1,9 +1,10 @@
 -- Acts whose arguments fit, and steps by conditions and effects with arguments put in.
-use Rattle.std.specs.Prelude.{◌≡◌, Bool, true, pos, Some, Ok, List, [], ◌∷◌, filter_map, map, zip}
-use Rattle.std.specs.List.{list_all}
+use Rattle.std.specs.Prelude.{◌≡◌, Bool, true, pos, Some, Ok, List, [], ◌∷◌, filter_map, find, map, zip}
+use Rattle.std.specs.List.{AllByRecursion, list_all}
+use Rattle.std.specs.Map.{lookup}
 use Rattle.std.specs.Result.{result_ok}
 use Rattle.ps_world.specs.Knowledge.{action_of, kind_of}
-use Rattle.ps_world.specs.Names.{object}
+use Rattle.ps_world.specs.Names.{object, same_name}
 use Rattle.ps_world.specs.declared.actions.ActionDef.{ActionDef}
 use Rattle.ps_world.specs.declared.actions.Conditions.{Conditions}
 use Rattle.ps_world.specs.declared.actions.Effects.{Effects}
@@ -37,6 +38,14 @@ pub record IsFit (d : Domain) (k : Knowledge) (act : Act) : Type 0 where
 abbrev pub AreFit : Domain → Knowledge → List Act → Type 0
 AreFit d k [] = Unit {0}
 AreFit d k (act ∷ acts) = IsFit d k act × AreFit d k acts
+
+-- each of these instances is the first of its name
+abbrev pub AreFirstInstances : List (Name × Name) → Type 0
+AreFirstInstances instances = AllByRecursion (λ i. lookup (same_name i.0) instances ≡ Some i.1) instances
+
+-- each of these actions is the first of its name
+abbrev pub AreFirstActions : List ActionDef → Type 0
+AreFirstActions actions = AllByRecursion (λ a. find (λ b. same_name a.name b.name) actions ≡ Some a) actions
 
 -- a ground action with these conditions and effects with arguments put in, where its act and its duration don't matter
 abbrev pub parts_with : List Name → Conditions → Effects → GroundAction

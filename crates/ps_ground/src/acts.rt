@@ -1,16 +1,17 @@
 //! The acts of a search: all that can be grounded and may lead anywhere, in the order of the domain's text and of their arguments.
-ghost use Rattle.std.specs.Prelude.{◌≡◌, ◌+◌, ◌++◌, ◌<◌, ◌≤◌, [], ◌∷◌, List, length, map, min, true, IfOk, IsSome, MatchOption, OnOk};
+ghost use Rattle.std.specs.Prelude.{◌≡◌, ◌+◌, ◌++◌, ◌<◌, ◌≤◌, [], ◌∷◌, List, length, map, min, true, IfOk, IfSome, IsSome, MatchOption, OnOk};
 ghost use Rattle.ps_world.specs.declared.names.Name.{Name as NameView};
 ghost use Rattle.ps_action.specs.Grounding.{all_ground, by_name, most_ground, picks};
 ghost use Rattle.ps_action.specs.declared.acts.Act.{Act as ActView};
 ghost use Rattle.ps_domain.specs.Listing.{choices_in};
 ghost use Rattle.ps_ground.specs.Acts.{act_with, acts_with};
+ghost use Rattle.ps_ground.specs.Fitting.{AreFirstInstances};
 ghost use Rattle.ps_ground.specs.Thinned.{GoesOn, IsIdle, IsIdleFrom, IsThinned};
 
 use super::fixed::Fixed;
 use ps_action::Act;
 use ps_domain::{Expert, MOST_GROUND};
-use ps_world::{ActionDef, Args, Name, Param, Seq};
+use ps_world::{ActionDef, Args, MOST_ARGUMENTS, Name, Param, Seq};
 use std::alloc::{AllocError, Global};
 use std::collections::BTreeMap;
 
@@ -18,8 +19,9 @@ use std::collections::BTreeMap;
 const ENOUGH: usize = 50_001;
 
 /// Whether the names of instances rise, so that they stand in their order, and each once.
-fn rise(instances: &[(Name, Name)]) -> bool
-    ensures { result ≡ true → by_name instances.now ≡ instances.now }
+pub fn rise(instances: &[(Name, Name)]) -> bool
+    ensures order { result ≡ true → by_name instances.now ≡ instances.now }
+    ensures first { result ≡ true → AreFirstInstances instances.now }
 {
     // All names before are below this number.
     let mut bound: u64 = 0;
@@ -71,8 +73,15 @@ fn choices(
     ensures { IfOk result (λ names. names ≡ choices_in expert.now sorted.now param.now) }
 {
     let mut names = Seq::new(alloc);
+    // Mostly many in a row have one type.
+    let mut last = param.kind;
+    let mut may_stand = expert.is_subtype(last, param.kind);
     for (name, kind) in sorted {
-        if expert.is_subtype(*kind, param.kind) {
+        if *kind != last {
+            last = *kind;
+            may_stand = expert.is_subtype(last, param.kind);
+        }
+        if may_stand {
             names.push(*name)?;
         }
     }
@@ -132,6 +141,19 @@ fn with_one(alloc: Global, names: &[Name], name: Name) -> Result<Vec<Name>, Allo
     Ok(more)
 }
 
+/// The arguments with this name and then those. None where they are too many.
+fn longer(name: Name, tail: &[Name]) -> Option<Args>
+    ensures { IfSome result (λ args. args ≡ name ∷ tail.now) }
+{
+    if tail.len() >= MOST_ARGUMENTS {
+        return None;
+    }
+    let count = tail.len() + 1;
+    let mut names = [name; MOST_ARGUMENTS];
+    names[1..count].copy_from_slice(tail);
+    Args::of(&names[..count])
+}
+
 /// An action whose acts are listed, and the facts by which many of them lead nowhere.
 #[derive(Clone, Copy)]
 struct Listing<'a> {
@@ -160,6 +182,13 @@ impl<'a> Listing<'a> {
             self.now.fixed.now.facts self.now.action (length before.now))
             left whole kept.new.items) }
     {
+        if !is_asked {
+            // Mostly so, and then nothing has to be looked up.
+            if let Some(list) = longer(name, tail) {
+                kept.push(list)?;
+                return Ok(());
+            }
+        }
         lay_out(args, before, name, tail)?;
         if self.fixed.is_idle(self.expert, self.action, is_asked, before, args.as_slice()) {
             return Ok(());

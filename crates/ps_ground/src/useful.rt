@@ -12,7 +12,7 @@ ghost use Rattle.ps_ground.specs.Grounded.{AreUseful};
 ghost use Rattle.ps_ground.specs.Moves.{Node, moves};
 
 use super::acts::all_acts;
-use super::fits::is_fit;
+use super::fits::{is_fit, stand_once};
 use super::fixed::Fixed;
 use ps_action::Act;
 use ps_domain::Expert;
@@ -90,10 +90,15 @@ fn useful_by(
         (most_ground < length (all_ground expert.now problem.now.instances))
         (λ v. AreUseful expert.now problem.now v.items)) }
 {
-    match all_acts(alloc, expert, fixed, instances)? {
-        Some(acts) => Ok(Some(useful_of(alloc, expert, problem, acts.as_slice())?)),
-        None => Ok(None),
+    let Some(acts) = all_acts(alloc, expert, fixed, instances)? else {
+        return Ok(None);
+    };
+    // Then their arguments fit, since they were chosen so.
+    if stand_once(expert, instances) {
+        return Ok(Some(acts));
     }
+    let useful = useful_of(alloc, expert, problem, acts.as_slice())?;
+    Ok(Some(useful))
 }
 
 /// The acts that may lead somewhere from a state that may be reached, in the order of the domain's text and of their arguments. None
