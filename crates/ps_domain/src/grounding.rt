@@ -1,6 +1,6 @@
 //! Ground actions: an act's action with the arguments of the act put in.
-ghost use Rattle.std.specs.Prelude.{◌≡◌, length, IfOk};
-ghost use Rattle.ps_action.specs.Grounding.{grounded, put_all_effects, put_conditions};
+ghost use Rattle.std.specs.Prelude.{◌≡◌, length, IfErr, IfOk, Err, Ok};
+ghost use Rattle.ps_action.specs.Grounding.{ground_act, grounded, put_all_effects, put_conditions};
 ghost use Rattle.ps_domain.specs.Grounding.{Grounds};
 
 use super::expert::Expert;
@@ -49,8 +49,35 @@ pub fn grounded(alloc: Global, action: &ActionDef, act: &Act) -> Result<GroundAc
 }
 
 impl Expert {
-    /// The ground action of an act among these instances, or the first refusal: `NoAction`, `Arity`, and then for each
-    /// argument `NoInstance`, `WrongType`.
+    /// The action of an act that can be grounded among these instances, or the first refusal: `NoAction`, `Arity`, and then for
+    /// each argument `NoInstance`, `WrongType`. It takes no memory.
+    pub fn groundable(
+        &self,
+        instances: &[(Name, Name)],
+        act: &Act,
+    ) -> Result<&ActionDef, GroundRefusal>
+        ensures ok { IfOk result (λ action. ground_act self.now instances.now act.now ≡ Ok (grounded action.now act.now)) }
+        ensures fits { IfOk result (λ action. length action.now.params ≡ length act.now.args) }
+        ensures err { IfErr result (λ why. ground_act self.now instances.now act.now ≡ Err why) }
+    {
+        let Some(action) = self.action(act.action) else {
+            return Err(GroundRefusal::NoAction);
+        };
+        let params = action.params.as_slice();
+        let args = act.args.as_slice();
+        let want = params.len();
+        let got = args.len();
+        if want != got {
+            return Err(GroundRefusal::Arity { want, got });
+        }
+        let known = Instances { listed: instances };
+        match first_misfit(&known, self, params, args) {
+            Some(fault) => Err(fault),
+            None => Ok(action),
+        }
+    }
+
+    /// The ground action of an act among these instances, or the first refusal, as `groundable` tells it.
     pub fn ground(
         &self,
         instances: &[(Name, Name)],
@@ -58,20 +85,9 @@ impl Expert {
     ) -> Result<GroundAction, Failure<GroundRefusal>>
         ensures { Grounds self.now instances.now act.now result }
     {
-        let Some(action) = self.action(act.action) else {
-            return Err(Failure::Refused(GroundRefusal::NoAction));
-        };
-        let params = action.params.as_slice();
-        let args = act.args.as_slice();
-        let want = params.len();
-        let got = args.len();
-        if want != got {
-            return Err(Failure::Refused(GroundRefusal::Arity { want, got }));
+        match self.groundable(instances, act) {
+            Ok(action) => Ok(grounded(self.alloc, action, act)?),
+            Err(refusal) => Err(Failure::Refused(refusal)),
         }
-        let known = Instances { listed: instances };
-        if let Some(fault) = first_misfit(&known, self, params, args) {
-            return Err(Failure::Refused(fault));
-        }
-        Ok(grounded(self.alloc, action, act)?)
     }
 }

@@ -59,10 +59,9 @@ pub fn ground_refusal(
         (λ why. why ≡ ground_refusal (ground_act expert.now problem.now.instances act.now)) }
 {
     let instances = problem.instances()?;
-    match expert.ground(&instances, act) {
+    match expert.groundable(&instances, act) {
         Ok(_) => Ok(None),
-        Err(Failure::Refused(refusal)) => Ok(Some(Refusal::Ground(refusal))),
-        Err(Failure::OutOfMemory) => Err(AllocError),
+        Err(refusal) => Ok(Some(Refusal::Ground(refusal))),
     }
 }
 
@@ -72,11 +71,7 @@ pub fn can_ground(expert: &Expert, problem: &Problem, act: &Act) -> Result<bool,
         (λ b. b ≡ is_ok (ground_act expert.now problem.now.instances act.now)) }
 {
     let instances = problem.instances()?;
-    match expert.ground(&instances, act) {
-        Ok(_) => Ok(true),
-        Err(Failure::Refused(_)) => Ok(false),
-        Err(Failure::OutOfMemory) => Err(AllocError),
-    }
+    Ok(expert.groundable(&instances, act).is_ok())
 }
 
 fn given_up(answer: &Answer) -> Option<Outcome>
