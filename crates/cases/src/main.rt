@@ -44,20 +44,32 @@ mod starving;
 
 use case::{Bad, read_case, says_nothing};
 use judge::{Difference, first_difference};
-use std::alloc::Global;
+use std::alloc::{AllocError, Global};
 use std::sync::Wait;
 use std::thread::Threads;
 use std::{fs, io};
 
+/// Adds the name of a file, if it is that of a case file.
+fn push_case_file(alloc: Global, name: &str, names: &mut Vec<String>) -> Result<(), AllocError> {
+    if name.ends_with(".cases") {
+        names.push(name.to_string(alloc)?)?;
+    }
+    Ok(())
+}
+
+/// Adds the names of the case files in the current folder.
+fn push_case_files(rt: &HostRuntime, names: &mut Vec<String>) -> io::Result<()> {
+    for entry in fs::read_dir(rt, ".")? {
+        let entry = entry?;
+        push_case_file(rt.alloc(), entry.file_name(), names)?;
+    }
+    Ok(())
+}
+
 /// The names of the case files in the current folder, in rising order.
 fn case_files(rt: &HostRuntime) -> io::Result<Vec<String>> {
     let mut names = Vec::new(rt.alloc());
-    for entry in fs::read_dir(rt, ".")? {
-        let entry = entry?;
-        if entry.file_name().ends_with(".cases") {
-            names.push(entry.file_name().to_string(rt.alloc())?)?;
-        }
-    }
+    push_case_files(rt, &mut names)?;
     names.sort()?;
     Ok(names)
 }
