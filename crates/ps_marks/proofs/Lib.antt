@@ -1,0 +1,12 @@
+pub mod Members
+pub mod Makes
+pub mod Steps
+pub mod Closed
+pub mod Relaxed
+pub mod Growing
+pub mod Kept
+pub mod Left
+pub mod Bridge
+pub mod Closes
+pub mod Below
+pub mod Declared
