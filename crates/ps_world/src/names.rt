@@ -1,5 +1,5 @@
 //! Names, and short lists of them.
-ghost use Rattle.std.specs.Prelude.{◌≡◌, ◌==◌, ◌<◌, ◌≤◌, length, slice_index_or};
+ghost use Rattle.std.specs.Prelude.{◌≡◌, ◌==◌, ◌<◌, ◌≤◌, [], ◌∷◌, ◌++◌, length, slice_index_or};
 ghost use Rattle.std.specs.Option.{SomeIff};
 
 use super::lists::Duplicate;
@@ -56,6 +56,25 @@ impl Model for Args {
 }
 
 impl Args {
+    /// No name.
+    pub fn none() -> Args
+        ensures { result ≡ [] }
+    {
+        Args {
+            names: [Name(0); MOST_ARGUMENTS],
+            count: 0,
+        }
+    }
+
+    /// Puts the name at the end of fewer than 6.
+    pub fn push(&mut self, name: Name)
+        requires { length self.old < MOST_ARGUMENTS }
+        ensures { self.new ≡ self.old ++ name ∷ [] }
+    {
+        self.names[self.count] = name;
+        self.count += 1;
+    }
+
     /// These names, or None exactly where there are more than 6.
     pub fn of(names: &[Name]) -> Option<Args>
         ensures { SomeIff result (length names.now ≤ MOST_ARGUMENTS) names.now }

@@ -1,5 +1,5 @@
 //! Facts with parameters in them, as conditions and effects speak of them.
-ghost use Rattle.std.specs.Prelude.{◌≡◌, ◌==◌, ◌<◌, ◌≤◌, length, map, slice_index_or};
+ghost use Rattle.std.specs.Prelude.{◌≡◌, ◌==◌, ◌<◌, ◌≤◌, [], ◌∷◌, ◌++◌, length, map, slice_index_or};
 ghost use Rattle.std.specs.Option.{SomeIff};
 ghost use Rattle.ps_world.specs.Bound.{ground_in, name_in};
 ghost use Rattle.ps_world.specs.Knowledge.{ground, name_of};
@@ -101,6 +101,25 @@ impl Model for Terms {
 }
 
 impl Terms {
+    /// No term.
+    pub fn none() -> Terms
+        ensures { result ≡ [] }
+    {
+        Terms {
+            terms: [Term::Var(0); MOST_ARGUMENTS],
+            count: 0,
+        }
+    }
+
+    /// Puts the term at the end of fewer than 6.
+    pub fn push(&mut self, term: Term)
+        requires { length self.old < MOST_ARGUMENTS }
+        ensures { self.new ≡ self.old ++ term ∷ [] }
+    {
+        self.terms[self.count] = term;
+        self.count += 1;
+    }
+
     /// These terms, or None exactly where there are more than 6.
     pub fn of(terms: &[Term]) -> Option<Terms>
         ensures { SomeIff result (length terms.now ≤ MOST_ARGUMENTS) terms.now }
@@ -157,15 +176,11 @@ impl Terms {
     pub fn names_in(&self, env: &Env) -> Args
         ensures { result ≡ map (name_in env.now) self.now }
     {
-        let terms = &self.terms[..self.count];
-        let mut names = [Name::OBJECT; MOST_ARGUMENTS];
-        for i in 0..terms.len() {
-            names[i] = terms[i].name_in(env);
+        let mut names = Args::none();
+        for term in &self.terms[..self.count] {
+            names.push(term.name_in(env));
         }
-        match Args::of(&names[..terms.len()]) {
-            Some(args) => args,
-            None => unreachable!(),
-        }
+        names
     }
 }
 
