@@ -4,4 +4,6 @@ pub mod Levels
 pub mod OneFault
 pub mod Places
 pub mod Runs
+pub mod SameMarks
 pub mod ToldFaults
+pub mod Turning

@@ -6,3 +6,4 @@ pub mod Rules
 pub mod Shape
 pub mod Steps
 pub mod Symbols
+pub mod Turns

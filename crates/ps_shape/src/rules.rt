@@ -17,7 +17,7 @@ use super::symbols::{
 };
 
 /// How many terms a fact of a goal and a function's value have at most.
-const MOST_NAMES: u8 = 6;
+pub const MOST_NAMES: u8 = 6;
 
 /// What the symbol leads to at the mark, if the mark fits.
 pub fn step(symbol: Symbol, mark: Mark) -> Option<Then>

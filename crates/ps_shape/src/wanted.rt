@@ -1,21 +1,29 @@
 //! The symbols that are still wanted, and what one mark more makes of them.
 ghost use Rattle.std.specs.Prelude.{◌≡◌, ℕ, take, ◌≤◌, ◌<◌, ◌+◌, ◌^◌, ◌↔◌, [], ◌∷◌, ◌++◌, drop, length, true, false, Ok, None, Some, IfOk, IfSome, IsTrue, MatchOption, slice_get};
-ghost use Rattle.ps_shape.specs.declared.symbols.Symbol.TheVariants.{InText};
+ghost use Rattle.ps_shape.specs.declared.symbols.Symbol.TheVariants.{The, InText};
+ghost use Rattle.ps_shape.specs.declared.marks.Mark.TheVariants.{Close};
 ghost use Rattle.ps_shape.specs.declared.symbols.TextPart.TheVariants.{Whole};
 ghost use Rattle.ps_shape.specs.Symbols.{level, symbols};
 ghost use Rattle.ps_shape.specs.Shape.{next_wanted, run, IsTooDeepFrom, deepest};
 ghost use Rattle.ps_shape.specs.Steps.{IsOver, Passes, Stops, Fails, form_of};
 ghost use Rattle.ps_shape.specs.Forms.{told_at};
+ghost use Rattle.ps_shape.specs.Turns.{turned};
 
 use super::faults::{Form, ShapeFault, opened_at, opens, unsupported};
 use super::marks::Mark;
-use super::rules::step;
-use super::symbols::{Symbol, TextPart, Then};
+use super::rules::{MOST_NAMES, step};
+use super::symbols::{
+    ConditionPart, EffectPart, GoalPart, Reach, Symbol, TextPart, Then, ValuePart,
+};
+use super::turns::{Turn, turn_of};
 use std::alloc::{AllocError, Global};
 use std::marker::Model;
 
 /// How many levels of parentheses may stand open.
 pub const DEEPEST: usize = 64;
+
+/// How many symbols are mostly wanted at once where a line is read.
+const FEW: usize = 8;
 
 /// The symbols that are wanted, in order.
 #[derive(Drop)]
@@ -59,7 +67,7 @@ impl Wanted {
         ensures low { IfOk result (λ w. level w ≤ 16) }
     {
         let mut wanted = Wanted {
-            items: Vec::new(alloc),
+            items: Vec::with_capacity(alloc, FEW)?,
             left: 0,
         };
         for at in (0..symbols.len()).rev() {
@@ -83,6 +91,7 @@ impl Wanted {
     }
 
     /// Whether the mark opens a level too many.
+    #[inline(always)]
     pub fn is_over(&mut self, mark: Mark) -> bool
         requires { level self.old < 2 ^ 64 }
         ensures over { IsTrue result ↔ IsOver self.old mark }
@@ -166,6 +175,93 @@ impl Wanted {
         Ok(())
     }
 
+    /// The first symbol has all that it stands for.
+    fn end_first(&mut self)
+        ensures { self.new ≡ drop 1 self.old }
+    {
+        let left = self.left;
+        self.pop();
+        self.left = left;
+    }
+
+    /// The first symbol becomes this one.
+    fn set_first(&mut self, symbol: Symbol)
+        requires some { 0 < length self.old }
+        requires few { level (symbol ∷ drop 1 self.old) ≤ level self.old + 1 }
+        ensures { self.new ≡ symbol ∷ drop 1 self.old }
+    {
+        let left = self.left.saturating_sub(1);
+        self.replace_by(symbol);
+        self.left = left;
+    }
+
+    /// The first symbol becomes these.
+    fn set_two(&mut self, first: Symbol, second: Symbol) -> Result<(), AllocError>
+        requires some { 0 < length self.old }
+        requires few { level (first ∷ second ∷ drop 1 self.old) ≤ level self.old + 1 }
+        ensures { IfOk result (λ _. self.new ≡ first ∷ second ∷ drop 1 self.old) }
+    {
+        let left = self.left.saturating_sub(1);
+        self.replace_by(second);
+        self.push(first)?;
+        self.left = left;
+        Ok(())
+    }
+
+    /// The first symbol becomes a word for the time, what stands then, and the parenthesis that ends both.
+    fn set_timed(&mut self, time: Symbol, what: Symbol) -> Result<(), AllocError>
+        requires some { 0 < length self.old }
+        requires few { level (time ∷ what ∷ The Close ∷ drop 1 self.old) ≤ level self.old + 1 }
+        ensures { IfOk result (λ _. self.new ≡ time ∷ what ∷ The Close ∷ drop 1 self.old) }
+    {
+        let left = self.left.saturating_sub(1);
+        self.replace_by(Symbol::The(Mark::Close));
+        self.push(what)?;
+        self.push(time)?;
+        self.left = left;
+        Ok(())
+    }
+
+    /// Takes this turn of the first symbol.
+    fn turn(&mut self, first: Symbol, turn: Turn) -> Result<(), AllocError>
+        requires some { 0 < length self.old }
+        requires few { IfSome (turned turn first) (λ new. level (new ++ drop 1 self.old) ≤ level self.old + 1) }
+        ensures { IfOk result (λ _. IfSome (turned turn first) (λ new. self.new ≡ new ++ drop 1 self.old)) }
+    {
+        match turn {
+            Turn::Ends => self.end_first(),
+            Turn::GoesOn => self.set_first(first),
+            Turn::Terms => self.set_first(Symbol::InValue(ValuePart::Terms)),
+            Turn::Names(most) => self.set_first(Symbol::InGoal(GoalPart::Names(most))),
+            Turn::ConditionHead => self.set_first(Symbol::InCondition(ConditionPart::Head)),
+            Turn::EffectHead => self.set_first(Symbol::InEffect(EffectPart::Head(Reach::Spread))),
+            Turn::TimedCondition => {
+                self.set_two(Symbol::InCondition(ConditionPart::TimedHead), first)?;
+            }
+            Turn::TimedEffect => {
+                self.set_two(Symbol::InEffect(EffectPart::TimedHead), first)?;
+            }
+            Turn::Atom => {
+                let names = Symbol::InGoal(GoalPart::Names(MOST_NAMES));
+                self.set_two(Symbol::AnyName, names)?;
+            }
+            Turn::ConditionAt => {
+                let condition = Symbol::InCondition(ConditionPart::Condition);
+                self.set_timed(Symbol::InEffect(EffectPart::StartOrEnd), condition)?;
+            }
+            Turn::ConditionOver => {
+                let condition = Symbol::InCondition(ConditionPart::Condition);
+                self.set_timed(Symbol::The(Mark::All), condition)?;
+            }
+            Turn::EffectAt => {
+                let effect = Symbol::InEffect(EffectPart::Effect(Reach::Spread));
+                self.set_timed(Symbol::InEffect(EffectPart::StartOrEnd), effect)?;
+            }
+            Turn::ByRule => (),
+        }
+        Ok(())
+    }
+
     /// What the mark leads to, if it fits.
     pub fn fitting(&self, mark: Mark) -> Option<Then>
         ensures fits { MatchOption result (next_wanted self.now mark ≡ None)
@@ -220,6 +316,25 @@ impl Wanted {
         if self.is_over(mark) {
             return Ok(false);
         }
+        let Some(first) = self.first() else {
+            return Ok(false);
+        };
+        match turn_of(first, mark) {
+            Turn::ByRule => self.takes_by_rule(mark),
+            turn => {
+                self.turn(first, turn)?;
+                Ok(true)
+            }
+        }
+    }
+
+    /// Takes the mark if it fits, by the first symbol's rule, and says whether it did.
+    fn takes_by_rule(&mut self, mark: Mark) -> Result<bool, AllocError>
+        ensures passes { result ≡ Ok true → next_wanted self.old mark ≡ Some self.new }
+        ensures rises { result ≡ Ok true → level self.new ≤ level self.old + 1 }
+        ensures stops { result ≡ Ok false → next_wanted self.old mark ≡ None }
+        ensures kept { result ≡ Ok false → self.new ≡ self.old }
+    {
         let Some(next) = self.fitting(mark) else {
             return Ok(false);
         };
