@@ -1,4 +1,5 @@
 pub mod Balance
+pub mod FactsFit
 pub mod FileNames
 pub mod Fronts
 pub mod Judgements

@@ -1,4 +1,5 @@
 pub mod Commands
+pub mod FactLines
 pub mod Files
 pub mod Forms
 pub mod Goals

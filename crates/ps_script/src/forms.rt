@@ -1,7 +1,9 @@
 //! The forms of a line.
-ghost use Rattle.std.specs.Prelude.{◌≡◌, ◌∷◌, [], Ok, Some, codes, IfOk, IfSome};
+ghost use Rattle.std.specs.Prelude.{◌≡◌, ◌∷◌, [], Ok, Some, codes, IfOk, IfSome, IsTrue};
 ghost use Rattle.ps_text.specs.Words.{word_at};
 ghost use Rattle.ps_shape.specs.Shape.{Derives, IsFirstFaultFrom, IsShallowFrom};
+ghost use Rattle.ps_shape.specs.declared.symbols.Symbol.TheVariants.{AnyName, InGoal};
+ghost use Rattle.ps_shape.specs.declared.symbols.GoalPart.TheVariants as goal;
 ghost use Rattle.ps_script.specs.Forms.{form_of, start_of};
 
 use super::files::reads_as;
@@ -198,6 +200,18 @@ pub fn form_of(words: &Words) -> Option<Form>
 }
 
 impl Form {
+    /// Whether a fact follows the form's two words.
+    pub fn wants_fact(self) -> bool
+        ensures { IsTrue result → start_of self ≡ AnyName ∷ AnyName ∷ InGoal goal.Atom ∷ [] }
+    {
+        match self {
+            Form::SetPredicate | Form::RemovePredicate | Form::RemoveFunction | Form::RunAction => {
+                true
+            }
+            _ => false,
+        }
+    }
+
     /// The place of the first word of a line of this form that doesn't fit, or of the line's end where more is wanted.
     pub fn first_misfit(self, alloc: Global, marks: &[Mark]) -> Result<Option<usize>, AllocError>
         ensures none { result ≡ Ok None

@@ -2,6 +2,7 @@
 #![tactic(auto)]
 
 mod commands;
+mod fact_lines;
 mod files;
 mod forms;
 mod goals;

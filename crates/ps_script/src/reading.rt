@@ -5,14 +5,17 @@ ghost use Rattle.ps_text.specs.Tokens.{AreTokens};
 ghost use Rattle.ps_text.specs.Words.{word_at, words};
 ghost use Rattle.ps_text.specs.Names.{Keeps};
 ghost use Rattle.ps_script.specs.Files.{after_run, file_in, is_run_plan, is_source};
-ghost use Rattle.ps_script.specs.Forms.{form_of};
+ghost use Rattle.ps_forms.specs.Lexemes.{marks};
+ghost use Rattle.ps_script.specs.Forms.{form_of, start_of};
+ghost use Rattle.ps_script.specs.Judged.{Fits};
 ghost use Rattle.ps_script.specs.Lines.{IsPlain, IsRead, bad, begins_nothing, cause_of, is_nothing, with_run_plan};
 
 use super::commands::command_of;
+use super::fact_lines::says_fact;
 use super::files::{FileName, after_run, file_in, is_run_plan, is_source, trimmed};
 use super::forms::{Form, form_of_leading};
 use super::judging::{judged, marks_of_words};
-use ps_forms::lexemes_of;
+use ps_forms::{Lexeme, lexemes_of};
 use ps_machine::{Line, LineCause};
 use ps_text::{LexRefusal, Names, Token, tokens};
 use ps_world::Failure;
@@ -120,6 +123,17 @@ fn read_run_plan(alloc: Global, names: &mut Names, bytes: &[u8]) -> Result<Read,
     }
 }
 
+/// The place of the first of a line's words that doesn't fit the form, or of the line's end where more is wanted.
+fn misfit_of(alloc: Global, form: Form, words: &[Lexeme]) -> Result<Option<usize>, AllocError>
+    ensures { IfOk result (λ misfit. Fits (start_of form) (marks words.now) misfit) }
+{
+    if form.wants_fact() && says_fact(words) {
+        return Ok(None);
+    }
+    let marks = marks_of_words(alloc, words)?;
+    form.first_misfit(alloc, &marks)
+}
+
 /// Reads a line whose leading words are those of a form.
 ///
 /// What the words are to the grammar is found once, as they are made. So their names are in the table before it is known whether the line
@@ -139,8 +153,7 @@ fn read_form(
 {
     let before = names.len();
     let words = lexemes_of(alloc, names, bytes, tokens)?;
-    let marks = marks_of_words(alloc, &words)?;
-    let misfit = form.first_misfit(alloc, &marks)?;
+    let misfit = misfit_of(alloc, form, &words)?;
     match judged(alloc, bytes, tokens, &words, misfit)? {
         Ok(trees) => {
             let command = command_of(alloc, form, trees.as_slice())?;

@@ -1,28 +1,29 @@
-use Rattle.std.proofs.Common.{Ok, ap, sym, ◌∙◌}
+use Rattle.std.proofs.Common.{List, subst, sym, ◌∙◌}
 use Rattle.ps_forms.specs.Lexemes.{marks}
+use Rattle.ps_forms.specs.declared.lexemes.Lexeme.{Lexeme}
 use Rattle.ps_script.specs.Forms.{start_of}
 use Rattle.ps_script.specs.Judged.{Fits}
 use Rattle.ps_script.proofs.Balance.{start_closed, start_paired}
-use Rattle.ps_script.proofs.Fronts.{found_fits, front_balance}
+use Rattle.ps_script.proofs.Fronts.{front_balance}
 use Rattle.ps_script.proofs.LineReads.{bad_read, good_read}
 use Rattle.ps_script.proofs.reading.read_form.Goals as goal
 
 pub judged-requires : goal.judged-requires
 judged-requires c =
-    let fits : Fits (start_of c.args.form) (marks c.deref-3.result.now) c.in_ok-misfit.misfit =
-    found_fits (start_of c.args.form) _ _ _ (c.deref-2.ensures.value ∙ c.in_ok-marks.ensures ∙ ap marks (c.deref.ensures.value ∙ sym c.deref-3.ensures.value)) (λ e. c.in_ok-misfit.ensures.none (ap Ok e)) c.in_ok-misfit.ensures.fault in
-    front_balance (start_of c.args.form) c.deref-3.result.now _ (start_paired c.args.form) (start_closed c.args.form) fits
+    let fits : Fits (start_of c.args.form) (marks c.deref-2.result.now) c.in_ok-misfit.misfit =
+    subst (λ (ls : List Lexeme). Fits (start_of c.args.form) (marks ls) c.in_ok-misfit.misfit) (c.deref.ensures.value ∙ sym c.deref-2.ensures.value) c.in_ok-misfit.ensures in
+    front_balance (start_of c.args.form) c.deref-2.result.now _ (start_paired c.args.form) (start_closed c.args.form) fits
 
 pub returns-in-Ok-clause-read : goal.returns-in-Ok-clause-read
 returns-in-Ok-clause-read c =
-    let fits : Fits (start_of c.args.form) (marks c.deref-3.result.now) c.in_ok-misfit.misfit =
-    found_fits (start_of c.args.form) _ _ _ (c.deref-2.ensures.value ∙ c.in_ok-marks.ensures ∙ ap marks (c.deref.ensures.value ∙ sym c.deref-3.ensures.value)) (λ e. c.in_ok-misfit.ensures.none (ap Ok e)) c.in_ok-misfit.ensures.fault in
-    good_read c.args.names.now c.lexemes_of.new.names c.args.bytes.now c.args.form c.args.tokens.now _ c.deref-3.result.now _ _ c.requires.plain c.requires.tokens c.requires.form c.in_ok-words.ensures.ok c.deref-3.ensures.value c.in_ok-trees.ensures fits
+    let fits : Fits (start_of c.args.form) (marks c.deref-2.result.now) c.in_ok-misfit.misfit =
+    subst (λ (ls : List Lexeme). Fits (start_of c.args.form) (marks ls) c.in_ok-misfit.misfit) (c.deref.ensures.value ∙ sym c.deref-2.ensures.value) c.in_ok-misfit.ensures in
+    good_read c.args.names.now c.lexemes_of.new.names c.args.bytes.now c.args.form c.args.tokens.now _ c.deref-2.result.now _ _ c.requires.plain c.requires.tokens c.requires.form c.in_ok-words.ensures.ok c.deref-2.ensures.value c.in_ok-trees.ensures fits
     _ _ _ c.in-Ok.is c.as_slice.ensures c.in_ok-command-in-Ok.ensures
 
 pub returns-clause-read : goal.returns-clause-read
 returns-clause-read c =
-    let fits : Fits (start_of c.args.form) (marks c.deref-3.result.now) c.in_ok-misfit.misfit =
-    found_fits (start_of c.args.form) _ _ _ (c.deref-2.ensures.value ∙ c.in_ok-marks.ensures ∙ ap marks (c.deref.ensures.value ∙ sym c.deref-3.ensures.value)) (λ e. c.in_ok-misfit.ensures.none (ap Ok e)) c.in_ok-misfit.ensures.fault in
-    bad_read c.args.names.now c.lexemes_of.new.names c.args.bytes.now c.args.form c.args.tokens.now _ c.deref-3.result.now _ _ c.requires.plain c.requires.tokens c.requires.form c.in_ok-words.ensures.ok c.deref-3.ensures.value c.in_ok-trees.ensures fits
+    let fits : Fits (start_of c.args.form) (marks c.deref-2.result.now) c.in_ok-misfit.misfit =
+    subst (λ (ls : List Lexeme). Fits (start_of c.args.form) (marks ls) c.in_ok-misfit.misfit) (c.deref.ensures.value ∙ sym c.deref-2.ensures.value) c.in_ok-misfit.ensures in
+    bad_read c.args.names.now c.lexemes_of.new.names c.args.bytes.now c.args.form c.args.tokens.now _ c.deref-2.result.now _ _ c.requires.plain c.requires.tokens c.requires.form c.in_ok-words.ensures.ok c.deref-2.ensures.value c.in_ok-trees.ensures fits
     _ _ _ _ c.len-before.ensures.count c.lexemes_of.ensures.kept c.cut_back.ensures c.in-Err.is c.bad.ensures

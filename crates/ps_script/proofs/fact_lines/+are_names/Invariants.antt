@@ -1,0 +1,4 @@
+use Rattle.ps_script.proofs.fact_lines.+are_names.Given as goal
+
+abbrev pub decreases-are_names : goal.decreases-are_names
+decreases-are_names l = l.most
