@@ -1,10 +1,11 @@
 -- What there is: something or nothing, an answer or a refusal, this mark or another.
 use Rattle.std.proofs.Common.{◌≡◌, ◌⊎◌, Bool, true, false, Option, None, Some, Result, Ok, Err, inl, inr, refl, sym, ◌∙◌}
 use Rattle.std.proofs.lemmas.Bool.{cases_Bool}
-use denote.Enum.Bare.{same_true, true_same}
+use denote.Enum.Bare.{true_same}
 use Rattle.ps_shape.specs.contracts.marks.Mark.{the_type}
 use Rattle.ps_shape.specs.Marks.{is}
 use Rattle.ps_shape.specs.declared.marks.Mark.{Mark}
+use Rattle.ps_shape.proofs.SameMarks.{mark_is}
 
 pub found : {A : Type 0} (o : Option A) → ((x : A) × (o ≡ Some x)) ⊎ (o ≡ None)
 found None = inr refl
@@ -13,10 +14,6 @@ found (Some x) = inl (x, refl)
 pub answered : {A E : Type 0} (r : Result A E) → ((x : A) × (r ≡ Ok x)) ⊎ ((e : E) × (r ≡ Err e))
 answered (Ok x) = inl (x, refl)
 answered (Err e) = inr (e, refl)
-
--- a mark that passes a test for it
-pub mark_is : (wanted m : Mark) → is wanted m ≡ true → m ≡ wanted
-mark_is wanted m e = same_true the_type tt m wanted e
 
 other_mark : (wanted m : Mark) → is wanted m ≡ false → m ≡ wanted → ⊥
 other_mark wanted m other same =

@@ -16,7 +16,7 @@ use Rattle.ps_shape.specs.declared.symbols.GoalPart.{GoalPart}
 use Rattle.ps_shape.specs.declared.symbols.GoalPart.TheVariants as goal
 use Rattle.ps_forms.proofs.Balance.{each_mark, every_mark}
 use Rattle.ps_reading_laws.specs.Levels.{opened_by}
-use Rattle.ps_reading_laws.proofs.Cases.{mark_is}
+use Rattle.ps_shape.proofs.SameMarks.{mark_is}
 
 -- the level after a mark, where it was so before
 abbrev pub moves : Mark → ℕ → ℕ → Bool

@@ -1,6 +1,7 @@
 pub mod Cases
 pub mod DomainReadings
 pub mod DomainTexts
+pub mod FormsFit
 pub mod Judging
 pub mod LevelSymbols
 pub mod Levels

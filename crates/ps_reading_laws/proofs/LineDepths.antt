@@ -21,7 +21,7 @@ use Rattle.ps_members.specs.declared.forms.Form.{Form as MemberForm}
 use Rattle.ps_members.specs.declared.forms.Form.TheVariants.{Edit}
 use Rattle.ps_reading_laws.specs.Laws.{LineDepthsAreParentheses, MemberDepthsAreParentheses}
 use Rattle.ps_reading_laws.specs.Levels.{CountsParentheses, open_after, opened, opened_by}
-use Rattle.ps_reading_laws.proofs.Cases.{mark_is}
+use Rattle.ps_shape.proofs.SameMarks.{mark_is}
 use Rattle.ps_reading_laws.proofs.LevelSymbols.{inner_fits, inner_more, inner_step, is_inner, is_none, moves, none_of, opens_so}
 use Rattle.ps_reading_laws.proofs.TextSymbols.{is_body_head, opens_elsewhere}
 use Rattle.ps_reading_laws.proofs.Ways.{Leads, first_leads, front_leads}

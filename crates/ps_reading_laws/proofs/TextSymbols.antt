@@ -23,7 +23,7 @@ use Rattle.ps_shape.specs.declared.symbols.EffectPart.TheVariants as effect
 use Rattle.ps_shape.specs.declared.symbols.ValuePart.{ValuePart}
 use Rattle.ps_shape.specs.declared.symbols.ValuePart.TheVariants as value
 use Rattle.ps_forms.proofs.Balance.{each_mark, every_mark}
-use Rattle.ps_reading_laws.proofs.Cases.{mark_is}
+use Rattle.ps_shape.proofs.SameMarks.{mark_is}
 use Rattle.ps_reading_laws.proofs.LevelSymbols.{is_none, moves}
 
 -- ---- kinds of symbols
