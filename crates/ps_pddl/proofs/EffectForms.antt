@@ -1,15 +1,24 @@
 -- Effects by how many words and lists they have.
-use Rattle.std.proofs.Common.{◌≡◌, ◌≤◌, ◌<◌, ℕ, false, List, [], ◌∷◌, Option, None, Ok, length, map, refl, arith}
+use Rattle.std.proofs.Common.{◌≡◌, ◌≤◌, ◌<◌, ℕ, Bool, true, false, not, ◌&&◌, List, [], ◌∷◌, ◌++◌, Option, Some, None, Ok, Err, length, map, refl, arith}
+use Rattle.std.specs.Option.{is_none, option_map}
 use Rattle.ps_world.specs.declared.domains.Domain.{Domain}
+use Rattle.ps_world.specs.declared.schemas.Lifted.{Lifted}
+use Rattle.ps_world.specs.declared.actions.Effect.TheVariants.{Add}
+use Rattle.ps_world.specs.declared.actions.Guarded.TheVariants.{Plain}
+use Rattle.ps_world.specs.declared.actions.Spread.{Spread}
+use Rattle.ps_world.specs.declared.actions.Spread.TheVariants.{Once}
+use Rattle.ps_shape.specs.declared.marks.Mark.{Mark}
+use Rattle.ps_shape.specs.declared.marks.Mark.TheVariants as mark
 use Rattle.ps_world.specs.declared.domains.Param.{Param}
 use Rattle.ps_shape.specs.Marks.{is}
-use Rattle.ps_shape.specs.declared.marks.Mark.TheVariants.{And}
+use Rattle.ps_shape.specs.declared.marks.Mark.TheVariants.{And, Not, Forall}
 use Rattle.ps_conditions.specs.Steps.{◌>>=◌}
-use Rattle.ps_pddl.specs.Effects.{added, conditional, flattened_form, followed_by, for_each, plain_effect, timed_form}
+use Rattle.ps_pddl.specs.Effects.{added, addition, change_of, conditional, effect, flattened_form, is_addition, followed_by, for_each, plain_effect, timed_form}
 use Rattle.ps_pddl.specs.Steps.{Read}
-use Rattle.ps_forms.specs.Nested.{Nesteds, nesteds}
+use Rattle.ps_pddl.specs.Terms.{fact}
+use Rattle.ps_forms.specs.Nested.{Nested, Nesteds, nesteds, word, group, none, more}
 use Rattle.ps_forms.specs.NestedViews.{nested}
-use Rattle.ps_forms.specs.Places.{head, rest}
+use Rattle.ps_forms.specs.Places.{word_of, items, head, rest}
 use Rattle.ps_forms.specs.declared.lexemes.Lexeme.{Lexeme}
 use Rattle.ps_world.specs.declared.actions.Effects.{Effects}
 use Rattle.ps_forms.specs.declared.trees.Tree.{Tree}
@@ -39,3 +48,33 @@ pub no_for_each : (d : Domain) (ps : List Param) (us : List Tree) → length us 
 no_for_each d ps [] h = refl
 no_for_each d ps (t ∷ []) h = refl
 no_for_each d ps (t ∷ u ∷ us) h = absurd (omega (arith, h))
+
+-- a fact is made as deep as the levels of effects would put it
+once_made : (r : Read Lifted) (before : List Spread) →
+    ((((r >>= λ f. Ok (Some (Add f))) >>= λ e. Ok (option_map Plain e)) >>= λ g. Ok (option_map Once g)) >>= λ x. Ok (followed_by before x)) ≡ (r >>= λ f. Ok (before ++ Once (Plain (Add f)) ∷ []))
+once_made (Ok f) before = refl
+once_made (Err e) before = refl
+
+-- an effect that changes no number adds a fact
+unchanged : (d : Domain) (ps : List Param) (l : Lexeme) (ts : Nesteds) → change_of l.mark ≡ None → plain_effect d ps l ts ≡ added d ps l ts
+unchanged d ps l none h = refl
+unchanged d ps l (more a none) h = refl
+unchanged d ps l (more a (more x ts)) h = rw h refl
+
+-- each of these is as it says
+all_apart : {A : Type 0} (a b c d : Bool) (o : Option A) → (not a && not b && not c && not d && is_none o) ≡ true → (a ≡ false) × (b ≡ false) × (c ≡ false) × (d ≡ false) × (o ≡ None)
+all_apart true b c d o h = absurd (cc)
+all_apart false true c d o h = absurd (cc)
+all_apart false false true d o h = absurd (cc)
+all_apart false false false true o h = absurd (cc)
+all_apart false false false false (Some x) h = absurd (cc)
+all_apart false false false false None h = (refl, refl, refl, refl, refl)
+
+-- what adds a fact is read as one
+pub effect_adds : (d : Domain) (ps : List Param) (t : Nested) (before : List Spread) → is_addition t ≡ true → effect d ps t before ≡ addition d ps (items t) before
+effect_adds d ps (word l) before h = absurd (cc)
+effect_adds d ps (group none) before h = absurd (cc)
+effect_adds d ps (group (more f ts)) before h =
+    let m : Mark = (word_of f).mark in
+    let (no_and, no_not, no_when, no_forall, no_change) = all_apart (is And m) (is Not m) (is mark.When m) (is Forall m) (change_of m) h in
+    rw (no_and, no_forall, no_when, no_not, unchanged d ps (word_of f) ts no_change) (once_made (fact d ps (word_of f) ts) before)

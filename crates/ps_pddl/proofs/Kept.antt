@@ -3,13 +3,11 @@ use Rattle.std.proofs.Common.{◌≡◌, ◌+◌, ◌≤◌, ℕ, zero, suc, Lis
 use Rattle.std.proofs.lemmas.List.{take_all, take-append-le}
 
 -- where enough are kept, one more is not
-pub kept_all : {A : Type 0} (kept : List A) (n i : ℕ) (x : A) → length kept ≡ n → n ≤ i → take (i + 1) kept ≡ take n (take i kept ++ x ∷ [])
-kept_all kept n i x e h =
-    let whole : take (i + 1) kept ≡ kept = take_all (i + 1) kept (omega arith) in
-    let same : take i kept ≡ kept = take_all i kept (omega arith) in
-    let cut : take n (kept ++ x ∷ []) ≡ take n kept = take-append-le n kept (x ∷ []) (omega arith) in
-    let all : take n kept ≡ kept = take_all n kept (omega arith) in
-    rw (whole, same, cut, all) refl
+pub kept_all : {A : Type 0} (kept : List A) (n : ℕ) (x : A) → length kept ≡ n → kept ≡ take n (kept ++ x ∷ [])
+kept_all kept n x e =
+    let cut : take n (kept ++ x ∷ []) ≡ take n kept = take-append-le n kept (x ∷ []) (omega (arith, e)) in
+    let all : take n kept ≡ kept = take_all n kept (omega (arith, e)) in
+    rw (cut, all) refl
 
 -- of the first ones with one more the first are those of all with one more
 pub take-kept : {A : Type 0} (n : ℕ) (before : List A) (x : A) → take n (take n before ++ x ∷ []) ≡ take n (before ++ x ∷ [])

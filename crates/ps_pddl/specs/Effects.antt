@@ -1,6 +1,6 @@
 -- What an effect means, and the parts of an action's effect.
-use Rattle.std.specs.Prelude.{ℕ, ◌+◌, if◌then◌else◌, Option, Some, None, Ok, List, [], ◌∷◌, ◌++◌, length}
-use Rattle.std.specs.Option.{option_map}
+use Rattle.std.specs.Prelude.{Bool, false, not, ◌&&◌, ℕ, ◌+◌, if◌then◌else◌, Option, Some, None, Ok, List, [], ◌∷◌, ◌++◌, length}
+use Rattle.std.specs.Option.{is_none, option_map}
 use Rattle.ps_world.specs.declared.domains.Param.{Param}
 use Rattle.ps_world.specs.declared.domains.Domain.{Domain}
 use Rattle.ps_world.specs.declared.actions.NumOp.{NumOp}
@@ -130,6 +130,20 @@ spread_one d ps l ts =
 -- E: (and E*) | FLAT | (when C G) | (forall (VLIST) W), in an action with these parameters, after other effects
 abbrev pub effect : Domain → List Param → Nested → List Spread → Read (List Spread)
 effect d ps t before = flattened (spread_one d ps) t before
+
+-- the word heads an effect that adds a fact
+abbrev pub adds_fact : Mark → Bool
+adds_fact m = not (is And m) && not (is Not m) && not (is mark.When m) && not (is Forall m) && is_none (change_of m)
+
+-- the list adds a fact
+abbrev pub is_addition : Nested → Bool
+is_addition (word l) = false
+is_addition (group none) = false
+is_addition (group (more f ts)) = adds_fact (word_of f).mark
+
+-- (NAME TERM*), after other effects
+abbrev pub addition : Domain → List Param → Nesteds → List Spread → Read (List Spread)
+addition d ps ts before = fact d ps (head ts) (rest ts) >>= λ f. Ok (before ++ Once (Plain (Add f)) ∷ [])
 
 -- changes with these at the start or at the end
 abbrev pub at_start : Effects → List Spread → Effects

@@ -3,7 +3,7 @@ ghost use Rattle.std.specs.Prelude.{◌≡◌, ◌≤◌, ◌++◌, length, [], 
 ghost use Rattle.ps_world.specs.Failures.{Gives};
 ghost use Rattle.ps_conditions.specs.declared.scopes.TheConstants.{MOST_IN_FORCE};
 ghost use Rattle.ps_forms.specs.NestedViews.{nested};
-ghost use Rattle.ps_pddl.specs.Effects.{added, bound_once, change_of, changed, conditional, deleted, deletion, effect, flat_one, for_each, guarded_one, plain_effect, spread_one};
+ghost use Rattle.ps_pddl.specs.Effects.{addition, adds_fact, is_addition, added, bound_once, change_of, changed, conditional, deleted, deletion, effect, flat_one, for_each, guarded_one, plain_effect, spread_one};
 ghost use Rattle.ps_pddl.specs.Forms.{forms};
 
 use super::flattening::{Level, flattened};
@@ -12,7 +12,7 @@ use super::scope::{ActionScope, Binder, InForce};
 use super::terms::{fact, value_of};
 use crate::refusals::DomainRefusal;
 use ps_conditions::{condition, is_not, value};
-use ps_forms::{Lexeme, Tree, head, items, rest};
+use ps_forms::{Lexeme, Tree, count, head, items, rest};
 use ps_shape::Mark;
 use ps_world::{Effect, Failure, Guarded, NumOp, Param, Params, Seq, Spread};
 use std::alloc::{AllocError, Global};
@@ -339,6 +339,44 @@ impl<'a> Level for Spreads<'a> {
     }
 }
 
+/// Whether the list adds a fact: most effects do.
+fn is_addition(tree: &Tree) -> bool
+    ensures { result ≡ is_addition (nested tree.now) }
+{
+    match tree {
+        Tree::Word(_) => false,
+        Tree::Group(trees) => count(trees.as_slice()) > 0 && adds_fact(head(trees.as_slice()).mark),
+    }
+}
+
+/// Whether the word heads an effect that adds a fact.
+fn adds_fact(mark: Mark) -> bool
+    ensures { result ≡ adds_fact mark }
+{
+    match mark {
+        Mark::And | Mark::Not | Mark::When | Mark::Forall => false,
+        _ => change_of(mark).is_none(),
+    }
+}
+
+/// Puts the fact that these add at the end. It is made in its place: the levels of effects would move it three times.
+fn add_fact(
+    scope: &ActionScope,
+    trees: &[Tree],
+    all: &mut Seq<Spread>,
+) -> Result<(), Failure<DomainRefusal>>
+    ensures { Gives (λ _. all.new) result
+        (addition scope.now.domain.now scope.now.params.now (forms trees.now) all.old) }
+{
+    let in_force = InForce {
+        domain: scope.domain,
+        params: scope.params,
+    };
+    let fact = fact(&in_force, head(trees), rest(trees)).map_err(Failure::Refused)?;
+    all.push(Spread::Once(Guarded::Plain(Effect::Add(fact))))?;
+    Ok(())
+}
+
 /// Puts what an effect means at the end; `and` is flattened.
 pub fn effect(
     alloc: Global,
@@ -349,5 +387,8 @@ pub fn effect(
     ensures { Gives (λ _. all.new) result
         (effect scope.now.domain.now scope.now.params.now (nested tree.now) all.old) }
 {
+    if is_addition(tree) {
+        return add_fact(scope, items(tree), all);
+    }
     flattened(alloc, &Spreads { scope }, tree, all)
 }

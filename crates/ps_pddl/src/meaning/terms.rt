@@ -1,6 +1,7 @@
 //! What names and variables stand for in an action, and what a head with arguments means.
-ghost use Rattle.std.specs.Prelude.{◌≡◌, ◌+◌, Some, [], ◌∷◌, ◌++◌, position, take};
+ghost use Rattle.std.specs.Prelude.{◌≡◌, List, Some, [], ◌∷◌, ◌++◌, length, position, take};
 ghost use Rattle.ps_world.specs.Names.{same_name};
+ghost use Rattle.ps_world.specs.declared.schemas.Term.{Term as TermView};
 ghost use Rattle.ps_pddl.specs.Terms.{applied, argument, fact, lifted, resolved, term_of, value_of, variable_of};
 ghost use Rattle.ps_pddl.specs.Forms.{forms};
 ghost use Rattle.ps_pddl.specs.declared.refusals.DomainRefusal.TheVariants.{Unknown};
@@ -88,26 +89,26 @@ fn argument(scope: &InForce, want: Name, word: Lexeme) -> Result<Term, DomainRef
     }
 }
 
-/// Keeps a term at this place, if it is among the first 6.
-fn keep(terms: &mut [Term; MOST_ARGUMENTS], place: usize, term: Term)
-    ensures { take (place + 1) terms.new ≡ take MOST_ARGUMENTS (take place terms.old ++ term ∷ []) }
+/// Keeps a term, if it is among the first 6.
+fn keep(terms: &mut Terms, term: Term)
+    ensures { terms.new ≡ take MOST_ARGUMENTS (terms.old ++ term ∷ []) }
 {
-    if place < MOST_ARGUMENTS {
-        terms[place] = term;
+    if terms.len() < MOST_ARGUMENTS {
+        terms.push(term);
     }
 }
 
-/// A head with its arguments, of which there are 6 at most.
-fn lifted(head: Lexeme, terms: &[Term]) -> Result<Lifted, DomainRefusal>
-    ensures { result ≡ lifted head terms.now }
+/// A head with its arguments, where these are the first 6 of so many.
+fn lifted(head: Lexeme, terms: Terms, count: usize) -> Result<Lifted, DomainRefusal>
+    ensures { (all : List TermView) → length all ≡ count → terms ≡ take MOST_ARGUMENTS all → result ≡ lifted head all }
 {
-    match Terms::of(terms) {
-        Some(terms) => Ok(Lifted {
-            head: head.name,
-            terms,
-        }),
-        None => Err(DomainRefusal::Arity { at: head.at }),
+    if count > MOST_ARGUMENTS {
+        return Err(DomainRefusal::Arity { at: head.at });
     }
+    Ok(Lifted {
+        head: head.name,
+        terms,
+    })
 }
 
 /// A head that is declared so, with arguments that suit it: `Arity` comes before what is at fault with an argument, and again after
@@ -120,20 +121,16 @@ fn applied(
 ) -> Result<Lifted, DomainRefusal>
     ensures { result ≡ applied scope.now.domain.now scope.now.params.now (Some decl.now) head (forms trees.now) }
 {
-    let at = head.at;
     let wants = decl.params.as_slice();
     if wants.len() != count(trees) {
-        return Err(DomainRefusal::Arity { at });
+        return Err(DomainRefusal::Arity { at: head.at });
     }
-    let mut terms = [Term::Var(0); MOST_ARGUMENTS];
+    let mut terms = Terms::none();
     for (i, want) in wants.iter().enumerate() {
         let term = argument(scope, want.kind, word_of(&trees[i]))?;
-        keep(&mut terms, i, term);
+        keep(&mut terms, term);
     }
-    match terms.get(..wants.len()) {
-        Some(terms) => lifted(head, terms),
-        None => Err(DomainRefusal::Arity { at }),
-    }
+    lifted(head, terms, wants.len())
 }
 
 /// A fact: a declared predicate with arguments that suit it. `Unknown` at the head comes before `Arity`.

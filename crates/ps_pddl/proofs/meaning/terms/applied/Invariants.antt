@@ -12,5 +12,5 @@ invariant-loop-i l = record {
   as_many : length before ≡ l.i;
   rest : arguments l.scope.domain.now l.scope.params.now (drop l.i l.wants) (nesteds (map nested (drop l.i l.trees))) before
       ≡ arguments l.scope.domain.now l.scope.params.now l.wants (nesteds (map nested l.trees)) [];
-  kept : take l.i l.terms ≡ take 6 before;
+  kept : l.terms ≡ take 6 before;
 }
