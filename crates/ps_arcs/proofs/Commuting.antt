@@ -12,10 +12,12 @@ use Rattle.ps_orders.specs.Beginnings.{CanGoOn as CanAllGoOn, Comes}
 use Rattle.ps_orders.specs.Beginnings.Comes.{opened as all_opened, started as all_started, closed as all_closed, retold as all_retold}
 use Rattle.ps_orders.specs.Acts.{GoodPlan}
 use Rattle.ps_orders.specs.Orders.{AllHold as AllHolds, Event, begins, ends, GoesWell, IsOrder, Stage, running, ended, all_waiting, moved}
-use Rattle.ps_action.specs.Arcs.{is_arc}
-use Rattle.ps_arcs.specs.Commuting.{AllHold, GoWell, IsGood, OrdersGoWell, TellTheSame}
+use Rattle.ps_action.specs.Arcs.{arcs_of, is_arc}
+use Rattle.ps_action.specs.ArcTables.{Pairs, has_pair}
+use Rattle.ps_arcs.specs.Commuting.{AllHold, EveryOrderGoesWell, GoWell, IsGood, OrdersGoWell, TellTheSame}
 use Rattle.ps_arcs.specs.Beginnings.{BeginningsGoWell, CanGoOn, Come, TruthReadsWhatIsTold}
 use Rattle.ps_arcs.specs.Beginnings.Come.{opened, started, closed, retold}
+use Rattle.ps_arcs.proofs.Listed.{arcs_are_listed}
 use Rattle.ps_arcs.proofs.Meeting.{all_told}
 use Rattle.ps_arcs.proofs.Acting.{Told, SameAt, starts, lasts, closes, begun, finished, acts_of, acting}
 use Rattle.ps_arcs.proofs.Steps.{parts}
@@ -149,6 +151,12 @@ orders_go_well d k last gs es g o =
     let plan = good_plan d last gs k g in
     let goes = any_order Knowledge Told SameAt n (acts_of d gs) (acting d gs n) k plan es o in
     go_well d gs last es all_waiting k (plan.before n) (last_at d last gs k g) o goes
+
+-- so it is where the arcs are listed
+pub all_listed : (gs : List GroundAction) (arcs : Pairs) → arcs.pairs ≡ arcs_of gs → EveryOrderGoesWell gs arcs
+all_listed gs arcs pairs =
+    let same : (λ (i j : ℕ). has_pair i j arcs.pairs) ≡ is_arc gs = λ t i j. (ap (has_pair i j) pairs ∙ arcs_are_listed gs i j) t in
+    λ d k last es good order. orders_go_well d k last gs es good (subst (λ a. IsOrder a (length gs) all_waiting es) same order)
 
 -- ---- a beginning
 
