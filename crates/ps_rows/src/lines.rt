@@ -171,7 +171,7 @@ pub fn line_refusal<S: Solver>(
             refusal_of_query(alloc, solver, expert, problem, budget, run, *query)
         }
         Line::Good(Command::Run) => refusal_of_goal(alloc, solver, expert, problem, budget),
-        Line::Good(Command::RunAction(act)) => ground_refusal(expert, problem, act),
+        Line::Good(Command::RunAction(act)) => Ok(ground_refusal(expert, problem, act)),
         Line::Good(Command::RunPlan(steps)) => refusal_of_steps(alloc, expert, problem, steps),
         Line::Good(Command::Quit) => Ok(None),
     }

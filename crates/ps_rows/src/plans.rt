@@ -11,7 +11,7 @@ ghost use Rattle.ps_rules.specs.Lines.{unplanned};
 ghost use Rattle.ps_rows.specs.Table.{MayBePlan};
 ghost use Rattle.ps_rows.specs.Plans.{ending_of, HasGoal};
 
-use ps_action::{Act, Answer};
+use ps_action::{Act, Answer, Known};
 use ps_domain::Expert;
 use ps_machine::{Outcome, Refusal};
 use ps_plan::{Solver, check_plan};
@@ -50,28 +50,20 @@ pub fn is_good(expert: &Expert, problem: &Problem, acts: &[Act]) -> Result<bool,
 }
 
 /// Why an act can't be grounded, if it can't.
-pub fn ground_refusal(
-    expert: &Expert,
-    problem: &Problem,
-    act: &Act,
-) -> Result<Option<Refusal>, AllocError>
-    ensures { IfOk result
-        (λ why. why ≡ ground_refusal (ground_act expert.now problem.now.instances act.now)) }
+pub fn ground_refusal(expert: &Expert, problem: &Problem, act: &Act) -> Option<Refusal>
+    ensures { result ≡ ground_refusal (ground_act expert.now problem.now.instances act.now) }
 {
-    let instances = problem.instances()?;
-    match expert.groundable(&instances, act) {
-        Ok(_) => Ok(None),
-        Err(refusal) => Ok(Some(Refusal::Ground(refusal))),
+    match expert.groundable(Known::instances(problem), act) {
+        Ok(_) => None,
+        Err(refusal) => Some(Refusal::Ground(refusal)),
     }
 }
 
 /// Whether an act can be grounded.
-pub fn can_ground(expert: &Expert, problem: &Problem, act: &Act) -> Result<bool, AllocError>
-    ensures { IfOk result
-        (λ b. b ≡ is_ok (ground_act expert.now problem.now.instances act.now)) }
+pub fn can_ground(expert: &Expert, problem: &Problem, act: &Act) -> bool
+    ensures { result ≡ is_ok (ground_act expert.now problem.now.instances act.now) }
 {
-    let instances = problem.instances()?;
-    Ok(expert.groundable(&instances, act).is_ok())
+    expert.groundable(Known::instances(problem), act).is_ok()
 }
 
 fn given_up(answer: &Answer) -> Option<Outcome>

@@ -235,15 +235,13 @@ impl Present {
     }
 
     /// Whether these acts are this one alone, which can be grounded.
-    fn may_do(&self, acts: &[Act], act: &Act) -> Result<bool, AllocError>
-        ensures one { IfOk result
-            (λ b. b ≡ is_one self.now.expert self.now.problem acts.now act.now) }
-        ensures may { IfOk result
-            (λ b. IsTrue b → MayBePlan self.now.expert self.now.problem acts.now) }
+    fn may_do(&self, acts: &[Act], act: &Act) -> bool
+        ensures one { result ≡ is_one self.now.expert self.now.problem acts.now act.now }
+        ensures may { IsTrue result → MayBePlan self.now.expert self.now.problem acts.now }
     {
         let same = is_only_act(acts, act);
-        let can = can_ground(&self.expert, &self.problem, act)?;
-        Ok(same && can)
+        let can = can_ground(&self.expert, &self.problem, act);
+        same && can
     }
 
     /// Whether a run may be opened next.
@@ -278,7 +276,7 @@ impl Present {
                 _ => Ok(false),
             },
             Some(Line::Good(Command::RunAction(act))) => match kind {
-                RunKind::Action => self.may_do(acts, act),
+                RunKind::Action => Ok(self.may_do(acts, act)),
                 _ => Ok(false),
             },
             _ => Ok(false),

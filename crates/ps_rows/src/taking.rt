@@ -14,7 +14,7 @@ ghost use Rattle.ps_rows.specs.Taking.{GoesOn, HasSameBase, leaves_known, part_o
 
 use super::lines::count_due;
 use super::present::Present;
-use ps_action::{Act, Arcs, GroundAction};
+use ps_action::{Act, Arcs, GroundAction, Known};
 use ps_arcs::arcs_of;
 use ps_domain::Expert;
 use ps_eval::apply;
@@ -113,10 +113,10 @@ fn grounds_of(
     requires { All (λ act. IsOk (ground_act expert.now problem.now.instances act)) acts.now }
     ensures { IfOk result (λ all. all.items ≡ grounds expert.now acts.now) }
 {
-    let instances = problem.instances()?;
+    let instances = Known::instances(problem);
     let mut all = Vec::new(alloc);
     for act in acts {
-        add_ground(expert, &instances, act, &mut all)?;
+        add_ground(expert, instances, act, &mut all)?;
     }
     Ok(all)
 }
