@@ -138,7 +138,7 @@ impl Core {
         requires next { line_of self.now ≡ Some (Good (ActionLine act.now)) }
         ensures { IfOk result (AnswersAnyway self.now) }
     {
-        match ground_refusal(&self.present.expert, &self.present.problem, act)? {
+        match ground_refusal(&self.present.expert, &self.present.problem, act) {
             Some(why) => Ok(self.refuse(why)),
             None => {
                 let mut acts = Seq::new(alloc);

@@ -6,12 +6,14 @@ ghost use Rattle.ps_rules.specs.Choices.{all_requests, overs, rejects};
 ghost use Rattle.ps_rules.specs.Runs.{is_running};
 ghost use Rattle.ps_rules.specs.Settled.{is_settled, places};
 ghost use Rattle.ps_ledger.specs.Ends.{outcome_of};
+ghost use Rattle.ps_choices.specs.Choice.{event_of};
 ghost use Rattle.ps_board.specs.Core.{Covers, Spends, Stands, with_turn};
 ghost use Rattle.ps_board.specs.Ticks.{answer_of, asks_on, better, closed_answer, confirms_on, done_answer, ends_on, fails_of, fails_on, first_legal, first_of, idle_answer, IsEarliest, leaves_on, IsTickers, on_act, on_request, snapshot_of, starts_on, tick_of};
 ghost use Rattle.ps_board.specs.declared.ticks.AboutAct.TheVariants.{Ask as ToAsk, Begin as ToBegin, Finish as ToFinish};
 ghost use Rattle.ps_board.specs.declared.ticks.AboutRequest.TheVariants.{Confirm as ToConfirm, Leave as ToLeave};
 
 use super::whole::Core;
+use ps_choices::{Choice, Chosen};
 use ps_ledger::Offer;
 use ps_machine::{Event, FailWhy, Outcome};
 use ps_problem::Problem;
@@ -60,12 +62,12 @@ pub enum Ticked {
     Halted,
 }
 
-/// An event, if it may come.
-fn event_if(may: bool, event: Event) -> Option<Event>
-    ensures event { result ≡ (if may then Some event else None) }
-    ensures plan { IsTickers event → IfSome result IsTickers }
+/// What is chosen, if it may come.
+fn chosen_if(may: bool, chosen: Chosen) -> Option<Choice>
+    ensures event { result ≡ (if may then Some (event_of chosen) else None) }
+    ensures plan { IsTickers (event_of chosen) → IfSome result IsTickers }
 {
-    if may { Some(event) } else { None }
+    if may { Some(Choice::of(chosen)) } else { None }
 }
 
 /// How an event ends the run, if it ends it.
@@ -119,7 +121,7 @@ fn better(may: bool, best: Option<Offer>, offer: Offer) -> Option<Offer>
 
 impl Core {
     /// The confirmation of the first offer on a request, if it may come.
-    fn confirm_on(&self, r: u64) -> Option<Event>
+    fn confirm_on(&self, r: u64) -> Option<Choice>
         requires stands { Stands self.now }
         requires live { is_running self.now.entries.items ≡ true }
         ensures first { result ≡ first_legal self.now
@@ -127,13 +129,13 @@ impl Core {
         ensures plan { IfSome result IsTickers }
     {
         match self.present.ledger.requests.first_offer(r) {
-            Some(by) => event_if(self.present.may_confirm(r, by), Event::Confirm { r, by }),
+            Some(by) => chosen_if(self.present.may_confirm(r, by), Chosen::Confirm { r, by }),
             None => None,
         }
     }
 
     /// The failure of the act of a request that every performer passed, if it may come.
-    fn fail_on(&self, r: u64) -> Option<Event>
+    fn fail_on(&self, r: u64) -> Option<Choice>
         requires stands { Stands self.now }
         requires live { is_running self.now.entries.items ≡ true }
         ensures first { result ≡ first_legal self.now (fails_on self.now.entries.items r) }
@@ -142,28 +144,28 @@ impl Core {
         match self.present.ledger.requests.act_of(r) {
             Some(act) => {
                 let why = FailWhy::NoPerformer;
-                event_if(self.present.may_fail(act, why), Event::Fail { act, why })
+                chosen_if(self.present.may_fail(act, why), Chosen::Fail { act, why })
             }
             None => None,
         }
     }
 
     /// How an open request is given up, if it may be.
-    fn leave_open(&self, r: u64) -> Option<Event>
+    fn leave_open(&self, r: u64) -> Option<Choice>
         requires stands { Stands self.now }
         requires live { is_running self.now.entries.items ≡ true }
         ensures first { result ≡ first_legal self.now
             (Unserved r ∷ fails_on self.now.entries.items r) }
         ensures plan { IfSome result IsTickers }
     {
-        match event_if(self.present.may_leave(r), Event::Unserved(r)) {
+        match chosen_if(self.present.may_leave(r), Chosen::Unserved(r)) {
             Some(event) => Some(event),
             None => self.fail_on(r),
         }
     }
 
     /// How a request is given up, if it is open and may be.
-    fn leave_on(&self, r: u64) -> Option<Event>
+    fn leave_on(&self, r: u64) -> Option<Choice>
         requires stands { Stands self.now }
         requires live { is_running self.now.entries.items ≡ true }
         ensures first { result ≡ first_legal self.now
@@ -178,7 +180,7 @@ impl Core {
     }
 
     /// What may be done about a request, if something may.
-    fn on_request(&self, about: AboutRequest, r: u64) -> Option<Event>
+    fn on_request(&self, about: AboutRequest, r: u64) -> Option<Choice>
         requires stands { Stands self.now }
         requires live { is_running self.now.entries.items ≡ true }
         ensures first { result ≡ first_legal self.now
@@ -192,7 +194,7 @@ impl Core {
     }
 
     /// The first thing that may be done about requests. Only those of the present plan are looked at: nothing may be about others.
-    fn first_on_requests(&self, about: AboutRequest) -> Option<Event>
+    fn first_on_requests(&self, about: AboutRequest) -> Option<Choice>
         requires stands { Stands self.now }
         requires live { is_running self.now.entries.items ≡ true }
         ensures first { result ≡ first_legal self.now (flat_map
@@ -210,17 +212,17 @@ impl Core {
     }
 
     /// The failure of an act for this reason, if it may come.
-    fn fail_for(&self, act: u32, why: FailWhy) -> Option<Event>
+    fn fail_for(&self, act: u32, why: FailWhy) -> Option<Choice>
         requires stands { Stands self.now }
         requires live { is_running self.now.entries.items ≡ true }
         ensures first { result ≡ first_legal self.now (Fail act why ∷ []) }
         ensures plan { IfSome result IsTickers }
     {
-        event_if(self.present.may_fail(act, why), Event::Fail { act, why })
+        chosen_if(self.present.may_fail(act, why), Chosen::Fail { act, why })
     }
 
     /// The failure of an act at its end, if it may come.
-    fn fail_late(&self, act: u32) -> Option<Event>
+    fn fail_late(&self, act: u32) -> Option<Choice>
         requires stands { Stands self.now }
         requires live { is_running self.now.entries.items ≡ true }
         ensures first { result ≡ first_legal self.now (Fail act AtEnd ∷ Fail act ByEffect ∷ []) }
@@ -233,7 +235,7 @@ impl Core {
     }
 
     /// The failure of an act whose work was finished, if it may come.
-    fn fail_of(&self, act: u32) -> Option<Event>
+    fn fail_of(&self, act: u32) -> Option<Choice>
         requires stands { Stands self.now }
         requires live { is_running self.now.entries.items ≡ true }
         ensures first { result ≡ first_legal self.now (fails_of act) }
@@ -246,20 +248,20 @@ impl Core {
     }
 
     /// How an act that was finished well ends or fails, if it may.
-    fn finish_well(&self, act: u32) -> Option<Event>
+    fn finish_well(&self, act: u32) -> Option<Choice>
         requires stands { Stands self.now }
         requires live { is_running self.now.entries.items ≡ true }
         ensures first { result ≡ first_legal self.now (on_act ToFinish self.now.entries.items act) }
         ensures plan { IfSome result IsTickers }
     {
-        match event_if(self.present.may_end_act(act), Event::End(act)) {
+        match chosen_if(self.present.may_end_act(act), Chosen::End(act)) {
             Some(event) => Some(event),
             None => self.fail_of(act),
         }
     }
 
     /// How an active act ends or fails, if it may. Its conditions are judged only once its work was finished well.
-    fn finish_active(&self, act: u32) -> Option<Event>
+    fn finish_active(&self, act: u32) -> Option<Choice>
         requires stands { Stands self.now }
         requires live { is_running self.now.entries.items ≡ true }
         ensures first { result ≡ first_legal self.now (on_act ToFinish self.now.entries.items act) }
@@ -273,7 +275,7 @@ impl Core {
     }
 
     /// How an act ends or fails, if it may: only while it is active.
-    fn finish_of(&self, act: u32) -> Option<Event>
+    fn finish_of(&self, act: u32) -> Option<Choice>
         requires stands { Stands self.now }
         requires live { is_running self.now.entries.items ≡ true }
         ensures first { result ≡ first_legal self.now (on_act ToFinish self.now.entries.items act) }
@@ -287,7 +289,7 @@ impl Core {
     }
 
     /// The request for a performer of an act, if it may come.
-    fn request_of(&self, act: u32) -> Option<Event>
+    fn request_of(&self, act: u32) -> Option<Choice>
         requires stands { Stands self.now }
         requires live { is_running self.now.entries.items ≡ true }
         ensures first { result ≡ first_legal self.now (on_act ToAsk self.now.entries.items act) }
@@ -295,21 +297,21 @@ impl Core {
     {
         let r = self.present.ledger.requests.count();
         let may = self.present.may_request(&self.input, r, act);
-        event_if(may, Event::Request { r, act })
+        chosen_if(may, Chosen::Request { r, act })
     }
 
     /// The start of an act that is ready, if it may come.
-    fn start_ready(&self, act: u32) -> Option<Event>
+    fn start_ready(&self, act: u32) -> Option<Choice>
         requires stands { Stands self.now }
         requires live { is_running self.now.entries.items ≡ true }
         ensures first { result ≡ first_legal self.now (on_act ToBegin self.now.entries.items act) }
         ensures plan { IfSome result IsTickers }
     {
-        event_if(self.present.may_begin_act(act), Event::Start(act))
+        chosen_if(self.present.may_begin_act(act), Chosen::Start(act))
     }
 
     /// The start of an act, if it may come. Its conditions are judged only where it is ready.
-    fn start_of(&self, act: u32) -> Option<Event>
+    fn start_of(&self, act: u32) -> Option<Choice>
         requires stands { Stands self.now }
         requires live { is_running self.now.entries.items ≡ true }
         ensures first { result ≡ first_legal self.now (on_act ToBegin self.now.entries.items act) }
@@ -323,7 +325,7 @@ impl Core {
     }
 
     /// What may be done about an act, if something may.
-    fn on_act(&self, about: AboutAct, act: u32) -> Option<Event>
+    fn on_act(&self, about: AboutAct, act: u32) -> Option<Choice>
         requires stands { Stands self.now }
         requires live { is_running self.now.entries.items ≡ true }
         ensures first { result ≡ first_legal self.now (on_act about self.now.entries.items act) }
@@ -337,7 +339,7 @@ impl Core {
     }
 
     /// The first thing that may be done about acts.
-    fn first_on_acts(&self, about: AboutAct) -> Option<Event>
+    fn first_on_acts(&self, about: AboutAct) -> Option<Choice>
         requires stands { Stands self.now }
         requires live { is_running self.now.entries.items ≡ true }
         ensures first { result ≡ first_legal self.now (flat_map
@@ -367,7 +369,7 @@ impl Core {
     }
 
     /// The end of a run without an active act, where it is settled and that needs no solver.
-    fn over_idle(&self) -> Option<Event>
+    fn over_idle(&self) -> Option<Choice>
         requires stands { Stands self.now }
         requires live { is_running self.now.entries.items ≡ true }
         ensures first { result ≡ first_legal self.now
@@ -375,13 +377,13 @@ impl Core {
         ensures plan { IfSome result IsTickers }
     {
         match self.present.verdict(&self.input) {
-            Some(how) => event_if(self.present.is_settled(&self.input), Event::Over(how)),
+            Some(how) => chosen_if(self.present.is_settled(&self.input), Chosen::Over(how)),
             None => None,
         }
     }
 
     /// The end of the run, where it is settled and that needs no solver: not while an act is active.
-    fn first_over(&self) -> Option<Event>
+    fn first_over(&self) -> Option<Choice>
         requires stands { Stands self.now }
         requires live { is_running self.now.entries.items ≡ true }
         ensures first { result ≡ first_legal self.now
@@ -411,7 +413,7 @@ impl Core {
     }
 
     /// The first rejection, if one may come.
-    fn first_reject(&self) -> Option<Event>
+    fn first_reject(&self) -> Option<Choice>
         requires stands { Stands self.now }
         requires live { is_running self.now.entries.items ≡ true }
         ensures first { result ≡ first_legal self.now (rejects self.now.entries.items) }
@@ -421,14 +423,14 @@ impl Core {
             Some(offer) => {
                 let r = offer.r;
                 let by = offer.by;
-                Some(Event::Reject { r, by })
+                Some(Choice::of(Chosen::Reject { r, by }))
             }
             None => None,
         }
     }
 
     /// What the ticker does from the starts on, if it does something.
-    fn from_starts(&self) -> Option<Event>
+    fn from_starts(&self) -> Option<Choice>
         requires stands { Stands self.now }
         requires live { is_running self.now.entries.items ≡ true }
         ensures first { result ≡ first_legal self.now (starts_on self.now) }
@@ -441,7 +443,7 @@ impl Core {
     }
 
     /// What it does from the requests for performers on.
-    fn from_asks(&self) -> Option<Event>
+    fn from_asks(&self) -> Option<Choice>
         requires stands { Stands self.now }
         requires live { is_running self.now.entries.items ≡ true }
         ensures first { result ≡ first_legal self.now (asks_on self.now) }
@@ -454,7 +456,7 @@ impl Core {
     }
 
     /// What it does from the ends of acts on.
-    fn from_ends(&self) -> Option<Event>
+    fn from_ends(&self) -> Option<Choice>
         requires stands { Stands self.now }
         requires live { is_running self.now.entries.items ≡ true }
         ensures first { result ≡ first_legal self.now (ends_on self.now) }
@@ -467,7 +469,7 @@ impl Core {
     }
 
     /// What it does from the requests that are given up on.
-    fn from_leaves(&self) -> Option<Event>
+    fn from_leaves(&self) -> Option<Choice>
         requires stands { Stands self.now }
         requires live { is_running self.now.entries.items ≡ true }
         ensures first { result ≡ first_legal self.now (leaves_on self.now) }
@@ -480,7 +482,7 @@ impl Core {
     }
 
     /// What it does from the confirmations on.
-    fn from_confirms(&self) -> Option<Event>
+    fn from_confirms(&self) -> Option<Choice>
         requires stands { Stands self.now }
         requires live { is_running self.now.entries.items ≡ true }
         ensures first { result ≡ first_legal self.now (confirms_on self.now) }
@@ -493,7 +495,7 @@ impl Core {
     }
 
     /// What the ticker does, if it does something.
-    fn next_tick(&self) -> Option<Event>
+    fn next_tick(&self) -> Option<Choice>
         requires stands { Stands self.now }
         requires live { is_running self.now.entries.items ≡ true }
         ensures first { result ≡ tick_of self.now }
@@ -554,7 +556,8 @@ impl Core {
         ensures reserved { Covers self.old hand (tick_of self.old) → IsOk result }
     {
         match self.next_tick() {
-            Some(event) => {
+            Some(choice) => {
+                let event = choice.event();
                 let how = outcome_of(&event);
                 self.put(alloc, hand, event)?;
                 Ok(done_answer(how))

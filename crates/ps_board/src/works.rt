@@ -192,8 +192,8 @@ impl Core {
             (λ e. is_choice_of name e ≡ true) }
     {
         match performed(&self.present, &self.input, name, upto) {
-            Some(event) => {
-                self.put(alloc, hand, event)?;
+            Some(choice) => {
+                self.put(alloc, hand, choice.event())?;
                 Ok(Turn::Did)
             }
             None => match self.grant_for(alloc, name)? {

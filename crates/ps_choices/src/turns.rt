@@ -4,13 +4,14 @@ ghost use Rattle.ps_rules.specs.Choices.{performed};
 ghost use Rattle.ps_choices.specs.Turns.{ChoosesFrom, is_choice_of};
 
 use super::answers::first_answer;
+use super::choice::Choice;
 use super::work::stop_or_begin;
-use ps_machine::{Event, Input};
+use ps_machine::Input;
 use ps_rows::Present;
 use ps_world::Name;
 
 /// What a performer does before any work, if it does something. It has answered the requests below `upto`.
-pub fn performed(present: &Present, input: &Input, name: Name, upto: u64) -> Option<Event>
+pub fn performed(present: &Present, input: &Input, name: Name, upto: u64) -> Option<Choice>
     ensures first { ChoosesFrom name upto input.now present.now result
         (λ es. performed input.now name es) }
     ensures its { IfSome result (λ e. IsTrue (is_choice_of name e)) }

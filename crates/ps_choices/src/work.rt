@@ -5,7 +5,8 @@ ghost use Rattle.ps_rules.specs.Legal.{fits};
 ghost use Rattle.ps_rows.specs.Present.{Says};
 ghost use Rattle.ps_choices.specs.Turns.{Chooses, ChoosesFor, first_legal, is_choice_of, work_event};
 
-use ps_machine::{Event, Input, Unit};
+use super::choice::{Choice, Chosen};
+use ps_machine::{Input, Unit};
 use ps_rows::Present;
 use ps_world::Name;
 
@@ -29,18 +30,18 @@ fn may_do(present: &Present, about: AboutWork, name: Name, r: u64) -> bool
 }
 
 /// The event by which it is done.
-fn work_event(about: AboutWork, name: Name, r: u64) -> Event
+fn work_event(about: AboutWork, name: Name, r: u64) -> Choice
     ensures event { result ≡ work_event about name r }
     ensures its { IsTrue (is_choice_of name result) }
 {
     match about {
-        AboutWork::Stop => Event::Stopped { r, by: name },
-        AboutWork::Begin => Event::Begin { r, by: name },
+        AboutWork::Stop => Choice::of(Chosen::Stopped { r, by: name }),
+        AboutWork::Begin => Choice::of(Chosen::Begin { r, by: name }),
     }
 }
 
 /// The first stop, or the first beginning, that may come. Only requests of the present plan are looked at: there is no work on others.
-fn first_on_requests(present: &Present, about: AboutWork, name: Name) -> Option<Event>
+fn first_on_requests(present: &Present, about: AboutWork, name: Name) -> Option<Choice>
     ensures first { Chooses present.now result
         (λ i es. first_legal i es (map (work_event about name) (all_requests es))) }
     ensures its { IfSome result (λ e. IsTrue (is_choice_of name e)) }
@@ -55,7 +56,7 @@ fn first_on_requests(present: &Present, about: AboutWork, name: Name) -> Option<
 }
 
 /// What an engaged performer stops or begins, if it may.
-fn stop_or_begin_engaged(present: &Present, name: Name) -> Option<Event>
+fn stop_or_begin_engaged(present: &Present, name: Name) -> Option<Choice>
     ensures first { Chooses present.now result
         (λ i es. first_legal i es (stops name es ++ beginnings name es)) }
     ensures its { IfSome result (λ e. IsTrue (is_choice_of name e)) }
@@ -67,7 +68,7 @@ fn stop_or_begin_engaged(present: &Present, name: Name) -> Option<Event>
 }
 
 /// What a performer stops or begins, if it may. One that is not engaged has no work to stop or begin.
-pub fn stop_or_begin(present: &Present, name: Name) -> Option<Event>
+pub fn stop_or_begin(present: &Present, name: Name) -> Option<Choice>
     ensures first { Chooses present.now result
         (λ i es. first_legal i es (stops name es ++ beginnings name es)) }
     ensures its { IfSome result (λ e. IsTrue (is_choice_of name e)) }

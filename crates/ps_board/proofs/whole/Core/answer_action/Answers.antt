@@ -12,10 +12,10 @@ returns-in-Some c = λ says.
     let core : Core = c.args.self.now in
     subst (MayAnswer says core) (sym c.refuse.ensures)
     (refused says core (Good (command.RunAction c.args.act.now)) c.in-Some.why c.requires.next
-    (act-cause core c.args.act.now c.requires.stands ∙ sym c.in_ok-why.ensures ∙ c.in-Some.is))
+    (act-cause core c.args.act.now c.requires.stands ∙ sym c.ground_refusal.ensures ∙ c.in-Some.is))
 
 pub returns-in_ok-push-in-None : goal.returns-in_ok-push-in-None
 returns-in_ok-push-in-None c = λ says.
     runs-act says c.args.self.now c.args.act.now c.push.new.self c.requires.stands
     (c.in_ok-push-in-None.ensures.ok ∙ ap (λ (xs : List Act). xs ++ c.args.act.now ∷ []) c.new-acts.ensures)
-    c.requires.next (sym c.in_ok-why.ensures ∙ c.in-None.is)
+    c.requires.next (sym c.ground_refusal.ensures ∙ c.in-None.is)

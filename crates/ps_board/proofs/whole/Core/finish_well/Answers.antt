@@ -10,9 +10,9 @@ use Rattle.ps_board.proofs.whole.Core.finish_well.Goals as goal
 pub returns-in-Some-clause-first : goal.returns-in-Some-clause-first
 returns-in-Some-clause-first c =
     let core : Core = c.args.self.now in
-    either-some (is_legal core.input core.entries.items) (event.End c.args.act ∷ []) (fails_of c.args.act) c.in-Some.event (sym c.in-Some.is ∙ c.event_if.ensures.event ∙ alone core (event.End c.args.act) c.may_end_act.result c.requires.live refl (c.may_end_act.ensures core.input core.entries.items c.requires.stands.kept))
+    either-some (is_legal core.input core.entries.items) (event.End c.args.act ∷ []) (fails_of c.args.act) c.in-Some.event (sym c.in-Some.is ∙ c.chosen_if.ensures.event ∙ alone core (event.End c.args.act) c.may_end_act.result c.requires.live refl (c.may_end_act.ensures core.input core.entries.items c.requires.stands.kept))
 
 pub returns-in-None-clause-first : goal.returns-in-None-clause-first
 returns-in-None-clause-first c =
     let core : Core = c.args.self.now in
-    either-none (is_legal core.input core.entries.items) (event.End c.args.act ∷ []) (fails_of c.args.act) c.fail_of.result (sym c.in-None.is ∙ c.event_if.ensures.event ∙ alone core (event.End c.args.act) c.may_end_act.result c.requires.live refl (c.may_end_act.ensures core.input core.entries.items c.requires.stands.kept)) c.fail_of.ensures.first
+    either-none (is_legal core.input core.entries.items) (event.End c.args.act ∷ []) (fails_of c.args.act) c.fail_of.result (sym c.in-None.is ∙ c.chosen_if.ensures.event ∙ alone core (event.End c.args.act) c.may_end_act.result c.requires.live refl (c.may_end_act.ensures core.input core.entries.items c.requires.stands.kept)) c.fail_of.ensures.first

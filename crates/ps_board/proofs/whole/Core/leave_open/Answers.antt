@@ -11,11 +11,11 @@ pub returns-in-Some-clause-first : goal.returns-in-Some-clause-first
 returns-in-Some-clause-first c =
     let core : Core = c.args.self.now in
     either-some (is_legal core.input core.entries.items) (Unserved c.args.r ∷ []) (fails_on core.entries.items c.args.r) c.in-Some.event
-    (sym c.in-Some.is ∙ c.event_if.ensures.event ∙ alone core (Unserved c.args.r) c.may_leave.result c.requires.live refl (c.may_leave.ensures core.input core.entries.items c.requires.stands.kept))
+    (sym c.in-Some.is ∙ c.chosen_if.ensures.event ∙ alone core (Unserved c.args.r) c.may_leave.result c.requires.live refl (c.may_leave.ensures core.input core.entries.items c.requires.stands.kept))
 
 pub returns-in-None-clause-first : goal.returns-in-None-clause-first
 returns-in-None-clause-first c =
     let core : Core = c.args.self.now in
     either-none (is_legal core.input core.entries.items) (Unserved c.args.r ∷ []) (fails_on core.entries.items c.args.r) c.fail_on.result
-    (sym c.in-None.is ∙ c.event_if.ensures.event ∙ alone core (Unserved c.args.r) c.may_leave.result c.requires.live refl (c.may_leave.ensures core.input core.entries.items c.requires.stands.kept))
+    (sym c.in-None.is ∙ c.chosen_if.ensures.event ∙ alone core (Unserved c.args.r) c.may_leave.result c.requires.live refl (c.may_leave.ensures core.input core.entries.items c.requires.stands.kept))
     c.fail_on.ensures.first

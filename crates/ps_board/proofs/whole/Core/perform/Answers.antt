@@ -1,4 +1,4 @@
-use Rattle.std.proofs.Common.{sym, ◌∙◌}
+use Rattle.std.proofs.Common.{Some, ap, sym, ◌∙◌}
 use Rattle.ps_rules.specs.Legal.{is_legal}
 use Rattle.ps_choices.specs.Turns.{IsOpen}
 use Rattle.ps_choices.proofs.First.{passes}
@@ -10,4 +10,4 @@ put-requires-clause-legal c =
     let core : Core = c.args.self.now in
     let now : IsOpen core.input core.entries.items core.present =
     record { sound = c.requires.stands.sound; history = c.requires.stands.history; kept = c.requires.stands.kept; live = c.requires.live } in
-    passes (is_legal core.input core.entries.items) _ c.in-Some.event (sym c.in-Some.is ∙ c.performed.ensures.first core.entries.items now c.requires.heard)
+    passes (is_legal core.input core.entries.items) _ c.event.result (ap Some c.event.ensures ∙ sym c.in-Some.is ∙ c.performed.ensures.first core.entries.items now c.requires.heard)

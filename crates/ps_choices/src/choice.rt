@@ -1,0 +1,73 @@
+//! What is chosen in a turn.
+ghost use Rattle.std.specs.Prelude.{◌≡◌};
+ghost use Rattle.ps_choices.specs.Choice.{event_of};
+
+use ps_machine::{Event, FailWhy, Outcome, PassWhy};
+use ps_world::Name;
+use std::marker::Model;
+
+/// A kind of event that the ticker or a performer chooses, with what it says.
+#[derive(Clone, Copy)]
+pub enum Chosen {
+    Offer { r: u64, by: Name },
+    Pass { r: u64, by: Name, why: PassWhy },
+    Confirm { r: u64, by: Name },
+    Reject { r: u64, by: Name },
+    Begin { r: u64, by: Name },
+    Stopped { r: u64, by: Name },
+    Unserved(u64),
+    Request { r: u64, act: u32 },
+    Start(u32),
+    End(u32),
+    Fail { act: u32, why: FailWhy },
+    Over(Outcome),
+}
+
+/// An event that is chosen. It is small, where an event has place for edits and texts: a turn hands it from call to call, and looks at
+/// many before it does one. Contracts see the event.
+#[derive(Drop)]
+pub struct Choice {
+    chosen: Chosen,
+}
+
+impl Model for Choice {
+    ghost use Rattle.ps_machine.specs.declared.journal.Event.{Event};
+    ghost use Rattle.ps_machine.specs.contracts.journal.Event.{the_row};
+
+    ghost Value = { Event };
+
+    ghost coded = { the_row.coded };
+
+    ghost use Rattle.ps_choices.specs.Choice.{event_of};
+
+    ghost view = { λ c. event_of c.chosen };
+}
+
+impl Choice {
+    /// This choice.
+    pub fn of(chosen: Chosen) -> Choice
+        ensures { result ≡ event_of chosen }
+    {
+        Choice { chosen }
+    }
+
+    /// The event.
+    pub fn event(&self) -> Event
+        ensures { result ≡ self.now }
+    {
+        match self.chosen {
+            Chosen::Offer { r, by } => Event::Offer { r, by },
+            Chosen::Pass { r, by, why } => Event::Pass { r, by, why },
+            Chosen::Confirm { r, by } => Event::Confirm { r, by },
+            Chosen::Reject { r, by } => Event::Reject { r, by },
+            Chosen::Begin { r, by } => Event::Begin { r, by },
+            Chosen::Stopped { r, by } => Event::Stopped { r, by },
+            Chosen::Unserved(r) => Event::Unserved(r),
+            Chosen::Request { r, act } => Event::Request { r, act },
+            Chosen::Start(act) => Event::Start(act),
+            Chosen::End(act) => Event::End(act),
+            Chosen::Fail { act, why } => Event::Fail { act, why },
+            Chosen::Over(how) => Event::Over(how),
+        }
+    }
+}
