@@ -15,10 +15,10 @@ use Rattle.ps_action.specs.Grounding.{all_ground}
 use Rattle.ps_action.specs.declared.acts.GroundAction.{GroundAction}
 use Rattle.ps_action.proofs.Contained.{fact_same}
 use Rattle.ps_domain.proofs.Members.{Has, has_from_Contains, Contains_from_has}
-use Rattle.ps_marks.specs.declared.closing.Rule.{Rule}
+use Rattle.ps_closing.specs.declared.rule.Rule.{Rule}
 use Rattle.ps_marks.specs.Atoms.{atoms_of, makes}
-use Rattle.ps_marks.specs.Closing as rules
-use Rattle.ps_marks.specs.Closing.{Grows, Within, has, is_out, is_ready}
+use Rattle.ps_closing.specs.Closing as rules
+use Rattle.ps_closing.specs.Closing.{Grows, Within, has, is_out, is_ready}
 use Rattle.ps_marks.specs.Closures.{closure, is_in, is_in_or_made, is_other, is_usable}
 use Rattle.ps_marks.specs.Laws.{IsClosed}
 use Rattle.ps_marks.specs.Rules.{Agrees, ArePlaces, AreRules, IsOnce, IsRuleOf, Mirror, later_atoms, needed, own, place}

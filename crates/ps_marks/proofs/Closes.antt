@@ -8,9 +8,9 @@ use Rattle.ps_world.specs.declared.facts.Fact.{Fact}
 use Rattle.ps_world.specs.declared.known.Knowledge.{Knowledge}
 use Rattle.ps_action.specs.Grounding.{all_ground}
 use Rattle.ps_action.proofs.Contained.{fact_itself, fact_same}
-use Rattle.ps_marks.specs.declared.closing.Rule.{Rule}
-use Rattle.ps_marks.specs.Closing as rules
-use Rattle.ps_marks.specs.Closing.{Grows, Within, has, is_out, is_ready}
+use Rattle.ps_closing.specs.declared.rule.Rule.{Rule}
+use Rattle.ps_closing.specs.Closing as rules
+use Rattle.ps_closing.specs.Closing.{Grows, Within, has, is_out, is_ready}
 use Rattle.ps_marks.specs.Closures.{closure}
 use Rattle.ps_marks.specs.Rules.{Agrees, AreRules, IsOnce, Mirror, place}
 use Rattle.ps_marks.proofs.Bridge.{are_closure, at_place, flag_at, flag_of, flags_of, set_closes}

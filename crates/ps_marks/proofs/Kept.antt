@@ -1,16 +1,12 @@
 -- The rules that are ready once nothing is left out do the work of all, whatever is left out.
-use Rattle.std.proofs.Common.{◌≡◌, ℕ, Bool, true, false, not, List, [], ◌∷◌, Option, None, Contains, filter, refl}
+use Rattle.std.proofs.Common.{◌≡◌, ℕ, Bool, true, not, List, Option, None, Contains, filter, refl}
 use Rattle.std.specs.Cmp.{first_so}
 use Rattle.std.specs.List.{list_all, list_any}
 use Rattle.std.proofs.lemmas.Bool.{and_from}
 use Rattle.ps_domain.proofs.Members.{has_from_Contains, Contains_from_has, has_passed, has_passes}
-use Rattle.ps_marks.specs.declared.closing.Rule.{Rule}
-use Rattle.ps_marks.specs.Closing.{Grows, IsClosed, Within, has, is_out, is_ready}
-use Rattle.ps_marks.proofs.Growing.{usable_more}
-
-none_left : (places : List ℕ) → list_any (is_out None) places ≡ false
-none_left [] = refl
-none_left (i ∷ places) = none_left places
+use Rattle.ps_closing.specs.declared.rule.Rule.{Rule}
+use Rattle.ps_closing.specs.Closing.{Grows, IsClosed, Within, has, is_out, is_ready}
+use Rattle.ps_closing.proofs.Growing.{none_left, usable_more}
 
 -- what is ready without a place is ready with it
 ready_with : (at : Option ℕ) (flags : List Bool) (r : Rule) → is_ready at flags r ≡ true → is_ready None flags r ≡ true

@@ -1,7 +1,9 @@
 pub mod Atoms
-pub mod Closing
+pub mod Candidates
 pub mod Closures
 pub mod Fitting
 pub mod Landmarks
 pub mod Laws
+pub mod Making
+pub mod Marking
 pub mod Rules

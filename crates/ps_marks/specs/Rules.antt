@@ -1,5 +1,5 @@
 -- Ground actions as rules over the places of facts.
-use Rattle.std.specs.Prelude.{◌≡◌, ◌↔◌, ◌⊎◌, ℕ, Bool, true, not, Option, Some, List, ◌++◌, Contains, filter, flat_map, map, position, slice_get}
+use Rattle.std.specs.Prelude.{◌≡◌, ◌↔◌, ◌⊎◌, ℕ, Bool, true, not, if◌then◌else◌, Option, Some, List, [], ◌∷◌, ◌++◌, Contains, filter, flat_map, map, position, slice_get}
 use Rattle.std.specs.List.{AllZip}
 use Rattle.std.specs.Map.{lookup}
 use Rattle.ps_world.specs.Knowledge.{same_fact}
@@ -8,9 +8,9 @@ use Rattle.ps_world.specs.declared.domains.Domain.{Domain}
 use Rattle.ps_world.specs.declared.facts.Fact.{Fact}
 use Rattle.ps_world.specs.declared.known.Knowledge.{Knowledge}
 use Rattle.ps_action.specs.declared.acts.GroundAction.{GroundAction}
-use Rattle.ps_marks.specs.declared.closing.Rule.{Rule}
+use Rattle.ps_closing.specs.declared.rule.Rule.{Rule}
 use Rattle.ps_marks.specs.Atoms.{atoms_of, can_make, makes}
-use Rattle.ps_marks.specs.Closing.{has, is_out}
+use Rattle.ps_closing.specs.Closing.{has, is_out}
 use Rattle.ps_marks.specs.Closures.{is_in, is_other}
 use Rattle.ps_marks.specs.Landmarks.{goal_atoms}
 
@@ -28,6 +28,10 @@ IsOnce atoms = (i : ℕ) (x : Fact) → slice_get atoms i ≡ Some x → place a
 pub record IsIndexed (atoms : List Fact) (places : List (Fact × ℕ)) : Type 0 where
   pub found : (x : Fact) → lookup (same_fact x) places ≡ place atoms x
   pub once : IsOnce atoms
+
+-- facts with one more at the end, unless it is among them
+abbrev pub with_fact : List Fact → Fact → List Fact
+with_fact fs f = if is_in fs f then fs else fs ++ f ∷ []
 
 -- all facts of the one list are in the other
 abbrev pub AllIn : List Fact → List Fact → Type 0

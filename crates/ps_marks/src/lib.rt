@@ -1,8 +1,13 @@
 //! Landmarks: facts that every good plan makes true.
 #![tactic(auto)]
 
-mod closing;
+mod asked;
+mod candidates;
 mod laws;
+mod making;
+mod marks;
+mod places;
+mod rules;
 
-pub use closing::{Rule, close};
 pub use laws::{adds_are_declared, closures_are_least, landmarks_are_made};
+pub use marks::{goal_marks, landmarks};
