@@ -153,6 +153,16 @@ module _ (e : Expansion) (old : List (Row × List ℕ)) (last : Option ℕ) wher
     pub all_kept : leads_of e.task.now now ≡ kept e old (all_led e old)
     all_kept = ap (λ qs. kept e now (led_by e old i qs)) (sym (drop_all i ps past)) ∙ so.left
 
+-- none is tried at first, where none is pruned
+pub begins_each : (e : Expansion) (old : List (Row × List ℕ)) → IsExpanding e old → IsTriedTo e old old None 0
+begins_each e old h = record {
+  expanding = h;
+  places = refl;
+  left = ap (λ qs. kept e old (led_by e old 0 qs)) (all_left (actions_of e));
+  first = ap (λ qs. first_good e (led_by e old 0 qs)) (all_left (actions_of e));
+  tried = λ j b s at pruned led. absurd (cc);
+}
+
 -- ---- the path that is answered
 
 map_twice : {A B C : Type 0} (f : B → C) (g : A → B) (o : Option A) → option_map f (option_map g o) ≡ option_map (λ x. f (g x)) o

@@ -30,7 +30,8 @@ module _ (d : Domain) (k : Knowledge) (goal : Cond) where
   met_same [] s = refl
   met_same (n ∷ ns) s = ap (λ b. same_state s n.state || b) (met_same ns s)
 
-  fresh_is : (old ns : List Node) → fresh p old ns ≡ firsts (states old) ns
+  -- new nodes are those whose states weren't met
+  pub fresh_is : (old ns : List Node) → fresh p old ns ≡ firsts (states old) ns
   fresh_is old [] = refl
   fresh_is old (n ∷ ns) =
       let more = fresh_is (old ++ n ∷ []) ns ∙ ap (λ l. firsts l ns) (map-append (λ (m : Node). m.state) old (n ∷ [])) in

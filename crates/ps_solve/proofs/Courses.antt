@@ -61,7 +61,8 @@ module _ (d : Domain) (k : Knowledge) where
   moved_by s us act (Some g) e =
       ap (λ (a : Act). option_map (λ t. record { state = t; path = us ++ a ∷ [] }) (stepped d k s g)) (sym (act_is d k.instances act g e))
 
-  moved : (s : State) (us : List Act) (acts : List Act) → filter_map (λ act. option_map (λ t. record { state = t; path = us ++ act ∷ [] }) (next d k s act)) acts ≡ filter_map (move d k (record { state = s; path = us })) (filter_map (λ act. result_ok (ground_act d k.instances act)) acts)
+  -- the nodes that acts lead to are those that their ground actions do
+  pub moved : (s : State) (us : List Act) (acts : List Act) → filter_map (λ act. option_map (λ t. record { state = t; path = us ++ act ∷ [] }) (next d k s act)) acts ≡ filter_map (move d k (record { state = s; path = us })) (filter_map (λ act. result_ok (ground_act d k.instances act)) acts)
   moved s us acts =
       (λ i. filter_map (λ act. moved_by s us act (result_ok (ground_act d k.instances act)) refl i) acts)
       ∙ sym (filter_map-filter_map (move d k (record { state = s; path = us })) (λ act. result_ok (ground_act d k.instances act)) acts)

@@ -1,4 +1,5 @@
 pub mod Answered
+pub mod AnyRow
 pub mod Attempting
 pub mod Bridge
 pub mod Courses

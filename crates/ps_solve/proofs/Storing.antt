@@ -34,7 +34,7 @@ all_unmapped : {A B : Type 0} (P : B → Type 0) (f : A → B) (xs : List A) →
 all_unmapped P f [] h = All-nil (λ x. P (f x))
 all_unmapped P f (x ∷ xs) h = All-cons (λ y. P (f y)) x xs (All-head P (f x) (map f xs) h) (all_unmapped P f xs (All-tail P (f x) (map f xs) h))
 
-drop_mapped : {A B : Type 0} (f : A → B) (i : ℕ) (xs : List A) → drop i (map f xs) ≡ map f (drop i xs)
+pub drop_mapped : {A B : Type 0} (f : A → B) (i : ℕ) (xs : List A) → drop i (map f xs) ≡ map f (drop i xs)
 drop_mapped f zero [] = refl
 drop_mapped f zero (x ∷ xs) = refl
 drop_mapped f (suc i) [] = refl

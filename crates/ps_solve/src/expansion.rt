@@ -118,6 +118,31 @@ impl<'a> Expansion<'a> {
         Ok(None)
     }
 
+    /// Tries all ground actions in their order, up to the first that leads to a row that meets the goal, whose place is answered.
+    fn attempt_each(&self, next: &mut Row, reached: &mut Reached) -> Result<Option<u32>, AllocError>
+        requires expanding { IsExpanding self.now reached.old }
+        requires wide { length next.old.flags ≡ length self.now.task.now.grounds.atoms }
+        ensures found { IfOk result (λ place.
+            option_map (λ i. places_of reached.old self.now.from ++ i ∷ []) place
+            ≡ option_map (λ l. l.places) (first_good self.now (all_led self.now reached.old))) }
+        ensures leads { IfOk result (λ place. place ≡ None
+            → leads_of self.now.task.now reached.new
+            ≡ kept self.now reached.old (all_led self.now reached.old)) }
+        ensures places { OnOk result (places_of reached.new self.now.from
+            ≡ places_of reached.old self.now.from) }
+        ensures expanding { OnOk result (IsExpanding self.now reached.new) }
+    {
+        let actions = self.task.grounds.actions.as_slice();
+        for (i, action) in actions.iter().enumerate() {
+            let place = i as u32;
+            let found = self.attempt(place, action, next, reached)?;
+            if found {
+                return Ok(Some(place));
+            }
+        }
+        Ok(None)
+    }
+
     /// The acts that lead to the row that is expanded, and on by the ground action at a place.
     fn path(&self, place: u32, reached: &Reached) -> Result<Seq<Act>, AllocError>
         requires { IsExpanding self.now reached.now }
@@ -145,6 +170,24 @@ impl<'a> Expansion<'a> {
         let last = reached.last(self.from as usize);
         let mut next = self.here.copy(self.task.alloc)?;
         match self.attempt_all(last, &mut next, reached)? {
+            Some(place) => Ok(Some(self.path(place, reached)?)),
+            None => Ok(None),
+        }
+    }
+
+    /// The same where the rows before it may not be expanded, so that nothing may be pruned.
+    pub fn run_all(&self, reached: &mut Reached) -> Result<Option<Seq<Act>>, AllocError>
+        requires { IsExpanding self.now reached.old }
+        ensures found { IfOk result (λ found. found
+            ≡ option_map (λ l. acts_at self.now.task.now.grounds.actions.items l.places)
+            (first_good self.now (all_led self.now reached.old))) }
+        ensures leads { IfOk result (λ found. found ≡ None
+            → leads_of self.now.task.now reached.new
+            ≡ kept self.now reached.old (all_led self.now reached.old)) }
+        ensures expanding { OnOk result (IsExpanding self.now reached.new) }
+    {
+        let mut next = self.here.copy(self.task.alloc)?;
+        match self.attempt_each(&mut next, reached)? {
             Some(place) => Ok(Some(self.path(place, reached)?)),
             None => Ok(None),
         }

@@ -5,6 +5,7 @@ mod expansion;
 mod flags;
 mod forward;
 mod reached;
+mod roaming;
 mod rows;
 mod steps;
 mod store;
@@ -12,3 +13,5 @@ mod task;
 mod values;
 
 pub use forward::Forward;
+pub use reached::Reached;
+pub use task::Task;

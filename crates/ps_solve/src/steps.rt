@@ -50,7 +50,7 @@ impl<'a> Known for At<'a> {
 
 impl<'a> Task<'a> {
     /// What is known in a row's state.
-    fn at<'b>(&'b self, row: &'b Row) -> At<'b>
+    pub fn at<'b>(&'b self, row: &'b Row) -> At<'b>
         ensures given { result.given.now ≡ self.now.problem.now }
         ensures atoms { result.atoms.now ≡ self.now.grounds.atoms }
         ensures row { result.row.now ≡ row.now }
