@@ -1,0 +1,5 @@
+pub mod Children
+pub mod Heaps
+pub mod Nexts
+pub mod Searches
+pub mod Whole
