@@ -1,0 +1,3 @@
+pub mod Greediness
+pub mod Levelling
+pub mod Sends
