@@ -10,7 +10,7 @@ use Rattle.ps_script.specs.Kinds.{IsKind}
 use Rattle.ps_script.specs.Lines.{is_nothing}
 use Rattle.ps_script.specs.declared.kinds.Kind.TheVariants.{Command}
 use Rattle.ps_words.specs.Words.{Request}
-use Rattle.ps_words.specs.Words.Request.{a_session, a_check, a_validation, a_replay, an_editing, a_generation}
+use Rattle.ps_words.specs.Words.Request.{a_session, a_check, a_validation, a_planning, a_replay, an_editing, a_generation}
 use Rattle.ps_inputs.specs.Flats.{Flat, Flattened, followed, is_quit, no_line, on_source, one_line, plan_line, script_in, source_line, step, walk, with_room}
 use Rattle.ps_inputs.specs.Flats.Flattened.{plain, with_plan, too_deep}
 use Rattle.ps_inputs.specs.Input.{InputTexts, Material, named_texts, reading_of, texts_in, texts_of}
@@ -170,6 +170,8 @@ request_commands texts (a_check file) = given_next HasCommands (read_file texts 
 request_commands texts (a_validation domain script plan) =
     given_then HasFew HasCommands (texts_in texts domain script []) _ (input_few texts domain script []) (λ input is.
     given_next HasCommands (read_file texts plan) _ (λ t. is.0))
+request_commands texts (a_planning domain script budget) =
+    given_then HasFew HasCommands (texts_in texts domain script []) _ (input_few texts domain script []) (λ input is. is.0)
 request_commands texts (a_replay r) =
     given_then HasFew HasCommands (texts_in texts r.domain r.script r.members) _ (input_few texts r.domain r.script r.members) (λ input is.
     given_next HasCommands (read_file texts r.journal) _ (λ t. is.0))

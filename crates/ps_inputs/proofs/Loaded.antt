@@ -11,7 +11,7 @@ use Rattle.ps_machine.specs.declared.inputs.Line.{Line}
 use Rattle.ps_pddl.proofs.SoundReadings.{readings_are_well_formed}
 use Rattle.ps_problem.specs.WellKnown.{HasConstants}
 use Rattle.ps_words.specs.Words.{ReplayRequest, Request, SessionRequest}
-use Rattle.ps_words.specs.Words.Request.{a_session, a_check, a_validation, a_replay, an_editing, a_generation}
+use Rattle.ps_words.specs.Words.Request.{a_session, a_check, a_validation, a_planning, a_replay, an_editing, a_generation}
 use Rattle.ps_inputs.specs.Reading.{MayGive, Reading, Texts, and_then, read_file}
 use Rattle.ps_inputs.specs.Reading.Reading.{gives}
 use Rattle.ps_inputs.specs.Flats.{Flat, script_in}
@@ -19,7 +19,7 @@ use Rattle.ps_inputs.specs.Scripts.{IsScript}
 use Rattle.ps_inputs.specs.Members.{AreAtFault, AreMembers, NamedText}
 use Rattle.ps_inputs.specs.Input.{GoesBy, HasBadMembers, InputTexts, IsBegun, IsDomain, IsInput, Material, domain_in, domain_text_of, first_names, generated, named_texts, reading_of, texts_in, texts_of}
 use Rattle.ps_rules.specs.Heads.{Settings}
-use Rattle.ps_inputs.specs.Input.Material.{for_session, for_check, for_validation, for_replay, for_editing, for_generation}
+use Rattle.ps_inputs.specs.Input.Material.{for_session, for_check, for_validation, for_planning, for_replay, for_editing, for_generation}
 use Rattle.ps_inputs.specs.Faults.{ReadsPart}
 use Rattle.ps_inputs.specs.Parts.{Generates, IsAnswered, IsGenerated, IsJudged, IsJudgedAs, IsJudgedInput, IsScriptFrom, IsUnjudged, IsWordedFrom, Joins, Judges, LoadsRequest, ReadsDomainFile, ReadsInput, ReadsMembers, ReadsScript, ReadsText, named}
 use Rattle.ps_inputs.specs.declared.judging.Loaded.{Loaded}
@@ -31,6 +31,7 @@ use Rattle.ps_inputs.specs.declared.faults.Fault.{Fault}
 use Rattle.ps_inputs.specs.declared.faults.Fault.TheVariants.{Usage, NoDomain, NoMember, Crowd, Twice, TooLong, Lines, Unread}
 use Rattle.ps_inputs.specs.declared.works.Editing.{Editing}
 use Rattle.ps_inputs.specs.declared.works.Generation.{Generation}
+use Rattle.ps_inputs.specs.declared.works.Planning.{Planning}
 use Rattle.ps_inputs.specs.declared.works.Replay.{Replay}
 use Rattle.ps_inputs.specs.declared.works.Session.{Session}
 use Rattle.ps_inputs.specs.declared.works.Validation.{Validation}
@@ -300,6 +301,44 @@ module _ (domain_file script_file plan_file : List ℕ) (old : FilesView) where
       -- memory runs out after all files are read
       pub validation_starved : LoadsRequest validation_request old new (Err OutOfMemory)
       validation_starved = out_of_memory (reading_of old.told validation_request) old new (h.failed ∙ first.failed) (h.same ∙ first.same)
+
+-- ---- a plan that is searched for
+
+module _ (domain_file script_file : List ℕ) (budget : ℕ) (old new : FilesView) where
+  abbrev planning_request : Request
+  planning_request = a_planning domain_file script_file budget
+
+  -- what its texts give
+  abbrev planning_of : InputTexts → Reading Material
+  planning_of input = gives [] (for_planning budget input)
+
+  pub planning_unread : (why : Failure Fault) → ReadsInput domain_file script_file [] old new (Err why) → LoadsRequest planning_request old new (Err why)
+  unfolding reading_of
+  planning_unread why h = then_ended (texts_in old.told domain_file script_file []) planning_of old new why h
+
+  module _ (u : Unjudged) (h : ReadsInput domain_file script_file [] old new (Ok u)) where
+    planning_read : (r : Result Work Fault) → ((input : InputTexts) → IsUnjudged (read_file old.told domain_file) input u → IsAnswered old.told planning_request (for_planning budget input) r) → LoadsRequest planning_request old new (Ok r)
+    unfolding reading_of
+    planning_read r f =
+        then_read (texts_in old.told domain_file script_file []) (λ t input. planning_of input) old new new u (Ok r) h
+        (λ input is. read_nothing new (for_planning budget input) r (f input is))
+
+    pub planning_good : (l : Loaded) (w : Planning) → w.names ≡ l.names → w.input ≡ l.input → Judges u budget 0 (Ok l) → LoadsRequest planning_request old new (Ok (Ok (work.Planning w)))
+    planning_good l w names input judges =
+        planning_read (Ok (work.Planning w))
+        (λ texts is. (
+          tt,
+          subst (λ (t : Table). IsInput budget 0 texts w.input t) (sym names)
+              (subst (λ (i : Input). IsInput budget 0 texts i l.names) (sym input) (judges (read_file old.told domain_file) texts is).0),
+        ))
+
+    pub planning_bad : (fault : Fault) → Judges u budget 0 (Err (Refused fault)) → LoadsRequest planning_request old new (Ok (Err fault))
+    planning_bad fault judges =
+        planning_read (Err fault) (λ texts is. answered_fault old.told planning_request (for_planning budget texts) budget 0 fault (judges (read_file old.told domain_file) texts is))
+
+    -- memory runs out after all files are read
+    pub planning_starved : LoadsRequest planning_request old new (Err OutOfMemory)
+    planning_starved = out_of_memory (reading_of old.told planning_request) old new h.failed h.same
 
 -- ---- a replay
 

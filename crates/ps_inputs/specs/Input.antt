@@ -6,7 +6,7 @@ use Rattle.ps_world.specs.declared.domains.Domain.{Domain}
 use Rattle.ps_machine.specs.declared.inputs.Input.{Input}
 use Rattle.ps_machine.specs.declared.inputs.Line.{Line}
 use Rattle.ps_words.specs.Words.{Request, SessionRequest}
-use Rattle.ps_words.specs.Words.Request.{a_session, a_check, a_validation, a_replay, an_editing, a_generation}
+use Rattle.ps_words.specs.Words.Request.{a_session, a_check, a_validation, a_planning, a_replay, an_editing, a_generation}
 use Rattle.ps_rules.specs.Heads.{Settings}
 use Rattle.ps_entries.specs.Journals.{HasSettings}
 use Rattle.ps_gen.specs.Texts as generator
@@ -23,7 +23,7 @@ use Rattle.ps_inputs.specs.declared.faults.Fault.{Fault}
 use Rattle.ps_inputs.specs.declared.faults.Fault.TheVariants.{NoDomain}
 use Rattle.ps_inputs.specs.declared.works.Editing.{Editing as EditingWork}
 use Rattle.ps_inputs.specs.declared.works.Work.{Work}
-use Rattle.ps_inputs.specs.declared.works.Work.TheVariants.{Session, Check, Validation, Replay, Editing, Generation}
+use Rattle.ps_inputs.specs.declared.works.Work.TheVariants.{Session, Check, Validation, Planning, Replay, Editing, Generation}
 
 -- ---- the texts
 
@@ -34,13 +34,14 @@ pub record InputTexts : Type 0 where
   pub members : List NamedText
 
 -- What the files of a request hold: for a session what is asked for and its input's texts; for a check the domain's text; for a plan to be
--- validated an input's texts and the text of the plan; for a replay its budget and how often a plan may be made anew, an input's texts and
--- the text of the journal; for a problem that is to be prepared the domain's text and the script's command lines; for a generation, which
+-- validated an input's texts and the text of the plan; for a plan that is searched for its budget and an input's texts; for a replay its
+-- budget and how often a plan may be made anew, an input's texts and the text of the journal; for a problem that is to be prepared the domain's text and the script's command lines; for a generation, which
 -- has no files, how many carts there are.
 pub data Material : Type 0 where
   for_session : SessionRequest → InputTexts → Material
   for_check : List ℕ → Material
   for_validation : InputTexts → List ℕ → Material
+  for_planning : ℕ → InputTexts → Material
   for_replay : ℕ → ℕ → InputTexts → List ℕ → Material
   for_editing : List ℕ → List Flattened → Material
   for_generation : ℕ → Material
@@ -87,6 +88,9 @@ reading_of texts (a_validation domain_file script_file plan_file) =
     and_then (texts_in texts domain_file script_file []) (λ input.
     and_then (read_file texts plan_file) (λ plan.
     gives [] (for_validation input plan)))
+reading_of texts (a_planning domain_file script_file budget) =
+    and_then (texts_in texts domain_file script_file []) (λ input.
+    gives [] (for_planning budget input))
 reading_of texts (a_replay r) =
     and_then (texts_in texts r.domain r.script r.members) (λ input.
     and_then (read_file texts r.journal) (λ journal.
@@ -102,6 +106,7 @@ abbrev pub domain_in : Texts → Request → Reading (List ℕ)
 domain_in texts (a_session s) = read_file texts s.domain
 domain_in texts (a_check file) = read_file texts file
 domain_in texts (a_validation domain script plan) = read_file texts domain
+domain_in texts (a_planning domain script budget) = read_file texts domain
 domain_in texts (a_replay r) = read_file texts r.domain
 domain_in texts (an_editing domain script) = read_file texts domain
 domain_in texts (a_generation carts) = gives [] generator.domain_text
@@ -111,6 +116,7 @@ abbrev pub texts_of : Material → InputTexts
 texts_of (for_session asked input) = input
 texts_of (for_check domain) = record { domain = domain; script = []; members = [] }
 texts_of (for_validation input plan) = input
+texts_of (for_planning budget input) = input
 texts_of (for_replay budget replans input journal) = input
 texts_of (for_editing domain script) = record { domain = domain; script = script; members = [] }
 texts_of (for_generation carts) = generated carts
@@ -170,6 +176,7 @@ IsWork (for_session asked input) (Session s) =
     IsInput asked.budget asked.replans input s.input s.names × (s.workers ≡ asked.workers) × (s.ordered ≡ asked.ordered)
 IsWork (for_check domain) (Check names d) = IsDomain domain d names
 IsWork (for_validation input plan) (Validation v) = IsInput 0 0 input v.input v.names × (v.plan.items ≡ plan)
+IsWork (for_planning budget input) (Planning p) = IsInput budget 0 input p.input p.names
 IsWork (for_replay budget replans input journal) (Replay r) =
     ((s : Settings) × GoesBy (budget, replans) journal s × IsInput s.0 s.1 input r.input r.names) × (r.journal.items ≡ journal)
 IsWork (for_editing domain script) (Editing e) = IsPrepared domain script e
@@ -183,6 +190,7 @@ abbrev pub IsAsked : Request → Work → Type 0
 IsAsked (a_session s) (Session t) = t.reports ≡ s.reports
 IsAsked (a_check file) (Check names d) = Unit {0}
 IsAsked (a_validation domain script plan) (Validation v) = Unit {0}
+IsAsked (a_planning domain script budget) (Planning p) = Unit {0}
 IsAsked (a_replay r) (Replay w) = w.migrates ≡ r.migrates
 IsAsked (an_editing domain script) (Editing e) = Unit {0}
 IsAsked (a_generation carts) (Generation g) = g.carts ≡ carts

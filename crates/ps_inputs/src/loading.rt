@@ -1,6 +1,6 @@
 //! Loading: the work that words and files give.
 ghost use Rattle.ps_words.specs.Words.{IsInRange, replay_said, said, settings_said};
-ghost use Rattle.ps_words.specs.Words.Request.{a_check, a_generation, a_replay, a_session, a_validation, an_editing};
+ghost use Rattle.ps_words.specs.Words.Request.{a_check, a_generation, a_planning, a_replay, a_session, a_validation, an_editing};
 ghost use Rattle.std.specs.Prelude.{IfOk};
 ghost use Rattle.ps_rules.specs.Heads.{AreSettings};
 ghost use Rattle.ps_inputs.specs.Faults.{Loads, word_texts};
@@ -12,7 +12,7 @@ use crate::judging::{Loaded, judge};
 use crate::reading::{
     Judged, Script, generate, read_domain_file, read_input, read_script, read_text,
 };
-use crate::works::{Editing, Generation, Replay, Session, Validation, Work};
+use crate::works::{Editing, Generation, Planning, Replay, Session, Validation, Work};
 use ps_entries::settings_in;
 use ps_text::Files;
 use ps_words::{Asked, ReplaySettings, Settings, read_words};
@@ -82,6 +82,27 @@ fn load_validation<F: Files>(
     let plan = read_text(alloc, plan, files)?;
     match judge(alloc, read, 0, 0) {
         Ok(Loaded { names, input }) => Ok(Ok(Work::Validation(Validation { names, input, plan }))),
+        Err(Failure::Refused(fault)) => Ok(Err(fault)),
+        Err(Failure::OutOfMemory) => Err(Failure::OutOfMemory),
+    }
+}
+
+/// Reads the files of a problem that is to be planned: the domain's, and the script's with the files that it names. A domain's text that is
+/// none is told after all files are read.
+fn load_planning<F: Files>(
+    alloc: Global,
+    domain: &str,
+    script: &str,
+    budget: u32,
+    files: &mut F,
+) -> Result<Result<Work, Fault>, Failure<Fault>>
+    requires { IsInRange (a_planning domain.now script.now budget) }
+    ensures { LoadsRequest (a_planning domain.now script.now budget) (F.shown files.old)
+        (F.shown files.new) result }
+{
+    let read = read_input(alloc, domain, script, &[], files)?;
+    match judge(alloc, read, budget, 0) {
+        Ok(Loaded { names, input }) => Ok(Ok(Work::Planning(Planning { names, input }))),
         Err(Failure::Refused(fault)) => Ok(Err(fault)),
         Err(Failure::OutOfMemory) => Err(Failure::OutOfMemory),
     }
@@ -189,6 +210,11 @@ fn load_asked<'a, F: Files>(
             script,
             plan,
         } => load_validation(alloc, domain, script, plan, files),
+        Asked::Plan {
+            domain,
+            script,
+            budget,
+        } => load_planning(alloc, domain, script, budget, files),
         Asked::Replay(settings) => load_replay(alloc, &settings, files),
         Asked::Edit { domain, script } => load_editing(alloc, domain, script, files),
         Asked::Generate { carts } => load_generation(alloc, carts),

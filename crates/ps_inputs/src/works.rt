@@ -35,6 +35,15 @@ pub struct Validation {
     pub plan: Vec<u8>,
 }
 
+/// A problem that is to be planned after the edits of an input, with the table of the input's names.
+#[derive(Drop)]
+pub struct Planning {
+    pub names: Names,
+    /// Its budget is that of each search: 1 to 200,000.
+    pub input: Input,
+    ghost sound: { IsSound input } by { Prim.hlevel sound_prop },
+}
+
 /// A journal that is to be judged by an input that is within the limits, with the table of the input's names. It isn't read yet.
 #[derive(Drop)]
 pub struct Replay {
@@ -79,6 +88,8 @@ pub enum Work {
     Check { names: Names, domain: Domain },
     /// To judge a plan.
     Validation(Validation),
+    /// To plan.
+    Planning(Planning),
     /// To judge a journal.
     Replay(Replay),
     /// To prepare a problem.

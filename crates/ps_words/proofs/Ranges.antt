@@ -4,10 +4,10 @@ use Rattle.std.specs.Option.{IfSome}
 use Rattle.std.proofs.lemmas.Bool.Decides.{nat_tests}
 use Rattle.clap.proofs.WalkLemmas.{both}
 use Rattle.clap.specs.Walk.{Row, Text, first_of}
-use Rattle.ps_words.specs.Words.{IsInRange, asked_in, budget_in, carts_in, check_app, check_of, edit_app, editing_of, gen_app, generation_of, journal_app, number_of, number_or, replans_in, replay_of, replay_with, rows_read, session_app, session_of, session_with, text_in, validate_app, validation_of, within, workers_in}
-use Rattle.ps_words.specs.Words.Request.{a_generation}
+use Rattle.ps_words.specs.Words.{IsInRange, asked_in, budget_in, carts_in, check_app, check_of, edit_app, editing_of, gen_app, generation_of, journal_app, number_of, number_or, plan_app, planning_of, replans_in, replay_of, replay_with, rows_read, session_app, session_of, session_with, text_in, validate_app, validation_of, within, workers_in}
+use Rattle.ps_words.specs.Words.Request.{a_generation, a_planning}
 use Rattle.ps_words.specs.declared.commands.Mode.{Mode}
-use Rattle.ps_words.specs.declared.commands.Mode.TheVariants.{Session, Check, Validate, Replay, Migrate, Edit, Gen}
+use Rattle.ps_words.specs.declared.commands.Mode.TheVariants.{Session, Check, Validate, Plan, Replay, Migrate, Edit, Gen}
 
 -- a number that is found to be within a range is in it
 within-range : (low high m n : ℕ) → within low high m ≡ Some n → (low ≤ n) × (n ≤ high)
@@ -48,6 +48,16 @@ session-range (Some rows) = numbers-range rows (workers_in rows) (budget_in rows
     (λ n is. option-range 2 1 16 n (first_of (codes "workers") rows) (omega arith) (omega arith) is) (λ n is. option-range 20000 1 200000 n (first_of (codes "budget") rows) (omega arith) (omega arith) is)
     (λ n is. option-range 3 0 8 n (first_of (codes "replans") rows) (omega arith) (omega arith) is)
 
+-- the number of a plan that is searched for, where it is in its range
+planning-number : (domain script : Text) (o : Option ℕ) → ((n : ℕ) → o ≡ Some n → (1 ≤ n) × (n ≤ 200000)) → IfSome (option_map (a_planning domain script) o) IsInRange
+planning-number domain script None far = tt
+planning-number domain script (Some n) far = far n refl
+
+planning-range : (o : Option (List Row)) → IfSome (option_and_then planning_of o) IsInRange
+planning-range None = tt
+planning-range (Some rows) = planning-number (text_in (codes "domain") rows) (text_in (codes "script") rows) (budget_in rows)
+    (λ n is. option-range 20000 1 200000 n (first_of (codes "budget") rows) (omega arith) (omega arith) is)
+
 -- the numbers of a replay, where each of them is in its range
 replay-numbers : (migrates : Bool) (rows : List Row) (b r : Option ℕ) → ((n : ℕ) → b ≡ Some n → (1 ≤ n) × (n ≤ 200000)) → ((n : ℕ) → r ≡ Some n → (0 ≤ n) × (n ≤ 8))
     → IfSome (option_and_then (λ budget. option_map (λ replans. replay_with migrates rows budget replans) r) b) IsInRange
@@ -86,6 +96,7 @@ pub asked_in_range : (m : Mode) (words : List Text) → IfSome (asked_in m words
 asked_in_range Session words = session-range (rows_read session_app words)
 asked_in_range Check words = check-range (rows_read check_app words)
 asked_in_range Validate words = validation-range (rows_read validate_app words)
+asked_in_range Plan words = planning-range (rows_read plan_app words)
 asked_in_range Replay words = replay-range false (rows_read (journal_app (codes "replay")) words)
 asked_in_range Migrate words = replay-range true (rows_read (journal_app (codes "migrate")) words)
 asked_in_range Edit words = editing-range (rows_read edit_app words)

@@ -5,7 +5,7 @@ use Rattle.clap.specs.Kinds.{IsAmong, Kinds}
 use Rattle.clap.specs.Walk.{Row}
 use Rattle.clap.specs.declared.error.kind.ErrorKind.{ErrorKind}
 use Rattle.clap.proofs.OnLiterals.{clap_on_literals}
-use Rattle.ps_words.specs.Words.{check_app, edit_app, gen_app, journal_app, mode_app, session_app, unless_faulty, validate_app}
+use Rattle.ps_words.specs.Words.{check_app, edit_app, gen_app, journal_app, mode_app, plan_app, session_app, unless_faulty, validate_app}
 use Rattle.ps_words.specs.declared.commands.Mode.{Mode}
 use Rattle.ps_words.specs.declared.commands.Mode.TheVariants as mode
 
@@ -36,6 +36,10 @@ pub validate_simple : is_simple_and_free validate_app ≡ true
 unfolding validate_app clap_on_literals
 validate_simple = refl
 
+pub plan_simple : is_simple_and_free plan_app ≡ true
+unfolding plan_app clap_on_literals
+plan_simple = refl
+
 pub replay_simple : is_simple_and_free (journal_app (codes "replay")) ≡ true
 unfolding journal_app clap_on_literals
 replay_simple = refl
@@ -56,6 +60,7 @@ pub mode_simple : (m : Mode) → is_simple_and_free (mode_app m) ≡ true
 mode_simple mode.Session = session_simple
 mode_simple mode.Check = check_simple
 mode_simple mode.Validate = validate_simple
+mode_simple mode.Plan = plan_simple
 mode_simple mode.Replay = replay_simple
 mode_simple mode.Migrate = migrate_simple
 mode_simple mode.Edit = edit_simple

@@ -11,7 +11,7 @@ use Rattle.clap.specs.Walk.{Row, Rule, Text, all_of, first_of}
 use Rattle.clap.specs.declared.builder.action.ArgAction.TheVariants.{Append, Set, SetTrue}
 use Rattle.ps_world.specs.Lines.{same_text}
 use Rattle.ps_words.specs.declared.asked.Asked.{Asked}
-use Rattle.ps_words.specs.declared.asked.Asked.TheVariants.{Session, Check, Validate, Replay, Edit, Generate}
+use Rattle.ps_words.specs.declared.asked.Asked.TheVariants.{Session, Check, Validate, Plan, Replay, Edit, Generate}
 use Rattle.ps_words.specs.declared.asked.ReplaySettings.{ReplaySettings}
 use Rattle.ps_words.specs.declared.asked.Settings.{Settings}
 use Rattle.ps_words.specs.declared.commands.Mode.{Mode}
@@ -51,6 +51,7 @@ pub data Request : Type 0 where
   a_session : SessionRequest → Request
   a_check : Text → Request
   a_validation : Text → Text → Text → Request
+  a_planning : Text → Text → ℕ → Request
   a_replay : ReplayRequest → Request
   an_editing : Text → Text → Request
   a_generation : ℕ → Request
@@ -76,6 +77,7 @@ abbrev pub IsInRange : Request → Type 0
 IsInRange (a_session s) = (1 ≤ s.workers) × (s.workers ≤ most_workers) × (1 ≤ s.budget) × (s.budget ≤ most_budget) × (s.replans ≤ most_replans)
 IsInRange (a_check domain) = Unit {0}
 IsInRange (a_validation domain script plan) = Unit {0}
+IsInRange (a_planning domain script budget) = (1 ≤ budget) × (budget ≤ most_budget)
 IsInRange (a_replay r) = (1 ≤ r.budget) × (r.budget ≤ most_budget) × (r.replans ≤ most_replans)
 IsInRange (an_editing domain script) = Unit {0}
 IsInRange (a_generation carts) = (1 ≤ carts) × (carts ≤ most_carts)
@@ -110,6 +112,7 @@ abbrev pub said : Asked → Request
 said (Session settings) = a_session (settings_said settings)
 said (Check domain) = a_check domain.now
 said (Validate domain script plan) = a_validation domain.now script.now plan.now
+said (Plan domain script budget) = a_planning domain.now script.now budget
 said (Replay settings) = a_replay (replay_said settings)
 said (Edit domain script) = an_editing domain.now script.now
 said (Generate carts) = a_generation carts
@@ -237,6 +240,11 @@ unfoldable pub validate_app : App
 validate_app = command_of (codes "validate") (
     option_rule (codes "domain") true ∷ option_rule (codes "script") true ∷ option_rule (codes "plan") true ∷ [])
 
+-- plan --domain F --script F, and what may be set
+unfoldable pub plan_app : App
+plan_app = command_of (codes "plan") (
+    option_rule (codes "domain") true ∷ option_rule (codes "script") true ∷ option_rule (codes "budget") false ∷ [])
+
 -- replay or migrate, --domain F --script F --journal F, what may be set, and members
 unfoldable pub journal_app : Text → App
 journal_app name = command_of name (
@@ -256,6 +264,7 @@ abbrev pub mode_app : Mode → App
 mode_app mode.Session = session_app
 mode_app mode.Check = check_app
 mode_app mode.Validate = validate_app
+mode_app mode.Plan = plan_app
 mode_app mode.Replay = journal_app (codes "replay")
 mode_app mode.Migrate = journal_app (codes "migrate")
 mode_app mode.Edit = edit_app
@@ -353,6 +362,10 @@ check_of rows = a_check (text_in (codes "domain") rows)
 abbrev pub validation_of : List Row → Request
 validation_of rows = a_validation (text_in (codes "domain") rows) (text_in (codes "script") rows) (text_in (codes "plan") rows)
 
+-- the plan that is asked for, where its number has its form and its range
+abbrev pub planning_of : List Row → Option Request
+planning_of rows = option_map (a_planning (text_in (codes "domain") rows) (text_in (codes "script") rows)) (budget_in rows)
+
 -- a replay with these numbers, where the journal is to be written anew or isn't
 abbrev pub replay_with : Bool → List Row → ℕ → ℕ → Request
 replay_with migrates rows budget replans = a_replay (record {
@@ -387,16 +400,18 @@ abbrev pub mode_of : Text → Option Mode
 mode_of word = if same_text word (codes "session") then Some mode.Session
     else (if same_text word (codes "check") then Some mode.Check
     else (if same_text word (codes "validate") then Some mode.Validate
+    else (if same_text word (codes "plan") then Some mode.Plan
     else (if same_text word (codes "replay") then Some mode.Replay
     else (if same_text word (codes "migrate") then Some mode.Migrate
     else (if same_text word (codes "edit") then Some mode.Edit
-    else (if same_text word (codes "gen") then Some mode.Gen else None))))))
+    else (if same_text word (codes "gen") then Some mode.Gen else None)))))))
 
 -- what the words ask for in a mode, by what they give for the options of its command
 abbrev pub asked_from : Mode → List Row → Option Request
 asked_from mode.Session rows = session_of rows
 asked_from mode.Check rows = Some (check_of rows)
 asked_from mode.Validate rows = Some (validation_of rows)
+asked_from mode.Plan rows = planning_of rows
 asked_from mode.Replay rows = replay_of false rows
 asked_from mode.Migrate rows = replay_of true rows
 asked_from mode.Edit rows = Some (editing_of rows)
@@ -407,6 +422,7 @@ abbrev pub asked_in : Mode → List Text → Option Request
 asked_in mode.Session words = option_and_then session_of (rows_read session_app words)
 asked_in mode.Check words = option_map check_of (rows_read check_app words)
 asked_in mode.Validate words = option_map validation_of (rows_read validate_app words)
+asked_in mode.Plan words = option_and_then planning_of (rows_read plan_app words)
 asked_in mode.Replay words = option_and_then (replay_of false) (rows_read (journal_app (codes "replay")) words)
 asked_in mode.Migrate words = option_and_then (replay_of true) (rows_read (journal_app (codes "migrate")) words)
 asked_in mode.Edit words = option_map editing_of (rows_read edit_app words)

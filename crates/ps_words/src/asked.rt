@@ -2,7 +2,7 @@
 ghost use Rattle.std.specs.Prelude.{◌≡◌, IfOk, IfSome, codes, map, option_map};
 ghost use Rattle.clap.specs.Matches.{found_of};
 ghost use Rattle.clap.specs.Walk.{rows_of};
-ghost use Rattle.ps_words.specs.Words.{word_texts, said, session_of, replay_of, generation_of, words_in, asked_from, asked_in, asked_of, IsInRange};
+ghost use Rattle.ps_words.specs.Words.{word_texts, said, session_of, planning_of, replay_of, generation_of, words_in, asked_from, asked_in, asked_of, IsInRange};
 
 use super::commands::{Mode, is_set, mode_command, mode_of, taken, text_of, value_of, words_of};
 use super::form::is_well_formed;
@@ -69,6 +69,15 @@ pub enum Asked<'a> {
         /// The file of the plan.
         plan: &'a str,
     },
+    /// To plan by three searches at once.
+    Plan {
+        /// The file of the domain.
+        domain: &'a str,
+        /// The file of the script.
+        script: &'a str,
+        /// How many states each search may reach before it gives up: 1 to 200,000, usually 20,000.
+        budget: u32,
+    },
     /// To judge a journal.
     Replay(ReplaySettings<'a>),
     /// To prepare a problem by the lines of a script.
@@ -112,6 +121,18 @@ fn session_of<'a>(alloc: Global, matches: &ArgMatches<'a>) -> Result<Option<Aske
 {
     let members = words_of(alloc, matches, "members")?;
     Ok(session_with(matches, members))
+}
+
+/// The plan that is asked for, where the number has its form and its range.
+fn planning_of<'a>(matches: &ArgMatches<'a>) -> Option<Asked<'a>>
+    ensures { option_map said result ≡ planning_of (rows_of (found_of matches.now)) }
+{
+    let budget = number_or(value_of(matches, "budget"), 20_000, 1, 200_000)?;
+    Some(Asked::Plan {
+        domain: text_of(matches, "domain"),
+        script: text_of(matches, "script"),
+        budget,
+    })
 }
 
 /// The replay with these members that is asked for, where each number has its form and its range.
@@ -177,6 +198,7 @@ fn asked_from<'a>(
             script: text_of(matches, "script"),
             plan: text_of(matches, "plan"),
         })),
+        Mode::Plan => Ok(planning_of(matches)),
         Mode::Replay => replay_of(alloc, matches, false),
         Mode::Migrate => replay_of(alloc, matches, true),
         Mode::Edit => Ok(Some(Asked::Edit {

@@ -5,7 +5,7 @@ ghost use Rattle.clap.specs.Matches.{found_of};
 ghost use Rattle.clap.specs.Simple.{App, app_of, with_rule};
 ghost use Rattle.clap.specs.Walk.{first_of, rows_of};
 ghost use Rattle.ps_words.specs.Words.{word_texts, command_of, option_rule, flag_rule, word_rule, words_rule, rows_read, text_in, words_in, is_set_in, mode_of};
-ghost use Rattle.ps_words.specs.Words.{session_app, check_app, validate_app, journal_app, edit_app, gen_app, mode_app};
+ghost use Rattle.ps_words.specs.Words.{session_app, check_app, validate_app, plan_app, journal_app, edit_app, gen_app, mode_app};
 
 use clap::error::ErrorKind;
 use clap::{Arg, ArgAction, ArgMatches, Command};
@@ -20,6 +20,8 @@ pub enum Mode {
     Check,
     /// Judge a plan.
     Validate,
+    /// Plan by three searches at once.
+    Plan,
     /// Judge a journal.
     Replay,
     /// Judge a journal, and write it anew where it is legal.
@@ -38,6 +40,7 @@ pub fn mode_of(word: &str) -> Option<Mode>
         "session" => Some(Mode::Session),
         "check" => Some(Mode::Check),
         "validate" => Some(Mode::Validate),
+        "plan" => Some(Mode::Plan),
         "replay" => Some(Mode::Replay),
         "migrate" => Some(Mode::Migrate),
         "edit" => Some(Mode::Edit),
@@ -148,6 +151,16 @@ fn validate_command<'a>(alloc: Global) -> Result<Command<'a>, AllocError>
     with_option(alloc, command, "plan", true)
 }
 
+/// The command of a plan that is searched for.
+fn plan_command<'a>(alloc: Global) -> Result<Command<'a>, AllocError>
+    ensures { IfOk result (λ c. app_of c ≡ plan_app) }
+{
+    let command = Ok(bare_command(alloc, "plan"));
+    let command = with_option(alloc, command, "domain", true);
+    let command = with_option(alloc, command, "script", true);
+    with_option(alloc, command, "budget", false)
+}
+
 /// The command of a mode in which a journal is judged.
 fn journal_command<'a>(alloc: Global, name: &'a str) -> Result<Command<'a>, AllocError>
     ensures { IfOk result (λ c. app_of c ≡ journal_app name.now) }
@@ -186,6 +199,7 @@ pub fn mode_command<'a>(alloc: Global, mode: Mode) -> Result<Command<'a>, AllocE
         Mode::Session => session_command(alloc),
         Mode::Check => check_command(alloc),
         Mode::Validate => validate_command(alloc),
+        Mode::Plan => plan_command(alloc),
         Mode::Replay => journal_command(alloc, "replay"),
         Mode::Migrate => journal_command(alloc, "migrate"),
         Mode::Edit => edit_command(alloc),

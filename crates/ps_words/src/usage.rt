@@ -19,6 +19,12 @@ plansys validate --domain FILE --script FILE --plan FILE
     Does the edits of a script over a domain, and says whether the plan reaches the goal that they set: `valid`, or what is
     wrong with it.
     plansys validate --domain samples/rooms/domain.pddl --script samples/rooms/goal --plan samples/rooms/plan
+plansys plan --domain FILE --script FILE [--budget N]
+    Does the edits of a script over a domain, and searches for a plan that reaches the goal that they set, in three ways at once: by
+    levels, by the landmarks of the goal, and by its parts. It writes the shortest plan found as plan text, which `run plan` reads,
+    after a line with the name of the search; or `no goal`, `no plan`, `spent` or `too many`.
+    --budget N    how many states each search may reach before it gives up, from 1 to 200000; 20000 if it isn't given
+    plansys plan --domain samples/rooms/domain.pddl --script samples/rooms/goal
 plansys replay --domain FILE --script FILE --journal FILE [--budget N] [--replans N] [MEMBER ..]
     Says whether a journal is one that a session of this domain, script and members may write: `legal`, or the line at which it isn't.
     A journal of version 2 says its budget and its number of new plans itself; these are of the session of one of version 1:

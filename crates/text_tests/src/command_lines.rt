@@ -154,6 +154,22 @@ migrate --domain d --script s --journal j --budget 0 -> none
 Replay --domain d --script s --journal j -> none
 session --domain d --script s --journal j -> none";
 
+/// Command lines of plans that are searched for.
+const PLANNINGS: &str = "\
+plan --domain d --script s -> plan d s 20000
+plan --budget=7 --script=s --domain=d -> plan d s 7
+plan --domain d --script s --budget 200000 -> plan d s 200000
+plan --domain d --script s --budget 0 -> none
+plan --domain d --script s --budget 200001 -> none
+plan --domain d --script s --budget 7 --budget 7 -> none
+plan --domain d --script s --replans 1 -> none
+plan --domain d --script s --plan p -> none
+plan --domain d --script s m -> none
+plan --domain d -> none
+plan --script s -> none
+plan -> none
+Plan --domain d --script s -> none";
+
 /// Command lines of generated sessions, and the number of carts.
 const GENERATIONS: &str = "\
 gen 1 -> gen 1
@@ -206,6 +222,13 @@ fn told_of_asked(alloc: Global, asked: Option<Asked<'_>>) -> Result<String, Allo
                 plan,
             },
         ) => { format!(in alloc; "validate {domain} {script} {plan}") }
+        Some(
+            Asked::Plan {
+                domain,
+                script,
+                budget,
+            },
+        ) => { format!(in alloc; "plan {domain} {script} {budget}") }
         Some(Asked::Replay(settings)) => told_of_replay(alloc, settings),
         Some(Asked::Edit { domain, script }) => format!(in alloc; "edit {domain} {script}"),
         Some(Asked::Generate { carts }) => format!(in alloc; "gen {carts}"),
@@ -263,6 +286,7 @@ fn told(alloc: Global, line: &str) -> Result<String, AllocError> {
 fn command_lines_are_read(rt: HostRuntime) -> Result<(), Fail> {
     assert_told(&rt, rt.alloc(), SESSIONS, told)?;
     assert_told(&rt, rt.alloc(), REPLAYS, told)?;
+    assert_told(&rt, rt.alloc(), PLANNINGS, told)?;
     assert_told(&rt, rt.alloc(), GENERATIONS, told)?;
     assert_told(&rt, rt.alloc(), OTHERS, told)
 }
