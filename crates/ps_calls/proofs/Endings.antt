@@ -1,12 +1,12 @@
 -- What follows for the status of a call, by the ways in which it can end.
-use Rattle.std.proofs.Common.{◌≡◌, ◌≢◌, ℕ, ◌≤◌, ◌⊎◌, Bool, true, false, if◌then◌else◌, Option, Some, None, Ok, Err, List, [], ◌∷◌, inl, inr, refl, sym, ap, ◌∙◌, subst, arith}
+use Rattle.std.proofs.Common.{◌<◌, ◌≡◌, ◌≢◌, ℕ, ◌≤◌, ◌⊎◌, Bool, true, false, if◌then◌else◌, Option, Some, None, Ok, Err, List, [], ◌∷◌, inl, inr, refl, sym, ap, ◌∙◌, subst, arith}
 use Rattle.std.specs.List.{list_any}
 use Rattle.ps_world.specs.declared.failures.Failure.TheVariants as failure
 use Rattle.ps_action.proofs.ArcTables.{true_false}
 use Rattle.ps_text.specs.Outside.{FilesView, Puts, SinkView, next}
 use Rattle.ps_validate.specs.declared.verdicts.Invalid.{Invalid}
 use Rattle.ps_words.specs.Words.{Request, asked_of}
-use Rattle.ps_words.specs.Words.Request.{a_generation, a_session, a_check, a_validation, a_replay, an_editing}
+use Rattle.ps_words.specs.Words.Request.{a_generation, a_session, a_check, a_validation, a_planning, a_replay, an_editing}
 use Rattle.ps_inputs.specs.Faults.{IsDue, IsLoaded, failed_after, fault_status}
 use Rattle.ps_inputs.specs.Input.{HasFault, IsAsked, IsWork, Material, is_judging, reading_of, texts_of}
 use Rattle.ps_inputs.specs.Reading.{MayFail, MayGive, MayReadNext, Reading}
@@ -22,13 +22,13 @@ use Rattle.ps_editing.specs.Runs.{Stage}
 use Rattle.ps_audit.specs.Findings.{finding_status}
 use Rattle.ps_audit.specs.declared.findings.Finding.{Finding}
 use Rattle.ps_audit.specs.declared.findings.Finding.TheVariants.{Legal, Illegal}
-use Rattle.ps_calls.specs.Headline.{Informs, Performs, Reports, has_reports, verdict_of}
+use Rattle.ps_calls.specs.Headline.{Informs, Performs, Reports, has_reports, plan_of, verdict_of}
 use Rattle.ps_calls.specs.Headline.Answers.{done, reported, at_fault, cannot_write, starved_at_work, starved_before}
 use Rattle.ps_calls.specs.Headline.Informs.{told, unwritten, starved, wordless}
 use Rattle.ps_calls.specs.Laws.{FailedReadsAreTold, FailedWritesAreTold, FaultsWriteNothing, FirstWordsDecide, IsBroken, IsOfFault, IsOfWork, IsStatusOf, IsToJudge, IsToRun, LeadsTo, asks_reports, ModesDecide, RefusedWritesAreTold, ReportsAreTold, StatusesAreFew, TellsReports, TextsDecide, UnreadIsCounted, UnwrittenIsCounted, WordsDecide, WorkIsDoneInSilence}
 use Rattle.ps_calls.specs.Verdicts.{verdict_status}
 use Rattle.ps_calls.proofs.Modes.{judging-judged, running-unjudged}
-use Rattle.ps_calls.proofs.Statuses.{no_fault-broken, no_work-broken, no_work-fault, status-of_fault, status-informed, status-of_work, status-performed, status-reported}
+use Rattle.ps_calls.proofs.Statuses.{few_planned, no_fault-broken, no_work-broken, no_work-fault, status-of_fault, status-informed, status-of_work, status-performed, status-reported}
 
 -- ---- failures
 
@@ -96,6 +96,7 @@ asked-reports : (q : Request) (w : Work) → IsAsked q w → asks_reports (Some 
 asked-reports (a_session s) (work.Session t) kind = sym kind
 asked-reports (a_check file) (work.Check names d) kind = refl
 asked-reports (a_validation domain script plan) (work.Validation v) kind = refl
+asked-reports (a_planning domain script budget) (work.Planning p) kind = refl
 asked-reports (a_replay q) (work.Replay r) kind = refl
 asked-reports (an_editing domain script) (work.Editing e) kind = refl
 asked-reports (a_generation n) (work.Generation g) kind = refl
@@ -361,11 +362,12 @@ not_one : (f : Finding) → finding_status f ≡ 1 → ⊥
 not_one Legal h = omega arith
 not_one (Illegal line) h = omega arith
 
--- work with the status 1 is a session, a generation or an editor's
+-- work with the status 1 is a session, a generation, an editor's or a planning
 one-run : (o : Request) (w : Work) (status : ℕ) → IsAsked o w → IsStatusOf w status → status ≡ 1 → IsToRun o
 one-run (a_session s) (work.Session t) status kind h one = inl (s, refl)
 one-run (a_generation n) (work.Generation g) status kind h one = inr (inl (n, refl))
-one-run (an_editing domain script) (work.Editing e) status kind h one = inr (inr (domain, script, refl))
+one-run (an_editing domain script) (work.Editing e) status kind h one = inr (inr (inl (domain, script, refl)))
+one-run (a_planning domain script budget) (work.Planning p) status kind h one = inr (inr (inr (domain, script, budget, refl)))
 one-run (a_check file) (work.Check names d) status kind h one = absurd (omega arith)
 one-run (a_validation domain script plan) (work.Validation v) status kind h one = absurd (no_one (verdict_of v).0 (sym h ∙ one))
 one-run (a_replay q) (work.Replay r) status kind h one = absurd (not_one h.0 (sym h.2 ∙ one))
@@ -375,11 +377,15 @@ no_seven : (b : Bool) (n : ℕ) → n ≡ (if b then 1 else 0) → n ≡ 7 → �
 no_seven true n e h = omega arith
 no_seven false n e h = omega arith
 
+few_seven : (n : ℕ) → n < 2 → n ≡ 7 → ⊥
+few_seven n few seven = omega arith
+
 -- work with the status 7 is a validation or a replay
 seven-judged : (o : Request) (w : Work) (status : ℕ) → IsAsked o w → IsStatusOf w status → status ≡ 7 → IsToJudge o
 seven-judged (a_session s) (work.Session t) status kind h seven = absurd (omega arith)
 seven-judged (a_generation n) (work.Generation g) status kind h seven = absurd (omega arith)
 seven-judged (an_editing domain script) (work.Editing e) status kind h seven = absurd (no_seven (list_any (λ (s : Stage). is_refused s.answer) h.0) status h.3 seven)
+seven-judged (a_planning domain script budget) (work.Planning p) status kind h seven = absurd (few_seven (plan_of p).1 (few_planned p) (sym h ∙ seven))
 seven-judged (a_check file) (work.Check names d) status kind h seven = absurd (omega arith)
 seven-judged (a_validation domain script plan) (work.Validation v) status kind h seven = inl (domain, script, plan, refl)
 seven-judged (a_replay q) (work.Replay r) status kind h seven = inr (q, refl)

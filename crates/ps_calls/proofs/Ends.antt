@@ -11,11 +11,12 @@ use Rattle.ps_text.specs.Outside.{FilesView, SinkView}
 use Rattle.ps_text.specs.declared.sinks.SinkRefusal.{SinkRefusal}
 use Rattle.ps_text.specs.declared.sinks.SinkRefusal.TheVariants.{Failed, OutOfMemory}
 use Rattle.ps_words.specs.Words.{asked_of, Request}
-use Rattle.ps_words.specs.Words.Request.{a_generation, a_session}
+use Rattle.ps_words.specs.Words.Request.{a_generation, a_planning, a_session}
 use Rattle.ps_inputs.specs.Faults.{IsLoaded}
 use Rattle.ps_inputs.specs.Input.{IsAsked, is_quiet}
 use Rattle.ps_inputs.specs.declared.faults.Fault.{Fault}
 use Rattle.ps_inputs.specs.declared.works.Generation.{Generation}
+use Rattle.ps_inputs.specs.declared.works.Planning.{Planning}
 use Rattle.ps_inputs.specs.declared.works.Session.{Session}
 use Rattle.ps_inputs.specs.declared.works.Work.{Work}
 use Rattle.ps_inputs.specs.declared.works.Work.TheVariants as work
@@ -26,7 +27,7 @@ use Rattle.ps_calls.specs.declared.reported.Reported.{Reported}
 use Rattle.ps_calls.specs.Headline.{Answers, Call, Ends, Finishes, GivesUp, Informs, InformsOf, IsQuiet, LoadsAs, Performs, Refuses, has_reports, turns_of}
 use Rattle.ps_calls.specs.Headline.Answers.{done, reported, at_fault, cannot_write, starved_at_work, starved_before}
 use Rattle.ps_calls.specs.Headline.Ends.{silent, telling, cut}
-use Rattle.ps_calls.proofs.Modes.{generation-loud, session-loud}
+use Rattle.ps_calls.proofs.Modes.{generation-loud, planning-loud, session-loud}
 use Rattle.ps_calls.proofs.WithReports.{cut-counts}
 
 -- the work was done or broken off, and what was to be told was told
@@ -83,16 +84,22 @@ module _ (ws : List (List ℕ)) (quiet : is_quiet ws ≡ true) where
   no-generation (a_generation n) g asked kind = true≢false (sym quiet ∙ generation-loud ws n asked)
   no-generation r g asked kind = kind
 
+  no-planning : (r : Request) (p : Planning) → asked_of ws ≡ Some r → IsAsked r (work.Planning p) → ⊥
+  no-planning (a_planning domain script budget) p asked kind = true≢false (sym quiet ∙ planning-loud ws domain script budget asked)
+  no-planning r p asked kind = kind
+
   -- what words ask for whose first is that of a mode that always returns is such work
   pub quiet-work : (old : FilesView) (w : Work) → IsLoaded ws old w → IsQuiet w
   quiet-work old (work.Session s) l = no-session l.request s l.asked l.kind
   quiet-work old (work.Generation g) l = no-generation l.request g l.asked l.kind
+  quiet-work old (work.Planning p) l = no-planning l.request p l.asked l.kind
   quiet-work old w l = tt
 
 -- such work has no reports
 pub quiet-silent : (w : Work) → IsQuiet w → has_reports w ≡ false
 quiet-silent (work.Session s) quiet = absurd quiet
 quiet-silent (work.Generation g) quiet = absurd quiet
+quiet-silent (work.Planning p) quiet = absurd quiet
 quiet-silent w quiet = refl
 
 -- nor has any but a session

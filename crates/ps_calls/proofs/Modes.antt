@@ -2,8 +2,8 @@
 use Rattle.std.proofs.Common.{◌≡◌, ℕ, Bool, true, false, ◌||◌, Option, Some, None, IfSome, inl, inr, ap, ◌∙◌, option_map, option_and_then, List, [], ◌∷◌, codes, if◌then◌else◌, refl, sym, subst}
 use Rattle.ps_world.specs.Lines.{same_text}
 use Rattle.ps_world.proofs.SameTexts.{same_text-is}
-use Rattle.ps_words.specs.Words.{Request, SessionRequest, asked_by, asked_in, asked_of, budget_in, carts_in, check_app, check_of, edit_app, editing_of, gen_app, generation_of, journal_app, is_well_formed, mode_of, replans_in, replay_of, replay_with, rows_read, session_app, session_of, session_with, validate_app, validation_of, workers_in}
-use Rattle.ps_words.specs.Words.Request.{a_generation, a_session, a_check, a_validation, a_replay, an_editing}
+use Rattle.ps_words.specs.Words.{Request, SessionRequest, asked_by, asked_in, asked_of, budget_in, carts_in, check_app, check_of, edit_app, editing_of, gen_app, generation_of, journal_app, is_well_formed, mode_of, plan_app, planning_of, replans_in, replay_of, replay_with, rows_read, session_app, session_of, session_with, text_in, validate_app, validation_of, workers_in}
+use Rattle.ps_words.specs.Words.Request.{a_generation, a_session, a_check, a_validation, a_planning, a_replay, an_editing}
 use Rattle.ps_words.specs.declared.commands.Mode.{Mode}
 use Rattle.ps_words.specs.declared.commands.Mode.TheVariants as mode
 use Rattle.ps_inputs.specs.Input.{argument, is_judging, is_quiet}
@@ -23,6 +23,7 @@ abbrev mode_in : Request → Mode
 mode_in (a_session s) = mode.Session
 mode_in (a_check domain) = mode.Check
 mode_in (a_validation domain script plan) = mode.Validate
+mode_in (a_planning domain script budget) = mode.Plan
 mode_in (a_replay q) = replay_mode q.migrates
 mode_in (an_editing domain script) = mode.Edit
 mode_in (a_generation n) = mode.Gen
@@ -32,6 +33,7 @@ abbrev word_of : Mode → List ℕ
 word_of mode.Session = codes "session"
 word_of mode.Check = codes "check"
 word_of mode.Validate = codes "validate"
+word_of mode.Plan = codes "plan"
 word_of mode.Replay = codes "replay"
 word_of mode.Migrate = codes "migrate"
 word_of mode.Edit = codes "edit"
@@ -62,6 +64,9 @@ in-mode mode.Session words =
     (λ b. made-mode (λ r. session_with rows w b r) mode.Session (λ r. refl) (replans_in rows)) (budget_in rows)) (workers_in rows)) (rows_read session_app words)
 in-mode mode.Check words = made-mode check_of mode.Check (λ rows. refl) (rows_read check_app words)
 in-mode mode.Validate words = made-mode validation_of mode.Validate (λ rows. refl) (rows_read validate_app words)
+in-mode mode.Plan words =
+    next-mode planning_of mode.Plan
+    (λ rows. made-mode (a_planning (text_in (codes "domain") rows) (text_in (codes "script") rows)) mode.Plan (λ n. refl) (budget_in rows)) (rows_read plan_app words)
 in-mode mode.Replay words = journal-mode false (rows_read (journal_app (codes "replay")) words)
 in-mode mode.Migrate words = journal-mode true (rows_read (journal_app (codes "migrate")) words)
 in-mode mode.Edit words = made-mode editing_of mode.Edit (λ rows. refl) (rows_read edit_app words)
@@ -84,8 +89,11 @@ migrate_if word b = if b then Some mode.Migrate else edit_if word (same_text wor
 abbrev replay_if : List ℕ → Bool → Option Mode
 replay_if word b = if b then Some mode.Replay else migrate_if word (same_text word (codes "migrate"))
 
+abbrev plan_if : List ℕ → Bool → Option Mode
+plan_if word b = if b then Some mode.Plan else replay_if word (same_text word (codes "replay"))
+
 abbrev validate_if : List ℕ → Bool → Option Mode
-validate_if word b = if b then Some mode.Validate else replay_if word (same_text word (codes "replay"))
+validate_if word b = if b then Some mode.Validate else plan_if word (same_text word (codes "plan"))
 
 abbrev check_if : List ℕ → Bool → Option Mode
 check_if word b = if b then Some mode.Check else validate_if word (same_text word (codes "validate"))
@@ -106,9 +114,13 @@ by-replay : (word : List ℕ) (b : Bool) → same_text word (codes "replay") ≡
 by-replay word true is = is
 by-replay word false is = by-migrate word (same_text word (codes "migrate")) refl
 
+by-plan : (word : List ℕ) (b : Bool) → same_text word (codes "plan") ≡ b → IsNamed word (plan_if word b)
+by-plan word true is = is
+by-plan word false is = by-replay word (same_text word (codes "replay")) refl
+
 by-validate : (word : List ℕ) (b : Bool) → same_text word (codes "validate") ≡ b → IsNamed word (validate_if word b)
 by-validate word true is = is
-by-validate word false is = by-replay word (same_text word (codes "replay")) refl
+by-validate word false is = by-plan word (same_text word (codes "plan")) refl
 
 by-check : (word : List ℕ) (b : Bool) → same_text word (codes "check") ≡ b → IsNamed word (check_if word b)
 by-check word true is = is
@@ -158,6 +170,9 @@ loud-word word e = subst (λ (w : List ℕ). quiet w ≡ false) (sym e) refl
 loud-gen : (word : List ℕ) → word ≡ codes "gen" → quiet word ≡ false
 loud-gen word e = subst (λ (w : List ℕ). quiet w ≡ false) (sym e) refl
 
+loud-plan : (word : List ℕ) → word ≡ codes "plan" → quiet word ≡ false
+loud-plan word e = subst (λ (w : List ℕ). quiet w ≡ false) (sym e) refl
+
 judging-none : (word other : List ℕ) → judging other ≡ false → word ≡ other → judging word ≡ false
 judging-none word other none e = subst (λ (w : List ℕ). judging w ≡ false) (sym e) none
 
@@ -176,6 +191,10 @@ session-loud ws s e = loud-word (argument ws 0) (same_text-is (argument ws 0) (c
 pub generation-loud : (ws : List (List ℕ)) (n : ℕ) → asked_of ws ≡ Some (a_generation n) → is_quiet ws ≡ false
 generation-loud ws n e = loud-gen (argument ws 0) (same_text-is (argument ws 0) (codes "gen") (begins-asked ws (a_generation n) e))
 
+-- nor is a planning
+pub planning-loud : (ws : List (List ℕ)) (domain script : List ℕ) (budget : ℕ) → asked_of ws ≡ Some (a_planning domain script budget) → is_quiet ws ≡ false
+planning-loud ws domain script budget e = loud-plan (argument ws 0) (same_text-is (argument ws 0) (codes "plan") (begins-asked ws (a_planning domain script budget) e))
+
 -- the words of a mode that judges a text don't ask for lines to be done
 pub running-unjudged : (ws : List (List ℕ)) (r : Request) → asked_of ws ≡ Some r → IsToRun r → is_judging ws ≡ false
 running-unjudged ws r e (inl h) =
@@ -184,7 +203,10 @@ running-unjudged ws r e (inl h) =
 running-unjudged ws r e (inr (inl h)) =
     let asked : asked_of ws ≡ Some (a_generation h.0) = e ∙ ap Some h.1 in
     judging-none (argument ws 0) (codes "gen") refl (same_text-is (argument ws 0) (codes "gen") (begins-asked ws (a_generation h.0) asked))
-running-unjudged ws r e (inr (inr h)) =
+running-unjudged ws r e (inr (inr (inr h))) =
+    let asked : asked_of ws ≡ Some (a_planning h.0 h.1 h.2) = e ∙ ap Some h.3 in
+    judging-none (argument ws 0) (codes "plan") refl (same_text-is (argument ws 0) (codes "plan") (begins-asked ws (a_planning h.0 h.1 h.2) asked))
+running-unjudged ws r e (inr (inr (inl h))) =
     let asked : asked_of ws ≡ Some (an_editing h.0 h.1) = e ∙ ap Some h.2 in
     judging-none (argument ws 0) (codes "edit") refl (same_text-is (argument ws 0) (codes "edit") (begins-asked ws (an_editing h.0 h.1) asked))
 

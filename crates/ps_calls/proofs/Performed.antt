@@ -14,6 +14,7 @@ use Rattle.ps_validate.specs.declared.verdicts.Invalid.{Invalid}
 use Rattle.ps_editing.specs.Runs.{WritesRun}
 use Rattle.ps_inputs.specs.declared.works.Editing.{Editing}
 use Rattle.ps_inputs.specs.declared.works.Generation.{Generation}
+use Rattle.ps_inputs.specs.declared.works.Planning.{Planning}
 use Rattle.ps_inputs.specs.declared.works.Replay.{Replay}
 use Rattle.ps_inputs.specs.declared.works.Session.{Session}
 use Rattle.ps_inputs.specs.declared.works.Validation.{Validation}
@@ -23,7 +24,7 @@ use Rattle.ps_session.specs.Session.{IsJournal, Runs}
 use Rattle.ps_session.specs.declared.ways.Turns.TheVariants.{InOrder}
 use Rattle.ps_audit.specs.Findings.{finding_line, finding_status}
 use Rattle.ps_audit.specs.declared.findings.Finding.{Finding}
-use Rattle.ps_calls.specs.Headline.{CountsSession, IsFound, IsReply, Performs, WritesWithStatus, answer_line, edit_lines, turns_of, verdict_of}
+use Rattle.ps_calls.specs.Headline.{CountsSession, IsFound, IsReply, Performs, WritesWithStatus, answer_line, edit_lines, plan_of, turns_of, verdict_of}
 use Rattle.ps_calls.specs.Verdicts.{verdict_line, verdict_status}
 
 -- ---- one text
@@ -61,6 +62,17 @@ judged v wrong after old new r same w = of_line r (subst (λ p. WritesWithStatus
 -- memory ran out before the plan was judged
 pub unjudged : (v : Validation) (start : SinkView) → Performs (work.Validation v) start start (Err OutOfMemory)
 unjudged v start = record { done = tt; cut = (0, Appends-nil start.bytes); counted = refl }
+
+-- what planners tell
+pub planned : (p : Planning) (text : List ℕ) (status : ℕ) (old new : SinkView) (r : Result ℕ SinkRefusal) → (text, status) ≡ plan_of p → WritesWithStatus text status old new r → Performs (work.Planning p) old new r
+planned p text status old new r same w = of_text r (subst (λ (t : List ℕ × ℕ). WritesWithStatus t.0 t.1 old new r) same w) where
+  of_text : (r : Result ℕ SinkRefusal) → WritesWithStatus (plan_of p).0 (plan_of p).1 old new r → Performs (work.Planning p) old new r
+  of_text (Ok status) w = record { done = w.done; cut = tt; counted = w.counted }
+  of_text (Err e) w = record { done = tt; cut = w.cut; counted = w.counted }
+
+-- memory ran out before they told it
+pub unplanned : (p : Planning) (start : SinkView) → Performs (work.Planning p) start start (Err OutOfMemory)
+unplanned p start = record { done = tt; cut = (0, Appends-nil start.bytes); counted = refl }
 
 -- what is to be written for a journal
 pub found : (r : Replay) (f : Finding) (out : List ℕ) (old new : SinkView) (res : Result ℕ SinkRefusal) → IsFound r f → IsReply r f out

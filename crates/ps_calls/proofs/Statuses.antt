@@ -1,5 +1,5 @@
 -- The statuses of work and of faults.
-use Rattle.std.proofs.Common.{◌≡◌, ℕ, ◌<◌, ◌⊎◌, Bool, true, false, if◌then◌else◌, Option, Some, None, List, Ok, inl, inr, refl, sym, subst, arith}
+use Rattle.std.proofs.Common.{◌≡◌, ℕ, ◌<◌, ◌⊎◌, Bool, true, false, if◌then◌else◌, Option, Some, None, List, Ok, slice_index_or, inl, inr, refl, sym, subst, arith}
 use Rattle.std.specs.List.{list_any}
 use Rattle.ps_rules.specs.History.{is_mishap}
 use Rattle.ps_editing.specs.Lines.{is_refused}
@@ -9,12 +9,22 @@ use Rattle.ps_validate.specs.declared.verdicts.Invalid.{Invalid}
 use Rattle.ps_inputs.specs.Faults.{fault_line, fault_status}
 use Rattle.ps_inputs.specs.declared.faults.Fault.{Fault}
 use Rattle.ps_inputs.specs.declared.faults.Fault.TheVariants.{Usage, NoDomain, NoMember, Crowd, Twice, TooLong, Lines, Unread}
+use Rattle.ps_world.specs.Names.{Table}
+use Rattle.ps_world.specs.declared.conditions.Cond.{Cond}
+use Rattle.ps_world.specs.declared.domains.Domain.{Domain}
+use Rattle.ps_world.specs.declared.known.Knowledge.{Knowledge}
+use Rattle.ps_validate.specs.Verdicts.{known_after}
+use Rattle.ps_greedy.specs.declared.found.Found.{Found}
+use Rattle.ps_greedy.specs.declared.found.Found.TheVariants.{Plan, NoPlan, Spent, TooMany}
+use Rattle.ps_portfolio.specs.Choosing.{best_of}
+use Rattle.ps_planned.specs.Planned.{answers, found_status, plan_told, told_to}
+use Rattle.ps_inputs.specs.declared.works.Planning.{Planning}
 use Rattle.ps_inputs.specs.declared.works.Work.{Work}
 use Rattle.ps_inputs.specs.declared.works.Work.TheVariants as work
 use Rattle.ps_audit.specs.Findings.{finding_status}
 use Rattle.ps_audit.specs.declared.findings.Finding.{Finding}
 use Rattle.ps_audit.specs.declared.findings.Finding.TheVariants.{Legal, Illegal}
-use Rattle.ps_calls.specs.Headline.{Informs, Performs, Reports, verdict_of}
+use Rattle.ps_calls.specs.Headline.{Informs, Performs, Reports, plan_of, verdict_of}
 use Rattle.ps_calls.specs.Headline.Informs.{told, unwritten, starved, wordless}
 use Rattle.ps_calls.specs.Laws.{IsBroken, IsOfFault, IsOfWork, IsStatusOf}
 use Rattle.ps_calls.specs.Verdicts.{verdict_status}
@@ -29,6 +39,7 @@ status-performed (work.Session s) old new status p = subst (λ n. n < 2) (sym p.
 status-performed (work.Generation g) old new status p = subst (λ n. n < 2) (sym p.done.2) (flag_below (list_any (λ e. is_mishap e.what) p.done.0))
 status-performed (work.Check names d) old new status p = p.done.0
 status-performed (work.Validation v) old new status p = p.done.0
+status-performed (work.Planning p) old new status d = d.done.0
 status-performed (work.Replay r) old new status p = (p.done.0, p.done.2, p.done.4)
 status-performed (work.Editing e) old new status p = (p.done.stages, p.done.last, p.done.run, p.done.is_status)
 
@@ -40,11 +51,29 @@ finding_of_work : (f : Finding) → IsOfWork (finding_status f)
 finding_of_work Legal = inl (omega arith)
 finding_of_work (Illegal line) = inr refl
 
+few_found : (f : Found) → found_status f < 2
+few_found (Plan acts) = omega arith
+few_found NoPlan = omega arith
+few_found Spent = omega arith
+few_found TooMany = omega arith
+
+few_told : (d : Domain) (k : Knowledge) (names : Table) (budget : ℕ) (goal : Option Cond) → (told_to d k names budget goal).1 < 2
+few_told d k names budget None = omega arith
+few_told d k names budget (Some goal) = few_found (slice_index_or (answers d k budget) (best_of (answers d k budget)) Spent)
+
+-- what planners tell has the status 0 or 1
+pub few_planned : (p : Planning) → (plan_of p).1 < 2
+unfolding plan_told
+few_planned p =
+    let k : Knowledge = known_after p.input.domain p.input.lines in
+    few_told p.input.domain k p.names p.input.budget k.goal
+
 pub status-of_work : (w : Work) (status : ℕ) → IsStatusOf w status → IsOfWork status
 status-of_work (work.Session s) status h = inl h
 status-of_work (work.Generation g) status h = inl h
 status-of_work (work.Check names d) status h = inl (omega arith)
 status-of_work (work.Validation v) status h = subst IsOfWork (sym h) (verdict_of_work (verdict_of v).0)
+status-of_work (work.Planning p) status h = inl (subst (λ n. n < 2) (sym h) (few_planned p))
 status-of_work (work.Replay r) status h = subst IsOfWork (sym h.2) (finding_of_work h.0)
 status-of_work (work.Editing e) status h = inl (subst (λ n. n < 2) (sym h.3) (flag_below (list_any (λ (s : Stage). is_refused s.answer) h.0)))
 

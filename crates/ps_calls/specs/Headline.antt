@@ -17,6 +17,7 @@ use Rattle.ps_inputs.specs.Faults.{Loads, fault_line, fault_status}
 use Rattle.ps_inputs.specs.Input.{cannot_write_line, out_of_memory_line}
 use Rattle.ps_inputs.specs.declared.faults.Fault.{Fault}
 use Rattle.ps_inputs.specs.declared.works.Editing.{Editing}
+use Rattle.ps_inputs.specs.declared.works.Planning.{Planning}
 use Rattle.ps_inputs.specs.declared.works.Replay.{Replay}
 use Rattle.ps_inputs.specs.declared.works.Session.{Session}
 use Rattle.ps_inputs.specs.declared.works.Validation.{Validation}
@@ -33,6 +34,7 @@ use Rattle.ps_audit.specs.Findings.{Finds as FindsJournal, finding_status, IsAns
 use Rattle.ps_hub.specs.declared.report.Report.{Report}
 use Rattle.ps_report_lines.specs.Lines.{report_lines}
 use Rattle.ps_audit.specs.declared.findings.Finding.{Finding}
+use Rattle.ps_planned.specs.Planned.{plan_told}
 use Rattle.ps_editing.specs.Lines.{EditLine, worded}
 use Rattle.ps_editing.specs.Runs.{IsEdited, IsEditedInPart}
 use Rattle.ps_calls.specs.Verdicts.{verdict_line, verdict_status}
@@ -54,6 +56,14 @@ verdict_of v = verdict_after v.input.domain v.input.lines v.names v.plan.items
 -- the line that a plan is answered with
 abbrev pub answer_line : Option Invalid × Table → List ℕ
 answer_line v = verdict_line v.1 v.0
+
+-- what three planners tell after the edits of these lines, with this budget, and the status of it
+abbrev pub plan_after : Domain → List Line → Table → ℕ → List ℕ × ℕ
+plan_after d lines names budget = plan_told d (known_after d lines) names budget
+
+-- what they tell of a problem that is to be planned
+abbrev pub plan_of : Planning → List ℕ × ℕ
+plan_of p = plan_after p.input.domain p.input.lines p.names p.input.budget
 
 -- this is what a journal that is to be judged is found to be
 abbrev pub IsFound : Replay → Finding → Type 0
@@ -84,25 +94,27 @@ edit_lines e = worded e.lines.items e.words.items
 
 -- The work is done, with this status: a session writes the text of its journal, whose status it is, and a generation the counts of such a
 -- journal, with the status of that; a check writes the domain's canonical text, a validation the line that says what the plan is worth, a
--- replay the line that says what the journal is found to be, or a legal journal anew, and an editor the text of its run, whose status it is.
+-- planning what three planners tell, a replay the line that says what the journal is found to be, or a legal journal anew, and an editor the text of its run, whose status it is.
 abbrev pub IsWorkDone : Work → Option (List ℕ) → Option (List ℕ) → ℕ → Type 0
 IsWorkDone (work.Session s) old new status = IsDone (turns_of s) s.input s.names old new status
 IsWorkDone (work.Generation g) old new status = IsCountDone g.input g.carts old new status
 IsWorkDone (work.Check names d) old new status = (status ≡ 0) × Appends old new (domain_text names d)
 IsWorkDone (work.Validation v) old new status =
     (status ≡ verdict_status (verdict_of v).0) × Appends old new (answer_line (verdict_of v))
+IsWorkDone (work.Planning p) old new status = (status ≡ (plan_of p).1) × Appends old new (plan_of p).0
 IsWorkDone (work.Replay r) old new status =
     (f : Finding) × (out : List ℕ) × IsFound r f × IsReply r f out × (status ≡ finding_status f) × Appends old new out
 IsWorkDone (work.Editing e) old new status = IsEdited e.domain e.names (edit_lines e) old new status
 
 -- The work is broken off: what it wrote is a prefix of the text of a beginning of a session's journal, of a journal's counts, of the domain's
--- text, of the line of a plan or of a journal, or of the run of an editor's first lines; before a journal is made that is counted, or it is found what a journal is, nothing is
+-- text, of the line of a plan or of a journal, of what planners tell, or of the run of an editor's first lines; before a journal is made that is counted, or it is found what a journal is, nothing is
 -- written.
 abbrev pub IsWorkCut : Work → SinkView → SinkView → Type 0
 IsWorkCut (work.Session s) old new = IsCut (turns_of s) s.input s.names old new
 IsWorkCut (work.Generation g) old new = IsCountCut g.input g.carts old.bytes new.bytes
 IsWorkCut (work.Check names d) old new = AppendsPrefix old.bytes new.bytes (domain_text names d)
 IsWorkCut (work.Validation v) old new = AppendsPrefix old.bytes new.bytes (answer_line (verdict_of v))
+IsWorkCut (work.Planning p) old new = AppendsPrefix old.bytes new.bytes (plan_of p).0
 IsWorkCut (work.Replay r) old new =
     AppendsPrefix old.bytes new.bytes [] ⊎ ((f : Finding) × (out : List ℕ) × IsFound r f × IsReply r f out × AppendsPrefix old.bytes new.bytes out)
 IsWorkCut (work.Editing e) old new = IsEditedInPart e.domain e.names (edit_lines e) old.bytes new.bytes
@@ -123,6 +135,7 @@ pub record CountsSession (i : Input) (carts : ℕ) (old new : SinkView) (r : Res
 abbrev pub IsQuiet : Work → Type 0
 IsQuiet (work.Session s) = ⊥
 IsQuiet (work.Generation g) = ⊥
+IsQuiet (work.Planning p) = ⊥
 IsQuiet w = Unit {0}
 
 -- Writing a text: all of it, with this status, or a prefix of it, where a write was refused or memory ran out.

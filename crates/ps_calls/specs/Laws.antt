@@ -3,7 +3,7 @@ use Rattle.std.specs.Prelude.{◌≡◌, ◌≢◌, ℕ, ◌<◌, ◌≤◌, ◌
 use Rattle.std.specs.Io.KnownBytes.{Appends}
 use Rattle.ps_text.specs.Outside.{next}
 use Rattle.ps_words.specs.Words.{ReplayRequest, Request, SessionRequest, asked_of}
-use Rattle.ps_words.specs.Words.Request.{a_generation, a_session, a_validation, a_replay, an_editing}
+use Rattle.ps_words.specs.Words.Request.{a_generation, a_session, a_validation, a_planning, a_replay, an_editing}
 use Rattle.ps_inputs.specs.Reading.{Reading}
 use Rattle.ps_inputs.specs.Reading.FileFault.{no_file, too_long, too_many}
 use Rattle.ps_inputs.specs.Reading.Reading.{gives, faulty, unknown}
@@ -20,7 +20,7 @@ use Rattle.ps_course.specs.Beginnings.{GoInOrder}
 use Rattle.ps_course.specs.Segments.{GoWell}
 use Rattle.ps_session.specs.Session.{IsSession}
 use Rattle.ps_hub.specs.declared.report.Report.{Report}
-use Rattle.ps_calls.specs.Headline.{Answers, Call, IsFound, LoadsAs, PerformsAs, edit_lines, lines_of, turns_of, verdict_of}
+use Rattle.ps_calls.specs.Headline.{Answers, Call, IsFound, LoadsAs, PerformsAs, edit_lines, lines_of, plan_of, turns_of, verdict_of}
 use Rattle.ps_calls.specs.Verdicts.{verdict_status}
 
 -- this is so of each call with each status that it answers
@@ -111,12 +111,13 @@ WordsDecide = OfEachCall (λ c status.
     (status ≡ 2 → asked_of c.words ≡ None) × (asked_of c.words ≡ None → (status ≡ 2) ⊎ IsBroken status))
 
 -- a status with which this work can end: 0 or 1 for a session and for a generation, 0 for a check, 0 or 7 for a plan and for a journal, by
--- what they are worth, and 0 or 1 for a problem that is prepared, by its run
+-- what they are worth, 0 or 1 for a planning, by what is found, and 0 or 1 for a problem that is prepared, by its run
 abbrev pub IsStatusOf : Work → ℕ → Type 0
 IsStatusOf (work.Session s) status = status < 2
 IsStatusOf (work.Generation g) status = status < 2
 IsStatusOf (work.Check names d) status = status ≡ 0
 IsStatusOf (work.Validation v) status = status ≡ verdict_status (verdict_of v).0
+IsStatusOf (work.Planning p) status = status ≡ (plan_of p).1
 IsStatusOf (work.Replay r) status = (f : Finding) × IsFound r f × (status ≡ finding_status f)
 IsStatusOf (work.Editing e) status =
     (stages : List Stage) × (last : Held) × IsRun e.names e.domain (edit_lines e) stages last × (status ≡ run_status stages)
@@ -150,13 +151,15 @@ TextsDecide = OfEachCall (λ c status. (r : Request) → asked_of c.words ≡ So
 abbrev pub IsToJudge : Request → Type 0
 IsToJudge r = ((domain script plan : List ℕ) × (r ≡ a_validation domain script plan)) ⊎ ((q : ReplayRequest) × (r ≡ a_replay q))
 
--- this request is to do lines: those of a session, of files or of the generator, or of an editor
+-- this request is to do lines, those of a session, of files or of the generator, or of an editor, or to plan
 abbrev pub IsToRun : Request → Type 0
 IsToRun r =
     ((s : SessionRequest) × (r ≡ a_session s))
-    ⊎ (((n : ℕ) × (r ≡ a_generation n)) ⊎ ((domain script : List ℕ) × (r ≡ an_editing domain script)))
+    ⊎ (((n : ℕ) × (r ≡ a_generation n))
+    ⊎ (((domain script : List ℕ) × (r ≡ an_editing domain script))
+    ⊎ ((domain script : List ℕ) × (budget : ℕ) × (r ≡ a_planning domain script budget))))
 
--- the answer 1 comes only to a session, a generation or an editor, and 7 only to a plan or a journal that is judged
+-- the answer 1 comes only to a session, a generation, an editor or a planning, and 7 only to a plan or a journal that is judged
 abbrev pub ModesDecide : Type 0
 ModesDecide = OfEachCall (λ c status.
     (status ≡ 1 → (r : Request) × (asked_of c.words ≡ Some r) × IsToRun r)

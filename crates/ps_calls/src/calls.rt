@@ -5,7 +5,7 @@ ghost use Rattle.ps_inputs.specs.Input.{is_quiet};
 ghost use Rattle.ps_inputs.specs.declared.works.Work.TheVariants.{Session as ASession};
 ghost use Rattle.ps_calls.specs.Headline.{Answers, call_of, Ends, Finishes, moment, Refuses};
 
-use super::performing::{do_generation, do_reported_session, do_session, perform_quiet};
+use super::performing::{do_generation, do_plan, do_reported_session, do_session, perform_quiet};
 use super::reported::Reported;
 use super::reporting::{give_up, inform, report};
 use ps_inputs::{Fault, Session, Work, load};
@@ -82,6 +82,7 @@ fn do_work<R: Threads + Wait + Sync, O: Sink, E: Sink, G: Gate + Sync>(
 {
     match work {
         Work::Session(session) => end_session(rt, alloc, session, gate, out, err),
+        Work::Planning(planning) => finish(do_plan(rt, alloc, planning, out), err),
         Work::Generation(generation) => {
             finish(do_generation(rt, alloc, generation, gate, out), err)
         }

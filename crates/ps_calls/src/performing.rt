@@ -2,14 +2,14 @@
 ghost use Rattle.ps_world.specs.DomainTexts.{domain_text};
 ghost use Rattle.ps_text.specs.Names.{AreNames};
 ghost use Rattle.ps_audit.specs.Findings.{finding_status};
-ghost use Rattle.ps_inputs.specs.declared.works.Work.TheVariants.{Session as ASession, Generation as AGeneration, Validation as AValidation, Replay as AReplay, Editing as AnEditing};
-ghost use Rattle.std.specs.Prelude.{◌≡◌};
+ghost use Rattle.ps_inputs.specs.declared.works.Work.TheVariants.{Session as ASession, Generation as AGeneration, Validation as AValidation, Planning as APlanning, Replay as AReplay, Editing as AnEditing};
+ghost use Rattle.std.specs.Prelude.{◌≡◌, ◌≤◌, IfOk};
 ghost use Rattle.ps_board.specs.Board.{nothing_done};
 ghost use Rattle.ps_gen.specs.Summary.{summary_text};
 ghost use Rattle.ps_rules.specs.History.{status_of};
 ghost use Rattle.ps_session.specs.Session.{AreTurns};
 ghost use Rattle.ps_calls.specs.Reported.{RunsReported};
-ghost use Rattle.ps_calls.specs.Headline.{CountsSession, Finds, IsQuiet, Performs, WritesWithStatus, turns_of, verdict_after};
+ghost use Rattle.ps_calls.specs.Headline.{CountsSession, Finds, IsQuiet, Performs, WritesWithStatus, plan_after, turns_of, verdict_after};
 ghost use Rattle.ps_calls.specs.Verdicts.{verdict_line, verdict_status};
 
 use super::reported::{Reported, run_reported};
@@ -19,9 +19,10 @@ use ps_board::Board;
 use ps_domain::Expert;
 use ps_editing::run_edits;
 use ps_gen::summary;
-use ps_inputs::{Editing, Generation, Replay, Session, Validation, Work};
+use ps_inputs::{Editing, Generation, Planning, Replay, Session, Validation, Work};
 use ps_machine::{Entry, Input, Line};
 use ps_pddl::print_domain;
+use ps_planned::{Told, plan_told};
 use ps_pool::Gate;
 use ps_session::{Turns, run, run_unwritten, status_of};
 use ps_solve::Forward;
@@ -43,7 +44,7 @@ pub fn perform_quiet<O: Sink>(alloc: Global, work: Work, out: &mut O) -> Result<
         Work::Validation(validation) => validate(alloc, validation, out),
         Work::Replay(replay) => do_replay(alloc, replay, out),
         Work::Editing(editing) => do_edit(alloc, editing, out),
-        Work::Session(_) | Work::Generation(_) => unreachable!(),
+        Work::Session(_) | Work::Generation(_) | Work::Planning(_) => unreachable!(),
     }
 }
 
@@ -212,6 +213,67 @@ fn write_verdict<O: Sink>(
     let line = verdict_line(alloc, names, wrong)?;
     put(out, line.as_slice())?;
     Ok(verdict_status(wrong))
+}
+
+/// Plans after the edits of a script, and writes what is found. The status is 0 where that is a plan, else 1.
+pub fn do_plan<R: Threads + Sync, O: Sink>(
+    rt: &R,
+    alloc: Global,
+    planning: Planning,
+    out: &mut O,
+) -> Result<u8, SinkRefusal>
+    ensures { Performs (APlanning planning) (O.shown out.old) (O.shown out.new) result }
+{
+    let Planning { names, input, .. } = planning;
+    let told = plan(rt, alloc, &names, input)?;
+    write_told(&told, out)
+}
+
+/// What three planners find after the edits of the input's lines. The only error is out of memory.
+fn plan<R: Threads + Sync>(
+    rt: &R,
+    alloc: Global,
+    names: &Names,
+    input: Input,
+) -> Result<Told, AllocError>
+    requires { 1 ≤ input.budget }
+    ensures { IfOk result (λ told. (told.text.items, told.status)
+        ≡ plan_after input.domain input.lines names.now input.budget) }
+{
+    let Input {
+        domain,
+        lines,
+        budget,
+        ..
+    } = input;
+    let expert = Expert::new(alloc, domain)?;
+    plan_lines(rt, alloc, names, &expert, lines.as_slice(), budget)
+}
+
+/// What three planners find after the edits of these lines. The only error is out of memory.
+fn plan_lines<R: Threads + Sync>(
+    rt: &R,
+    alloc: Global,
+    names: &Names,
+    expert: &Expert,
+    lines: &[Line],
+    budget: u32,
+) -> Result<Told, AllocError>
+    requires { 1 ≤ budget }
+    ensures { IfOk result (λ told. (told.text.items, told.status)
+        ≡ plan_after expert.now lines.now names.now budget) }
+{
+    let problem = known_after(alloc, expert, lines)?;
+    plan_told(rt, alloc, names, expert, &problem, budget)
+}
+
+/// Writes what is told of a problem. The status is that of it.
+fn write_told<O: Sink>(told: &Told, out: &mut O) -> Result<u8, SinkRefusal>
+    ensures { WritesWithStatus told.now.text.items told.now.status (O.shown out.old)
+        (O.shown out.new) result }
+{
+    put(out, told.text.as_slice())?;
+    Ok(told.status)
 }
 
 /// Judges the text of a journal, and writes what it is found to be, or, where that is asked for and it is legal, writes it anew. The status
