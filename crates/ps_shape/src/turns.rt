@@ -57,7 +57,8 @@ pub fn turn_of(symbol: Symbol, mark: Mark) -> Turn
 }
 
 fn terms_turn(mark: Mark) -> Turn
-    ensures turned { IfSome (turned result (InValue value.Terms)) (λ new. step (InValue value.Terms) mark ≡ Some new) }
+    ensures turned { IfSome (turned result (InValue value.Terms))
+        (λ new. step (InValue value.Terms) mark ≡ Some new) }
     ensures few { IfSome (turned result (InValue value.Terms)) (λ new. level new ≤ 2) }
 {
     match mark {

@@ -100,7 +100,8 @@ fn keep(terms: &mut Terms, term: Term)
 
 /// A head with its arguments, where these are the first 6 of so many.
 fn lifted(head: Lexeme, terms: Terms, count: usize) -> Result<Lifted, DomainRefusal>
-    ensures { (all : List TermView) → length all ≡ count → terms ≡ take MOST_ARGUMENTS all → result ≡ lifted head all }
+    ensures { (all : List TermView) → length all ≡ count → terms ≡ take MOST_ARGUMENTS all
+        → result ≡ lifted head all }
 {
     if count > MOST_ARGUMENTS {
         return Err(DomainRefusal::Arity { at: head.at });
