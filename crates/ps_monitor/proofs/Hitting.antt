@@ -1,5 +1,5 @@
 -- A condition that nothing in a list hits is as true as before a change that the list names.
-use Rattle.std.proofs.Common.{◌≡◌, ◌<◌, ℕ, Bool, true, false, not, ◌||◌, if◌then◌else◌, List, [], ◌∷◌, All, Option, Some, None, refl, ap, sym, ◌∙◌}
+use Rattle.std.proofs.Common.{◌≡◌, ◌≢◌, ◌<◌, ℕ, Bool, true, false, not, ◌||◌, if◌then◌else◌, List, [], ◌∷◌, All, Option, Some, None, refl, ap, sym, ◌∙◌}
 use Rattle.std.specs.List.{list_any}
 use Rattle.std.proofs.lemmas.List.Elements.{All-nil, All-cons}
 use Rattle.std.proofs.lemmas.Bool.{or_right, false_from_ne_true, or_parts, or_from}
@@ -81,7 +81,7 @@ hit_at : (users : Users) (changed : List Touched) (act : ℕ) (over : Option (Li
 hit_at users changed act None h e = absurd (cc)
 hit_at users changed act (Some cs) h e = found_by users act changed (read_by_list cs) h e
 
--- each act that is hit is found
-pub hit_found : (watches : List (Option (List CondTree))) (users : Users) (changed : List Touched) (act : ℕ) → IsIndexed watches users
+-- each act that is hit is found, but perhaps the first
+pub hit_found : (watches : List (Option (List CondTree))) (users : Users) (changed : List Touched) (act : ℕ) → IsIndexed watches users → act ≢ 0
     → is_hit changed (watch_at watches act) ≡ true → list_any (λ t. uses users t act) changed ≡ true
-hit_found watches users changed act indexed e = hit_at users changed act (watch_at watches act) (indexed.whole act) e
+hit_found watches users changed act indexed n e = hit_at users changed act (watch_at watches act) (λ t. indexed.whole act t n) e

@@ -1,5 +1,7 @@
 //! Watched conditions, found by what they read.
 ghost use Rattle.std.specs.Prelude.{◌≡◌, ◌≢◌, ℕ, ◌+◌, ◌<◌, ◌≤◌, [], is_some, length, Some, None, false, true, slice_index_or, OnOk, OnErr};
+ghost use Rattle.ps_action.specs.Touching.{read_by_list};
+ghost use Rattle.ps_users.specs.Users.{Enters, GrowsBy};
 ghost use Rattle.ps_monitor.specs.Indexed.{watch_at};
 ghost use Rattle.ps_monitor.specs.Watched.{is_false};
 ghost use Rattle.ps_monitor.specs.Hits.{is_hit};
@@ -16,7 +18,7 @@ use std::marker::Model;
 #[derive(Drop)]
 pub struct Watches {
     places: Vec<Option<Watch>>,
-    /// The acts that read each thing and place: all that do, and perhaps some that did.
+    /// The acts but the first that read each thing and place: all that do, and perhaps some that did.
     readers: Users,
 }
 
@@ -47,6 +49,18 @@ fn make_place(places: &mut Vec<Option<Watch>>, act: usize) -> Result<(), AllocEr
     Ok(())
 }
 
+/// Notes what a watched condition reads, but for the first act: that one is always looked at, so that a plan of one act needs no index.
+/// Where memory runs out some of it may be noted.
+fn enter(readers: &mut Users, act: u32, watch: &Watch) -> Result<(), AllocError>
+    ensures ok { OnOk result (act ≢ 0 → Enters readers.old (read_by_list watch.now) act readers.new) }
+    ensures more { GrowsBy readers.old act readers.new }
+{
+    if act == 0 {
+        return Ok(());
+    }
+    readers.enter_all(watch.reads(), act)
+}
+
 impl Watches {
     /// Nothing is watched.
     pub fn new(alloc: Global) -> Watches
@@ -74,7 +88,7 @@ impl Watches {
         ensures err { OnErr result ((other : ℕ) → watch_at self.new other ≡ watch_at self.old other) }
     {
         make_place(&mut self.places, act as usize)?;
-        self.readers.enter_all(watch.reads(), act)?;
+        enter(&mut self.readers, act, &watch)?;
         self.places[act as usize] = Some(watch);
         Ok(())
     }
@@ -116,6 +130,7 @@ impl Watches {
     {
         let mut acts = Acts::none();
         self.readers.mark_all(changed, &mut acts.marks);
+        acts.add(0);
         acts
     }
 
