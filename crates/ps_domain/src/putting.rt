@@ -1,5 +1,5 @@
 //! Arguments in place of the variables of an action.
-ghost use Rattle.std.specs.Prelude.{◌≡◌, length, map, IfOk};
+ghost use Rattle.std.specs.Prelude.{◌≡◌, ◌≤◌, ◌<◌, ◌+◌, ◌^◌, length, map, vec_len, vec_capacity, IfOk};
 ghost use Rattle.ps_world.specs.CondViews.{cond_tree};
 ghost use Rattle.ps_action.specs.Grounding.{put_cond, put_condition, put_effect, put_guarded, put_spread, fitting, put_list};
 
@@ -62,14 +62,21 @@ pub fn put_conds(alloc: Global, env: &Env, conds: &Conds) -> Result<Conds, Alloc
     Ok(put)
 }
 
-/// That each argument fits its parameter.
-fn fitting(alloc: Global, params: &[Param], args: &[Name]) -> Result<Conds, AllocError>
-    requires { length params.now ≡ length args.now }
-    ensures { IfOk result (λ conds. conds ≡ fitting params.now args.now) }
+/// That each argument fits its parameter, with room for so many more conditions.
+fn fitting(
+    alloc: Global,
+    params: &[Param],
+    args: &[Name],
+    more: usize,
+) -> Result<Vec<Cond>, AllocError>
+    requires same { length params.now ≡ length args.now }
+    requires few { more < 2 ^ 63 }
+    ensures items { IfOk result (λ conds. map cond_tree conds.items ≡ fitting params.now args.now) }
+    ensures room { IfOk result (λ conds. vec_len conds + more ≤ vec_capacity conds) }
 {
-    let mut fitting = Conds::new(alloc);
+    let mut fitting = Vec::with_capacity(alloc, params.len() + more)?;
     for at in 0..params.len() {
-        fitting.push(Cond::IsA(Term::Const(args[at]), params[at].kind))?;
+        fitting.push_reserved(Cond::IsA(Term::Const(args[at]), params[at].kind));
     }
     Ok(fitting)
 }
@@ -85,11 +92,12 @@ pub fn put_list(
     ensures { IfOk result (λ put. put ≡ put_list params.now args.now conds.now) }
 {
     let env = Env::of(args);
-    let mut put = fitting(alloc, params, args)?;
-    for cond in conds.as_slice() {
-        put.push(put_cond(alloc, &env, cond)?)?;
+    let conds = conds.as_slice();
+    let mut put = fitting(alloc, params, args, conds.len())?;
+    for cond in conds {
+        put.push_reserved(put_cond(alloc, &env, cond)?);
     }
-    Ok(put)
+    Ok(Conds::of(put))
 }
 
 fn put_flat(alloc: Global, env: &Env, effects: &[Effect]) -> Result<Seq<Effect>, AllocError>
@@ -147,9 +155,9 @@ pub fn put_effects(
     ensures { IfOk result (λ put. put ≡ map (put_spread args.now) effects.now) }
 {
     let env = Env::of(args);
-    let mut put = Seq::new(alloc);
+    let mut put = Vec::with_capacity(alloc, effects.len())?;
     for spread in effects {
-        put.push(put_spread(alloc, &env, spread)?)?;
+        put.push_reserved(put_spread(alloc, &env, spread)?);
     }
-    Ok(put)
+    Ok(Seq::of(put))
 }

@@ -6,7 +6,7 @@ ghost use Rattle.ps_action.specs.Plans.{after_steps, judged_by, most_acts, step,
 ghost use Rattle.ps_action.specs.declared.refusals.PlanRefusal.TheVariants.{Ground, StartEffect, EndEffect};
 ghost use Rattle.ps_plan.specs.Judging.{Judges, failing};
 
-use ps_action::{Act, EffectRefusal, GroundAction, GroundRefusal, PlanRefusal};
+use ps_action::{Act, EffectRefusal, GroundAction, GroundRefusal, Known, PlanRefusal};
 use ps_domain::Expert;
 use ps_eval::{apply, holds, holds_all};
 use ps_problem::Problem;
@@ -77,8 +77,7 @@ pub(crate) fn ground(
 ) -> Result<GroundAction, Failure<GroundRefusal>>
     ensures { Gives (λ g. g) result (ground_act expert.now problem.now.instances act.now) }
 {
-    let instances = problem.instances()?;
-    expert.ground(&instances, act)
+    expert.ground(Known::instances(problem), act)
 }
 
 /// Makes a step. After a refusal the problem may have changed.
