@@ -7,7 +7,8 @@ ghost use Rattle.ps_action.specs.Trees.{waits_of};
 ghost use Rattle.ps_rules.specs.Known.{changed, grounds, kept};
 ghost use Rattle.ps_rules.specs.Members.{as_observer, as_performer, observers, performers};
 ghost use Rattle.ps_ledger.specs.Acts.{IsCancelled};
-ghost use Rattle.ps_ledger.specs.Ledger.{HasRoom, HasSpare, KeepsSpare, Speaks};
+ghost use Rattle.ps_ledger.specs.Legal.{HasMembersOf};
+ghost use Rattle.ps_ledger.specs.Ledger.{HasRoom, HasSpare, KeepsSpare, Speaks, TellsAll};
 ghost use Rattle.ps_rows.specs.Present.{Stands};
 ghost use Rattle.ps_rows.specs.Table.{Advances, KeepsAwaiting, MayBegin, MayBePlan, TakesCancelOf, TakesEvent};
 ghost use Rattle.ps_rows.specs.Taking.{GoesOn, HasSameBase, leaves_known, part_of};
@@ -273,18 +274,37 @@ fn observer_names(alloc: Global, input: &Input) -> Result<Vec<Name>, AllocError>
     Ok(names)
 }
 
+/// What the entries tell of the members of an input, before the first entry.
+fn first_ledger(alloc: Global, input: &Input) -> Result<Ledger, AllocError>
+    ensures members { IfOk result (HasMembersOf input.now) }
+    ensures told { IfOk result (TellsAll []) }
+{
+    let performers = performer_names(alloc, input)?;
+    let observers = observer_names(alloc, input)?;
+    Ledger::new(alloc, performers, observers)
+}
+
+/// The arcs of no act, and the tree over them.
+fn first_tree(alloc: Global) -> Result<(Arcs, Tree), AllocError>
+    ensures acts { IfOk result (λ kept. kept.0.acts ≡ 0) }
+    ensures pairs { IfOk result (λ kept. kept.0.pairs ≡ []) }
+    ensures tree { IfOk result (λ kept. kept.1.waits ≡ waits_of kept.0) }
+{
+    let arcs = Arcs::new(alloc, 0)?;
+    let tree = Tree::build(alloc, &arcs)?;
+    Ok((arcs, tree))
+}
+
 impl Present {
     /// What is kept before the first entry.
+    // Each step that may fail comes where little is owned, since its failure lets go of all that is.
     pub fn new(alloc: Global, input: &Input) -> Result<Present, AllocError>
         ensures { IfOk result (Stands input.now []) }
     {
         let expert = Expert::new(alloc, input.domain.copy(alloc)?)?;
         let problem = Problem::new(alloc, &expert)?;
-        let performers = performer_names(alloc, input)?;
-        let observers = observer_names(alloc, input)?;
-        let ledger = Ledger::new(alloc, performers, observers)?;
-        let arcs = Arcs::new(alloc, 0)?;
-        let tree = Tree::build(alloc, &arcs)?;
+        let ledger = first_ledger(alloc, input)?;
+        let (arcs, tree) = first_tree(alloc)?;
         Ok(Present {
             expert,
             due: count_due(input.lines.as_slice()),
