@@ -21,6 +21,7 @@ use Rattle.ps_machine.specs.declared.inputs.Input.{Input}
 use Rattle.ps_machine.specs.declared.inputs.Line.{Line}
 use Rattle.ps_machine.specs.declared.inputs.Line.TheVariants.{Good, Bad}
 use Rattle.ps_machine.specs.declared.inputs.Query.{Query}
+use Rattle.ps_machine.specs.declared.inputs.Query.TheVariants as query
 use Rattle.ps_machine.specs.declared.journal.By.TheVariants.{Terminal}
 use Rattle.ps_machine.specs.declared.journal.Refusal.{Refusal}
 use Rattle.ps_machine.specs.declared.journal.Refusal.TheVariants as refusal
@@ -41,8 +42,12 @@ use Rattle.ps_rows.specs.Table.{MayBegin}
 use Rattle.ps_rows.proofs.Answered.{fits-unplanned, with-some-goal}
 use Rattle.ps_rows.proofs.Grounded.{good-each, one-each}
 use Rattle.ps_board.specs.declared.whole.Core.{Core}
+use Rattle.ps_board.specs.Board.{answer_to, IsStep}
 use Rattle.ps_board.specs.Core.{Stands}
-use Rattle.ps_board.specs.Commands.{AnswersBy, AnswersNext, line_of, MayAnswer}
+use Rattle.ps_board.specs.declared.turns.Step.TheVariants.{Said}
+use Rattle.ps_machine.specs.declared.journal.By.{By}
+use Rattle.ps_board.specs.Commands.{AnswersBy, AnswersNext, asks_plan, IsNextBy, line_of, MayAnswer}
+use Rattle.ps_board.specs.declared.commands.Next.TheVariants as next
 
 -- what is known in the domain is what the entries say
 pub told-now : {A : Type 0} (f : Domain → Knowledge → A) (c : Core) → Stands c → f c.present.expert c.present.problem ≡ f c.input.domain (know c.input c.entries.items)
@@ -88,32 +93,44 @@ refused says c line why next given =
         fit = and_from (answered es + 1 == answered es + 1) (is_cause why (option_and_then (refusal_of i es) (next_line i es))) (number-itself (answered es + 1)) cause;
       };
       plan = tt;
+      other = refl;
     }
 
 -- ---- events that aren't refused
 
 -- an event that answers a line that isn't refused
-pub accepted : (says : Says) (c : Core) (line : Line) (e : Event) → line_of c ≡ Some line → refusal_of c.input c.entries.items line ≡ None
-    → answer_event says c.input c.entries.items line None ≡ Some e → answers_line e ≡ true → fits c.input c.entries.items e ≡ true → MayBegin e c.present
-    → MayAnswer says c e
-accepted says c line e next given made own fit may = record {
-  answers = record {
-    event = ap (option_and_then (line_event says c.input c.entries.items)) next ∙ ap (answer_event says c.input c.entries.items line) given ∙ made;
-    own = own;
-    fit = fit;
-  };
-  plan = may;
+accepted-next : (says : Says) (c : Core) (line : Line) (e : Event) → line_of c ≡ Some line → refusal_of c.input c.entries.items line ≡ None
+    → answer_event says c.input c.entries.items line None ≡ Some e → answers_line e ≡ true → fits c.input c.entries.items e ≡ true → AnswersNext says c e
+accepted-next says c line e next given made own fit = record {
+  event = ap (option_and_then (line_event says c.input c.entries.items)) next ∙ ap (answer_event says c.input c.entries.items line) given ∙ made;
+  own = own;
+  fit = fit;
 }
 
-pub quits : (says : Says) (c : Core) → line_of c ≡ Some (Good command.Quit) → MayAnswer says c event.Quit
-quits says c next = accepted says c (Good command.Quit) event.Quit next refl refl refl (ap is_quit next) tt
+-- so does one that isn't the query for a plan
+pub accepted : (says : Says) (c : Core) (line : Line) (e : Event) → line_of c ≡ Some line → refusal_of c.input c.entries.items line ≡ None
+    → answer_event says c.input c.entries.items line None ≡ Some e → answers_line e ≡ true → fits c.input c.entries.items e ≡ true → MayBegin e c.present
+    → asks_plan e ≡ false → MayAnswer says c e
+accepted says c line e next given made own fit may other = record { answers = accepted-next says c line e next given made own fit; plan = may; other = other }
 
-pub asks : (says : Says) (c : Core) (q : Query) → line_of c ≡ Some (Good (command.Ask q)) → refusal_of c.input c.entries.items (Good (command.Ask q)) ≡ None
-    → MayAnswer says c (event.Ask q)
-asks says c q next given =
+pub quits : (says : Says) (c : Core) → line_of c ≡ Some (Good command.Quit) → MayAnswer says c event.Quit
+quits says c next = accepted says c (Good command.Quit) event.Quit next refl refl refl (ap is_quit next) tt refl
+
+asks-next : (says : Says) (c : Core) (q : Query) → line_of c ≡ Some (Good (command.Ask q)) → refusal_of c.input c.entries.items (Good (command.Ask q)) ≡ None
+    → AnswersNext says c (event.Ask q)
+asks-next says c q next given =
     let said : is_query q (line_of c) ≡ true = ap (is_query q) next ∙ (same_query-decides q q).1 refl in
     let fine : is_accepted c.input c.entries.items (line_of c) ≡ true = ap (is_accepted c.input c.entries.items) next ∙ ap is_none given in
-    accepted says c (Good (command.Ask q)) (event.Ask q) next given refl refl (and_from (is_query q (line_of c)) (is_accepted c.input c.entries.items (line_of c)) said fine) tt
+    accepted-next says c (Good (command.Ask q)) (event.Ask q) next given refl refl (and_from (is_query q (line_of c)) (is_accepted c.input c.entries.items (line_of c)) said fine)
+
+pub asks : (says : Says) (c : Core) (q : Query) → asks_plan (event.Ask q) ≡ false → line_of c ≡ Some (Good (command.Ask q))
+    → refusal_of c.input c.entries.items (Good (command.Ask q)) ≡ None → MayAnswer says c (event.Ask q)
+asks says c q other next given = record { answers = asks-next says c q next given; plan = tt; other = other }
+
+-- another query isn't the one for a plan
+pub other-query : (q : Query) → (q ≡ query.Plan → ⊥) → asks_plan (event.Ask q) ≡ false
+other-query query.Plan not = absurd (not refl)
+other-query q not = refl
 
 -- why a query is refused
 pub query-cause : (c : Core) (b : Bool) (q : Query) → Stands c → b ≡ has_run c.entries.items
@@ -134,7 +151,7 @@ edit-outcome says c edit next (Ok k) given =
     let said : is_edit edit (line_edit (line_of c)) ≡ true = ap (λ l. is_edit edit (line_edit l)) next ∙ same_edit-itself edit in
     (accepted says c (Good (command.Edit edit)) (event.Edit (Terminal (answered es + 1)) edit) next (ap edit_refusal given) refl refl
     (and_from (answered es + 1 == answered es + 1) (is_edit edit (line_edit (line_of c)) && is_ok o) (number-itself (answered es + 1))
-    (and_from (is_edit edit (line_edit (line_of c))) (is_ok o) said (ap is_ok given))) tt).answers
+    (and_from (is_edit edit (line_edit (line_of c))) (is_ok o) said (ap is_ok given))) tt refl).answers
 
 pub edits : (says : Says) (c : Core) (edit : Edit) → line_of c ≡ Some (Good (command.Edit edit))
     → AnswersNext says c (edit_event c.input c.entries.items (Terminal (answered c.entries.items + 1)) edit)
@@ -154,7 +171,7 @@ runs-act says c act acts s one next given =
     ∙ and_from (same_acts (act ∷ []) (act ∷ [])) (is_ok (ground_act i.domain (know i es).instances act)) ((same_acts-decides (act ∷ []) (act ∷ [])).1 refl) (ap is_ok (sym now) ∙ fine) in
     subst (λ xs. MayAnswer says c (event.Run run.Action xs)) (sym one)
     (accepted says c (Good (command.RunAction act)) (event.Run run.Action (act ∷ [])) next (ap ground_refusal (sym now) ∙ given) refl refl fit
-    (record { few = omega arith; grounded = one-each c.present.expert c.present.problem act fine }))
+    (record { few = omega arith; grounded = one-each c.present.expert c.present.problem act fine }) refl)
 
 -- why the command to run an act is refused
 pub act-cause : (c : Core) (act : Act) → Stands c
@@ -187,7 +204,7 @@ runs-plan says c steps acts s all next few given =
     let many = length-acts steps in
     subst (λ xs. MayAnswer says c (event.Run run.Plan xs)) (sym all)
     (accepted says c (Good (command.RunPlan (Ok steps))) (event.Run run.Plan these) next (sym (told-now (λ d k. refusal_of_steps d k (Ok steps)) c s) ∙ given) refl refl fit
-    (record { few = omega (arith, few, many); grounded = good-each c.present.expert c.present.problem these fine }))
+    (record { few = omega (arith, few, many); grounded = good-each c.present.expert c.present.problem these fine }) refl)
 
 pub no-steps : (d : Domain) (k : Knowledge) (why : PlanTextRefusal) → refusal_of_steps d k (Err why) ≡ None → ⊥
 no-steps d k why given = some-none (refusal.PlanText why) (goal-so k (Some (refusal.PlanText why)) given)
@@ -217,7 +234,7 @@ runs-goal c acts s next goal fit = λ says said.
     ap (opens_with i es run.Goal acts) next ∙ plan-so i.domain (know i es) i.budget acts now in
     accepted says c (Good command.Run) (event.Run run.Goal acts) next (goal-cause c (answer.Plan acts) s goal fit)
     (ap run_by (sym (said ∙ told-now (λ d k. says d k i.budget) c s))) refl good
-    (record { few = fit.0.few; grounded = good-each c.present.expert c.present.problem acts fit.0.goes_well })
+    (record { few = fit.0.few; grounded = good-each c.present.expert c.present.problem acts fit.0.goes_well }) refl
 
 pub refuses-goal : (c : Core) (a : Answer) (why : Refusal) → Stands c → line_of c ≡ Some (Good command.Run) → IsSome c.present.problem.goal
     → Fits c.present.expert c.present.problem c.input.budget a → unplanned a ≡ Some why
@@ -230,3 +247,37 @@ goal-less says c s next less =
     refused says c (Good command.Run) refusal.NoGoal next
     (sym (told-now (λ d k. refusal_of_goal d c.input.budget k) c s)
     ∙ ap (λ b. if b then Some refusal.NoGoal else unplanned (answered_by c.present.expert c.present.problem c.input.budget)) less)
+
+-- ---- the query for a plan
+
+-- why it is refused is why no plan is made for the goal
+abbrev plan-query : Line
+plan-query = Good (command.Ask query.Plan)
+
+pub tells-plan : (c : Core) (acts : List Act) → Stands c → line_of c ≡ Some plan-query → IsSome c.present.problem.goal
+    → Fits c.present.expert c.present.problem c.input.budget (answer.Plan acts) → IsNextBy c (answer.Plan acts) (next.Plan acts)
+tells-plan c acts s next goal fit = λ says said. (
+  asks-next says c query.Plan next (goal-cause c (answer.Plan acts) s goal fit),
+  sym (said ∙ told-now (λ d k. says d k c.input.budget) c s),
+)
+
+pub refuses-plan : (c : Core) (a : Answer) (why : Refusal) → Stands c → line_of c ≡ Some plan-query → IsSome c.present.problem.goal
+    → Fits c.present.expert c.present.problem c.input.budget a → unplanned a ≡ Some why
+    → IsNextBy c a (next.Event (event.Refused (Terminal (answered c.entries.items + 1)) why))
+refuses-plan c a why s next goal fit none = λ says said. refused says c plan-query why next (goal-cause c a s goal fit ∙ none)
+
+pub plan-less : (says : Says) (c : Core) → Stands c → line_of c ≡ Some plan-query → is_none c.present.problem.goal ≡ true
+    → MayAnswer says c (event.Refused (Terminal (answered c.entries.items + 1)) refusal.NoGoal)
+plan-less says c s next less =
+    refused says c plan-query refusal.NoGoal next
+    (sym (told-now (λ d k. refusal_of_goal d c.input.budget k) c s)
+    ∙ ap (λ b. if b then Some refusal.NoGoal else unplanned (answered_by c.present.expert c.present.problem c.input.budget)) less)
+
+-- ---- what a call says
+
+-- an edit was said, or its refusal
+pub said-edit : (says : Says) (i : Input) (es : List Entry) (whose : By) (edit : Edit) → answer_to says i es ≡ Some (edit_event i es whose edit) → IsStep says i es Said
+said-edit says i es whose edit h = by-cause (edit_refusal (edited i.domain (know i es) edit)) h where
+  by-cause : (why : Option Refusal) → answer_to says i es ≡ Some (outcome_of whose edit why) → IsStep says i es Said
+  by-cause None h = (event.Edit whose edit, h, refl, refl)
+  by-cause (Some why) h = (event.Refused whose why, h, refl, refl)

@@ -110,7 +110,7 @@ count-head : (b : Bool) (a n : ℕ) (xs : List ℕ) → length xs ≡ n → leng
 count-head true a n xs h = omega (arith, h)
 count-head false a n xs h = omega (arith, h)
 
-counts-first : (b : Bool) (s : ActState) (states : List ActState) → b ≡ is_active s → cond b 1 0 + count_by is_active states ≡ count_by is_active (s ∷ states)
+pub counts-first : (b : Bool) (s : ActState) (states : List ActState) → b ≡ is_active s → cond b 1 0 + count_by is_active states ≡ count_by is_active (s ∷ states)
 counts-first b s states e = ap (λ t. cond t 1 0 + count_by is_active states) e ∙ sym (sum_by-cons (λ x. cond (is_active x) 1 0) s states)
 
 count-places : (states : List ActState) (p : ℕ → Bool) (a : ℕ) → ((k : ℕ) → p (a + k) ≡ is_active (slice_index_or states k Waiting))

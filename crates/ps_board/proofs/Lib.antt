@@ -1,6 +1,5 @@
 pub mod Answering
 pub mod Asking
-pub mod Boxed
 pub mod Due
 pub mod Forced
 pub mod Going
@@ -9,12 +8,14 @@ pub mod Handing
 pub mod Held
 pub mod Keeping
 pub mod Lengths
+pub mod Lent
 pub mod Observing
 pub mod Quiet
 pub mod Ready
 pub mod Rejecting
 pub mod Skipping
 pub mod Sparing
+pub mod Still
 pub mod Stuck
 pub mod Submitting
 pub mod Ticking

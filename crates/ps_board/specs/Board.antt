@@ -1,7 +1,12 @@
 -- What the calls of a board do and answer.
 use Rattle.std.specs.Prelude.{◌≡◌, ℕ, Bool, true, false, ◌&&◌, not, if◌then◌else◌, Option, Some, None, is_none, option_and_then, List, [], map, slice_get, slice_set}
 use Rattle.std.specs.Option.{option_map_or}
+use Rattle.ps_machine.specs.declared.inputs.Query.TheVariants as query
 use Rattle.ps_machine.specs.declared.journal.Event.{Event}
+use Rattle.ps_machine.specs.declared.journal.Event.TheVariants as event
+use Rattle.ps_action.specs.declared.answers.Answer.TheVariants as answer
+use Rattle.ps_rules.specs.Known.{know}
+use Rattle.ps_board.specs.Commands.{asks_plan}
 use Rattle.ps_machine.specs.declared.journal.Entry.{Entry}
 use Rattle.ps_rules.specs.Journal.{tree_of}
 use Rattle.ps_rules.specs.Runs.{has_run, is_running, opens}
@@ -21,7 +26,7 @@ use Rattle.ps_board.specs.declared.ticks.Ticked.{Ticked}
 use Rattle.ps_board.specs.declared.ticks.Ticked.TheVariants.{Halted}
 use Rattle.ps_board.specs.declared.board.Shown.{Shown}
 use Rattle.ps_board.specs.declared.turns.Step.{Step}
-use Rattle.ps_board.specs.declared.turns.Step.TheVariants.{Said, Opened, End}
+use Rattle.ps_board.specs.declared.turns.Step.TheVariants.{Said, Planned, Opened, End}
 use Rattle.ps_board.specs.declared.works.Grant.{Grant}
 use Rattle.ps_board.specs.declared.works.Turn.{Turn}
 use Rattle.ps_board.specs.declared.works.Turn.TheVariants.{Did, Nothing}
@@ -54,14 +59,22 @@ abbrev pub answer_of : Option Event → Turn
 answer_of (Some e) = Did
 answer_of None = Nothing
 
--- what answers the next line, where one is left and the solver says this; after the first `quit` none is left
-abbrev pub commanded : Says → Shown → Option Event
-commanded says b = option_and_then (line_event says b.input b.entries) (next_line b.input b.entries)
+-- what answers the next line after these entries, where one is left and the solver says this; after the first `quit` none is left
+abbrev pub answer_to : Says → Input → List Entry → Option Event
+answer_to says i es = option_and_then (line_event says i es) (next_line i es)
 
--- the answer of a call in which this answered a line, if one was left
-abbrev pub step_of : Option Event → Step
-step_of None = End
-step_of (Some e) = if opens e then Opened else Said
+-- the same of what a board has
+abbrev pub commanded : Says → Shown → Option Event
+commanded says b = answer_to says b.input b.entries
+
+-- what a call says that answers the next line after these entries, where the solver says this: that none is left; or whether a run was
+-- opened; or, where the line asks for a plan, the solver's
+abbrev pub IsStep : Says → Input → List Entry → Step → Type 0
+IsStep says i es End = answer_to says i es ≡ None
+IsStep says i es Said = (e : Event) × (answer_to says i es ≡ Some e) × (opens e ≡ false) × (asks_plan e ≡ false)
+IsStep says i es Opened = (e : Event) × (answer_to says i es ≡ Some e) × (opens e ≡ true)
+IsStep says i es (Planned plan) =
+    (answer_to says i es ≡ Some (event.Ask query.Plan)) × (says i.domain (know i es) i.budget ≡ answer.Plan plan)
 
 -- whether a call answered that no line was left
 abbrev pub is_end : Step → Bool

@@ -2,7 +2,8 @@
 ghost use Rattle.std.specs.Prelude.{◌≡◌, ℕ, IsTrue, if◌then◌else◌, ◌+◌, ◌<◌, ◌≤◌, List, [], ◌∷◌, ◌++◌, length, map, IsOk, OnOk};
 ghost use Rattle.std.specs.Vec.{vec_capacity};
 ghost use Rattle.ps_rules.specs.History.{any_of, cancels, is_fail};
-ghost use Rattle.ps_ledger.specs.Ledger.{KeepsSpare};
+ghost use Rattle.ps_ledger.specs.Kept.{Takes};
+ghost use Rattle.ps_ledger.specs.Ledger.{HasRoom, HasSameMembers, KeepsSpare, Speaks, TakesOne, TellsAll};
 ghost use Rattle.ps_monitor.specs.Watched.{marked};
 ghost use Rattle.ps_board.specs.Blocks.{due_act, KeepsMembers, KeepsWatching, planned, TakesCancels};
 
@@ -12,6 +13,7 @@ use ps_monitor::{Acts, Monitor};
 use std::alloc::AllocError;
 
 /// Puts an entry at the end, for which there is memory.
+#[inline(always)]
 pub fn push(entries: &mut Vec<Entry>, entry: Entry)
     requires { length entries.old.items < vec_capacity entries.old }
     ensures items { entries.new.items ≡ entries.old.items ++ entry ∷ [] }
@@ -21,6 +23,24 @@ pub fn push(entries: &mut Vec<Entry>, entry: Entry)
     if entries.push(entry).is_err() {
         unreachable!();
     }
+}
+
+/// Puts an entry at the end, for which there is memory, and takes what it tells.
+#[inline(always)]
+pub fn enter(entries: &mut Vec<Entry>, ledger: &mut Ledger, entry: Entry)
+    requires place { length entries.old.items < vec_capacity entries.old }
+    requires room { HasRoom entry.what ledger.old }
+    requires speaks { Speaks entry.what ledger.old }
+    ensures items { entries.new.items ≡ entries.old.items ++ entry ∷ [] }
+    ensures len { length entries.new.items ≡ length entries.old.items + 1 }
+    ensures capacity { vec_capacity entries.old ≤ vec_capacity entries.new }
+    ensures told { Takes TellsAll entry.what ledger.old ledger.new }
+    ensures members { HasSameMembers ledger.old ledger.new }
+    ensures spare { TakesOne ledger.old ledger.new }
+{
+    let last = entries.len();
+    push(entries, entry);
+    ledger.take(&entries[last].what);
 }
 
 /// Makes room for so many entries more, at least one. The only error is that memory ran out, and then nothing changes.

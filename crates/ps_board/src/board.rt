@@ -5,7 +5,7 @@ ghost use Rattle.std.specs.Option.{option_copied};
 ghost use Rattle.ps_board.specs.declared.ticks.Ticked.TheVariants.{Nothing as Idle};
 ghost use Rattle.ps_board.specs.declared.works.Grant.{Grant as GrantView};
 ghost use Rattle.ps_board.specs.declared.works.Turn.TheVariants.{Did, Nothing, Work as Handed};
-ghost use Rattle.ps_board.specs.Board.{answer_of, commanded, GoesOn, grants_after, grants_without, is_end, is_free, IsAtRest, IsOut, IsReserved, nothing_done, observing, performing, performing_answer, recording, shown_tree, spare_after, step_of, tick_answer, ticking, with_done};
+ghost use Rattle.ps_board.specs.Board.{answer_of, commanded, GoesOn, grants_after, grants_without, is_end, is_free, IsAtRest, IsOut, IsReserved, IsStep, nothing_done, observing, performing, performing_answer, recording, shown_tree, spare_after, tick_answer, ticking, with_done};
 ghost use Rattle.ps_board.specs.Grants.{AreOut, granted, granted_after, performer_names};
 ghost use Rattle.ps_ends.specs.Working.{recorded};
 ghost use Rattle.ps_action.specs.Search.{Fits};
@@ -233,12 +233,20 @@ impl Board {
         core.reserve(n as usize)
     }
 
+    /// For how many entries more memory is kept.
+    pub fn spare(&self) -> u64
+        ensures { result ≡ self.now.spare }
+    {
+        self.core.spare as u64
+    }
+
     /// Does the next line of the terminal's script, where one is left and none before it was `quit`. A run for the goal has the plan
-    /// that the solver answers. The only error is that memory ran out, and then nothing changes.
+    /// that the solver answers, and a query for a plan is answered by it: the solver is asked at most once. The only error is that
+    /// memory ran out, and then nothing changes.
     pub fn command<S: Solver>(&mut self, solver: &S) -> Result<Step, AllocError>
         requires closed { is_running self.now.entries ≡ false }
         ensures answer { IfOk result
-            (λ s. s ≡ step_of (commanded (S.says solver.now) self.old)) }
+            (IsStep (S.says solver.now) self.old.input self.old.entries) }
         ensures end { IfOk result
             (λ s. is_end s ≡ is_none (next_line self.old.input self.old.entries)) }
         ensures entries { OnOk result
@@ -488,7 +496,7 @@ impl Board {
     {
         let request = self.grant_of(self.number_of(grant.by));
         let unit = self.core.unit_due(grant.r, grant.by);
-        is_request(request, grant.r) && is_unit(unit, &grant.unit)
+        is_request(request, grant.r) && is_unit(unit, grant.unit.get())
     }
 
     /// Records what the performer of a grant that is out does, and takes the grant in.

@@ -1,14 +1,15 @@
 //! What answers the lines of the terminal.
-ghost use Rattle.std.specs.Prelude.{◌≡◌, ◌≤◌, ◌+◌, length, IfOk, IsOk, IsSome, None, Some};
+ghost use Rattle.std.specs.Prelude.{◌≡◌, ◌≤◌, ◌+◌, false, length, IfOk, IsOk, IsSome, None, Some};
 ghost use Rattle.ps_action.specs.Search.{Fits};
 ghost use Rattle.ps_machine.specs.declared.inputs.Command.TheVariants.{Ask as AskLine, Edit as EditLine, Quit as QuitLine, Run as RunLine, RunAction as ActionLine, RunPlan as PlanLine};
 ghost use Rattle.ps_machine.specs.declared.inputs.Line.TheVariants.{Bad, Good};
+ghost use Rattle.ps_machine.specs.declared.inputs.Query.TheVariants.{Plan};
 ghost use Rattle.ps_machine.specs.declared.journal.By.TheVariants.{Terminal};
-ghost use Rattle.ps_machine.specs.declared.journal.Event.TheVariants.{Refused};
+ghost use Rattle.ps_machine.specs.declared.journal.Event.TheVariants.{Ask, Refused};
 ghost use Rattle.ps_rules.specs.Lines.{answered, refusal_of_steps};
 ghost use Rattle.ps_rules.specs.Sound.{IsSoundLine};
 ghost use Rattle.ps_board.specs.Core.{Stands};
-ghost use Rattle.ps_board.specs.Commands.{AnswersAnyway, AnswersBy, IsNext, IsNextAnyway, line_of, MayAnswer};
+ghost use Rattle.ps_board.specs.Commands.{AnswersAnyway, AnswersBy, asks_plan, IsNext, IsNextAnyway, IsNextBy, line_of, MayAnswer};
 
 use super::whole::Core;
 use ps_action::{Act, Answer, PlanStep, PlanTextRefusal};
@@ -27,6 +28,8 @@ pub enum Next {
     Edit(By, Edit),
     /// This event is to come.
     Event(Event),
+    /// The query for a plan is to be answered, which is this.
+    Plan(Seq<Act>),
 }
 
 impl Core {
@@ -69,7 +72,7 @@ impl Core {
         Ok(Next::Edit(by, edit))
     }
 
-    /// What answers a query.
+    /// What answers a query that isn't for a plan.
     fn answer_ask<S: Solver>(
         &self,
         alloc: Global,
@@ -78,6 +81,7 @@ impl Core {
     ) -> Result<Event, AllocError>
         requires stands { Stands self.now }
         requires next { line_of self.now ≡ Some (Good (AskLine query)) }
+        requires other { asks_plan (Ask query) ≡ false }
         ensures { IfOk result (AnswersAnyway self.now) }
     {
         let run = self.present.ledger.run.has_run();
@@ -93,6 +97,59 @@ impl Core {
         match why {
             Some(why) => Ok(self.refuse(why)),
             None => Ok(Event::Ask(query)),
+        }
+    }
+
+    /// What answers the query for a plan, where there is a goal and the solver answers this.
+    fn tell_plan(&self, answer: Answer) -> Next
+        requires stands { Stands self.now }
+        requires next { line_of self.now ≡ Some (Good (AskLine Plan)) }
+        requires goal { IsSome self.now.present.problem.goal }
+        requires fits { Fits self.now.present.expert self.now.present.problem
+            self.now.input.budget answer }
+        ensures { IsNextBy self.now answer result }
+    {
+        match answer {
+            Answer::Plan(acts) => Next::Plan(acts),
+            Answer::NoPlan => Next::Event(self.refuse(Refusal::NoPlan)),
+            Answer::Spent { depth } => Next::Event(self.refuse(Refusal::Spent(depth))),
+            Answer::TooMany => Next::Event(self.refuse(Refusal::TooMany)),
+        }
+    }
+
+    /// What answers the query for a plan.
+    fn answer_plan_query<S: Solver>(&self, alloc: Global, solver: &S) -> Result<Next, AllocError>
+        requires stands { Stands self.now }
+        requires next { line_of self.now ≡ Some (Good (AskLine Plan)) }
+        ensures { IfOk result (IsNext (S.says solver.now) self.now) }
+    {
+        let expert = &self.present.expert;
+        let problem = &self.present.problem;
+        if lacks_goal(problem) {
+            Ok(Next::Event(self.refuse(Refusal::NoGoal)))
+        } else {
+            let answer = solver.solve(alloc, expert, problem, self.input.budget)?;
+            Ok(self.tell_plan(answer))
+        }
+    }
+
+    /// What answers a query.
+    fn answer_query<S: Solver>(
+        &self,
+        alloc: Global,
+        solver: &S,
+        query: Query,
+    ) -> Result<Next, AllocError>
+        requires stands { Stands self.now }
+        requires next { line_of self.now ≡ Some (Good (AskLine query)) }
+        ensures { IfOk result (IsNext (S.says solver.now) self.now) }
+    {
+        match query {
+            Query::Plan => self.answer_plan_query(alloc, solver),
+            _ => {
+                let event = self.answer_ask(alloc, solver, query)?;
+                Ok(Next::Event(event))
+            }
         }
     }
 
@@ -205,10 +262,7 @@ impl Core {
         match line {
             Line::Bad(cause) => Ok(Next::Event(self.answer_bad(*cause))),
             Line::Good(Command::Edit(edit)) => self.answer_edit(alloc, edit),
-            Line::Good(Command::Ask(query)) => {
-                let event = self.answer_ask(alloc, solver, *query)?;
-                Ok(Next::Event(event))
-            }
+            Line::Good(Command::Ask(query)) => self.answer_query(alloc, solver, *query),
             Line::Good(Command::Run) => {
                 let event = self.answer_run(alloc, solver)?;
                 Ok(Next::Event(event))

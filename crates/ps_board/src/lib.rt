@@ -3,6 +3,7 @@
 
 mod blocks;
 mod board;
+mod boxes;
 mod commands;
 mod submits;
 mod ticks;
@@ -13,6 +14,7 @@ mod whole;
 mod works;
 
 pub use board::{Board, GrantBack, Shown};
+pub use boxes::Boxed;
 pub use commands::Next;
 pub use submits::Submitted;
 pub use ticks::{AboutAct, AboutRequest, Snapshot, Ticked};

@@ -113,7 +113,7 @@ impl Core {
     }
 
     /// The first entry since a snapshot that counts, if one does. The only error is that memory ran out.
-    fn first_since(&self, mut snapshot: Snapshot) -> Result<Option<u64>, AllocError>
+    fn first_since(&self, snapshot: Snapshot) -> Result<Option<u64>, AllocError>
         requires stands { Stands self.now }
         requires asked { WasAsked self.now.input self.now.entries.items snapshot.at }
         requires known { snapshot.problem
@@ -122,7 +122,9 @@ impl Core {
             (IsFirstFrom self.now.input self.now.entries.items snapshot.at) }
         ensures reserved { NoEditFrom self.now.entries.items snapshot.at → IsOk result }
     {
-        self.first_to_count(snapshot.at, &mut snapshot.problem)
+        let Snapshot { at, problem } = snapshot;
+        let mut problem = problem.into_inner();
+        self.first_to_count(at, &mut problem)
     }
 
     /// Appends the block of the event that follows an answer to what is known now. The only error is that memory ran out, and then no

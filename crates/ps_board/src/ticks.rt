@@ -5,17 +5,17 @@ ghost use Rattle.ps_machine.specs.declared.journal.FailWhy.TheVariants.{AtEnd, E
 ghost use Rattle.ps_rules.specs.Choices.{all_requests, overs, rejects};
 ghost use Rattle.ps_rules.specs.Runs.{is_running};
 ghost use Rattle.ps_rules.specs.Settled.{is_settled, places};
-ghost use Rattle.ps_ledger.specs.Ends.{outcome_of};
 ghost use Rattle.ps_choices.specs.Choice.{event_of};
 ghost use Rattle.ps_board.specs.Core.{Covers, Spends, Stands, with_turn};
 ghost use Rattle.ps_board.specs.Ticks.{answer_of, asks_on, better, closed_answer, confirms_on, done_answer, ends_on, fails_of, fails_on, first_legal, first_of, idle_answer, IsEarliest, leaves_on, IsTickers, on_act, on_request, snapshot_of, starts_on, tick_of};
 ghost use Rattle.ps_board.specs.declared.ticks.AboutAct.TheVariants.{Ask as ToAsk, Begin as ToBegin, Finish as ToFinish};
 ghost use Rattle.ps_board.specs.declared.ticks.AboutRequest.TheVariants.{Confirm as ToConfirm, Leave as ToLeave};
 
+use super::boxes::Boxed;
 use super::whole::Core;
 use ps_choices::{Choice, Chosen};
 use ps_ledger::Offer;
-use ps_machine::{Event, FailWhy, Outcome};
+use ps_machine::{FailWhy, Outcome};
 use ps_problem::Problem;
 use std::alloc::{AllocError, Global};
 
@@ -44,7 +44,7 @@ pub enum AboutAct {
 pub struct Snapshot {
     /// The number of entries then.
     pub at: u64,
-    pub problem: Problem,
+    pub problem: Boxed<Problem>,
 }
 
 /// What came of a tick.
@@ -68,16 +68,6 @@ fn chosen_if(may: bool, chosen: Chosen) -> Option<Choice>
     ensures plan { IsTickers (event_of chosen) → IfSome result IsTickers }
 {
     if may { Some(Choice::of(chosen)) } else { None }
-}
-
-/// How an event ends the run, if it ends it.
-fn outcome_of(event: &Event) -> Option<Outcome>
-    ensures { result ≡ outcome_of event.now }
-{
-    match event {
-        Event::Over(how) => Some(*how),
-        _ => None,
-    }
 }
 
 /// The answer of a tick that ended the run so, if it ended it.
@@ -519,6 +509,7 @@ impl Core {
         if settled && verdict.is_none() {
             let at = self.entries.len() as u64;
             let problem = self.present.problem.copy()?;
+            let problem = Boxed::new(problem.allocator(), problem)?;
             Ok(Ticked::WantsPlan(Snapshot { at, problem }))
         } else {
             Ok(Ticked::Nothing)
@@ -557,9 +548,8 @@ impl Core {
     {
         match self.next_tick() {
             Some(choice) => {
-                let event = choice.event();
-                let how = outcome_of(&event);
-                self.put(alloc, hand, event)?;
+                let how = choice.outcome();
+                self.choose(alloc, hand, &choice)?;
                 Ok(done_answer(how))
             }
             None => self.idle(),

@@ -1,31 +1,40 @@
 //! The turns of the terminal and of members.
-ghost use Rattle.std.specs.Prelude.{◌≡◌, ◌≤◌, ◌&&◌, nat_le, true, false, IsTrue, is_none, is_some, IfOk, IfSome, IsOk, OnOk, OnErr, Some};
+ghost use Rattle.std.specs.Prelude.{◌≡◌, ◌≤◌, ◌&&◌, nat_le, true, false, List, IsTrue, is_none, is_some, IfOk, IfSome, IsOk, OnOk, OnErr, Some};
+ghost use Rattle.ps_machine.specs.declared.inputs.Input.{Input as InputView};
+ghost use Rattle.ps_machine.specs.declared.journal.Entry.{Entry as EntryView};
+ghost use Rattle.ps_rules.specs.Choices.{Says};
 ghost use Rattle.ps_rules.specs.Lines.{next_line};
 ghost use Rattle.ps_rules.specs.Runs.{is_running};
-ghost use Rattle.ps_board.specs.Board.{is_end, step_of};
+ghost use Rattle.ps_board.specs.Board.{answer_to, is_end, IsStep};
+ghost use Rattle.ps_board.specs.Commands.{asks_plan};
 ghost use Rattle.ps_board.specs.Core.{Covers, line_answer, MayCome, observed_by, Spends, Stands, with_turn};
 
 use super::commands::Next;
 use super::whole::Core;
-use ps_machine::{By, Event};
+use ps_action::Act;
+use ps_machine::{By, Event, Query};
 use ps_plan::Solver;
-use ps_world::{Duplicate, Name};
+use ps_world::{Duplicate, Name, Seq};
 use std::alloc::{AllocError, Global};
 
 /// What came of a line of the terminal.
-#[derive(Clone, Copy)]
+#[derive(Drop)]
 pub enum Step {
-    /// The block of what answers it was appended, which opens no run.
+    /// The block of what answers it was appended, which opens no run and isn't the query for a plan.
     Said,
+    /// The query for a plan was appended, which is this.
+    Planned(Seq<Act>),
     /// A run was opened.
     Opened,
     /// No line was left, and nothing was appended.
     End,
 }
 
-/// The answer to a line that this event answers.
+/// The answer to a line that this event answers, which isn't the query for a plan.
 fn step_of(event: &Event) -> Step
-    ensures { result ≡ step_of (Some event.now) }
+    requires { asks_plan event.now ≡ false }
+    ensures { (says : Says) (i : InputView) (es : List EntryView)
+        → answer_to says i es ≡ Some event.now → IsStep says i es result }
 {
     match event {
         Event::Run { kind: _, acts: _ } => Step::Opened,
@@ -41,7 +50,7 @@ impl Core {
         requires closed { is_running self.now.entries.items ≡ false }
         ensures stands { Stands self.new }
         ensures answer { IfOk result
-            (λ s. s ≡ step_of (line_answer (S.says solver.now) self.old)) }
+            (IsStep (S.says solver.now) self.old.input self.old.entries.items) }
         ensures end { IfOk result
             (λ s. is_end s ≡ is_none (next_line self.old.input self.old.entries.items)) }
         ensures ok { OnOk result (self.new.entries.items
@@ -64,6 +73,10 @@ impl Core {
                 let step = step_of(&event);
                 self.put(alloc, 0, event)?;
                 Ok(step)
+            }
+            Next::Plan(acts) => {
+                self.put(alloc, 0, Event::Ask(Query::Plan))?;
+                Ok(Step::Planned(acts))
             }
         }
     }

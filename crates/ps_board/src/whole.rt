@@ -6,10 +6,11 @@ ghost use Rattle.ps_board.specs.Kept.{IsShown};
 ghost use Rattle.ps_board.specs.Core.{Covers, edit_of, HasBlock, HasPlaces, HasSpare, is_quiet, IsDue, IsGrown, makes_plan, MayCome, most_entries, Spends, Stands};
 ghost use Rattle.ps_board.specs.Touching.{touched_by};
 
-use super::blocks::{cancel_all, is_fail, only_if, push, reserve};
+use super::blocks::{cancel_all, enter, is_fail, only_if, reserve};
 use super::touched::{started_by, touched_by};
 use super::watching::{broken_since, unwatch_ended, unwatch_started, watch_started};
 use ps_action::Touched;
+use ps_choices::Choice;
 use ps_eval::edited_by;
 use ps_machine::{By, CancelWhy, Entry, Event, Input, Refusal};
 use ps_monitor::Monitor;
@@ -58,6 +59,7 @@ fn makes_plan(what: &Event) -> bool
 impl Core {
     /// Appends the block of an event that changed these things, where all but the entries and what they tell is as it is after that
     /// event.
+    #[inline(always)]
     fn append(&mut self, hand: u8, what: Event, changed: &[Touched])
         requires due { IsDue self.now hand what }
         requires changed { changed.now ≡ touched_by self.now.present.grounds.items what }
@@ -74,6 +76,7 @@ impl Core {
     }
 
     /// Appends the block of an event that forces no cancel: that event alone. No condition that is watched need be judged.
+    #[inline(always)]
     fn append_quiet(&mut self, hand: u8, what: Event)
         requires due { IsDue self.now hand what }
         requires quiet { is_quiet what ≡ true }
@@ -82,13 +85,14 @@ impl Core {
         ensures input { self.new.input ≡ self.old.input }
         ensures spare { Spends self.old self.new }
     {
-        self.present.ledger.take(&what);
-        push(&mut self.entries, Entry { hand, what });
+        let entry = Entry { hand, what };
+        enter(&mut self.entries, &mut self.present.ledger, entry);
         self.spare = self.spare.saturating_sub(1);
     }
 
     /// Appends the block of an event that may force cancels, and that changed these things. Only those watched acts are judged that
-    /// it may have broken.
+    /// it may have broken, and none where no act is active.
+    #[inline(always)]
     fn append_forcing(&mut self, hand: u8, what: Event, changed: &[Touched])
         requires due { IsDue self.now hand what }
         requires changed { changed.now ≡ touched_by self.now.present.grounds.items what }
@@ -100,8 +104,14 @@ impl Core {
         let fails = is_fail(&what);
         let started = started_by(&what);
         let before = self.entries.len();
-        self.present.ledger.take(&what);
-        push(&mut self.entries, Entry { hand, what });
+        let entry = Entry { hand, what };
+        enter(&mut self.entries, &mut self.present.ledger, entry);
+        let active = self.present.ledger.acts.count_active();
+        if active == 0 {
+            let left = self.spare.saturating_sub(1);
+            self.spare = left;
+            return;
+        }
         let broken = broken_since(
             &self.monitor,
             &self.present.problem,
@@ -225,6 +235,26 @@ impl Core {
         ensures spare { Spends self.old self.new }
         ensures reserved { Covers self.old hand (Some what) → IsOk result }
     {
+        let changed = self.prepare(alloc, hand, &what)?;
+        self.append(hand, what, &changed);
+        Ok(())
+    }
+
+    /// Appends the block of a legal event that was chosen. The only error is that memory ran out, and then no entry is appended; a
+    /// block that is covered takes none.
+    pub fn choose(&mut self, alloc: Global, hand: u8, choice: &Choice) -> Result<(), AllocError>
+        requires stands { Stands self.now }
+        requires legal { MayCome self.now choice.now }
+        requires plan { MayBegin choice.now self.now.present }
+        requires by { IsTrue (has_hand choice.now hand) }
+        ensures stands { Stands self.new }
+        ensures ok { OnOk result (HasBlock self.old hand choice.now self.new) }
+        ensures err { OnErr result (self.new.entries.items ≡ self.old.entries.items) }
+        ensures input { self.new.input ≡ self.old.input }
+        ensures spare { Spends self.old self.new }
+        ensures reserved { Covers self.old hand (Some choice.now) → IsOk result }
+    {
+        let what = choice.event();
         let changed = self.prepare(alloc, hand, &what)?;
         self.append(hand, what, &changed);
         Ok(())

@@ -12,6 +12,7 @@ ghost use Rattle.ps_choices.specs.Turns.{is_choice_of};
 ghost use Rattle.ps_board.specs.Core.{Covers, Spends, Stands, with_turn};
 ghost use Rattle.ps_board.specs.Grants.{grant_for, is_bare, performed_answer};
 
+use super::boxes::Boxed;
 use super::whole::Core;
 use ps_choices::{performed, work_of};
 use ps_machine::{By, Event, Unit};
@@ -25,7 +26,7 @@ pub struct Grant {
     /// The request that the performer works on.
     pub r: u64,
     pub by: Name,
-    pub unit: Unit,
+    pub unit: Boxed<Unit>,
 }
 
 /// What came of a member's turn.
@@ -158,7 +159,7 @@ impl Core {
     {
         match work_of(&self.present, &self.input, name) {
             Some((r, unit)) => {
-                let unit = unit.copy(alloc)?;
+                let unit = Boxed::new(alloc, unit.copy(alloc)?)?;
                 Ok(Some(Grant { r, by: name, unit }))
             }
             None => Ok(None),
@@ -193,7 +194,7 @@ impl Core {
     {
         match performed(&self.present, &self.input, name, upto) {
             Some(choice) => {
-                self.put(alloc, hand, choice.event())?;
+                self.choose(alloc, hand, &choice)?;
                 Ok(Turn::Did)
             }
             None => match self.grant_for(alloc, name)? {

@@ -1,5 +1,6 @@
 //! What is chosen in a turn.
 ghost use Rattle.std.specs.Prelude.{◌≡◌};
+ghost use Rattle.ps_ledger.specs.Ends.{outcome_of};
 ghost use Rattle.ps_choices.specs.Choice.{event_of};
 
 use ps_machine::{Event, FailWhy, Outcome, PassWhy};
@@ -49,6 +50,16 @@ impl Choice {
         ensures { result ≡ event_of chosen }
     {
         Choice { chosen }
+    }
+
+    /// How the event ends the run, if it ends it.
+    pub fn outcome(&self) -> Option<Outcome>
+        ensures { result ≡ outcome_of self.now }
+    {
+        match self.chosen {
+            Chosen::Over(how) => Some(how),
+            _ => None,
+        }
     }
 
     /// The event.

@@ -1,7 +1,7 @@
 use Rattle.std.proofs.Common.{◌≡◌, false, ap, ◌∙◌}
 use Rattle.ps_rules.specs.Runs.{is_running}
 use Rattle.ps_board.specs.declared.whole.Core.{Core}
-use Rattle.ps_board.proofs.Boxed.{kept-lent, view-lent}
+use Rattle.ps_board.proofs.Lent.{kept-lent, view-lent}
 use Rattle.ps_board.proofs.Granting.{Spares}
 use Rattle.ps_board.proofs.Keeping.{by-option, closed-goes, closed-spares, kept-result, not-halted}
 use Rattle.ps_board.proofs.board.Board.command.Goals as goal

@@ -7,7 +7,7 @@ use Rattle.ps_board.specs.declared.whole.Core.{Core}
 use Rattle.ps_board.specs.declared.works.Turn.TheVariants.{Did, Nothing}
 use Rattle.ps_board.specs.Board.{answer_of, observing, with_done}
 use Rattle.ps_board.specs.Core.{observed_by}
-use Rattle.ps_board.proofs.Boxed.{kept-lent, view-lent}
+use Rattle.ps_board.proofs.Lent.{kept-lent, view-lent}
 use Rattle.ps_board.proofs.Keeping.{kept-result, not-halted, observers-legal, observers-spare, on-ok}
 use Rattle.ps_board.proofs.Stuck.{observes}
 use Rattle.ps_board.proofs.board.Board.observer_turn.Goals as goal

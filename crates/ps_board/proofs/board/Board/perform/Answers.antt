@@ -6,7 +6,7 @@ use Rattle.ps_board.specs.declared.board.Shown.{Shown}
 use Rattle.ps_board.specs.declared.whole.Core.{Core}
 use Rattle.ps_board.specs.Grants.{granted, performer_names}
 use Rattle.ps_board.specs.Kept.{IsKept}
-use Rattle.ps_board.proofs.Boxed.{kept-lent, view-lent}
+use Rattle.ps_board.proofs.Lent.{kept-lent, view-lent}
 use Rattle.ps_board.proofs.Granting.{Spares}
 use Rattle.ps_board.proofs.Handing.{free-goes, free-none, kept-handed, out-is}
 use Rattle.ps_board.proofs.Keeping.{first-legal, kept-heard, kept-result, not-halted, on-ok, performers-spare, place-below, some-weaker}

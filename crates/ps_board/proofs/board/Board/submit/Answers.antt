@@ -4,7 +4,7 @@ use Rattle.ps_board.specs.Board.{IsReserved}
 use Rattle.ps_board.specs.Submits.{NoEditFrom}
 use Rattle.ps_board.specs.declared.board.Shown.{Shown}
 use Rattle.ps_board.specs.declared.whole.Core.{Core}
-use Rattle.ps_board.proofs.Boxed.{kept-lent, view-lent}
+use Rattle.ps_board.proofs.Lent.{kept-lent, view-lent}
 use Rattle.ps_board.proofs.Submitting.{kept-submitted}
 use Rattle.ps_board.proofs.board.Board.submit.Goals as goal
 

@@ -5,7 +5,7 @@ use Rattle.ps_ledger.specs.Members.{place_in}
 use Rattle.ps_board.specs.declared.whole.Core.{Core}
 use Rattle.ps_board.specs.Grants.{granted, performer_names}
 use Rattle.ps_board.specs.Kept.{IsKept}
-use Rattle.ps_board.proofs.Boxed.{kept-lent, view-lent}
+use Rattle.ps_board.proofs.Lent.{kept-lent, view-lent}
 use Rattle.ps_board.proofs.Keeping.{granted-below, granted-named, kept-result, on-ok, out-fewer, recorded-leaves, recorded-legal, recorded-spares}
 use Rattle.ps_board.proofs.board.Board.take_in.Goals as goal
 

@@ -5,7 +5,7 @@ use Rattle.ps_board.specs.declared.board.Shown.{Shown}
 use Rattle.ps_board.specs.declared.whole.Core.{Core}
 use Rattle.ps_board.specs.Board.{GoesOn, tick_answer}
 use Rattle.ps_board.specs.Ticks.{answer_of, IsTickers, tick_of}
-use Rattle.ps_board.proofs.Boxed.{kept-lent, view-lent}
+use Rattle.ps_board.proofs.Lent.{kept-lent, view-lent}
 use Rattle.ps_board.proofs.Granting.{Spares}
 use Rattle.ps_board.proofs.Keeping.{first-legal, kept-result, not-halted, on-ok, some-weaker, ticks-spare}
 use Rattle.ps_board.proofs.Stuck.{goes-on, tick-answers}

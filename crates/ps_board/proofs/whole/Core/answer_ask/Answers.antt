@@ -18,4 +18,4 @@ returns-in-None g c = λ says.
     let core : Core = c.args.self.now in
     let cause = query-cause core c.has_run-run.result c.args.query c.requires.stands (c.has_run-run.ensures core.entries.items c.requires.stands.kept.told.run)
     ∙ sym c.in_ok-why.ensures ∙ c.in-None.is in
-    asks says core c.args.query c.requires.next cause
+    asks says core c.args.query c.requires.other c.requires.next cause

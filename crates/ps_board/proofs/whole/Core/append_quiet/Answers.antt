@@ -9,16 +9,16 @@ use Rattle.ps_board.proofs.Lengths.{quiet-exact}
 use Rattle.ps_board.proofs.Sparing.{spare-left}
 use Rattle.ps_board.proofs.whole.Core.append_quiet.Goals as goal
 
-pub take-requires-clause-speaks : goal.take-requires-clause-speaks
-take-requires-clause-speaks c =
+pub enter-requires-clause-speaks : goal.enter-requires-clause-speaks
+enter-requires-clause-speaks c =
     legal_events_speak_of_ledgers c.args.self.now.input c.args.self.now.entries.items c.args.what c.args.self.now.present.ledger c.requires.due.sound c.requires.due.history
     c.requires.due.short c.requires.due.kept.members c.requires.due.kept.told c.requires.due.legal
 
-pub take-requires-clause-room : goal.take-requires-clause-room
-take-requires-clause-room c = c.requires.due.room
+pub enter-requires-clause-room : goal.enter-requires-clause-room
+enter-requires-clause-room c = c.requires.due.room
 
-pub push-requires : goal.push-requires
-push-requires c =
+pub enter-requires-clause-place : goal.enter-requires-clause-place
+enter-requires-clause-place c =
     let x : Entry = record { hand = c.args.hand; what = c.args.what } in
     let es : List Entry = c.args.self.now.entries.items in
     let long : length (with_block c.args.self.now.input c.args.hand es c.args.what) ≡ length es + 1 =
@@ -28,24 +28,24 @@ push-requires c =
 
 pub returns-clause-entries : goal.returns-clause-entries
 returns-clause-entries c =
-    c.push.ensures.items ∙ sym (quiet-block c.args.self.now.input c.args.self.now.entries.items c.args.hand c.args.what c.requires.due.history c.requires.quiet)
+    c.enter.ensures.items ∙ sym (quiet-block c.args.self.now.input c.args.self.now.entries.items c.args.hand c.args.what c.requires.due.history c.requires.quiet)
 
 pub returns-clause-stands : goal.returns-clause-stands
 returns-clause-stands c =
-    let told = c.take.ensures.told c.args.self.now.entries.items (record { hand = c.args.hand; what = c.args.what }) refl c.requires.due.kept.told in
+    let told = c.enter.ensures.told c.args.self.now.entries.items (record { hand = c.args.hand; what = c.args.what }) refl c.requires.due.kept.told in
     let exact = quiet-exact c.args.self.now.input c.args.self.now.entries.items c.args.hand c.args.what c.requires.due.history c.requires.quiet in
     let space = c.requires.due.space in
     stands-after c.args.self.now _ c.args.hand c.args.what c.requires.due refl refl (returns-clause-entries c)
-    (subst (λ es. TellsAll es c.take.new.self) (sym c.push.ensures.items) told)
-    (due-watching c.args.self.now c.args.hand c.args.what c.take.new.self c.requires.due told)
-    (members-kept c.args.self.now.input c.args.self.now.present.ledger c.take.new.self c.take.ensures.members c.requires.due.kept.members)
+    (subst (λ es. TellsAll es c.enter.new.ledger) (sym c.enter.ensures.items) told)
+    (due-watching c.args.self.now c.args.hand c.args.what c.enter.new.ledger c.requires.due told)
+    (members-kept c.args.self.now.input c.args.self.now.present.ledger c.enter.new.ledger c.enter.ensures.members c.requires.due.kept.members)
     (spare-left c.args.self.now
     (record {
       input = c.args.self.now.input;
-      entries = c.push.new.entries;
-      present = record c.args.self.now.present { ledger = c.take.new.self };
+      entries = c.enter.new.entries;
+      present = record c.args.self.now.present { ledger = c.enter.new.ledger };
       monitor = c.args.self.now.monitor;
       spare = c.saturating_sub-self.result;
     })
-    c.requires.due.spare (omega (arith, c.saturating_sub-self.ensures, c.push.ensures.len)) (omega (arith, c.push.ensures.len))
-    (omega (arith, c.push.ensures.len, exact, space)) c.push.ensures.capacity (c.take.ensures.spare c.args.self.now.spare c.requires.due.spare.ledger))
+    c.requires.due.spare (omega (arith, c.saturating_sub-self.ensures, c.enter.ensures.len)) (omega (arith, c.enter.ensures.len))
+    (omega (arith, c.enter.ensures.len, exact, space)) c.enter.ensures.capacity (c.enter.ensures.spare c.args.self.now.spare c.requires.due.spare.ledger))

@@ -8,22 +8,22 @@ use Rattle.ps_choices.proofs.First.{passes}
 use Rattle.ps_board.proofs.Ticking.{plan-less, tick-hand}
 use Rattle.ps_board.proofs.whole.Core.tick.Goals as goal
 
-pub put-requires-clause-legal : goal.put-requires-clause-legal
-put-requires-clause-legal c =
+pub choose-requires-clause-legal : goal.choose-requires-clause-legal
+choose-requires-clause-legal c =
     let core : Core = c.args.self.now in
-    passes (is_legal core.input core.entries.items) _ c.event-event.result (ap Some c.event-event.ensures ∙ sym c.in-Some.is ∙ c.next_tick.ensures.first)
+    passes (is_legal core.input core.entries.items) _ c.in-Some.choice (sym c.in-Some.is ∙ c.next_tick.ensures.first)
 
-pub put-requires-clause-plan : goal.put-requires-clause-plan
-put-requires-clause-plan c = plan-less c.event-event.result c.args.self.now.present (ap says_plan c.event-event.ensures ∙ c.in-Some.ensures.plan.0)
+pub choose-requires-clause-plan : goal.choose-requires-clause-plan
+choose-requires-clause-plan c = plan-less c.in-Some.choice c.args.self.now.present (c.in-Some.ensures.plan.0)
 
-pub put-requires-clause-by : goal.put-requires-clause-by
-put-requires-clause-by c =
+pub choose-requires-clause-by : goal.choose-requires-clause-by
+choose-requires-clause-by c =
     let core : Core = c.args.self.now in
-    tick-hand core.input core.entries.items c.event-event.result c.args.hand c.requires.live
-    (passes (is_legal core.input core.entries.items) _ c.event-event.result (ap Some c.event-event.ensures ∙ sym c.in-Some.is ∙ c.next_tick.ensures.first)) c.requires.hand
+    tick-hand core.input core.entries.items c.in-Some.choice c.args.hand c.requires.live
+    (passes (is_legal core.input core.entries.items) _ c.in-Some.choice (sym c.in-Some.is ∙ c.next_tick.ensures.first)) c.requires.hand
 
-pub returns-in_ok-put-in-Some-clause-answer : goal.returns-in_ok-put-in-Some-clause-answer
-returns-in_ok-put-in-Some-clause-answer c =
+pub returns-in_ok-choose-in-Some-clause-answer : goal.returns-in_ok-choose-in-Some-clause-answer
+returns-in_ok-choose-in-Some-clause-answer c =
     let core : Core = c.args.self.now in
     let asked : Option Snapshot = snapshot_of core.input core.entries.items in
-    c.done_answer.ensures ∙ ap done_answer c.outcome_of-how.ensures ∙ ap (ticked_answer asked) (ap Some c.event-event.ensures ∙ sym c.in-Some.is ∙ c.next_tick.ensures.first)
+    c.done_answer.ensures ∙ ap done_answer c.outcome-how.ensures ∙ ap (ticked_answer asked) (sym c.in-Some.is ∙ c.next_tick.ensures.first)
