@@ -8,6 +8,7 @@ use crate::gate::Gate;
 use crate::holds::{answer, halt, hand_in, take_tick, take_turn};
 use crate::lead::Lead;
 use crate::outline::Who;
+use crate::searches::Searches;
 use crate::spot::{Aside, Spot, Stand, Step, noted};
 use ps_board::{Board, Snapshot, Ticked, Turn};
 use ps_domain::Expert;
@@ -15,7 +16,6 @@ use ps_plan::Solver;
 use ps_turn::{Seat, TurnBook};
 use std::alloc::AllocError;
 use std::sync::Wait;
-use std::thread;
 
 /// What all workers of a run know.
 #[derive(Drop)]
@@ -29,6 +29,7 @@ pub(crate) struct Crew<'a, S: Solver, G: Gate> {
     /// Nothing is to be done beside a unit of work.
     pub(crate) is_for_one: bool,
     pub(crate) lead: Lead,
+    pub(crate) searches: Searches,
 }
 
 impl<'a, S: Solver, G: Gate> Crew<'a, S, G> {
@@ -67,7 +68,7 @@ impl<'a, S: Solver, G: Gate> Crew<'a, S, G> {
         }
     }
 
-    /// Takes the turn of the ticker.
+    /// Takes the turn of the ticker. Where a plan is wanted and as many look for one as may, there is nothing to do.
     fn tick<R: Wait>(
         &self,
         rt: &R,
@@ -95,8 +96,12 @@ impl<'a, S: Solver, G: Gate> Crew<'a, S, G> {
             Ticked::Did => Ok(Step::Did),
             Ticked::Nothing => Ok(Step::Nothing),
             Ticked::WantsPlan(snapshot) => {
-                *due = Some(Aside::Search(snapshot));
-                Ok(Step::Did)
+                if self.searches.begin(rt) {
+                    *due = Some(Aside::Search(snapshot));
+                    Ok(Step::Did)
+                } else {
+                    Ok(Step::Nothing)
+                }
             }
         }
     }
@@ -139,8 +144,8 @@ impl<'a, S: Solver, G: Gate> Crew<'a, S, G> {
         }
     }
 
-    /// Goes one step on in a round in which nothing was done so far or something was. Before another round after an idle
-    /// one it lets others go first.
+    /// Goes one step on in a round in which nothing was done so far or something was. After a round in vain it rests,
+    /// while somebody is aside.
     fn do_step<R: Wait>(
         &self,
         rt: &R,
@@ -162,7 +167,7 @@ impl<'a, S: Solver, G: Gate> Crew<'a, S, G> {
         match self.take_next(rt, book, seat, spot, due) {
             Ok(step) => {
                 if let (Step::Ended, true) = (step, idle) {
-                    thread::yield_now();
+                    self.lead.rest(rt);
                 }
                 Ok(step)
             }
@@ -222,7 +227,11 @@ impl<'a, S: Solver, G: Gate> Crew<'a, S, G> {
     {
         self.lead.take(rt);
         let aside = self.do_rounds(rt, book, seat, spot);
-        self.lead.give(rt);
+        if aside.is_some() {
+            self.lead.step_aside(rt);
+        } else {
+            self.lead.leave(rt);
+        }
         aside
     }
 
@@ -245,7 +254,11 @@ impl<'a, S: Solver, G: Gate> Crew<'a, S, G> {
                 self.gate.unit(rt, &grant);
                 hand_in(rt, book, seat, grant)
             }
-            Aside::Search(snapshot) => self.answer_wanted(rt, book, seat, snapshot),
+            Aside::Search(snapshot) => {
+                let answered = self.answer_wanted(rt, book, seat, snapshot);
+                self.searches.end(rt);
+                answered
+            }
         }
     }
 
@@ -263,10 +276,9 @@ impl<'a, S: Solver, G: Gate> Crew<'a, S, G> {
             self.now.budget self.now.workers }
         ensures { HasStayed book.now seat.old seat.new }
     {
-        let alloc = snapshot.problem.allocator();
-        let found = self
-            .solver
-            .solve(alloc, self.expert, &snapshot.problem, self.budget)?;
+        let problem = snapshot.problem.get();
+        let alloc = problem.allocator();
+        let found = self.solver.solve(alloc, self.expert, problem, self.budget)?;
         answer(rt, book, seat, snapshot, found)
     }
 
@@ -291,6 +303,7 @@ impl<'a, S: Solver, G: Gate> Crew<'a, S, G> {
         if let Err(AllocError) = noted(spot, done) {
             halt(rt, book, seat, spot);
         }
+        self.lead.come_back(rt);
         self.lead_on(rt, book, seat, spot)
     }
 

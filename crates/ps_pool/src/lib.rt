@@ -9,6 +9,7 @@ mod laws;
 mod lead;
 mod ordered;
 mod outline;
+mod searches;
 mod spot;
 mod workers;
 

@@ -163,8 +163,8 @@ fn ask<S: Solver>(board: &Board, solver: &S, snapshot: &Snapshot) -> Result<Answ
         board.now.input.budget answer) }
 {
     let input = board.input();
-    let alloc = snapshot.problem.allocator();
-    solver.solve(alloc, board.expert(), &snapshot.problem, input.budget)
+    let problem = snapshot.problem.get();
+    solver.solve(problem.allocator(), board.expert(), problem, input.budget)
 }
 
 /// Does what follows the solver's answer, where it is asked for what is known now. On an error nothing changes.
@@ -187,11 +187,16 @@ fn replan<S: Solver>(board: &mut Board, solver: &S, snapshot: Snapshot) -> Resul
 /// As many entries as a block has at most: that of an event, and a cancel of each act of a plan but one.
 const MOST_ENTRIES: u64 = 257;
 
+/// For how many entries room is made at once, so that few turns make any.
+const ROOM: u64 = 2 * MOST_ENTRIES;
+
 /// Keeps room for a block where memory allows.
 fn make_room(board: &mut Board)
     ensures { board.new ≡ record board.old { spare = board.new.spare } }
 {
-    let _kept = board.reserve(MOST_ENTRIES);
+    if board.spare() < MOST_ENTRIES {
+        let _kept = board.reserve(ROOM);
+    }
 }
 
 /// Does a tick with room kept for its block, so that one which takes only room, as the run's end does, can't fail after

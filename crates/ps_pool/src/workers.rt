@@ -15,6 +15,7 @@ use crate::holds::look;
 use crate::lead::Lead;
 use crate::ordered::RunStop;
 use crate::outline::Outline;
+use crate::searches::Searches;
 use crate::spot::{Aside, Spot};
 use ps_board::Board;
 use ps_domain::Expert;
@@ -197,16 +198,18 @@ fn look_first<R: Wait>(
     look(rt, alloc, book, seat)
 }
 
-/// Has a worker at each of these seats, all of a book of a board, go on with the run that was opened until it is over. The
-/// first begins alone, in this thread, and each other one is started, in a thread of its own if there are threads, when the
-/// one before it first steps aside. A run of one act without observers is done by the first alone, since nothing is to be
-/// done beside its units of work. They take the board in turns, for one call in each, and nothing else is done to it. Each
-/// worker repeats rounds: a turn of each member that is at home with it, one of the ticker, and one of each other member, in
-/// the order of the members. The member at place `m`, counted from 0, is at home with the worker of the hand
-/// `m % seats + 1`. Units of work are done between turns, and so is solving: one worker at a time does rounds, and while it
-/// steps aside to do a unit or to solve, another goes on. Afterwards each seat is free again and has seen what it had seen and
-/// more; where all went well, the first has seen that the run is over. It promises no return. The only error is that memory
-/// ran out: the run is as far as it came, and it may be halted, with grants out.
+/// Has a worker at each of these seats, all of a book of a board, go on with the run that was opened until it is
+/// over. The first begins alone, in this thread, and each other one is started, in a thread of its own if there are
+/// threads, when the one before it first steps aside. A run of one act without observers is done by the first alone,
+/// since nothing is to be done beside its units of work. They take the board in turns, for one call in each, and
+/// nothing else is done to it. Each worker repeats rounds: a turn of each member that is at home with it, one of the
+/// ticker, and one of each other member, in the order of the members. The member at place `m`, counted from 0, is at
+/// home with the worker of the hand `m % seats + 1`. Units of work are done between turns, and so is solving: one
+/// worker at a time does rounds, and while it steps aside to do a unit or to solve, another goes on. Two at most
+/// solve at the same time, and where nothing is to be done before one of those aside hands something in, the others
+/// sleep. Afterwards each seat is free again and has seen what it had seen and more; where all went well, the first
+/// has seen that the run is over. It promises no return. The only error is that memory ran out: the run is as far as
+/// it came, and it may be halted, with grants out.
 pub fn work<R: Threads + Wait + Sync, S: Solver + Sync, G: Gate + Sync>(
     rt: &R,
     alloc: Global,
@@ -233,6 +236,7 @@ pub fn work<R: Threads + Wait + Sync, S: Solver + Sync, G: Gate + Sync>(
         workers: seats.len(),
         is_for_one: outline.is_for_one,
         lead: Lead::new(),
+        searches: Searches::new(),
     };
     if work_all(rt, &crew, book, seats) {
         Ok(())

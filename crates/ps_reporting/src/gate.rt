@@ -32,7 +32,7 @@ impl<'a, 'b, G: Gate> Gate for ReportGate<'a, 'b, G> {
 fn report<R: Wait>(rt: &R, post: &Mutex<Post>, pile: &Mutex<Pile>, grant: &Grant) {
     let mut post = post.lock(rt);
     for _ in rt.forever() {
-        let sent = post.send(rt, grant.r, &grant.unit);
+        let sent = post.send(rt, grant.r, grant.unit.get());
         let Some(Sent::Full) = sent else {
             return;
         };
