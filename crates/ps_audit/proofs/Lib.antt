@@ -1,4 +1,4 @@
 pub mod AddedTexts
 pub mod Found
-pub mod PlanTrees
+pub mod Replies
 pub mod SameBytes

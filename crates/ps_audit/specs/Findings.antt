@@ -15,7 +15,6 @@ use Rattle.ps_entries.specs.declared.journals.JournalRefusal.{JournalRefusal}
 use Rattle.ps_entries.specs.declared.journals.JournalText.{JournalText}
 use Rattle.ps_replay.specs.declared.verdict.Verdict.{Verdict}
 use Rattle.ps_replay.specs.declared.verdict.Verdict.TheVariants as verdict
-use Rattle.ps_audit.specs.declared.parts.Parts.{Parts}
 use Rattle.ps_audit.specs.declared.audits.Judged.{Judged}
 use Rattle.ps_entries.specs.declared.journals.JournalRefusal.TheVariants as refusal
 use Rattle.ps_audit.specs.declared.findings.Finding.{Finding}
@@ -78,26 +77,19 @@ pub data Finds (i : Input) (names : Table) (text : List ℕ) : Finding → Type 
   whole : (head : Head) (es : List (ℕ × Entry)) (after : Table) → IsJournal names text head es after → IsLegal i es
       → Finds i names text (compared text (text_with (due_head head i) after i (entries_of es)))
 
--- these are the parts of what a text says
-pub record AreParts (t : JournalText) (p : Parts) : Type 0 where
-  pub head : p.head ≡ t.settings
-  pub lines : p.lines.items ≡ lines_in t.entries.items
-  pub entries : p.entries.items ≡ entries_of t.entries.items
+-- what a text is found to be that is read as this, by what judging its entries came to, and by this text of theirs
+abbrev pub found_by : Input → List ℕ → JournalText → Verdict → List ℕ → Finding
+found_by i text t verdict.Legal body = compared text (head_text (due_head t.settings i) ++ body)
+found_by i text t (verdict.Illegal at) body = Illegal (line_of text (lines_in t.entries) at)
 
--- what a text with these parts is found to be, by what judging its entries came to, and by this text of theirs
-abbrev pub found_by : Input → List ℕ → Parts → Verdict → List ℕ → Finding
-found_by i text p verdict.Legal body = compared text (head_text (due_head p.head i) ++ body)
-found_by i text p (verdict.Illegal at) body = Illegal (line_of text p.lines.items at)
+-- a text is found to be this, if it is read as that, with this table after it
+abbrev pub FindsOf : Input → Table → List ℕ → JournalText → Finding → Type 0
+FindsOf i after text t f = (names : Table) → IsJournal names text t.settings t.entries after → Finds i names text f
 
--- a text that has these parts is found to be this, where this is the table after it
-abbrev pub FindsOf : Input → Table → List ℕ → Parts → Finding → Type 0
-FindsOf i after text p f =
-    (names : Table) (t : JournalText) → AreParts t p → IsJournal names text t.settings t.entries.items after → Finds i names text f
-
--- a text that has these parts is judged: it is found to be this, and if it is legal, this is the text of its entries
-pub record Judges (i : Input) (after : Table) (text : List ℕ) (p : Parts) (j : Judged) : Type 0 where
-  pub finds : FindsOf i after text p j.finding
-  pub entries : j.finding ≡ Legal → (IsHistory i p.entries.items × IsWhole i p.entries.items) × (j.body.items ≡ text_after after i [] p.entries.items)
+-- a text that is read as this is judged: it is found to be that, and if it is legal, this is the text of its entries
+pub record Judges (i : Input) (after : Table) (text : List ℕ) (t : JournalText) (j : Judged) : Type 0 where
+  pub finds : FindsOf i after text t j.finding
+  pub entries : j.finding ≡ Legal → IsLegal i t.entries × (j.body.items ≡ text_after after i [] (entries_of t.entries))
 
 -- ---- what is said of it
 

@@ -4,13 +4,12 @@ ghost use Rattle.ps_rules.specs.Heads.{head_text};
 ghost use Rattle.ps_rules.specs.Sound.{IsSound};
 ghost use Rattle.ps_text.specs.Names.{Keeps};
 ghost use Rattle.ps_replies.specs.Plans.{GivesLeast};
-ghost use Rattle.ps_audit.specs.Findings.{compared, Finds, found_by, IsAnswer, IsWritten, Judges, line_of, line_of_fault};
+ghost use Rattle.ps_audit.specs.Findings.{compared, due_head, Finds, found_by, IsAnswer, IsWritten, Judges, line_of, line_of_fault};
 
 use super::differences::line_of_difference;
 use super::findings::{Finding, finding_line};
-use super::parts::{Parts, due_head, parts_of};
 use super::texts::judge_text;
-use ps_entries::{JournalRefusal, read_journal};
+use ps_entries::{JournalRefusal, JournalText, read_journal};
 use ps_journal::push_head;
 use ps_machine::Input;
 use ps_plan::Solver;
@@ -65,26 +64,36 @@ fn with_head(alloc: Global, head: Option<(u32, u8)>, body: &[u8]) -> Result<Vec<
     Ok(text)
 }
 
-/// What a text with these parts is found to be, by what judging its entries came to, and by this text of theirs.
+/// The head that the text of entries is to have where theirs has this one: in version 2 it says the settings of the input.
+fn due_head(head: Option<(u32, u8)>, input: &Input) -> Option<(u32, u8)>
+    ensures { result ≡ due_head head input.now }
+{
+    match head {
+        None => None,
+        Some(_) => Some((input.budget, input.replans)),
+    }
+}
+
+/// What a text is found to be that is read as this, by what judging its entries came to, and by this text of theirs.
 fn found_by(
     alloc: Global,
     input: &Input,
     journal: &[u8],
-    parts: &Parts,
+    read: &JournalText,
     verdict: Verdict,
     body: &[u8],
 ) -> Result<Finding, AllocError>
     requires { length journal.now < 2 ^ 32 }
     ensures { IfOk result
-        (λ f. f ≡ found_by input.now journal.now parts.now verdict body.now) }
+        (λ f. f ≡ found_by input.now journal.now read.now verdict body.now) }
 {
     match verdict {
         Verdict::Legal => {
-            let due = with_head(alloc, due_head(parts.head, input), body)?;
+            let due = with_head(alloc, due_head(read.settings, input), body)?;
             Ok(compare(journal, &due))
         }
         Verdict::Illegal { at } => {
-            let line = line_at(alloc, journal, &parts.lines, at)?;
+            let line = line_at(alloc, journal, read.entries.lines(), at)?;
             Ok(Finding::Illegal { line })
         }
     }
@@ -97,23 +106,30 @@ pub struct Judged {
     pub body: Vec<u8>,
 }
 
-/// Judges a text with these parts.
+/// Judges a text that is read as this.
 fn judge<S: Solver>(
     alloc: Global,
     names: &Names,
     input: &Input,
     journal: &[u8],
-    parts: &Parts,
+    read: &JournalText,
     solver: &S,
 ) -> Result<Judged, AllocError>
     requires sound { IsSound input.now }
     requires solver { GivesLeast (S.says solver.now) }
     requires few { length journal.now < 2 ^ 32 }
-    ensures { IfOk result (Judges input.now names.now journal.now parts.now) }
+    ensures { IfOk result (Judges input.now names.now journal.now read.now) }
 {
     let mut body = Vec::new(alloc);
-    let verdict = judge_text(alloc, names, input, &parts.entries, solver, &mut body)?;
-    let finding = found_by(alloc, input, journal, parts, verdict, &body)?;
+    let verdict = judge_text(
+        alloc,
+        names,
+        input,
+        read.entries.entries(),
+        solver,
+        &mut body,
+    )?;
+    let finding = found_by(alloc, input, journal, read, verdict, &body)?;
     Ok(Judged { finding, body })
 }
 
@@ -165,8 +181,7 @@ pub fn audit<S: Solver>(
 {
     match read_journal(alloc, names, journal) {
         Ok(read) => {
-            let parts = parts_of(alloc, read)?;
-            let judged = judge(alloc, names, input, journal, &parts, solver)?;
+            let judged = judge(alloc, names, input, journal, &read, solver)?;
             answer(alloc, (input.budget, input.replans), judged, anew)
         }
         Err(Failure::Refused(refusal)) => {

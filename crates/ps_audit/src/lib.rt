@@ -4,10 +4,7 @@
 mod audits;
 mod differences;
 mod findings;
-mod parts;
-mod replies;
 mod texts;
-mod trees;
 
 pub use audits::{Audited, audit};
 pub use findings::{Finding, finding_status};

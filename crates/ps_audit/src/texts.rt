@@ -1,49 +1,73 @@
 //! Judging the entries of a journal, and their text.
-ghost use Rattle.std.specs.Prelude.{◌≡◌, ◌≤◌, ◌++◌, [], IfOk, OnOk};
+ghost use Rattle.std.specs.Prelude.{◌≡◌, ◌<◌, ◌++◌, [], length, IfOk, IsTrue};
+ghost use Rattle.ps_machine.specs.declared.inputs.Query.TheVariants.{Tree};
+ghost use Rattle.ps_machine.specs.declared.journal.Event.TheVariants.{Ask};
 ghost use Rattle.ps_rules.specs.Journal.{entry_text, text_after};
 ghost use Rattle.ps_rules.specs.Sound.{IsSound};
-ghost use Rattle.ps_rows.specs.Present.{Stands};
-ghost use Rattle.ps_replay.specs.Course.{Reaches};
+ghost use Rattle.ps_rows.specs.Table.{KeepsStanding};
+ghost use Rattle.ps_replay.specs.Course.{GoesTo, may_come, Reaches, still_due};
 ghost use Rattle.ps_replay.specs.Replay.{Replays};
 ghost use Rattle.ps_replies.specs.Plans.{GivesLeast};
 ghost use Rattle.ps_audit.specs.Texts.{AddsIfLegal};
 
-use super::replies::told;
-use ps_journal::entry_text;
-use ps_machine::{Entry, Input};
+use ps_machine::{Entry, Event, Input, Query};
 use ps_plan::Solver;
 use ps_replay::{Course, Verdict};
+use ps_replies::push_entry;
 use ps_rows::Present;
 use ps_text::Names;
 use std::alloc::{AllocError, Global};
 
-/// Adds the text of an entry that comes after the entries of which this is kept.
-fn push_entry<S: Solver>(
+/// Lets the tree show the states of the acts, where an event asks for it.
+fn show_tree(present: &mut Present, what: &Event)
+    requires { length present.now.ledger.acts.states.items ≡ length present.now.tree.waits }
+    ensures states { what.now ≡ Ask Tree
+        → present.new.tree.states ≡ present.new.ledger.acts.states.items }
+    ensures stands { KeepsStanding present.old present.new }
+{
+    if let Event::Ask(Query::Tree) = what {
+        present.tick_tree();
+    }
+}
+
+/// Judges the entry that comes after these. Whether it may: then it is taken, and its text is added.
+fn judge_one<S: Solver>(
     alloc: Global,
     names: &Names,
     input: &Input,
     before: &[Entry],
-    present: &Present,
-    solver: &S,
     entry: &Entry,
+    solver: &S,
+    course: &mut Course,
     out: &mut Vec<u8>,
-) -> Result<(), AllocError>
+) -> Result<bool, AllocError>
+    requires sound { IsSound input.now }
     requires solver { GivesLeast (S.says solver.now) }
-    requires budget { 1 ≤ input.now.budget }
-    requires stands { Stands input.now before.now present.now }
-    ensures { OnOk result (out.new.items
+    requires few { length before.now < 18446744073709551615 }
+    requires reaches { Reaches input.now before.now course.now }
+    ensures answer { IfOk result
+        (λ b. b ≡ may_come input.now before.now (still_due course.old) entry.now) }
+    ensures comes { IfOk result (λ b. IsTrue b
+        → GoesTo input.now before.now entry.now (still_due course.old) course.new) }
+    ensures text { IfOk result (λ b. IsTrue b → out.new.items
         ≡ out.old.items ++ entry_text names.now input.now before.now entry.now) }
 {
-    let told = told(alloc, input, present, solver, &entry.what)?;
-    let text = entry_text(
+    let comes = course.step(alloc, solver, input, before, entry)?;
+    if !comes {
+        return Ok(false);
+    }
+    show_tree(&mut course.present, &entry.what);
+    push_entry(
         alloc,
         names,
-        &present.expert,
-        &present.problem,
+        &course.present.expert,
+        &course.present.problem,
+        course.plan.as_slice(),
+        Some(&course.present.tree),
         entry,
-        &told,
+        out,
     )?;
-    out.extend_from_slice(&text)
+    Ok(true)
 }
 
 /// Judges the entries of a journal, whose course is before the first of them, and adds their text.
@@ -65,17 +89,7 @@ fn judge_all<S: Solver>(
 {
     for (at, entry) in entries.iter().enumerate() {
         let before = &entries[..at];
-        push_entry(
-            alloc,
-            names,
-            input,
-            before,
-            &course.present,
-            solver,
-            entry,
-            out,
-        )?;
-        let comes = course.step(alloc, solver, input, before, entry)?;
+        let comes = judge_one(alloc, names, input, before, entry, solver, course, out)?;
         if !comes {
             return Ok(Verdict::Illegal { at });
         }

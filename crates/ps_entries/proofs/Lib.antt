@@ -3,6 +3,7 @@ pub mod HeadLines
 pub mod HeadWords
 pub mod JournalLines
 pub mod KnownNames
+pub mod Numbering
 pub mod Numbers
 pub mod OneEntry
 pub mod PrintedActs

@@ -94,7 +94,7 @@ version_of (Some s) = 2
 -- a text is a journal, with this version, these settings and these entries
 pub record IsText (names : Table) (bytes : List ℕ) (t : JournalText) (after : Table) : Type 0 where
   pub version : t.version ≡ version_of t.settings
-  pub journal : IsJournal names bytes t.settings t.entries.items after
+  pub journal : IsJournal names bytes t.settings t.entries after
 
 -- this line, of those from line n on, is the first that is neither a reply nor an entry's
 abbrev pub IsOther : ℕ → Table → List (List ℕ) → JournalRefusal → Type 0

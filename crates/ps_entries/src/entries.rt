@@ -196,9 +196,10 @@ pub fn read_entry(
 {
     // A look at the table tells that its texts are names, none twice.
     let _count = names.len();
-    let words = Words::of(alloc, head_of(line))?;
+    let tail = tail_of(line);
+    let words = Words::of(alloc, head_of(line, tail))?;
     let known = names_of(alloc, names, &words)?;
-    match entry_of(alloc, names, &words, &known, tail_of(line))? {
+    match entry_of(alloc, names, &words, &known, tail)? {
         Some(entry) => believed(alloc, names, entry, line),
         None => Ok(None),
     }

@@ -10,7 +10,7 @@ ghost use Rattle.ps_entries.specs.Journals.{AreEntries, BeginsWith, IsFault, IsO
 
 use super::entries::read_entry;
 use super::heads::{Heading, heading_of};
-use ps_machine::Entry;
+use super::numbered::Numbered;
 use ps_text::{Names, Span, lines};
 use ps_world::Failure;
 use std::alloc::{AllocError, Global};
@@ -22,8 +22,8 @@ pub struct JournalText {
     pub version: u8,
     /// Of version 2, how many states a search for a plan may reach, and how often a run's plan may be made anew.
     pub settings: Option<(u32, u8)>,
-    /// The entries, each with its line, which is counted from 1.
-    pub entries: Vec<(u32, Entry)>,
+    /// The entries, each with its line.
+    pub entries: Numbered,
 }
 
 /// Why a text is no journal. Lines are counted from 1.
@@ -49,16 +49,16 @@ fn take_entry(
     names: &mut Names,
     n: u32,
     line: &[u8],
-    entries: &mut Vec<(u32, Entry)>,
+    entries: &mut Numbered,
 ) -> Result<bool, AllocError>
     requires { is_reply line.now ≡ false }
-    ensures takes { IfOk result (λ b. TakesOrNot n names.old line.now entries.old.items b
-        entries.new.items names.new) }
+    ensures takes { IfOk result (λ b. TakesOrNot n names.old line.now entries.old b
+        entries.new names.new) }
     ensures kept { Keeps names.old names.new }
 {
     match read_entry(alloc, names, line)? {
         Some(entry) => {
-            entries.push((n, entry))?;
+            entries.push(n, entry)?;
             Ok(true)
         }
         None => Ok(false),
@@ -71,10 +71,10 @@ fn take_line(
     names: &mut Names,
     n: u32,
     line: &[u8],
-    entries: &mut Vec<(u32, Entry)>,
+    entries: &mut Numbered,
 ) -> Result<bool, AllocError>
-    ensures takes { IfOk result (λ b. TakesOrNot n names.old line.now entries.old.items b
-        entries.new.items names.new) }
+    ensures takes { IfOk result (λ b. TakesOrNot n names.old line.now entries.old b
+        entries.new names.new) }
     ensures kept { Keeps names.old names.new }
 {
     if is_reply(line) {
@@ -91,16 +91,16 @@ fn read_lines(
     bytes: &[u8],
     lines: &[Span],
     first: u32,
-) -> Result<Vec<(u32, Entry)>, Failure<JournalRefusal>>
+) -> Result<Numbered, Failure<JournalRefusal>>
     requires within { AreWithin bytes.now lines.now }
     requires few { length lines.now + first ≤ 2 ^ 32 }
     ensures entries { IfOk result (λ v. AreEntries first names.old (pieces bytes.now lines.now)
-        v.items names.new) }
+        v names.new) }
     ensures refused { IfSome (refusal_of result) (λ r. IsOther first names.old
         (pieces bytes.now lines.now) r) }
     ensures kept { Keeps names.old names.new }
 {
-    let mut entries = Vec::new(alloc);
+    let mut entries = Numbered::new(alloc);
     for (i, span) in lines.iter().enumerate() {
         let n = i as u32 + first;
         if !take_line(alloc, names, n, &bytes[span.from..span.to], &mut entries)? {

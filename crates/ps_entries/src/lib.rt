@@ -9,9 +9,11 @@ mod forms;
 mod heads;
 mod journals;
 mod laws;
+mod numbered;
 mod words;
 
 pub use entries::read_entry;
 pub use heads::settings_in;
 pub use journals::{JournalRefusal, JournalText, read_journal};
 pub use laws::lines_are_one_entry;
+pub use numbered::Numbered;

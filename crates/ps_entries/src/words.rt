@@ -79,11 +79,12 @@ pub fn tail_of(line: &[u8]) -> &[u8]
     tail_after(after_word(line))
 }
 
-/// What stands before it.
-pub fn head_of(line: &[u8]) -> &[u8]
+/// What stands before it, where this is it.
+pub fn head_of<'a>(line: &'a [u8], tail: &[u8]) -> &'a [u8]
+    requires { tail.now ≡ tail_of line.now }
     ensures { result.now ≡ head_of line.now }
 {
-    &line[..line.len().saturating_sub(tail_of(line).len())]
+    &line[..line.len().saturating_sub(tail.len())]
 }
 
 /// The name that a word is, which is put into the table, or `object` where it is none. Where memory runs out nothing changes.
@@ -105,7 +106,7 @@ pub fn names_of(alloc: Global, names: &mut Names, words: &Words) -> Result<Vec<N
     ensures table { OnOk result (names.new ≡ with_words names.old words.now) }
     ensures kept { Keeps names.old names.new }
 {
-    let mut found = Vec::new(alloc);
+    let mut found = Vec::with_capacity(alloc, words.len())?;
     for i in 0..words.len() {
         found.push(name_of(names, words.word(i))?)?;
     }

@@ -227,7 +227,7 @@ impl Printed for Entry {
 pub fn print_entry(alloc: Global, names: &Names, entry: &Entry) -> Result<Vec<u8>, AllocError>
     ensures { IfOk result (λ line. line.items ≡ entry_line names.now entry.now) }
 {
-    let mut line = Vec::new(alloc);
+    let mut line = Vec::with_capacity(alloc, LINE_BYTES)?;
     entry.print(names, &mut line)?;
     Ok(line)
 }

@@ -83,9 +83,15 @@ pub fn push_all<T: Printed>(
 }
 
 /// Adds a number in decimal digits.
+// Most numbers of a journal have one.
+#[tactic(auto, using(std::proofs::lemmas::Fmt::decimal_digit))]
 pub fn push_number(number: u64, text: &mut Vec<u8>) -> Result<(), AllocError>
     ensures { OnOk result (text.new.items ≡ text.old.items ++ decimal number) }
 {
+    if number < 10 {
+        text.push(b'0' + number as u8)?;
+        return Ok(());
+    }
     let mut digits = Buffer::new();
     text.extend_from_slice(digits.format(number).as_bytes())
 }

@@ -1,2 +1,4 @@
 pub mod Courses
 pub mod Leading
+pub mod PlanQueries
+pub mod Quiet

@@ -7,12 +7,16 @@ ghost use Rattle.ps_rules.specs.History.{IsHistory, IsWhole};
 ghost use Rattle.ps_rules.specs.Legal.{has_hand, is_legal};
 ghost use Rattle.ps_rules.specs.Prefixes.{is_due, same_cancel, same_why};
 ghost use Rattle.ps_rules.specs.Sound.{IsSound};
-ghost use Rattle.ps_rows.specs.Present.{Says, Stands};
-ghost use Rattle.ps_replay.specs.Course.{cancelled_act, Comes, is_over, Reaches};
+ghost use Rattle.ps_rules.specs.Choices.{Says};
+ghost use Rattle.ps_rows.specs.Present.{Says as SaysOf, Stands};
+ghost use Rattle.ps_replay.specs.Course.{cancelled_act, Comes, ForcedBy, is_over, is_quiet, Reaches, TellsPlan};
 
+use super::queries::{asks_plan, judge_plan_query};
+use ps_action::Act;
 use ps_machine::{CancelWhy, Entry, Event, Input};
 use ps_plan::Solver;
 use ps_rows::{Present, has_hand};
+use ps_world::Seq;
 use std::alloc::{AllocError, Global};
 
 /// What the entries so far have come to.
@@ -23,6 +27,8 @@ pub struct Course {
     pub forced: Vec<Entry>,
     /// How many of them have come.
     pub met: usize,
+    /// The plan that answers the last entry, where that is the query for a plan.
+    pub plan: Seq<Act>,
 }
 
 fn same_why(why: CancelWhy, other: CancelWhy) -> bool
@@ -72,8 +78,8 @@ fn cancelled_act(event: &Event) -> u32
     }
 }
 
-/// Whether an entry may come next where no cancel is due. If so it is taken.
-fn judge<S: Solver>(
+/// Whether an entry that isn't the query for a plan may come next where no cancel is due. If so it is taken.
+fn judge_other<S: Solver>(
     alloc: Global,
     solver: &S,
     input: &Input,
@@ -101,6 +107,66 @@ fn judge<S: Solver>(
     }
 }
 
+/// Whether an entry may come next where no cancel is due. If so it is taken, and where it is the query for a plan, that is kept.
+fn judge<S: Solver>(
+    alloc: Global,
+    solver: &S,
+    input: &Input,
+    before: &[Entry],
+    entry: &Entry,
+    present: &mut Present,
+    plan: &mut Seq<Act>,
+) -> Result<bool, AllocError>
+    requires sound { IsSound input.now }
+    requires few { length before.now < 18446744073709551615 }
+    requires history { IsHistory input.now before.now }
+    requires stands { Stands input.now before.now present.now }
+    ensures legal { IfOk result (λ b. b ≡ (is_legal input.now before.now entry.now.what
+        && has_hand entry.now.what entry.now.hand)) }
+    ensures stands { IfOk result (λ b. IsTrue b
+        → Stands input.now (before.now ++ entry.now ∷ []) present.new) }
+    ensures told { IfOk result (λ b. IsTrue b
+        → TellsPlan (S.says solver.now) input.now before.now entry.now.what plan.new) }
+{
+    if !asks_plan(&entry.what) {
+        return judge_other(alloc, solver, input, before, entry, present);
+    }
+    match judge_plan_query(alloc, solver, input, before, entry, present)? {
+        Some(acts) => {
+            *plan = acts;
+            Ok(true)
+        }
+        None => Ok(false),
+    }
+}
+
+/// Whether an event leaves what is known, the plan and the states of its acts.
+fn is_quiet(event: &Event) -> bool
+    ensures { result ≡ is_quiet event.now }
+{
+    match event {
+        Event::Edit { by: _, edit: _ } => false,
+        Event::Run { kind: _, acts: _ } => false,
+        Event::Replan(_) => false,
+        Event::Start(_) => false,
+        Event::End(_) => false,
+        Event::Fail { act: _, why: _ } => false,
+        Event::Cancel { act: _, why: _ } => false,
+        _ => true,
+    }
+}
+
+/// The cancels that an entry forces which came after a history.
+fn forced_by(alloc: Global, present: &Present, entry: &Entry) -> Result<Vec<Entry>, AllocError>
+    ensures { IfOk result (λ all. ForcedBy present.now entry.now all.items) }
+{
+    if is_quiet(&entry.what) {
+        return Ok(Vec::new(alloc));
+    }
+    let forced = present.forced(alloc, entry.hand, &entry.what)?;
+    Ok(forced)
+}
+
 /// The cancel that is due at this place.
 fn due_at(forced: &[Entry], met: usize) -> &Entry
     requires { met < length forced.now }
@@ -111,7 +177,7 @@ fn due_at(forced: &[Entry], met: usize) -> &Entry
 
 /// Whether every line that is due is answered, and no run is open.
 fn is_over(present: &Present) -> bool
-    ensures { Says present.now result is_over }
+    ensures { SaysOf present.now result is_over }
 {
     let answered = present.ledger.lines.answered();
     let running = present.ledger.run.is_running();
@@ -133,6 +199,7 @@ impl Course {
             present: Present::new(alloc, input)?,
             forced: Vec::new(alloc),
             met: 0,
+            plan: Seq::new(alloc),
         })
     }
 
@@ -140,7 +207,7 @@ impl Course {
     fn meet(&mut self, input: &Input, before: &[Entry], entry: &Entry) -> bool
         requires due { self.now.met < length self.now.forced.items }
         requires reaches { Reaches input.now before.now self.now }
-        ensures { Comes input.now before.now entry.now self.old result self.new }
+        ensures { (says : Says) → Comes says input.now before.now entry.now self.old result self.new }
     {
         let due = due_at(&self.forced, self.met);
         if !is_due(due, entry) {
@@ -151,7 +218,7 @@ impl Course {
         true
     }
 
-    /// Whether an entry may come next. If so it is taken.
+    /// Whether an entry may come next. If so it is taken. The solver is asked at most once.
     pub fn step<S: Solver>(
         &mut self,
         alloc: Global,
@@ -163,16 +230,18 @@ impl Course {
         requires sound { IsSound input.now }
         requires few { length before.now < 18446744073709551615 }
         requires reaches { Reaches input.now before.now self.now }
-        ensures { IfOk result (λ b. Comes input.now before.now entry.now self.old b self.new) }
+        ensures { IfOk result (λ b. Comes (S.says solver.now) input.now before.now entry.now
+            self.old b self.new) }
     {
         if self.met < self.forced.len() {
             return Ok(self.meet(input, before, entry));
         }
-        let legal = judge(alloc, solver, input, before, entry, &mut self.present)?;
+        let present = &mut self.present;
+        let legal = judge(alloc, solver, input, before, entry, present, &mut self.plan)?;
         if !legal {
             return Ok(false);
         }
-        let forced = self.present.forced(alloc, entry.hand, &entry.what)?;
+        let forced = forced_by(alloc, &self.present, entry)?;
         self.forced = forced;
         self.met = 0;
         Ok(true)

@@ -2,6 +2,7 @@
 #![tactic(auto)]
 
 mod course;
+mod queries;
 mod verdict;
 
 pub use course::Course;

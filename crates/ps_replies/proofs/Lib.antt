@@ -1,1 +1,2 @@
-pub mod Goalless
+pub mod Queries
+pub mod Telling

@@ -1,6 +1,6 @@
-//! What the reply to a query for a plan tells.
+//! The text of an entry with the lines that answer it, of what it asks for.
 #![tactic(auto)]
 
-mod plans;
+mod replies;
 
-pub use plans::told_plan;
+pub use replies::push_entry;

@@ -1,6 +1,13 @@
 -- What a call that answers a line makes of a board.
-use Rattle.std.proofs.Common.{◌≡◌, ◌≢◌, ℕ, zero, suc, ◌+◌, true, false, Option, Some, None, is_none, option_and_then, Result, Ok, Err, IfOk, OnOk, List, [], ◌∷◌, ◌++◌, append-nil, length, length-append, replicate, slice_index_or, refl, ap, sym, ◌∙◌, subst, arith}
+use Rattle.std.proofs.Common.{◌≡◌, ◌≢◌, ℕ, zero, suc, ◌+◌, true, false, Option, Some, None, is_none, option_and_then, Result, Ok, Err, IfOk, OnOk, List, [], ◌∷◌, ◌++◌, append-nil, drop, length, length-append, replicate, slice_index_or, refl, ap, sym, ◌∙◌, subst, arith}
 use Rattle.std.specs.Option.{option_map_or}
+use Rattle.std.proofs.lemmas.Bool.{true≢false}
+use Rattle.ps_action.specs.declared.acts.Act.{Act}
+use Rattle.ps_action.specs.declared.answers.Answer.TheVariants.{Plan}
+use Rattle.ps_machine.specs.declared.inputs.Query.TheVariants as query
+use Rattle.ps_machine.specs.declared.journal.Event.TheVariants as event
+use Rattle.ps_rules.specs.Known.{know}
+use Rattle.ps_board.specs.Commands.{asks_plan}
 use Rattle.ps_machine.specs.declared.inputs.Input.{Input}
 use Rattle.ps_machine.specs.declared.inputs.Line.{Line}
 use Rattle.ps_machine.specs.declared.journal.Event.{Event}
@@ -9,17 +16,19 @@ use Rattle.ps_rules.specs.Choices.{line_event, Says, with_block}
 use Rattle.ps_rules.specs.History.{IsHistory}
 use Rattle.ps_rules.specs.Lines.{answered, next_line}
 use Rattle.ps_rules.specs.Runs.{is_running, opens}
-use Rattle.ps_board.specs.Board.{commanded, is_end, nothing_done, spare_after, step_of, with_done}
+use Rattle.ps_board.specs.Board.{commanded, is_end, IsStep, nothing_done, spare_after, with_done}
 use Rattle.ps_board.specs.Grants.{granted}
 use Rattle.ps_board.specs.declared.board.Shown.{Shown}
 use Rattle.ps_board.specs.declared.turns.Step.{Step}
-use Rattle.ps_board.specs.declared.turns.Step.TheVariants.{Said, Opened, End}
+use Rattle.ps_board.specs.declared.turns.Step.TheVariants.{Said, Planned, Opened, End}
 use Rattle.ps_board.specs.Board.{IsAtRest}
-use Rattle.ps_session.specs.Lines.{Advances, IsAnswered, IsIdle}
+use Rattle.ps_session.specs.Lines.{acts_in, Advances, EachAfter, IsAnswered, IsIdle, IsToldBy}
+use Rattle.ps_session.specs.declared.lines.Advanced.{Advanced}
 use Rattle.ps_session.specs.declared.ways.Turns.{Turns}
 use Rattle.ps_pool.specs.Workers.{EndedBy}
 use Rattle.ps_session.specs.declared.ways.Turns.TheVariants.{Workers}
-use Rattle.ps_session.proofs.Steps.{a-line, ended-by-workers, HasEnded, no-line, opened-event, run-answered, run-opened, said-answered, said-closed, said-event}
+use Rattle.ps_session.proofs.Steps.{a-line, ended-by-workers, HasEnded, no-line, run-answered, run-opened, said-answered, said-closed}
+use Rattle.ps_session.proofs.Told.{asks-none, told-block, told-nothing, told-run}
 
 -- ---- idle boards
 
@@ -47,7 +56,7 @@ rest-kept old new grants halted rest = record {
 
 -- what a call does that answers the next line
 pub record Commanded (says : Says) (old new : Shown) (s : Step) : Type 0 where
-  pub answer : s ≡ step_of (commanded says old)
+  pub answer : IsStep says old.input old.entries s
   pub end : is_end s ≡ is_none (next_line old.input old.entries)
   pub entries : new.entries ≡ with_done old 0 (commanded says old)
   pub input : new.input ≡ old.input
@@ -82,10 +91,17 @@ module _ (how : Turns) (says : Says) (old new : Shown) (s : Step) (c : Commanded
 
   -- ---- a line that opens no run
 
-  pub saying : s ≡ Said → (a : Answering) × (opens a.event ≡ false)
+  pub saying : s ≡ Said → (a : Answering) × (opens a.event ≡ false) × (asks_plan a.event ≡ false)
   saying is =
-      let e = said-event (commanded says old) (sym c.answer ∙ is) in
-      (answering e.0 e.1 (sym (ap is_end is) ∙ c.end), e.2)
+      let e = subst (IsStep says i old.entries) is c.answer in
+      (answering e.0 e.1 (sym (ap is_end is) ∙ c.end), e.2, e.3)
+
+  -- ---- a query for a plan
+
+  pub planning : (acts : List Act) → s ≡ Planned acts → (a : Answering) × (a.event ≡ event.Ask query.Plan) × (says i.domain (know i old.entries) i.budget ≡ Plan acts)
+  planning acts is =
+      let e = subst (IsStep says i old.entries) is c.answer in
+      (answering (event.Ask query.Plan) e.0 (sym (ap is_end is) ∙ c.end), refl, e.1)
 
   longer : (from : ℕ) → from ≡ length old.entries → (final : List Entry) → IsAnswered how says i old.entries final → from ≢ length final
   longer from same final a equal = by-since a.since a.grown where
@@ -97,53 +113,71 @@ module _ (how : Turns) (says : Says) (old new : Shown) (s : Step) (c : Commanded
         let len : length final ≡ length old.entries + length (e ∷ es) = ap length grown ∙ length-append old.entries (e ∷ es) in
         omega (arith, len, same, equal)
 
-  goes-on : (from : ℕ) (final : Shown) → from ≡ length old.entries → IsIdle i final → IsAnswered how says i old.entries final.entries
-      → Advances how says i old final from
-  goes-on from final same still a = record {
+  goes-on : (came : Advanced) (final : Shown) → came.from ≡ length old.entries → IsIdle i final → IsAnswered how says i old.entries final.entries
+      → EachAfter (IsToldBy says i (acts_in came.plan)) old.entries (drop (length old.entries) final.entries) → Advances how says i old final came
+  goes-on came final same still a told = record {
     idle = still;
     place = same;
     line = λ other. a;
-    end = λ equal. absurd (longer from same final.entries a equal);
+    told = told;
+    end = λ equal. absurd (longer came.from same final.entries a equal);
   }
 
-  pub advances-said : (from : ℕ) → from ≡ length old.entries → IsHistory i old.entries → s ≡ Said → Advances how says i old new from
-  advances-said from same history is =
-      let a = saying is in
+  -- an event was said that opens no run
+  said-by : (came : Advanced) → came.from ≡ length old.entries → IsHistory i old.entries → (a : Answering) → opens a.event ≡ false
+      → IsToldBy says i (acts_in came.plan) old.entries a.event → Advances how says i old new came
+  said-by came same history a shut told =
       let now : IsAnswered how says i old.entries new.entries =
-      subst (IsAnswered how says i old.entries) (sym a.0.entries)
-      (said-answered says i old.entries a.0.line history idle.closed a.0.next how a.0.event a.0.made a.1) in
+      subst (IsAnswered how says i old.entries) (sym a.entries)
+      (said-answered says i old.entries a.line history idle.closed a.next how a.event a.made shut) in
       let still : IsIdle i new = record {
         input = c.input;
         rest = rests;
-        closed = ap is_running a.0.entries ∙ said-closed i old.entries a.0.event a.1 idle.closed;
+        closed = ap is_running a.entries ∙ said-closed i old.entries a.event shut idle.closed;
       } in
-      goes-on from new same still now
+      goes-on came new same still now (told-block says i (acts_in came.plan) old.entries a.event told new.entries a.entries)
+
+  pub advances-said : (came : Advanced) → came.from ≡ length old.entries → IsHistory i old.entries → s ≡ Said → Advances how says i old new came
+  advances-said came same history is =
+      let a = saying is in said-by came same history a.0 a.1 (asks-none says i (acts_in came.plan) old.entries a.0.event a.2)
+
+  pub advances-planned : (came : Advanced) (acts : List Act) → came.from ≡ length old.entries → IsHistory i old.entries → s ≡ Planned acts → came.plan ≡ Some acts
+      → Advances how says i old new came
+  advances-planned came acts same history is plan =
+      let a = planning acts is in
+      let told : IsToldBy says i (acts_in came.plan) old.entries (event.Ask query.Plan) = a.2 ∙ ap (λ o. Plan (acts_in o)) (sym plan) in
+      said-by came same history a.0 (ap opens a.1) (subst (IsToldBy says i (acts_in came.plan) old.entries) (sym a.1) told)
 
   -- ---- a line that opens a run
 
   pub opening : s ≡ Opened → (a : Answering) × (opens a.event ≡ true)
   opening is =
-      let e = opened-event (commanded says old) (sym c.answer ∙ is) in
+      let e = subst (IsStep says i old.entries) is c.answer in
       (answering e.0 e.1 (sym (ap is_end is) ∙ c.end), e.2)
+
+  opening-none : (plan : List Act) (e : Event) → opens e ≡ true → IsToldBy says i plan old.entries e
+  opening-none plan (event.Ask q) h = absurd (true≢false (sym h))
+  opening-none plan e h = tt
 
   pub now-running : s ≡ Opened → is_running new.entries ≡ true
   now-running is = let a = opening is in ap is_running a.0.entries ∙ run-opened i old.entries a.0.event a.1
 
-  pub advances-run : (from : ℕ) (final : Shown) → from ≡ length old.entries → IsHistory i old.entries → s ≡ Opened
+  pub advances-run : (came : Advanced) (final : Shown) → came.from ≡ length old.entries → IsHistory i old.entries → s ≡ Opened
       → HasEnded how says new.input new.entries final.entries → IsAtRest final → final.input ≡ new.input
-      → Advances how says i old final from
-  advances-run from final same history is ends rest input =
+      → Advances how says i old final came
+  advances-run came final same history is ends rest input =
       let a = opening is in
       let ended : HasEnded how says i (with_block i 0 old.entries a.0.event) final.entries =
       subst (λ es. HasEnded how says i es final.entries) a.0.entries (subst (λ j. HasEnded how says j new.entries final.entries) c.input ends) in
       let still : IsIdle i final = record { input = input ∙ c.input; rest = rest; closed = ends.over } in
-      goes-on from final same still
+      goes-on came final same still
       (run-answered says i old.entries a.0.line history idle.closed a.0.next how a.0.event final.entries a.0.made a.1 ended)
+      (told-run says i (acts_in came.plan) old.entries a.0.event (opening-none (acts_in came.plan) a.0.event a.1) final.entries ended.grown)
 
   -- ---- no line
 
-  pub advances-end : (from : ℕ) → from ≡ length old.entries → s ≡ End → Advances how says i old new from
-  advances-end from same is =
+  pub advances-end : (came : Advanced) → came.from ≡ length old.entries → s ≡ End → Advances how says i old new came
+  advances-end came same is =
       let none : next_line i old.entries ≡ None = no-line (next_line i old.entries) (sym (ap is_end is) ∙ c.end) in
       let undone : commanded says old ≡ None = ap (option_and_then (line_event says i old.entries)) none in
       let entries : new.entries ≡ old.entries = c.entries ∙ ap (λ o. option_map_or (with_block i 0 old.entries) o old.entries) undone in
@@ -154,17 +188,18 @@ module _ (how : Turns) (says : Says) (old new : Shown) (s : Step) (c : Commanded
         idle = subst (IsIdle i) (sym all) idle;
         place = same;
         line = λ other. absurd (other (same ∙ ap length (sym entries)));
+        told = told-nothing says i (acts_in came.plan) old.entries new.entries entries;
         end = λ equal. (none, all);
       }
 
 -- ---- calls
 
 -- a call that answered something
-pub commanded-so : {E : Type 0} → (says : Says) (old new : Shown) (r : Result Step E) (s : Step) → r ≡ Ok s → IfOk r (λ t. t ≡ step_of (commanded says old))
+pub commanded-so : {E : Type 0} → (says : Says) (old new : Shown) (r : Result Step E) (s : Step) → r ≡ Ok s → IfOk r (IsStep says old.input old.entries)
     → IfOk r (λ t. is_end t ≡ is_none (next_line old.input old.entries)) → OnOk r (new.entries ≡ with_done old 0 (commanded says old)) → new.input ≡ old.input
     → new.grants ≡ old.grants → new.halted ≡ old.halted → new.spare ≡ spare_after old new.entries → Commanded says old new s
 commanded-so says old new r s is answer end entries input grants halted spare = record {
-  answer = subst (λ x. IfOk x (λ t. t ≡ step_of (commanded says old))) is answer;
+  answer = subst (λ x. IfOk x (IsStep says old.input old.entries)) is answer;
   end = subst (λ x. IfOk x (λ t. is_end t ≡ is_none (next_line old.input old.entries))) is end;
   entries = subst (λ x. OnOk x (new.entries ≡ with_done old 0 (commanded says old))) is entries;
   input = input;
@@ -174,12 +209,12 @@ commanded-so says old new r s is answer end entries input grants halted spare = 
 }
 
 -- workers went on with the run that a line opened
-pub advances-worked : {E : Type 0} → (workers : ℕ) (says : Says) (old new : Shown) (s : Step) → Commanded says old new s → IsIdle old.input old → (r : Result ℕ E) (from : ℕ)
-    (final : Shown) → from ≡ length old.entries → IsHistory old.input old.entries → s ≡ Opened → IfOk r (λ place. place ≡ from)
+pub advances-worked : {E : Type 0} → (workers : ℕ) (says : Says) (old new : Shown) (s : Step) → Commanded says old new s → IsIdle old.input old → (r : Result Advanced E) (came : Advanced)
+    (final : Shown) → came.from ≡ length old.entries → IsHistory old.input old.entries → s ≡ Opened → IfOk r (λ a. a ≡ came)
     → OnOk r (EndedBy workers new.input new.entries final.entries) → OnOk r (IsAtRest final) → final.input ≡ new.input
     → IfOk r (Advances (Workers workers) says old.input old final)
-advances-worked workers says old new s c idle (Ok place) from final same history is at ended rest input =
+advances-worked workers says old new s c idle (Ok place) came final same history is at ended rest input =
     subst (Advances (Workers workers) says old.input old final) (sym at)
-    (advances-run (Workers workers) says old new s c idle from final same history is
+    (advances-run (Workers workers) says old new s c idle came final same history is
     (ended-by-workers workers says new.input new.entries final.entries ended) rest input)
-advances-worked workers says old new s c idle (Err e) from final same history is at ended rest input = tt
+advances-worked workers says old new s c idle (Err e) came final same history is at ended rest input = tt

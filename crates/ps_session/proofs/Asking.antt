@@ -5,7 +5,9 @@ use Rattle.std.proofs.lemmas.Bool.{true≢false, and_parts}
 use Rattle.ps_world.specs.Names.{Table}
 use Rattle.ps_world.specs.declared.domains.Domain.{Domain}
 use Rattle.ps_world.specs.declared.known.Knowledge.{Knowledge}
-use Rattle.ps_machine.specs.Texts.{entry_line}
+use Rattle.ps_action.specs.Search.{answer}
+use Rattle.ps_action.specs.Trees.{TreeView}
+use Rattle.ps_action.specs.declared.acts.Act.{Act}
 use Rattle.ps_machine.specs.declared.inputs.Command.TheVariants as command
 use Rattle.ps_machine.specs.declared.inputs.Line.{Line}
 use Rattle.ps_machine.specs.declared.inputs.Line.TheVariants.{Good}
@@ -17,7 +19,7 @@ use Rattle.ps_machine.specs.declared.journal.Event.TheVariants as event
 use Rattle.ps_machine.specs.declared.journal.Entry.{Entry}
 use Rattle.ps_machine.specs.declared.journal.Refusal.TheVariants as refusal
 use Rattle.ps_rules.specs.History.{IsHistory}
-use Rattle.ps_rules.specs.Journal.{entry_text, reply_lines, reply_text}
+use Rattle.ps_rules.specs.Journal.{entry_text, tree_of}
 use Rattle.ps_rules.specs.Known.{know}
 use Rattle.ps_rules.specs.Legal.{is_accepted, is_query}
 use Rattle.ps_rules.specs.Lines.{next_line}
@@ -26,31 +28,16 @@ use Rattle.ps_rules.proofs.Going.{entries_are_legal}
 use Rattle.ps_rules.proofs.Kept.{fits-legal}
 use Rattle.ps_rules.proofs.Pushed.{read-push}
 use Rattle.ps_rules.proofs.SameThings.{same_query-decides}
-use Rattle.ps_journal.specs.Told.{IsTold}
-use Rattle.ps_journal.specs.declared.replies.Told.{Told}
-use Rattle.ps_session.specs.Lines.{text_at}
+use Rattle.ps_replies.specs.Plans.{RepliesTo, RepliesToQuery}
+use Rattle.ps_replies.proofs.Queries.{ask, replies-before}
+use Rattle.ps_session.specs.Answers.{is_ask}
+use Rattle.ps_session.specs.Lines.{AsksFor, AsksLast, IsToldBy, text_at}
 use Rattle.ps_session.proofs.AddedTexts.{last-split}
-use Rattle.ps_session.proofs.Queries.{ask, same-known, told-before}
 use Rattle.ps_session.proofs.Success.{legal-at}
 
 -- the text at a place is that of the entry there
-at-place : (names : Table) (i : Input) (es : List Entry) (k : ℕ) (e : Entry) → slice_get es k ≡ Some e → text_at names i es k ≡ entry_text names i (take k es) e
+pub at-place : (names : Table) (i : Input) (es : List Entry) (k : ℕ) (e : Entry) → slice_get es k ≡ Some e → text_at names i es k ≡ entry_text names i (take k es) e
 at-place names i es k e at = ap (λ o. option_map_or (entry_text names i (take k es)) o []) at
-
--- ---- an entry that asks nothing
-
-no-replies : (names : Table) (i : Input) (es : List Entry) (e : Event) → ((q : Query) → e ≡ event.Ask q → ⊥) → reply_lines names i es e ≡ []
-no-replies names i es (event.Ask q) other = absurd (other q refl)
-no-replies names i es e other = refl
-
-pub line-added : (names : Table) (i : Input) (es : List Entry) (k : ℕ) (e : Entry) (old mid new : List ℕ) → slice_get es k ≡ Some e
-    → ((q : Query) → e.what ≡ event.Ask q → ⊥) → mid ≡ old ++ entry_line names e → new ≡ mid ++ 10 ∷ [] → new ≡ old ++ text_at names i es k
-line-added names i es k e old mid new at other line ended =
-    ended ∙ ap (λ text. text ++ 10 ∷ []) line ∙ append_assoc old (entry_line names e) (10 ∷ [])
-    ∙ ap (λ lines. old ++ (entry_line names e ++ 10 ∷ reply_text lines)) (sym (no-replies names i (take k es) e.what other))
-    ∙ ap (λ text. old ++ text) (sym (at-place names i es k e at))
-
--- ---- an entry that asks
 
 accepted-tree : (i : Input) (es : List Entry) (line : Option Line) → is_query query.Tree line ≡ true → is_accepted i es line ≡ true → has_run es ≡ true
 accepted-tree i es (Some (Good (command.Ask q))) asks fine = by-query q ((same_query-decides query.Tree q).0 asks) fine where
@@ -72,7 +59,7 @@ module _ (i : Input) (es : List Entry) (k : ℕ) (e : Entry) (q : Query) (at : s
       last-split es k e at all ∙ ap (λ x. before ++ x ∷ []) same
 
   -- the tree is asked for where a run was opened
-  pub tree-asked : IsHistory i es → q ≡ query.Tree → has_run es ≡ true
+  tree-asked : IsHistory i es → q ≡ query.Tree → has_run es ≡ true
   tree-asked history tree =
       let entry : Entry = ask e.hand q in
       let stands : IsHistory i (before ++ entry ∷ []) = subst (IsHistory i) ends-asking history in
@@ -81,14 +68,21 @@ module _ (i : Input) (es : List Entry) (k : ℕ) (e : Entry) (q : Query) (at : s
       let ran : has_run before ≡ true = accepted-tree i before (next_line i before) (subst (λ x. is_query x (next_line i before) ≡ true) tree fit.0) fit.1 in
       ap has_run ends-asking ∙ read-push (λ found f. found || opens f) false before entry ∙ ap (λ b. b || false) ran
 
-  told-there : (told : Told) → IsTold i es (event.Ask q) told → IsTold i before e.what told
-  told-there told h =
-      subst (λ what. IsTold i before what told) (sym is)
-      (told-before i before e.hand q told (subst (λ xs. IsTold i xs (event.Ask q) told) ends-asking h))
+  -- its reply tells of what a board shows after it
+  reply-there : (d : Domain) (known : Knowledge) (plan : List Act) (tree : Option TreeView) → IsHistory i es → d ≡ i.domain → known ≡ know i es
+      → tree ≡ (if has_run es then Some (tree_of i es) else None) → AsksFor i es plan k → RepliesToQuery i before q d known plan tree
+  reply-there d known plan tree history domain now shown due =
+      replies-before i before e.hand q d known plan tree domain (now ∙ ap (know i) ends-asking)
+      (λ plans. subst (λ what. IsToldBy answer i plan before what) (is ∙ ap event.Ask plans) (due e at))
+      (λ trees.
+      shown ∙ ap (λ b. if b then Some (tree_of i es) else None) (tree-asked history trees)
+      ∙ ap (λ xs. Some (tree_of i xs)) ends-asking)
 
-  -- its text is added
-  pub reply-added : (names : Table) (d : Domain) (known : Knowledge) (told : Told) (text : List ℕ) → d ≡ i.domain → known ≡ know i es → IsTold i es (event.Ask q) told
-      → ((j : Input) (xs : List Entry) → d ≡ j.domain → known ≡ know j xs → IsTold j xs e.what told → text ≡ entry_text names j xs e)
-      → text ≡ text_at names i es k
-  reply-added names d known told text domain now h given =
-      given i before domain (now ∙ ap (know i) ends-asking ∙ same-known i before e.hand q) (told-there told h) ∙ sym (at-place names i es k e at)
+-- what the reply to the entry at a place tells of, if it has one, where that entry is the last if it asks
+pub replies-there : (i : Input) (es : List Entry) (k : ℕ) (e : Entry) (d : Domain) (known : Knowledge) (plan : List Act) (tree : Option TreeView)
+    → slice_get es k ≡ Some e → AsksLast es k → IsHistory i es → d ≡ i.domain → known ≡ know i es
+    → tree ≡ (if has_run es then Some (tree_of i es) else None) → AsksFor i es plan k → RepliesTo i (take k es) e.what d known plan tree
+replies-there i es k e d known plan tree at last history domain now shown due = by-event e.what refl where
+  by-event : (what : Event) → e.what ≡ what → RepliesTo i (take k es) what d known plan tree
+  by-event (event.Ask q) is = reply-there i es k e q at is (last e at (ap is_ask is)) d known plan tree history domain now shown due
+  by-event what is = tt

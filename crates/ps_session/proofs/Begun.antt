@@ -73,7 +73,7 @@ pub whole-of : (how : Turns) (says : Says) (i : Input) (es : List Entry) → IsB
 whole-of how says i es b none closed = record { lines = answered-all how says i es b none; closed = closed }
 
 -- a solver that gives the least is the one of the definition
-same-solver : (says : Says) → GivesLeast says → says ≡ answer
+pub same-solver : (says : Says) → GivesLeast says → says ≡ answer
 same-solver says gives = λ t. λ d k budget. gives d k budget t
 
 pub ordered-of : (how : Turns) (says : Says) (i : Input) (es : List Entry) → GivesLeast says → IsBegun how says i es → GoesInOrder says i es

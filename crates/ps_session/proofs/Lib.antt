@@ -5,9 +5,9 @@ pub mod Begun
 pub mod Each
 pub mod Hands
 pub mod Journals
-pub mod Queries
 pub mod Steps
 pub mod Success
 pub mod Taken
+pub mod Told
 pub mod Whole
 pub mod Writing

@@ -26,8 +26,6 @@ use Rattle.ps_rules.proofs.Between.{lines_force_nothing}
 use Rattle.ps_rules.proofs.Pushed.{read-block}
 use Rattle.ps_rules.proofs.SameThings.{same_query-decides}
 use Rattle.ps_course.specs.Segments.{NoneIs}
-use Rattle.ps_board.specs.Board.{step_of}
-use Rattle.ps_board.specs.declared.turns.Step.TheVariants.{Said, Opened}
 use Rattle.ps_pool.specs.Courses.{GrowsInRun}
 use Rattle.ps_pool.specs.Ordered.{EndsAs}
 use Rattle.ps_pool.specs.Workers.{EndedBy}
@@ -100,7 +98,7 @@ none-append : (test : Event → Bool) (es fs : List Entry) → NoneIs test es �
 none-append test [] fs h g = g
 none-append test (e ∷ es) fs h g = (h.0, none-append test es fs h.1 g)
 
-forced-answers-none : (i : Input) (es : List Entry) (e : Entry) → NoneIs answers_line (forced i es e)
+pub forced-answers-none : (i : Input) (es : List Entry) (e : Entry) → NoneIs answers_line (forced i es e)
 forced-answers-none i es e = each-forced (λ c. answers_line c.what ≡ false) e.hand (λ why act. refl) i (es ++ e ∷ []) e.what
 
 -- an event that answers no line asks nothing
@@ -283,23 +281,7 @@ module _ (says : Says) (i : Input) (es : List Entry) (line : Line) (h : IsHistor
             (none-append is_ask first grows.since (opens-asks e opened, forced-asks-nothing i es entry) (none-asks grows.since grows.no_line));
       }
 
--- ---- what a call answers
-
--- an answer that a line was answered, and that it opened no run
-pub said-event : (o : Option Event) → step_of o ≡ Said → (e : Event) × (o ≡ Some e) × (opens e ≡ false)
-said-event None h = absurd (cc)
-said-event (Some e) h = by-opens (opens e) refl h where
-  by-opens : (b : Bool) → opens e ≡ b → (if b then Opened else Said) ≡ Said → (f : Event) × (Some e ≡ Some f) × (opens f ≡ false)
-  by-opens true is s = absurd (cc)
-  by-opens false is s = (e, refl, is)
-
--- an answer that a run was opened
-pub opened-event : (o : Option Event) → step_of o ≡ Opened → (e : Event) × (o ≡ Some e) × (opens e ≡ true)
-opened-event None h = absurd (cc)
-opened-event (Some e) h = by-opens (opens e) refl h where
-  by-opens : (b : Bool) → opens e ≡ b → (if b then Opened else Said) ≡ Opened → (f : Event) × (Some e ≡ Some f) × (opens f ≡ true)
-  by-opens true is s = (e, refl, is)
-  by-opens false is s = absurd (cc)
+-- ---- which line is left
 
 -- where it isn't that no line is left, one is
 pub a-line : {A : Type 0} (o : Option A) → false ≡ is_none o → (x : A) × (o ≡ Some x)

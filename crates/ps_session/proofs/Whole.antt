@@ -18,6 +18,7 @@ use Rattle.ps_board.specs.declared.board.Shown.{Shown}
 use Rattle.ps_replies.specs.Plans.{GivesLeast}
 use Rattle.ps_session.specs.Lines.{Advances, IsIdle, IsWritten, PutsMore, PutsWork, text_from, WritesLine, WritesLines, WritesOn}
 use Rattle.ps_session.specs.Session.{IsDone, IsSession, Runs, RunsTo}
+use Rattle.ps_session.specs.declared.lines.Advanced.{Advanced}
 use Rattle.ps_session.specs.declared.ways.Turns.{Turns}
 use Rattle.ps_session.proofs.Advancing.{idle-first}
 use Rattle.ps_session.proofs.Journals.{journal-of}
@@ -30,7 +31,10 @@ pub starved-line : (how : Turns) (says : Says) (i : Input) (names : Table) (b ne
     → WritesLine how says i names b new now now (Err sink.OutOfMemory)
 starved-line how says i names b new now gives = λ start w. record { written = tt; more = tt; cut = cut-between how says i names b start now gives w; counted = w.failures }
 
-module _ (how : Turns) (says : Says) (i : Input) (names : Table) (b new : Shown) (from : ℕ) (old now : SinkView) (went : Advances how says i b new from) (history : IsHistory new.input new.entries) where
+module _ (how : Turns) (says : Says) (i : Input) (names : Table) (b new : Shown) (came : Advanced) (old now : SinkView) (went : Advances how says i b new came) (history : IsHistory new.input new.entries) where
+  abbrev from : ℕ
+  from = came.from
+
   here : IsHistory i new.entries
   here = subst (λ j. IsHistory j new.entries) went.idle.input history
 
@@ -42,25 +46,25 @@ module _ (how : Turns) (says : Says) (i : Input) (names : Table) (b new : Shown)
   cut-line gives why put = λ start w. record {
     written = tt;
     more = tt;
-    cut = cut-on how says i b new from went names start old now w here gives why (there (Err why) put);
+    cut = cut-on how says i b new came went names start old now w here gives why (there (Err why) put);
     counted = work-since (Unit {0}) Bool start old now why w.failures w.refusals put.counted;
   }
 
   -- the line's entries were written
   pub written-line : PutsWork (text_from names new.input new.entries from) old now (Ok tt) → WritesLine how says i names b new old now (Ok (nat_lt from (length new.entries)))
   written-line put = λ start w.
-      let done : IsWritten how says i names new start now = written-on how says i b new from went names start old now w here (there (Ok tt) put) in
-      record { written = done; more = no-more how says i b new from went; cut = tt; counted = (done.failures, done.refusals) }
+      let done : IsWritten how says i names new start now = written-on how says i b new came went names start old now w here (there (Ok tt) put) in
+      record { written = done; more = no-more how says i b new came went; cut = tt; counted = (done.failures, done.refusals) }
 
 -- the line's entries were written or cut off
-pub line-written : (how : Turns) (says : Says) (i : Input) (names : Table) (b new : Shown) (from : ℕ) (old now : SinkView) → GivesLeast says
-    → Advances how says i b new from → IsHistory new.input new.entries → (r : Result Bool SinkRefusal) → PutsMore (text_from names new.input new.entries from) old now r
-    → IfOk r (λ more. more ≡ nat_lt from (length new.entries)) → WritesLine how says i names b new old now r
-line-written how says i names b new from old now gives went history (Ok more) put is =
+pub line-written : (how : Turns) (says : Says) (i : Input) (names : Table) (b new : Shown) (came : Advanced) (old now : SinkView) → GivesLeast says
+    → Advances how says i b new came → IsHistory new.input new.entries → (r : Result Bool SinkRefusal) → PutsMore (text_from names new.input new.entries came.from) old now r
+    → IfOk r (λ more. more ≡ nat_lt came.from (length new.entries)) → WritesLine how says i names b new old now r
+line-written how says i names b new came old now gives went history (Ok more) put is =
     subst (λ m. WritesLine how says i names b new old now (Ok m)) (sym is)
-    (written-line how says i names b new from old now went history (record { whole = put.whole; prefix = tt; stop = tt; counted = put.counted }))
-line-written how says i names b new from old now gives went history (Err why) put is =
-    cut-line how says i names b new from old now went history gives why
+    (written-line how says i names b new came old now went history (record { whole = put.whole; prefix = tt; stop = tt; counted = put.counted }))
+line-written how says i names b new came old now gives went history (Err why) put is =
+    cut-line how says i names b new came old now went history gives why
     (record { whole = tt; prefix = put.prefix; stop = put.stop; counted = work-since Bool (Unit {0}) old old now why refl refl put.counted })
 
 -- ---- all lines

@@ -5,6 +5,7 @@ use Rattle.std.proofs.KnownBytes.{Appends-trans}
 use Rattle.std.proofs.lemmas.Bool.Decides.{nat_tests}
 use Rattle.std.proofs.lemmas.Bool.{eq-eqb, eqb-true, true≢false}
 use Rattle.ps_world.specs.Names.{Table}
+use Rattle.ps_action.specs.Search.{answer}
 use Rattle.ps_machine.specs.declared.inputs.Input.{Input}
 use Rattle.ps_machine.specs.declared.journal.Entry.{Entry}
 use Rattle.ps_rules.specs.Choices.{Says}
@@ -21,11 +22,13 @@ use Rattle.ps_text.specs.declared.sinks.SinkRefusal.TheVariants as sink
 use Rattle.ps_board.specs.declared.board.Shown.{Shown}
 use Rattle.ps_replies.specs.Plans.{GivesLeast}
 use Rattle.ps_session.specs.Answers.{AskAtEnd}
-use Rattle.ps_session.specs.Lines.{Advances, IsBegun, IsIdle, IsWritten, PutsWork, text_from}
+use Rattle.ps_session.specs.Lines.{acts_in, Advances, AsksFor, EachAfter, IsBegun, IsIdle, IsToldBy, IsWritten, PutsWork, text_from}
+use Rattle.ps_session.specs.declared.lines.Advanced.{Advanced}
 use Rattle.ps_session.specs.Session.{IsCut}
 use Rattle.ps_session.specs.Session.Stops.{at_end, at_refusal, at_start}
 use Rattle.ps_session.specs.declared.ways.Turns.{Turns}
-use Rattle.ps_session.proofs.Begun.{beginning-first, beginning-of, begun-next, begun-start}
+use Rattle.ps_session.proofs.Begun.{beginning-first, beginning-of, begun-next, begun-start, same-solver}
+use Rattle.ps_session.proofs.Told.{each-since}
 use Rattle.ps_session.proofs.Taken.{AppendsPrefix-all, AppendsPrefix-append, AppendsPrefix-nil}
 use Rattle.ps_session.proofs.AddedTexts.{since-dropped, text-since}
 
@@ -85,7 +88,10 @@ decide m n = by-test (m == n) refl where
   by-test true e = inl (eqb-true m n e)
   by-test false e = inr (λ same. true≢false (sym (eq-eqb m n same) ∙ e))
 
-module _ (how : Turns) (says : Says) (i : Input) (b new : Shown) (from : ℕ) (went : Advances how says i b new from) where
+module _ (how : Turns) (says : Says) (i : Input) (b new : Shown) (came-by : Advanced) (went : Advances how says i b new came-by) where
+  abbrev from : ℕ
+  from = came-by.from
+
   -- the entries that came since
   pub record Came : Type 0 where
     pub since : List Entry
@@ -103,6 +109,14 @@ module _ (how : Turns) (says : Says) (i : Input) (b new : Shown) (from : ℕ) (w
   pub asks-since : AskAtEnd (drop from new.entries)
   asks-since =
       subst AskAtEnd (sym (ap (λ n. drop n new.entries) went.place ∙ since-dropped b.entries new.entries came.since came.grown)) came.asks
+
+  -- the query for a plan, if it is among them, is answered by the plan that came
+  pub told-since : GivesLeast says → (k : ℕ) → from ≤ k → AsksFor i new.entries (acts_in came-by.plan) k
+  told-since gives k l = λ e at.
+      let plan = acts_in came-by.plan in
+      let place = went.place in
+      each-since (IsToldBy answer i plan) b.entries new.entries came.since k e came.grown (omega (arith, l, place))
+      (subst (λ s. EachAfter (IsToldBy s i plan) b.entries (drop (length b.entries) new.entries)) (same-solver says gives) went.told) at
 
   -- it is begun
   pub begun-on : IsBegun how says i b.entries → IsBegun how says i new.entries

@@ -1,8 +1,10 @@
 -- How a session goes on, line by line.
-use Rattle.std.specs.Prelude.{◌≡◌, ◌≢◌, ℕ, ◌+◌, ◌≤◌, ◌⊎◌, Bool, true, false, None, Some, List, [], ◌∷◌, ◌++◌, Result, IfOk, OnOk, OnErr, drop, fold, length, slice_get, take, All}
-use Rattle.std.specs.Option.{option_map_or}
+use Rattle.std.specs.Prelude.{◌≡◌, ◌≢◌, ℕ, ◌+◌, ◌≤◌, ◌⊎◌, Bool, true, false, Option, None, Some, List, [], ◌∷◌, ◌++◌, Result, IfOk, OnOk, OnErr, drop, fold, length, slice_get, take, All}
+use Rattle.std.specs.Option.{option_map_or, unwrap_or}
 use Rattle.std.specs.Io.KnownBytes.{Appends}
 use Rattle.ps_world.specs.Names.{Table}
+use Rattle.ps_action.specs.Search.{answer}
+use Rattle.ps_action.specs.declared.acts.Act.{Act}
 use Rattle.ps_action.specs.declared.answers.Answer.TheVariants.{Plan}
 use Rattle.ps_rules.specs.Choices.{after_line, Says}
 use Rattle.ps_rules.specs.History.{IsHistory}
@@ -12,6 +14,7 @@ use Rattle.ps_rules.specs.Lines.{answered, due_lines, next_line}
 use Rattle.ps_rules.specs.Runs.{is_running}
 use Rattle.ps_machine.specs.declared.inputs.Input.{Input}
 use Rattle.ps_machine.specs.declared.inputs.Line.{Line}
+use Rattle.ps_machine.specs.declared.inputs.Query.TheVariants as query
 use Rattle.ps_machine.specs.declared.journal.RunKind.TheVariants as run
 use Rattle.ps_machine.specs.declared.journal.Event.{Event}
 use Rattle.ps_machine.specs.declared.journal.Event.TheVariants as event
@@ -22,6 +25,7 @@ use Rattle.ps_board.specs.declared.board.Shown.{Shown}
 use Rattle.ps_board.specs.Board.{IsAtRest}
 use Rattle.ps_session.specs.Answers.{AskAtEnd, is_ask}
 use Rattle.ps_session.specs.Session.{hands_of, IsCut, IsJournal}
+use Rattle.ps_session.specs.declared.lines.Advanced.{Advanced}
 use Rattle.ps_session.specs.declared.ways.Turns.{Turns}
 use Rattle.ps_session.specs.declared.ways.Turns.TheVariants.{InOrder}
 
@@ -41,6 +45,11 @@ HasHands how es = All (λ e. e.hand ≤ hands_of how) es
 abbrev pub IsRunBy : Says → Input → List Entry → Event → Type 0
 IsRunBy says i es (event.Run run.Goal plan) = says i.domain (know i es) i.budget ≡ Plan plan
 IsRunBy says i es e = Unit {0}
+
+-- a query for a plan that comes after these entries is answered by this plan, which this solver answers then
+abbrev pub IsToldBy : Says → Input → List Act → List Entry → Event → Type 0
+IsToldBy says i plan es (event.Ask query.Plan) = says i.domain (know i es) i.budget ≡ Plan plan
+IsToldBy says i plan es e = Unit {0}
 
 -- this is so of the event of each of these entries, after those before it
 abbrev pub EachAfter : (List Entry → Event → Type 0) → List Entry → List Entry → Type 0
@@ -65,12 +74,18 @@ pub record IsIdle (i : Input) (b : Shown) : Type 0 where
   pub rest : IsAtRest b
   pub closed : is_running b.entries ≡ false
 
--- Going on by a line: the next one was answered, and the journal has grown from this place on, or none is left and nothing changed.
-pub record Advances (how : Turns) (says : Says) (i : Input) (old new : Shown) (from : ℕ) : Type 0 where
+-- the plan that answers a line, or no act
+abbrev pub acts_in : Option (List Act) → List Act
+acts_in plan = unwrap_or plan []
+
+-- Going on by a line: the next one was answered, and the journal has grown from this place on, with the plan that it asks for, if it asks for
+-- one; or none is left and nothing changed.
+pub record Advances (how : Turns) (says : Says) (i : Input) (old new : Shown) (came : Advanced) : Type 0 where
   pub idle : IsIdle i new
-  pub place : from ≡ length old.entries
-  pub line : from ≢ length new.entries → IsAnswered how says i old.entries new.entries
-  pub end : from ≡ length new.entries → (next_line i old.entries ≡ None) × (new ≡ old)
+  pub place : came.from ≡ length old.entries
+  pub line : came.from ≢ length new.entries → IsAnswered how says i old.entries new.entries
+  pub told : EachAfter (IsToldBy says i (acts_in came.plan)) old.entries (drop (length old.entries) new.entries)
+  pub end : came.from ≡ length new.entries → (next_line i old.entries ≡ None) × (new ≡ old)
 
 -- ---- many lines
 
@@ -117,6 +132,10 @@ text_from names i es from = text_after names i (take from es) (drop from es)
 -- if the entry at this place asks, it is the last
 abbrev pub AsksLast : List Entry → ℕ → Type 0
 AsksLast es k = (e : Entry) → slice_get es k ≡ Some e → is_ask e.what ≡ true → length es ≡ k + 1
+
+-- if the entry at this place is the query for a plan, this is the plan that is due
+abbrev pub AsksFor : Input → List Entry → List Act → ℕ → Type 0
+AsksFor i es plan k = (e : Entry) → slice_get es k ≡ Some e → IsToldBy answer i plan (take k es) e.what
 
 -- A session was begun on this board, and a sink took the text of its journal; no write was refused.
 pub record IsWritten (how : Turns) (says : Says) (i : Input) (names : Table) (b : Shown) (start now : SinkView) : Type 0 where

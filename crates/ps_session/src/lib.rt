@@ -3,7 +3,6 @@
 
 mod laws;
 mod lines;
-mod replies;
 mod session;
 mod texts;
 mod ways;

@@ -1,39 +1,76 @@
 //! One line of the terminal, with the run that it opens.
-ghost use Rattle.std.specs.Prelude.{◌≡◌, true, IfOk, OnOk};
+ghost use Rattle.std.specs.Prelude.{◌≡◌, true, IfOk, None, OnOk};
 ghost use Rattle.ps_rules.specs.Runs.{is_running};
 ghost use Rattle.ps_board.specs.Board.{IsAtRest};
 ghost use Rattle.ps_pool.specs.Workers.{EndedBy};
-ghost use Rattle.ps_session.specs.Lines.{Advances, IsIdle};
+ghost use Rattle.ps_session.specs.Lines.{acts_in, Advances, IsIdle};
 ghost use Rattle.ps_session.specs.Session.{AreTurns};
 ghost use Rattle.ps_session.specs.declared.ways.Turns.TheVariants.{InOrder, Workers};
 
 use super::ways::Turns;
+use ps_action::Act;
 use ps_board::{Board, Step};
 use ps_domain::Expert;
 use ps_plan::Solver;
 use ps_pool::{Gate, RunStop, go_on, run_workers};
+use ps_world::Seq;
 use std::alloc::{AllocError, Global};
 use std::sync::Wait;
 use std::thread::Threads;
 
-/// Answers the next line, if one is left, and goes on by turns in order with the run that it opens until that is over. Answers the place of
-/// the first entry that came: the end of the journal where no line was left. It promises no return. On an error the run may be open.
+/// What came of going on by a line.
+#[derive(Drop)]
+pub struct Advanced {
+    /// The place of the first entry that came: the end of the journal where no line was left.
+    pub from: usize,
+    /// The plan that answers the line, where it asks for one.
+    pub plan: Option<Seq<Act>>,
+}
+
+/// Going on by a line that asks for no plan.
+fn without_plan(from: usize) -> Advanced
+    ensures { result ≡ record { from = from; plan = None } }
+{
+    Advanced { from, plan: None }
+}
+
+impl Advanced {
+    /// The plan that answers the line, or no act.
+    pub fn acts(&self) -> &[Act]
+        ensures { result.now ≡ acts_in self.now.plan }
+    {
+        match &self.plan {
+            Some(acts) => acts.as_slice(),
+            None => &[],
+        }
+    }
+}
+
+/// Answers the next line, if one is left, and goes on by turns in order with the run that it opens until that is over. It promises no
+/// return. On an error the run may be open.
 pub fn advance<R: Wait, S: Solver, G: Gate>(
     rt: &R,
     board: &mut Board,
     solver: &S,
     gate: &G,
-) -> Result<usize, AllocError>
+) -> Result<Advanced, AllocError>
     requires idle { IsIdle board.old.input board.old }
     ensures { IfOk result
         (Advances InOrder (S.says solver.now) board.old.input board.old board.new) }
 {
     let from = board.entries().len();
     match board.command(solver)? {
-        Step::End | Step::Said => {}
-        Step::Opened => go_on(rt, board, solver, gate)?,
+        Step::End => Ok(without_plan(from)),
+        Step::Said => Ok(without_plan(from)),
+        Step::Planned(acts) => Ok(Advanced {
+            from,
+            plan: Some(acts),
+        }),
+        Step::Opened => {
+            go_on(rt, board, solver, gate)?;
+            Ok(without_plan(from))
+        }
     }
-    Ok(from)
 }
 
 /// Answers the next line, as `advance` does, on a board that is handed on.
@@ -42,15 +79,15 @@ fn advance_in_order<R: Wait, S: Solver, G: Gate>(
     mut board: Board,
     solver: &S,
     gate: &G,
-) -> (Board, Result<usize, AllocError>)
+) -> (Board, Result<Advanced, AllocError>)
     requires idle { IsIdle board.input board }
     ensures { IfOk result.1 (Advances InOrder (S.says solver.now) board.input board result.0) }
 {
-    let from = advance(rt, &mut board, solver, gate);
-    (board, from)
+    let came = advance(rt, &mut board, solver, gate);
+    (board, came)
 }
 
-/// Has workers go on with the open run until it is over. Answers the place that is given. On an error the run may be open.
+/// Has workers go on with the open run until it is over, whose first entry is at this place. On an error the run may be open.
 fn work_on<R: Threads + Wait + Sync, S: Solver + Sync, G: Gate + Sync>(
     rt: &R,
     alloc: Global,
@@ -60,25 +97,25 @@ fn work_on<R: Threads + Wait + Sync, S: Solver + Sync, G: Gate + Sync>(
     gate: &G,
     workers: u8,
     from: usize,
-) -> (Board, Result<usize, AllocError>)
+) -> (Board, Result<Advanced, AllocError>)
     requires opened { is_running board.entries ≡ true }
     requires rest { IsAtRest board }
     requires expert { expert.now ≡ board.input.domain }
     requires workers { AreTurns (Workers workers) }
-    ensures place { IfOk result.1 (λ place. place ≡ from) }
+    ensures came { IfOk result.1 (λ a. a ≡ record { from = from; plan = None }) }
     ensures ended { OnOk result.1
         (EndedBy workers board.input board.entries result.0.entries) }
     ensures rest { OnOk result.1 (IsAtRest result.0) }
     ensures input { result.0.input ≡ board.input }
 {
     match run_workers(rt, alloc, board, expert, solver, gate, workers) {
-        Ok(board) => (board, Ok(from)),
+        Ok(board) => (board, Ok(without_plan(from))),
         Err(RunStop { board }) => (board, Err(AllocError)),
     }
 }
 
-/// Answers the next line, if one is left, and has workers go on with the run that it opens until that is over. Answers the place of the
-/// first entry that came: the end of the journal where no line was left. It promises no return. On an error the run may be open.
+/// Answers the next line, if one is left, and has workers go on with the run that it opens until that is over. It promises no return. On
+/// an error the run may be open.
 fn advance_by_workers<R: Threads + Wait + Sync, S: Solver + Sync, G: Gate + Sync>(
     rt: &R,
     alloc: Global,
@@ -87,7 +124,7 @@ fn advance_by_workers<R: Threads + Wait + Sync, S: Solver + Sync, G: Gate + Sync
     solver: &S,
     gate: &G,
     workers: u8,
-) -> (Board, Result<usize, AllocError>)
+) -> (Board, Result<Advanced, AllocError>)
     requires idle { IsIdle board.input board }
     requires expert { expert.now ≡ board.input.domain }
     requires workers { AreTurns (Workers workers) }
@@ -98,8 +135,12 @@ fn advance_by_workers<R: Threads + Wait + Sync, S: Solver + Sync, G: Gate + Sync
     let step = board.command(solver);
     match step {
         Ok(step) => match step {
-            Step::End => (board, Ok(from)),
-            Step::Said => (board, Ok(from)),
+            Step::End => (board, Ok(without_plan(from))),
+            Step::Said => (board, Ok(without_plan(from))),
+            Step::Planned(acts) => {
+                let plan = Some(acts);
+                (board, Ok(Advanced { from, plan }))
+            }
             Step::Opened => work_on(rt, alloc, board, expert, solver, gate, workers, from),
         },
         Err(AllocError) => (board, Err(AllocError)),
@@ -107,8 +148,7 @@ fn advance_by_workers<R: Threads + Wait + Sync, S: Solver + Sync, G: Gate + Sync
 }
 
 /// Answers the next line, if one is left, and goes on with the run that it opens until that is over; the run's members take turns like this.
-/// Answers the place of the first entry that came: the end of the journal where no line was left. It promises no return. On an error the
-/// run may be open.
+/// It promises no return. On an error the run may be open.
 pub fn advance_by<R: Threads + Wait + Sync, S: Solver + Sync, G: Gate + Sync>(
     rt: &R,
     alloc: Global,
@@ -117,7 +157,7 @@ pub fn advance_by<R: Threads + Wait + Sync, S: Solver + Sync, G: Gate + Sync>(
     solver: &S,
     gate: &G,
     turns: Turns,
-) -> (Board, Result<usize, AllocError>)
+) -> (Board, Result<Advanced, AllocError>)
     requires idle { IsIdle board.input board }
     requires expert { expert.now ≡ board.input.domain }
     requires turns { AreTurns turns }

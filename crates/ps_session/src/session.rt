@@ -1,16 +1,16 @@
 //! Whole sessions.
-ghost use Rattle.std.specs.Prelude.{◌≡◌, ◌≤◌, drop, length, nat_lt, IfOk, OnOk};
+ghost use Rattle.std.specs.Prelude.{◌≡◌, ℕ, ◌≤◌, drop, length, nat_lt, IfOk, OnOk};
 ghost use Rattle.ps_text.specs.Names.{AreNames};
 ghost use Rattle.ps_rules.specs.History.{is_mishap, IsHistory, status_of};
 ghost use Rattle.ps_rules.specs.Sound.{IsSound};
 ghost use Rattle.ps_board.specs.Board.{nothing_done};
 ghost use Rattle.ps_replies.specs.Plans.{GivesLeast};
 ghost use Rattle.ps_session.specs.Answers.{AskAtEnd};
-ghost use Rattle.ps_session.specs.Lines.{IsIdle, PutsMore, text_from, WritesLine, WritesLines};
+ghost use Rattle.ps_session.specs.Lines.{acts_in, AsksFor, IsIdle, PutsMore, text_from, WritesLine, WritesLines};
 ghost use Rattle.ps_session.specs.Session.{AreTurns, IsJournal, Runs, RunsTo};
 ghost use Rattle.ps_session.specs.declared.ways.Turns.TheVariants.{InOrder};
 
-use super::lines::{advance, advance_by};
+use super::lines::{Advanced, advance, advance_by};
 use super::texts::{write_entries, write_head};
 use super::ways::Turns;
 use ps_board::Board;
@@ -49,25 +49,27 @@ pub fn status_of(entries: &[Entry]) -> u8
     u8::from(mishap)
 }
 
-/// Writes the entries from a place on by one `put`. Answers whether there were some.
-fn write_more<S: Solver, O: Sink>(
+/// Writes the entries that came by one `put`. Answers whether there were some.
+fn write_more<O: Sink>(
     alloc: Global,
     names: &Names,
     board: &Board,
-    solver: &S,
-    from: usize,
+    came: &Advanced,
     out: &mut O,
 ) -> Result<bool, SinkRefusal>
-    requires solver { GivesLeast (S.says solver.now) }
-    requires there { from ≤ length board.now.entries }
-    requires asks { AskAtEnd (drop from board.now.entries) }
-    ensures text { PutsMore (text_from names.now board.now.input board.now.entries from)
+    requires there { came.now.from ≤ length board.now.entries }
+    requires asks { AskAtEnd (drop came.now.from board.now.entries) }
+    requires told { (k : ℕ) → came.now.from ≤ k
+        → AsksFor board.now.input board.now.entries (acts_in came.now.plan) k }
+    ensures text { PutsMore
+        (text_from names.now board.now.input board.now.entries came.now.from)
         (O.shown out.old) (O.shown out.new) result }
-    ensures more { IfOk result (λ more. more ≡ nat_lt from (length board.now.entries)) }
+    ensures more { IfOk result
+        (λ more. more ≡ nat_lt came.now.from (length board.now.entries)) }
     ensures history { IsHistory board.now.input board.now.entries }
 {
-    write_entries(alloc, names, board, solver, from, out)?;
-    Ok(from < board.entries().len())
+    write_entries(alloc, names, board, came.acts(), came.from, out)?;
+    Ok(came.from < board.entries().len())
 }
 
 /// Answers the next line, if one is left, with the run that it opens, and writes their entries by one `put`. Answers whether one was left.
@@ -89,10 +91,10 @@ fn write_line<R: Threads + Wait + Sync, S: Solver + Sync, G: Gate + Sync, O: Sin
     ensures { WritesLine turns (S.says solver.now) board.input names.now board result.0
         (O.shown out.old) (O.shown out.new) result.1 }
 {
-    let (board, from) = advance_by(rt, alloc, board, expert, solver, gate, turns);
-    match from {
-        Ok(from) => {
-            let more = write_more(alloc, names, &board, solver, from, out);
+    let (board, came) = advance_by(rt, alloc, board, expert, solver, gate, turns);
+    match came {
+        Ok(came) => {
+            let more = write_more(alloc, names, &board, &came, out);
             (board, more)
         }
         Err(AllocError) => (board, Err(SinkRefusal::OutOfMemory)),
@@ -199,8 +201,8 @@ pub fn run_unwritten<R: Wait, S: Solver, G: Gate>(
     ensures { OnOk result (IsJournal InOrder board.old.input board.new.entries) }
 {
     for _ in rt.forever() {
-        let from = advance(rt, board, solver, gate)?;
-        if from == board.entries().len() {
+        let came = advance(rt, board, solver, gate)?;
+        if came.from == board.entries().len() {
             return Ok(());
         }
     }

@@ -1,47 +1,44 @@
 //! The text of entries with their replies.
-ghost use Rattle.std.specs.Prelude.{◌≡◌, ◌<◌, ◌≤◌, ◌++◌, drop, length, OnOk, Some};
+ghost use Rattle.std.specs.Prelude.{◌≡◌, ℕ, ◌<◌, ◌≤◌, ◌++◌, drop, length, OnOk, Some};
 ghost use Rattle.ps_rules.specs.Heads.{head_text, settings_of};
 ghost use Rattle.ps_rules.specs.History.{IsHistory};
-ghost use Rattle.ps_replies.specs.Plans.{GivesLeast};
 ghost use Rattle.ps_session.specs.Answers.{AskAtEnd};
-ghost use Rattle.ps_session.specs.Lines.{AsksLast, PutsWork, text_at, text_from};
+ghost use Rattle.ps_session.specs.Lines.{AsksFor, AsksLast, PutsWork, text_at, text_from};
 
-use super::replies::told;
+use ps_action::Act;
 use ps_board::Board;
-use ps_journal::{Printed, entry_text, push_head};
-use ps_machine::{Entry, Event, Input};
-use ps_plan::Solver;
+use ps_journal::push_head;
+use ps_machine::{Entry, Input};
+use ps_replies::push_entry;
 use ps_text::{Names, Sink, SinkRefusal, put};
 use std::alloc::{AllocError, Global};
 
-/// Adds the text of the entry at a place. If it asks, it is the last.
-fn push_entry<S: Solver>(
+/// Adds the text of the entry at a place. If it asks, it is the last, and this is the plan that it may ask for.
+fn push_at(
     alloc: Global,
     names: &Names,
     board: &Board,
-    solver: &S,
+    plan: &[Act],
     k: usize,
     text: &mut Vec<u8>,
 ) -> Result<(), AllocError>
-    requires solver { GivesLeast (S.says solver.now) }
     requires there { k < length board.now.entries }
     requires asks { AsksLast board.now.entries k }
+    requires told { AsksFor board.now.input board.now.entries plan.now k }
     ensures { OnOk result (text.new.items
         ≡ text.old.items ++ text_at names.now board.now.input board.now.entries k) }
 {
     let entry: &Entry = &board.entries()[k];
-    match &entry.what {
-        Event::Ask(query) => {
-            let told = told(alloc, board, solver, *query)?;
-            let all = entry_text(alloc, names, board.expert(), board.problem(), entry, &told)?;
-            text.extend_from_slice(&all)
-        }
-        _ => {
-            entry.print(names, text)?;
-            text.push(b'\n')?;
-            Ok(())
-        }
-    }
+    push_entry(
+        alloc,
+        names,
+        board.expert(),
+        board.problem(),
+        plan,
+        board.tree(),
+        entry,
+        text,
+    )
 }
 
 /// Writes the lines that the journal of a session of this input begins with, by one `put`.
@@ -54,25 +51,25 @@ pub fn write_head<O: Sink>(alloc: Global, input: &Input, out: &mut O) -> Result<
     put(out, &head)
 }
 
-/// Writes the text of the entries from a place on, of which none but the last asks, by one `put`.
-pub fn write_entries<S: Solver, O: Sink>(
+/// Writes the text of the entries from a place on by one `put`. None but the last asks, and this is the plan that it may ask for.
+pub fn write_entries<O: Sink>(
     alloc: Global,
     names: &Names,
     board: &Board,
-    solver: &S,
+    plan: &[Act],
     from: usize,
     out: &mut O,
 ) -> Result<(), SinkRefusal>
-    requires solver { GivesLeast (S.says solver.now) }
     requires there { from ≤ length board.now.entries }
     requires asks { AskAtEnd (drop from board.now.entries) }
+    requires told { (k : ℕ) → from ≤ k → AsksFor board.now.input board.now.entries plan.now k }
     ensures text { PutsWork (text_from names.now board.now.input board.now.entries from)
         (O.shown out.old) (O.shown out.new) result }
     ensures history { IsHistory board.now.input board.now.entries }
 {
     let mut text = Vec::new(alloc);
     for k in from..board.entries().len() {
-        push_entry(alloc, names, board, solver, k, &mut text)?;
+        push_at(alloc, names, board, plan, k, &mut text)?;
     }
     put(out, &text)
 }

@@ -11,10 +11,10 @@ returns g c =
     let i = c.args.input.now in
     let names = c.args.names.now in
     let text = c.args.journal.now in
-    let p = c.args.parts.now in
+    let t = c.args.read.now in
     let old = c.new-body.result.items in
     let body = c.judge_text.new.out.items in
-    judged i names text p c.judge_text.result c.in_ok-verdict.verdict old body (record { finding = c.in_ok-finding.finding; body = c.judge_text.new.out })
-    c.in_ok-verdict.was (subst (λ es. Replays i es c.judge_text.result) c.deref.ensures.value c.judge_text.ensures.verdict)
-    (subst (λ es. IfOk c.judge_text.result (AddsIfLegal (text_after names i [] es) old body)) c.deref.ensures.value c.judge_text.ensures.text)
-    c.new-body.ensures.items (c.in_ok-finding.ensures ∙ ap (found_by i text p c.in_ok-verdict.verdict) c.deref-2.ensures.value) refl
+    judged i names text t c.judge_text.result c.in_ok-verdict.verdict old body (record { finding = c.in_ok-finding.finding; body = c.judge_text.new.out })
+    c.in_ok-verdict.was (subst (λ es. Replays i es c.judge_text.result) c.entries.ensures c.judge_text.ensures.verdict)
+    (subst (λ es. IfOk c.judge_text.result (AddsIfLegal (text_after names i [] es) old body)) c.entries.ensures c.judge_text.ensures.text)
+    c.new-body.ensures.items (c.in_ok-finding.ensures ∙ ap (found_by i text t c.in_ok-verdict.verdict) c.deref.ensures.value) refl

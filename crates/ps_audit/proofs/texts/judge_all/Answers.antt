@@ -26,5 +26,5 @@ loop-at-preserved g c =
     record {
       reached = reached-as i _ _ _ (sym more) went.reaches;
       counted = on ∙ ap (λ d. (at + 1) + good_length i (take (at + 1) es) d (drop (at + 1) es)) (sym went.due);
-      told = text-more c.args.names.now i es c.args.out.now.items at e c.loop-at.out.items _ (omega arith) (sym c.index-entries-at.is) c.loop-at.invariant.told c.in_ok-push_entry.ensures;
+      told = text-more c.args.names.now i es c.args.out.now.items at e c.loop-at.out.items _ (omega arith) (sym c.index-entries-at.is) c.loop-at.invariant.told (c.in_ok-comes.ensures.text c.if-not-comes.false);
     }

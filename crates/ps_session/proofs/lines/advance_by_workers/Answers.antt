@@ -1,6 +1,7 @@
-use Rattle.std.proofs.Common.{ap, length}
+use Rattle.std.proofs.Common.{None, Some, ap, length, refl, ◌∙◌}
 use Rattle.ps_session.specs.declared.ways.Turns.TheVariants.{Workers}
-use Rattle.ps_session.proofs.Advancing.{advances-end, advances-said, advances-worked, commanded-so, Commanded, now-running}
+use Rattle.ps_session.proofs.Advancing.{advances-end, advances-planned, advances-said, advances-worked, commanded-so, Commanded, now-running}
+use Rattle.ps_session.specs.declared.lines.Advanced.{Advanced}
 use Rattle.ps_session.proofs.lines.advance_by_workers.Goals as goal
 
 pub work_on-requires-clause-opened : goal.work_on-requires-clause-opened
@@ -17,8 +18,8 @@ returns-in-End g c =
     let e = c.command-step.ensures in
     let did : Commanded says c.args.board c.command-step.new.self c.in-Ok.step =
     commanded-so says c.args.board c.command-step.new.self c.command-step.result c.in-Ok.step c.in-Ok.is e.answer e.end e.entries e.input e.grants e.halted e.spare in
-    advances-end (Workers c.args.workers) says c.args.board c.command-step.new.self c.in-Ok.step did c.requires.idle (length c.entries-from.result.now)
-    (ap length c.entries-from.ensures.entries) c.in-End.is
+    advances-end (Workers c.args.workers) says c.args.board c.command-step.new.self c.in-Ok.step did c.requires.idle c.without_plan.result
+    (ap (λ (a : Advanced). a.from) c.without_plan.ensures ∙ ap length c.entries-from.ensures.entries) c.in-End.is
 
 pub returns-in-Said : goal.returns-in-Said
 returns-in-Said g c =
@@ -26,8 +27,18 @@ returns-in-Said g c =
     let e = c.command-step.ensures in
     let did : Commanded says c.args.board c.command-step.new.self c.in-Ok.step =
     commanded-so says c.args.board c.command-step.new.self c.command-step.result c.in-Ok.step c.in-Ok.is e.answer e.end e.entries e.input e.grants e.halted e.spare in
-    advances-said (Workers c.args.workers) says c.args.board c.command-step.new.self c.in-Ok.step did c.requires.idle (length c.entries-from.result.now)
-    (ap length c.entries-from.ensures.entries) c.entries-from.ensures.history c.in-Said.is
+    advances-said (Workers c.args.workers) says c.args.board c.command-step.new.self c.in-Ok.step did c.requires.idle c.without_plan-in-Said.result
+    (ap (λ (a : Advanced). a.from) c.without_plan-in-Said.ensures ∙ ap length c.entries-from.ensures.entries) c.entries-from.ensures.history c.in-Said.is
+
+pub returns-in-Planned : goal.returns-in-Planned
+returns-in-Planned g c =
+    let says = g.S.Solver.says c.args.solver.now in
+    let e = c.command-step.ensures in
+    let did : Commanded says c.args.board c.command-step.new.self c.in-Ok.step =
+    commanded-so says c.args.board c.command-step.new.self c.command-step.result c.in-Ok.step c.in-Ok.is e.answer e.end e.entries e.input e.grants e.halted e.spare in
+    let came : Advanced = record { from = length c.entries-from.result.now; plan = Some c.in-Planned.acts } in
+    advances-planned (Workers c.args.workers) says c.args.board c.command-step.new.self c.in-Ok.step did c.requires.idle came c.in-Planned.acts
+    (ap length c.entries-from.ensures.entries) c.entries-from.ensures.history c.in-Planned.is refl
 
 pub returns-in-Opened : goal.returns-in-Opened
 returns-in-Opened g c =
@@ -36,5 +47,6 @@ returns-in-Opened g c =
     let did : Commanded says c.args.board c.command-step.new.self c.in-Ok.step =
     commanded-so says c.args.board c.command-step.new.self c.command-step.result c.in-Ok.step c.in-Ok.is e.answer e.end e.entries e.input e.grants e.halted e.spare in
     let w = c.work_on.ensures in
-    advances-worked c.args.workers says c.args.board c.command-step.new.self c.in-Ok.step did c.requires.idle c.work_on.result.1 (length c.entries-from.result.now) c.work_on.result.0
-    (ap length c.entries-from.ensures.entries) c.entries-from.ensures.history c.in-Opened.is w.place w.ended w.rest w.input
+    let came : Advanced = record { from = length c.entries-from.result.now; plan = None } in
+    advances-worked c.args.workers says c.args.board c.command-step.new.self c.in-Ok.step did c.requires.idle c.work_on.result.1 came c.work_on.result.0
+    (ap length c.entries-from.ensures.entries) c.entries-from.ensures.history c.in-Opened.is w.came w.ended w.rest w.input

@@ -1,24 +1,33 @@
-use Rattle.std.proofs.Common.{IfOk, subst}
-use Rattle.ps_session.specs.Lines.{Advances}
+use Rattle.std.proofs.Common.{ℕ, ◌≤◌, IfOk, subst, sym}
+use Rattle.ps_session.specs.Lines.{acts_in, Advances, AsksFor}
 use Rattle.ps_session.proofs.Whole.{line-written, starved-line}
-use Rattle.ps_session.proofs.Writing.{asks-since}
+use Rattle.ps_session.proofs.Writing.{asks-since, told-since}
 use Rattle.ps_session.proofs.session.write_line.Goals as goal
 
 pub write_more-more-requires-clause-asks : goal.write_more-more-requires-clause-asks
 write_more-more-requires-clause-asks g c =
     let says = g.S.Solver.says c.args.solver.now in
     let new = c.advance_by-board.result.0 in
-    let went : Advances c.args.turns says c.args.board.input c.args.board new c.in-Ok.from =
+    let went : Advances c.args.turns says c.args.board.input c.args.board new c.in-Ok.came =
     subst (λ r. IfOk r (Advances c.args.turns says c.args.board.input c.args.board new)) c.in-Ok.is c.advance_by-board.ensures in
-    asks-since c.args.turns says c.args.board.input c.args.board new c.in-Ok.from went
+    asks-since c.args.turns says c.args.board.input c.args.board new c.in-Ok.came went
+
+pub write_more-more-requires-clause-told : goal.write_more-more-requires-clause-told
+write_more-more-requires-clause-told g c =
+    let says = g.S.Solver.says c.args.solver.now in
+    let new = c.advance_by-board.result.0 in
+    let went : Advances c.args.turns says c.args.board.input c.args.board new c.in-Ok.came =
+    subst (λ r. IfOk r (Advances c.args.turns says c.args.board.input c.args.board new)) c.in-Ok.is c.advance_by-board.ensures in
+    let told = told-since c.args.turns says c.args.board.input c.args.board new c.in-Ok.came went c.requires.solver in
+    subst (λ j. (k : ℕ) → c.in-Ok.came.from ≤ k → AsksFor j new.entries (acts_in c.in-Ok.came.plan) k) (sym went.idle.input) told
 
 pub returns-in-Ok : goal.returns-in-Ok
 returns-in-Ok g c =
     let says = g.S.Solver.says c.args.solver.now in
     let new = c.advance_by-board.result.0 in
-    let went : Advances c.args.turns says c.args.board.input c.args.board new c.in-Ok.from =
+    let went : Advances c.args.turns says c.args.board.input c.args.board new c.in-Ok.came =
     subst (λ r. IfOk r (Advances c.args.turns says c.args.board.input c.args.board new)) c.in-Ok.is c.advance_by-board.ensures in
-    line-written c.args.turns says c.args.board.input c.args.names.now c.args.board new c.in-Ok.from (g.O.Sink.shown c.args.out.now) (g.O.Sink.shown c.write_more-more.new.out)
+    line-written c.args.turns says c.args.board.input c.args.names.now c.args.board new c.in-Ok.came (g.O.Sink.shown c.args.out.now) (g.O.Sink.shown c.write_more-more.new.out)
     c.requires.solver went c.write_more-more.ensures.history c.write_more-more.result c.write_more-more.ensures.text c.write_more-more.ensures.more
 
 pub returns-in-Err : goal.returns-in-Err

@@ -5,11 +5,11 @@ use Rattle.ps_session.proofs.AddedTexts.{asks-last, text-done, text-more}
 use Rattle.ps_session.proofs.Writing.{put-work, textless}
 use Rattle.ps_session.proofs.texts.write_entries.Goals as goal
 
-pub push_entry-requires-clause-asks : goal.push_entry-requires-clause-asks
-push_entry-requires-clause-asks g c = asks-last c.args.from c.args.board.now.entries c.loop-k.k c.loop-k.invariant.0 c.requires.asks
+pub push_at-requires-clause-asks : goal.push_at-requires-clause-asks
+push_at-requires-clause-asks g c = asks-last c.args.from c.args.board.now.entries c.loop-k.k c.loop-k.invariant.0 c.requires.asks
 
-pub returns-in_err-push_entry-clause-text : goal.returns-in_err-push_entry-clause-text
-returns-in_err-push_entry-clause-text g c =
+pub returns-in_err-push_at-clause-text : goal.returns-in_err-push_at-clause-text
+returns-in_err-push_at-clause-text g c =
     let p = err_from_is_err_and c.from_residual.result c.from_residual.ensures.1 in
     rw (p.1, p.2) (textless (text_from c.args.names.now c.args.board.now.input c.args.board.now.entries c.args.from) (g.O.Sink.shown c.args.out.now))
 
@@ -20,7 +20,7 @@ loop-k-preserved g c =
     let low = c.loop-k.invariant.0 in
     let lt : c.loop-k.k < length es = omega (arith, len, c.loop-k-test.true) in (
       omega (arith, low),
-      text-more c.args.names.now c.args.board.now.input es c.args.from [] c.loop-k.k c.loop-k.text.items c.push_entry.new.text.items lt c.loop-k.invariant.1 c.in_ok-push_entry.ensures,
+      text-more c.args.names.now c.args.board.now.input es c.args.from [] c.loop-k.k c.loop-k.text.items c.push_at.new.text.items lt c.loop-k.invariant.1 c.in_ok-push_at.ensures,
     )
 
 pub returns-clause-text : goal.returns-clause-text

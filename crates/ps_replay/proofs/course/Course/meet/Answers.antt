@@ -3,6 +3,7 @@ use Rattle.ps_machine.specs.declared.journal.Entry.{Entry}
 use Rattle.ps_rules.specs.Runs.{plan}
 use Rattle.ps_rows.specs.Table.{TakesCancelOf}
 use Rattle.ps_replay.proofs.Courses.{act-below, answers, due-rest, is-in, prefix-rest, stands-on, within-rest}
+use Rattle.ps_replay.proofs.PlanQueries.{cancel-told}
 use Rattle.ps_replay.proofs.course.Course.meet.Goals as goal
 
 pub returns-then-not-is_due : goal.returns-then-not-is_due
@@ -11,9 +12,10 @@ returns-then-not-is_due c =
     let met = c.args.self.now.met in
     let due = c.due_at-due.result.now in
     let first : get_or items met due ≡ due = sym (subst (λ (xs : List Entry). due ≡ get_or xs met due) c.deref.ensures.value c.due_at-due.ensures) in
-    record {
+    λ says. record {
       answer = answers c.args.input.now c.args.before.now c.args.entry.now due items met c.requires.due first false (sym c.if-not-is_due.true ∙ c.is_due.ensures);
       comes = λ h. absurd (cc);
+      told = λ h. absurd (cc);
     }
 
 pub cancel-requires : goal.cancel-requires
@@ -41,8 +43,9 @@ returns c =
     let r = c.requires.reaches in
     let is = sym c.is_due.ensures ∙ c.if-not-is_due.false in
     let took = subst (λ a. TakesCancelOf a c.args.self.now.present c.cancel.new.self) c.cancelled_act.ensures c.cancel.ensures.told in
-    record {
+    λ says. record {
       answer = answers i es e due items met c.requires.due first true (sym is);
+      told = λ h. cancel-told says i es (length (plan es)) e.what _ (is-in i es e due items met c.requires.due first r.within is);
       comes = λ h. record {
         reaches = record {
           stands = stands-on i es e due items met c.requires.due first c.args.self.now.present _ r.within is r.stands took;

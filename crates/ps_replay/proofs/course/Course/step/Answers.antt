@@ -13,6 +13,9 @@ judge-requires-clause-history g c =
     let past : length c.args.self.now.forced.items ≤ c.args.self.now.met = omega arith in
     done-history c.args.input.now c.args.before.now _ c.requires.reaches.prefix (at_drop_all (λ x. x) c.args.self.now.forced.items c.args.self.now.met past)
 
+pub returns-then-self-len : goal.returns-then-self-len
+returns-then-self-len g c = c.meet.ensures (g.S.Solver.says c.args.solver.now)
+
 pub returns-then-not-legal : goal.returns-then-not-legal
 returns-then-not-legal g c =
     let past : length c.args.self.now.forced.items ≤ c.args.self.now.met = omega arith in
@@ -20,6 +23,7 @@ returns-then-not-legal g c =
     record {
       answer = sym c.if-not-legal.true ∙ c.in_ok-legal.ensures.legal ∙ ap (λ due. may_come c.args.input.now c.args.before.now due c.args.entry.now) (sym none);
       comes = λ h. absurd (cc);
+      told = λ h. absurd (cc);
     }
 
 pub returns : goal.returns
@@ -32,10 +36,12 @@ returns g c =
     let none : old ≡ [] = at_drop_all (λ x. x) c.args.self.now.forced.items c.args.self.now.met past in
     let may : true ≡ may_come i es old e = sym c.if-not-legal.false ∙ c.in_ok-legal.ensures.legal ∙ ap (λ due. may_come i es due e) (sym none) in
     let stands = c.in_ok-legal.ensures.stands c.if-not-legal.false in
-    let forced = c.in_ok-forced.ensures i (es ++ e ∷ []) stands in
+    let history = done-history i es _ c.requires.reaches.prefix none in
+    let forced = c.in_ok-forced.ensures i es history stands in
     let due = forced ∙ ap (λ due. due_then i es due e) (sym none) in
     record {
       answer = may;
+      told = λ h. c.in_ok-legal.ensures.told c.if-not-legal.false;
       comes = λ h. record {
         reaches = record {
           stands = stands;

@@ -3,7 +3,7 @@ use Rattle.ps_rules.specs.Legal.{has_hand, is_legal}
 use Rattle.ps_ledger.proofs.LegalEvents.{legal_events_speak_of_ledgers}
 use Rattle.ps_rows.specs.Table.{Awaits}
 use Rattle.ps_rows.proofs.Awaiting.{awaits}
-use Rattle.ps_replay.proofs.course.judge.Goals as goal
+use Rattle.ps_replay.proofs.course.judge_other.Goals as goal
 
 pub take-requires-clause-speaks : goal.take-requires-clause-speaks
 take-requires-clause-speaks g c =

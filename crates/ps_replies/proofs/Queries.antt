@@ -1,10 +1,13 @@
 -- A query changes nothing of what its reply tells.
-use Rattle.std.proofs.Common.{◌≡◌, ℕ, List, [], ◌∷◌, ◌++◌, filter, length, map, refl, ap, ◌∙◌}
+use Rattle.std.proofs.Common.{◌≡◌, ℕ, Option, Some, List, [], ◌∷◌, ◌++◌, filter, length, map, ap, sym, ◌∙◌}
 use Rattle.std.specs.List.{range_with_len}
+use Rattle.ps_world.specs.declared.domains.Domain.{Domain}
+use Rattle.ps_world.specs.declared.known.Knowledge.{Knowledge}
 use Rattle.ps_action.specs.Arcs.{is_arc}
-use Rattle.ps_action.specs.Search.{answer as answered_by}
-use Rattle.ps_action.specs.Trees.{tree_text, TreeView}
+use Rattle.ps_action.specs.Search.{answer}
+use Rattle.ps_action.specs.Trees.{TreeView}
 use Rattle.ps_action.specs.declared.acts.Act.{Act}
+use Rattle.ps_action.specs.declared.answers.Answer.TheVariants.{Plan}
 use Rattle.ps_action.specs.declared.states.ActState.{ActState}
 use Rattle.ps_machine.specs.declared.inputs.Query.{Query}
 use Rattle.ps_machine.specs.declared.inputs.Query.TheVariants as query
@@ -15,8 +18,7 @@ use Rattle.ps_rules.specs.Journal.{tree_of}
 use Rattle.ps_rules.specs.Known.{grounds, know}
 use Rattle.ps_rules.specs.Runs.{plan, state}
 use Rattle.ps_rules.proofs.Pushed.{know-push, read-push}
-use Rattle.ps_journal.specs.Told.{asked_steps, asked_tree, IsTold, planned}
-use Rattle.ps_journal.specs.declared.replies.Told.{Told}
+use Rattle.ps_replies.specs.Plans.{RepliesToQuery}
 
 -- an entry that asks
 abbrev pub ask : ℕ → Query → Entry
@@ -44,17 +46,16 @@ module _ (i : Input) (es : List Entry) (hand : ℕ) (asked : Query) where
     states = map states (range_with_len 0 (length acts));
   }
 
-  same-tree : tree_of i after ≡ tree_of i es
+  pub same-tree : tree_of i after ≡ tree_of i es
   same-tree = λ t. tree-by (same-plan t) (λ j. same-state j t)
 
-  same-steps : (q : Query) → asked_steps i after q ≡ asked_steps i es q
-  same-steps query.Plan = ap (λ k. planned i.domain k (answered_by i.domain k i.budget)) same-known
-  same-steps q = refl
-
-  same-text : (q : Query) → asked_tree i after q ≡ asked_tree i es q
-  same-text query.Tree = ap tree_text same-tree
-  same-text q = refl
-
-  -- what the reply tells is the same before the query as after it
-  pub told-before : (told : Told) → IsTold i after (event.Ask asked) told → IsTold i es (event.Ask asked) told
-  told-before told h = record { steps = h.steps ∙ same-steps asked; tree = h.tree ∙ same-text asked }
+  -- what its reply tells of before it is what is known after it, with the plan that was due before it and the tree after it
+  pub replies-before : (d : Domain) (k : Knowledge) (acts : List Act) (tree : Option TreeView) → d ≡ i.domain → k ≡ know i after
+      → (asked ≡ query.Plan → answer i.domain (know i es) i.budget ≡ Plan acts) → (asked ≡ query.Tree → tree ≡ Some (tree_of i after))
+      → RepliesToQuery i es asked d k acts tree
+  replies-before d k acts tree domain known due shown = record {
+    domain = domain;
+    known = known ∙ same-known;
+    due = due;
+    shown = λ is. shown is ∙ ap (λ t. Some t) same-tree;
+  }

@@ -1,0 +1,24 @@
+use Rattle.std.proofs.Common.{Some, [], ◌∷◌, ◌++◌, sym, subst}
+use Rattle.ps_replies.specs.Plans.{RepliesTo}
+use Rattle.ps_rows.proofs.PlanTrees.{as-many-waits}
+use Rattle.ps_audit.proofs.Replies.{replies-after}
+use Rattle.ps_audit.proofs.texts.judge_one.Goals as goal
+
+pub show_tree-requires : goal.show_tree-requires
+show_tree-requires g c =
+    let i = c.args.input.now in
+    let es = c.args.before.now in
+    let e = c.args.entry.now in
+    let went = c.in_ok-comes.ensures.comes c.if-not-comes.false in
+    as-many-waits i (es ++ e ∷ []) _ went.reaches.stands
+
+pub returns-clause-text : goal.returns-clause-text
+returns-clause-text g c = λ _.
+    let i = c.args.input.now in
+    let es = c.args.before.now in
+    let e = c.args.entry.now in
+    let went = c.in_ok-comes.ensures.comes c.if-not-comes.false in
+    c.in_ok-push_entry.ensures i es
+    (subst (λ acts. RepliesTo i es e.what c.show_tree.new.present.expert c.show_tree.new.present.problem acts (Some c.show_tree.new.present.tree)) (sym c.as_slice.ensures)
+    (replies-after (g.S.Solver.says c.args.solver.now) i es e _ _ c.requires.solver (c.show_tree.ensures.stands i (es ++ e ∷ []) went.reaches.stands)
+    (c.in_ok-comes.ensures.told c.if-not-comes.false) c.show_tree.ensures.states))

@@ -1,0 +1,69 @@
+-- Events that leave what is known, the plan and the states of its acts force no cancel.
+use Rattle.std.proofs.Common.{◌≡◌, ℕ, zero, suc, ◌+◌, ◌||◌, ◌&&◌, not, Bool, true, false, None, if◌then◌else◌, List, [], ◌∷◌, ◌++◌, filter, length, map, refl, ap, ◌∙◌}
+use Rattle.std.specs.List.{range_with_len}
+use Rattle.std.specs.Option.{unwrap_or}
+use Rattle.ps_machine.specs.declared.inputs.Input.{Input}
+use Rattle.ps_machine.specs.declared.journal.Event.{Event}
+use Rattle.ps_machine.specs.declared.journal.Event.TheVariants as event
+use Rattle.ps_machine.specs.declared.journal.Entry.{Entry}
+use Rattle.ps_machine.specs.declared.journal.CancelWhy.TheVariants as cancel
+use Rattle.ps_action.specs.declared.states.ActState.{ActState}
+use Rattle.ps_action.specs.declared.states.ActState.TheVariants.{Waiting, Active, Done, Failed, Cancelled}
+use Rattle.ps_rules.specs.Runs.{is_active, plan, says_plan, says_state, state}
+use Rattle.ps_rules.specs.Known.{know}
+use Rattle.ps_rules.specs.Settled.{may_go_on}
+use Rattle.ps_rules.specs.Laws.{is_change}
+use Rattle.ps_rules.specs.History.{any_of, broken, cancels, forced, IsHistory, is_fail, sound}
+use Rattle.ps_rules.proofs.Going.{active_acts_may_go_on}
+use Rattle.ps_rules.proofs.Pushed.{know-push, known_after-other, read-push}
+use Rattle.ps_replay.specs.Course.{is_quiet}
+
+quiet-plan : (e : Event) → is_quiet e ≡ true → says_plan e ≡ None
+quiet-plan (event.Run for acts) h = absurd (cc)
+quiet-plan (event.Replan acts) h = absurd (cc)
+quiet-plan e h = refl
+
+quiet-state : (act : ℕ) (e : Event) → is_quiet e ≡ true → says_state act e ≡ None
+quiet-state act (event.Run for acts) h = absurd (cc)
+quiet-state act (event.Replan acts) h = absurd (cc)
+quiet-state act (event.Start j) h = absurd (cc)
+quiet-state act (event.End j) h = absurd (cc)
+quiet-state act (event.Fail j why) h = absurd (cc)
+quiet-state act (event.Cancel j why) h = absurd (cc)
+quiet-state act e h = refl
+
+quiet-change : (e : Event) → is_quiet e ≡ true → is_change e ≡ false
+quiet-change (event.Edit by edit) h = absurd (cc)
+quiet-change (event.Start j) h = absurd (cc)
+quiet-change (event.End j) h = absurd (cc)
+quiet-change e h = refl
+
+quiet-fail : (e : Event) → is_quiet e ≡ true → is_fail e ≡ false
+quiet-fail (event.Fail j why) h = absurd (cc)
+quiet-fail e h = refl
+
+active-fine : (s : ActState) (b : Bool) → (s ≡ Active → b ≡ true) → (is_active s && not b) ≡ false
+active-fine Active b h = ap not (h refl)
+active-fine Waiting b h = refl
+active-fine Done b h = refl
+active-fine Failed b h = refl
+active-fine Cancelled b h = refl
+
+filter-none : (p : ℕ → Bool) (a n : ℕ) → ((k : ℕ) → p k ≡ false) → filter p (range_with_len a n) ≡ []
+filter-none p a zero h = refl
+filter-none p a (suc n) h = rw (h a) (filter-none p (a + 1) n h)
+
+-- no active act is broken after one
+none-broken : (i : Input) (es : List Entry) (x : Entry) → IsHistory i es → is_quiet x.what ≡ true → broken i (es ++ x ∷ []) ≡ []
+none-broken i es x h q =
+    let same : (act : ℕ) → state act (es ++ x ∷ []) ≡ state act es = λ act. read-push (λ a f. unwrap_or (says_state act f) a) Waiting es x ∙ ap (λ o. unwrap_or o (state act es)) (quiet-state act x.what q) in
+    let plans : plan (es ++ x ∷ []) ≡ plan es = read-push (λ a f. unwrap_or (says_plan f) a) [] es x ∙ ap (λ o. unwrap_or o (plan es)) (quiet-plan x.what q) in
+    let knows : know i (es ++ x ∷ []) ≡ know i es = know-push i es x ∙ known_after-other i.domain (plan es) (know i es) x.what (quiet-change x.what q) in
+    let goes : (act : ℕ) → may_go_on i (es ++ x ∷ []) act ≡ may_go_on i es act = λ act. rw (knows, plans) refl in
+    filter-none (λ act. is_active (state act (es ++ x ∷ [])) && not (may_go_on i (es ++ x ∷ []) act)) 0 (length (plan (es ++ x ∷ [])))
+    (λ act. ap (λ s. is_active s && not (may_go_on i (es ++ x ∷ []) act)) (same act) ∙ ap (λ b. is_active (state act es) && not b) (goes act) ∙ active-fine (state act es) (may_go_on i es act) (active_acts_may_go_on i es h act))
+
+pub quiet-forces : (i : Input) (es : List Entry) (x : Entry) → IsHistory i es → is_quiet x.what ≡ true → forced i es x ≡ []
+quiet-forces i es x h q =
+    ap (λ xs. map (cancels x.hand cancel.OverAll) xs ++ (if is_fail x.what || any_of xs then map (cancels x.hand cancel.Stop) (sound i (es ++ x ∷ [])) else [])) (none-broken i es x h q)
+    ∙ ap (λ b. if b || false then map (cancels x.hand cancel.Stop) (sound i (es ++ x ∷ [])) else []) (quiet-fail x.what q)
