@@ -1,12 +1,10 @@
 //! plansys: a planning system for teams of robots.
 #![tactic(auto)]
 
-mod real;
-
 use ps_calls::{give_up, plansys, tell, told_of_itself};
 use ps_pool::NoGate;
+use ps_real::{RealFiles, RealSink};
 use ps_text::{Sink, SinkRefusal};
-use real::{RealFiles, RealSink};
 use std::alloc::{AllocError, Global};
 use std::io::ErrorKind;
 use std::process::ExitCode;

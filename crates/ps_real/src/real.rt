@@ -1,5 +1,5 @@
 //! The files and the streams of the system. They tell no content, and count their reads and failures.
-ghost use Rattle.std.specs.Prelude.{None};
+ghost use Rattle.std.specs.Prelude.{◌≤◌, IfOk, None, length};
 ghost use Rattle.ps_text.specs.Outside.Told.{untold};
 ghost use Rattle.std.specs.Io.{WritesAtMost};
 
@@ -11,6 +11,9 @@ use std::{io, rt};
 
 /// As many bytes are read of a file: one more than it may have.
 const MOST_READ: u64 = 1_048_577;
+
+/// So many are read at a time.
+const CHUNK: usize = 16_384;
 
 /// The files of the system.
 #[derive(Drop)]
@@ -30,11 +33,31 @@ impl<'a, R> RealFiles<'a, R> {
     }
 }
 
+/// Reads some bytes into the front of a chunk: none only where the file has no more. A read that was interrupted is tried again.
+fn read_some<F: Read>(file: &mut F, chunk: &mut [u8]) -> io::Result<usize>
+    ensures { IfOk result (λ count. count ≤ length chunk.new) }
+{
+    for _ in 0..u64::MAX {
+        match file.read(chunk) {
+            Err(error) if error.kind() == ErrorKind::Interrupted => {}
+            done => return done,
+        }
+    }
+    Ok(0)
+}
+
 /// The bytes of a file, of which no more are read than one more than it may have.
 fn read_file<R: rt::Files>(rt: &R, alloc: Global, name: &str) -> io::Result<Vec<u8>> {
-    let file = File::open(rt, name)?;
+    let mut file = File::open(rt, name)?.take(MOST_READ);
     let mut bytes = Vec::new(alloc);
-    file.take(MOST_READ).read_to_end(&mut bytes)?;
+    let mut chunk = [0; CHUNK];
+    for _ in 0..=MOST_READ {
+        let count = read_some(&mut file, &mut chunk)?;
+        if count == 0 {
+            break;
+        }
+        bytes.extend_from_slice(&chunk[..count])?;
+    }
     Ok(bytes)
 }
 
