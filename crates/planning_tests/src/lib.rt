@@ -1,10 +1,13 @@
-//! Tests of what is known, of actions and of plans: calls of the libraries that the program does not make in this way.
+//! Tests of what is known, of actions and of plans: calls of the libraries that the program does not make in this way;
+//! and of three planners at once, with threads.
 #![tactic(auto)]
 
 #[cfg(test)]
 mod orders;
 #[cfg(test)]
 mod patching;
+#[cfg(test)]
+mod planners;
 #[cfg(test)]
 mod plans;
 #[cfg(test)]
@@ -15,6 +18,8 @@ mod telling;
 mod touching;
 #[cfg(test)]
 mod trees;
+#[cfg(test)]
+mod warehouse;
 #[cfg(test)]
 mod watching;
 #[cfg(test)]

@@ -1,11 +1,13 @@
 //! A search over what expands a problem: what it answers, and how often it expands.
 ghost use Rattle.std.specs.Prelude.{◌≤◌};
+ghost use Rattle.ps_expand.specs.Trees.{MaySearch};
 
 use super::orders::ROOMS;
 use super::patching::LEIA;
 use super::worlds::{World, act_of, take_line, world_of};
 use ps_action::{Act, Answer};
-use ps_expand::Expander;
+use ps_expand::{Expand, Expander};
+use ps_problem::Problem;
 use ps_search::Search;
 use ps_solve::Forward;
 use ps_text::Names;
@@ -55,6 +57,20 @@ fn told(alloc: Global, answer: &Answer, plan: &[Act]) -> Result<String, Fail> {
     Ok(text)
 }
 
+/// What is told of a search with a budget over what expands.
+fn answered<X: Expand>(
+    expander: &mut X,
+    problem: &Problem,
+    budget: u32,
+    plan: &[Act],
+) -> Result<String, Fail>
+    requires { MaySearch (X.instances expander.old) (X.goal expander.old) (X.count expander.old)
+        problem.now budget }
+{
+    let answer = Forward::new().search(expander, problem, budget)?;
+    told(problem.allocator(), &answer, plan)
+}
+
 /// What is told of a search with a budget, and how often it expands.
 fn searched(world: &World, budget: u32, plan: &[Act]) -> Result<(String, u64), Fail>
     requires { 1 ≤ budget }
@@ -63,8 +79,7 @@ fn searched(world: &World, budget: u32, plan: &[Act]) -> Result<(String, u64), F
         return Err(Fail::from("no goal"));
     }
     let mut expander = Expander::new(&world.expert, &world.problem)?;
-    let answer = Forward::new().search(&mut expander, &world.problem, budget)?;
-    let text = told(world.problem.allocator(), &answer, plan)?;
+    let text = answered(&mut expander, &world.problem, budget, plan)?;
     Ok((text, expander.count()))
 }
 

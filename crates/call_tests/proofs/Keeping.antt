@@ -1,0 +1,32 @@
+-- What a turn leaves of who asked the solver.
+use Rattle.std.proofs.Common.{◌≡◌, ℕ, Option, Some, None, List, ◌∷◌, ◌++◌, take, ap, sym, ◌∙◌, subst}
+use Rattle.ps_machine.specs.declared.inputs.Input.{Input}
+use Rattle.ps_machine.specs.declared.journal.Event.{Event}
+use Rattle.ps_machine.specs.declared.journal.Entry.{Entry}
+use Rattle.ps_rules.specs.History.{forced}
+use Rattle.ps_rules.specs.Known.{know}
+use Rattle.ps_asked.specs.Asked.{WasAsked}
+use Rattle.ps_asked.proofs.Counted.{asked_for_good, known_then}
+use Rattle.ps_board.specs.Board.{with_done}
+use Rattle.ps_board.specs.declared.board.Shown.{Shown}
+use Rattle.call_tests.specs.Asked.{KeepsAsked}
+
+-- entries that came after
+keeps-more : (b new : Shown) (more : List Entry) → new.input ≡ b.input → new.entries ≡ b.entries ++ more → KeepsAsked b new
+keeps-more b new more input grown at was = (
+  subst (λ i. WasAsked i new.entries at) (sym input) (subst (λ es. WasAsked b.input es at) (sym grown) (asked_for_good b.input b.entries more at was)),
+  ap (λ i. know i (take at new.entries)) input ∙ ap (λ es. know b.input (take at es)) grown ∙ known_then b.input b.entries more at was,
+)
+
+-- nothing came
+keeps-same : (b new : Shown) → new.input ≡ b.input → new.entries ≡ b.entries → KeepsAsked b new
+keeps-same b new input same at was = (
+  subst (λ i. WasAsked i new.entries at) (sym input) (subst (λ es. WasAsked b.input es at) (sym same) was),
+  ap (λ i. know i (take at new.entries)) input ∙ ap (λ es. know b.input (take at es)) same,
+)
+
+pub keeps : (b new : Shown) (hand : ℕ) (done : Option Event) → new.input ≡ b.input → new.entries ≡ with_done b hand done → KeepsAsked b new
+keeps b new hand None input all = keeps-same b new input all
+keeps b new hand (Some e) input all =
+    let entry : Entry = record { hand = hand; what = e } in
+    keeps-more b new (entry ∷ forced b.input b.entries entry) input all
