@@ -1,0 +1,11 @@
+use Rattle.std.proofs.Common.{◌≡◌, ◌-◌, ◌≤◌, ◌++◌}
+use Rattle.ps_drawing.specs.Vectors.{ticks_svg}
+use Rattle.ps_drawing.proofs.vectors.push_ticks.Given as goal
+
+-- the ticks so far, and those left, are all
+abbrev pub invariant-loop-k : goal.invariant-loop-k
+invariant-loop-k l = record {
+  within : l.k ≤ l.count;
+  ticks : l.out.items ++ ticks_svg l.span l.y l.reach l.k (l.count - l.k)
+      ≡ l.initial.out.items ++ ticks_svg l.span l.y l.reach 0 l.count;
+}

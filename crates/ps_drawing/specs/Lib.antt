@@ -1,0 +1,5 @@
+pub mod Signs
+pub mod Columns
+pub mod Texts
+pub mod Vectors
+pub mod Laws

@@ -1,0 +1,2 @@
+mod ForwardBars
+mod RowCounts

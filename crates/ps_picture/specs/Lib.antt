@@ -1,0 +1,4 @@
+pub mod Touches
+pub mod Rows
+pub mod Courses
+pub mod Laws

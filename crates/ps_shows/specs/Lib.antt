@@ -1,0 +1,4 @@
+pub mod Asked
+pub mod Pictures
+pub mod Telling
+pub mod Shows
