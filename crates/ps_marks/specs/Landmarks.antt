@@ -44,6 +44,10 @@ is_needed d k f = let left = closure d k (Some f) in list_any (λ a. not (is_in 
 unfoldable pub landmarks : Domain → Knowledge → List Fact
 landmarks d k = filter (is_needed d k) (candidates d k)
 
+-- the atoms of the goal that are out of reach where nothing is left out: no acts could ever make them true, even if nothing were deleted
+abbrev pub out_of_reach : Domain → Knowledge → List Fact
+out_of_reach d k = filter (λ a. not (is_in (closure d k None) a)) (goal_atoms k.goal)
+
 -- ---- the atoms of the goal as marks
 
 -- these facts, each once, without some that were seen

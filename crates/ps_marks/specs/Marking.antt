@@ -1,5 +1,5 @@
 -- What the call answers that finds landmarks.
-use Rattle.std.specs.Prelude.{◌≡◌, ℕ, Bool, false, not, Some, nat_le, if◌then◌else◌, Result, Ok, Err, IsOk, List, length}
+use Rattle.std.specs.Prelude.{◌≡◌, ℕ, Bool, false, not, Some, nat_le, slice_get, if◌then◌else◌, Result, Ok, Err, IsOk, List, length}
 use Rattle.std.specs.Global.{Vec}
 use Rattle.std.specs.List.{list_all}
 use Rattle.ps_world.specs.Failures.{Gives}
@@ -15,7 +15,7 @@ use Rattle.ps_domain.specs.declared.refusals.GroundAllRefusal.TheVariants.{TooMa
 use Rattle.ps_closing.specs.declared.rule.Rule.{Rule}
 use Rattle.ps_closing.specs.Closing.{AreClosed, has}
 use Rattle.ps_marks.specs.Closures.{closure}
-use Rattle.ps_marks.specs.Landmarks.{landmarks}
+use Rattle.ps_marks.specs.Landmarks.{landmarks, out_of_reach}
 use Rattle.ps_marks.specs.Rules.{Mirror, place}
 
 -- whether a place of the goal isn't set by these rules where a fact is left out
@@ -37,3 +37,18 @@ marked d k = if nat_le (length (all_ground d k.instances)) most_ground then Ok (
 pub record GivesLandmarks (d : Domain) (k : Knowledge) (r : Result (Vec Fact) (Failure GroundAllRefusal)) : Type 0 where
   pub gives : Gives (λ marks. marks.items) r (marked d k)
   pub memory : r ≡ Err OutOfMemory → IsOk (marked d k)
+
+-- whether the place of a fact isn't set
+pub record IsUnset (atoms : List Fact) (flags : List Bool) (f : Fact) (unset : Bool) : Type 0 where
+  pub at : ℕ
+  pub stands : slice_get atoms at ≡ Some f
+  pub told : unset ≡ not (has flags at)
+
+-- what is out of reach, unless there are more ground actions than may be listed
+abbrev pub unreached : Domain → Knowledge → Result (List Fact) GroundAllRefusal
+unreached d k = if nat_le (length (all_ground d k.instances)) most_ground then Ok (out_of_reach d k) else Err TooMany
+
+-- The answer is what is out of reach, or that there are too many ground actions, unless memory ran out, which it does only where there aren't.
+pub record GivesUnreached (d : Domain) (k : Knowledge) (r : Result (Vec Fact) (Failure GroundAllRefusal)) : Type 0 where
+  pub gives : Gives (λ facts. facts.items) r (unreached d k)
+  pub memory : r ≡ Err OutOfMemory → IsOk (unreached d k)

@@ -19,7 +19,7 @@ use std::alloc::{AllocError, Global};
 // ---- what a ground action needs
 
 /// The place of a fact that has one.
-fn place_in(places: &Places, fact: &Fact) -> usize
+pub fn place_in(places: &Places, fact: &Fact) -> usize
     requires { is_in places.now fact.now ≡ true }
     ensures { slice_get places.now result ≡ Some fact.now }
 {
