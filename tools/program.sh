@@ -70,21 +70,16 @@ build_program() {
   (cd "$1/crates/$2" && rt run -- --version) && cp "$1/crates/$2/out/$2" "$root/out/$2.new" && touch -r "$1/begun" "$root/out/$2.new"
 }
 
-# Proves and builds in this folder, where rt sees just the crates that are needed. The programs come after their libraries, side by side: what
-# builds one proves it too, so that an earlier check of it would only be done twice.
+# Proves and builds in this folder, where rt sees just the crates that are needed. The programs come after their libraries, one after the other,
+# since each takes much memory: what builds one proves it too, so that an earlier check of it would only be done twice.
 build_in() {
-  local name builds="" status=0
+  local name
   touch "$1/begun" && needed | grep -vE "^(${programs// /|}):" >"$1/crates.txt" && cp "$root/HANDLES" "$1/" || return 1
   copy_to "$1" $(libraries) && (cd "$1" && rt all check --jobs "$(nproc)") || return 1
   needed >"$1/crates.txt" && copy_to "$1" $programs || return 1
   for name in $programs; do
-    build_program "$1" "$name" &
-    builds="$builds $!"
+    build_program "$1" "$name" || return 1
   done
-  for name in $builds; do
-    wait "$name" || status=1
-  done
-  [ "$status" -eq 0 ] || return 1
   for name in $programs; do
     mv "$root/out/$name.new" "$root/out/$name" || return 1
   done
