@@ -170,12 +170,13 @@ fn conditions<S: Scope>(
     ensures { Gives (λ cs. cs) result
         (conditions (refusable S.Refusal) (S.scopes scope.now) params.now (nesteds (map nested trees.now)) []) }
 {
-    let mut all = Conds::new(alloc);
+    // Room for just as many as there are: of short conditions a text of 1 MiB has very many.
+    let mut all = Vec::with_capacity(alloc, trees.len())?;
     for tree in trees {
         let one = condition(alloc, scope, params, tree)?;
         all.push(one)?;
     }
-    Ok(all)
+    Ok(Conds::of(all))
 }
 
 /// That the first of these conditions doesn't hold.

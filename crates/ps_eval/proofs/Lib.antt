@@ -1,3 +1,4 @@
+pub mod Facts
 pub mod Faultless
 pub mod Flats
 pub mod Reading

@@ -97,13 +97,16 @@ fn push_conds(conds: &Conds, all: &mut Vec<Touched>) -> Result<(), AllocError>
     Ok(())
 }
 
+/// Room for what most lists of conditions read, so that it is made once.
+const ROOM: usize = 8;
+
 /// What a list of conditions reads: each fact and function term that stands in it, and each name that stands there as an
 /// argument, in a `(= a b)` or where its type is asked for. Where a variable stands as an argument, it is the place that the fact or the
 /// function term has, and for the name all instances; a quantifier reads all instances too. One thing may be named twice.
 pub fn reads(alloc: Global, conds: &Conds) -> Result<Vec<Touched>, AllocError>
     ensures { IfOk result (λ v. v.items ≡ read_by_list conds.now) }
 {
-    let mut all = Vec::new(alloc);
+    let mut all = Vec::with_capacity(alloc, ROOM)?;
     push_conds(conds, &mut all)?;
     Ok(all)
 }

@@ -1,4 +1,5 @@
 use Rattle.std.proofs.Common.{◌≡◌, ◌+◌, ◌*◌, max, [], drop, map}
+use Rattle.ps_world.specs.CondViews.{cond_tree}
 use Rattle.ps_forms.specs.Nested.{nesteds, rank, ranks}
 use Rattle.ps_forms.specs.NestedViews.{nested}
 use Rattle.ps_conditions.specs.Conditions.{conditions}
@@ -31,4 +32,4 @@ decreases-conditions g l = 4 * ranks (nesteds (map nested l.trees.now)) + 1
 -- the conditions that are left, after those before, are all of them
 abbrev pub invariant-conditions-loop-tree : goal.invariant-conditions-loop-tree
 invariant-conditions-loop-tree g l =
-    conditions _ (g.S.Scope.scopes l.scope) l.params (nesteds (map nested (drop l.tree-index l.trees))) l.all ≡ conditions _ (g.S.Scope.scopes l.scope) l.params (nesteds (map nested l.trees)) []
+    conditions _ (g.S.Scope.scopes l.scope) l.params (nesteds (map nested (drop l.tree-index l.trees))) (map cond_tree l.all.items) ≡ conditions _ (g.S.Scope.scopes l.scope) l.params (nesteds (map nested l.trees)) []
