@@ -1,6 +1,6 @@
 -- Where a name stands in a list that rises.
 use Rattle.std.proofs.Common.{◌≡◌, ℕ, zero, suc, ◌≤◌, ◌<◌, true, false, true≢false, cond, List, [], ◌∷◌, Some, None, length, refl, ap, sym, ◌∙◌, arith}
-use Rattle.std.specs.Prelude.{slice_get, slice_index_or, slice_set, filter, insert, not}
+use Rattle.std.specs.Prelude.{slice_get, slice_index_or, slice_set, filter, insert, not, remove}
 use Rattle.std.specs.List.{AllByRecursion}
 use Rattle.std.specs.List.Sorted.{IsPartitionedBy, IsPartitionPoint, IsStrictlySortedBy}
 use Rattle.std.specs.Map.{keys_of, lookup}
@@ -139,6 +139,42 @@ pub within : (n : Name) (es : List (Name × Name)) (i : ℕ) → is_named n (sli
 within n [] i s = absurd (true≢false (sym s))
 within n (e ∷ es) zero s = omega arith
 within n (e ∷ es) (suc i) s = omega (arith, within n es i s)
+
+-- ---- what is taken out
+
+not_above : (n m y : Name) → is_gt (name_cmp n m) ≡ false → name_cmp m y ≡ Less → same_name n y ≡ false
+not_above n m y h k = grind (arith, nat_tests)
+
+-- all that stands after a name that isn't below this one is kept
+kept_after : (n m : Name) (es : List (Name × Name)) → is_gt (name_cmp n m) ≡ false → AllByRecursion (λ y. name_cmp m y ≡ Less) (keys_of es) → filter (λ i. not (same_name n i.0)) es ≡ es
+kept_after n m [] h a = refl
+kept_after n m (e ∷ es) h a = rw (not_above n m e.0 h a.0) (ap (λ l. e ∷ l) (kept_after n m es h a.1))
+
+taken_at : (n : Name) (e : Name × Name) (es : List (Name × Name)) (r : Ordering) → name_cmp n e.0 ≡ r → AllByRecursion (λ y. name_cmp e.0 y ≡ Less) (keys_of es) →
+    (is_named n (slice_get es (place_of n es)) ≡ true → remove es (place_of n es) ≡ filter (λ i. not (same_name n i.0)) es) →
+    is_named n (slice_get (e ∷ es) (cond (is_gt r) (suc (place_of n es)) 0)) ≡ true → remove (e ∷ es) (cond (is_gt r) (suc (place_of n es)) 0) ≡ filter (λ i. not (same_name n i.0)) (e ∷ es)
+taken_at n e es Less p a rest s = absurd (true≢false (sym s ∙ same-Less n e.0 p))
+taken_at n e es Equal p a rest s = rw (is-Equal n e.0 p) (sym (kept_after n e.0 es (ap is_gt p) a))
+taken_at n e es Greater p a rest s = rw (same-Greater n e.0 p) (ap (λ l. e ∷ l) (rest s))
+
+-- a name that stands in its place is taken out there
+pub taken : (n : Name) (es : List (Name × Name)) → IsStrictlySortedBy name_cmp (keys_of es) → is_named n (slice_get es (place_of n es)) ≡ true → remove es (place_of n es) ≡ filter (λ i. not (same_name n i.0)) es
+unfolding IsStrictlySortedBy
+taken n [] a s = absurd (true≢false (sym s))
+taken n (e ∷ es) a s = taken_at n e es (name_cmp n e.0) refl a.0 (taken n es a.1) s
+
+left_at : (n : Name) (e : Name × Name) (es : List (Name × Name)) (r : Ordering) → name_cmp n e.0 ≡ r → AllByRecursion (λ y. name_cmp e.0 y ≡ Less) (keys_of es) →
+    (is_named n (slice_get es (place_of n es)) ≡ false → es ≡ filter (λ i. not (same_name n i.0)) es) →
+    is_named n (slice_get (e ∷ es) (cond (is_gt r) (suc (place_of n es)) 0)) ≡ false → e ∷ es ≡ filter (λ i. not (same_name n i.0)) (e ∷ es)
+left_at n e es Less p a rest s = rw (same-Less n e.0 p) (sym (ap (λ l. e ∷ l) (kept_after n e.0 es (ap is_gt p) a)))
+left_at n e es Equal p a rest s = absurd (true≢false (sym (is-Equal n e.0 p) ∙ s))
+left_at n e es Greater p a rest s = rw (same-Greater n e.0 p) (ap (λ l. e ∷ l) (rest s))
+
+-- where a name doesn't stand at its place, nothing is to be taken out
+pub left : (n : Name) (es : List (Name × Name)) → IsStrictlySortedBy name_cmp (keys_of es) → is_named n (slice_get es (place_of n es)) ≡ false → es ≡ filter (λ i. not (same_name n i.0)) es
+unfolding IsStrictlySortedBy
+left n [] a s = refl
+left n (e ∷ es) a s = left_at n e es (name_cmp n e.0) refl a.0 (left n es a.1) s
 
 -- ---- an edit keeps the order
 

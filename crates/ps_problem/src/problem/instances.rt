@@ -91,7 +91,7 @@ impl Instances {
     pub fn remove(&mut self, name: Name)
         ensures { self.new ≡ filter (λ i. not (same_name name i.0)) self.old }
     {
-        self.all.retain(|(there, _)| name != *there);
+        take_out(&mut self.all, name);
         write_kind(&mut self.kinds, name, None);
     }
 
@@ -226,6 +226,17 @@ fn put_in(all: &mut Vec<(Name, Name)>, name: Name, kind: Name) -> Result<(), All
         all.insert(at, (name, kind))?;
     }
     Ok(())
+}
+
+/// Takes a name out of a list that rises.
+fn take_out(all: &mut Vec<(Name, Name)>, name: Name)
+    requires { IsStrictlySortedBy name_cmp (keys_of all.old.items) }
+    ensures { all.new.items ≡ filter (λ i. not (same_name name i.0)) all.old.items }
+{
+    let at = place_of(all.as_slice(), name);
+    if is_at(all.as_slice(), at, name) {
+        all.remove(at);
+    }
 }
 
 /// Lists the types up to this name's, if its number is one of the lowest. Where memory runs out some may be listed.
