@@ -1,4 +1,5 @@
 pub mod FaultLines
+pub mod FirstLines
 pub mod HeadLines
 pub mod HeadWords
 pub mod JournalLines

@@ -369,12 +369,6 @@ module _ (names : Table) (line : List ℕ) (are : AreNames names) where
   believed-line e after true x printed = said-line e after x printed
   believed-line e after false x printed = no-line e after x printed
 
-  -- the answer about an entry that the words say
-  pub believed-answer : {E : Type 0} (e : Entry) (after : Table) (answer : Result (Option Entry) E) → LineSays names (head_of line) (tail_of line) e after
-      → IfOk answer (λ o. o ≡ (if is_entry (length after) e && same_text (entry_line after e) line then Some e else None)) → IfOk answer (λ o. IsLineOf names line o after)
-  believed-answer e after (Ok o) x is = subst (λ (o : Option Entry). IsLineOf names line o after) (sym is) (believed-line e after (is_entry (length after) e && same_text (entry_line after e) line) x refl)
-  believed-answer e after (Err error) x is = tt
-
   -- what is found by the words on the way, is found by the line's
   found : (head tail : List ℕ) (ws : List (List ℕ)) (ns : List Name) (mid : Table) (o : Option Entry) (after : Table) → head ≡ head_of line → ws ≡ words head → ns ≡ names_of names ws → mid ≡ with_words names ws → tail ≡ tail_of line → FindsEntry mid ws ns tail o after
       → FindsEntry (with_words names (words (head_of line))) (words (head_of line)) (names_of names (words (head_of line))) (tail_of line) o after
@@ -385,13 +379,13 @@ module _ (names : Table) (line : List ℕ) (are : AreNames names) where
       (subst (λ (k : List Name). FindsEntry mid ws k (tail_of line) o after) n
       (subst (λ (y : List ℕ). FindsEntry mid ws ns y o after) l x)))
 
-  -- the answer where an entry is found
-  pub found-answer : {E : Type 0} (head tail : List ℕ) (ws : List (List ℕ)) (ns : List Name) (mid : Table) (o : Option Entry) (e : Entry) (after : Table) (answer : Result (Option Entry) E) → head ≡ head_of line → ws ≡ words head → ns ≡ names_of names ws → mid ≡ with_words names ws → tail ≡ tail_of line → FindsEntry mid ws ns tail o after → o ≡ Some e
-      → IfOk answer (λ a. a ≡ (if is_entry (length after) e && same_text (entry_line after e) line then Some e else None)) → IfOk answer (λ a. IsLineOf names line a after)
-  found-answer head tail ws ns mid o e after answer h w n m l x is believed =
+  -- an entry that is found is the line's where it is in form and this is its text, and else no entry has the line
+  pub found-so : (head tail : List ℕ) (ws : List (List ℕ)) (ns : List Name) (mid : Table) (o : Option Entry) (e : Entry) (after : Table) (b so : Bool) → head ≡ head_of line → ws ≡ words head → ns ≡ names_of names ws → mid ≡ with_words names ws → tail ≡ tail_of line → FindsEntry mid ws ns tail o after → o ≡ Some e
+      → b ≡ (is_entry (length after) e && same_text (entry_line after e) line) → b ≡ so → IsLineOf names line (if so then Some e else None) after
+  found-so head tail ws ns mid o e after b so h w n m l x is printed it =
       let says : LineSays names (head_of line) (tail_of line) e after =
       subst (λ (p : Option Entry). FindsEntry (with_words names (words (head_of line))) (words (head_of line)) (names_of names (words (head_of line))) (tail_of line) p after) is (found head tail ws ns mid o after h w n m l x) in
-      believed-answer e after answer says believed
+      believed-line e after so says (sym printed ∙ it)
 
   -- where none is found, no entry has the line
   pub found-none : (head tail : List ℕ) (ws : List (List ℕ)) (ns : List Name) (mid : Table) (o : Option Entry) (after : Table) → head ≡ head_of line → ws ≡ words head → ns ≡ names_of names ws → mid ≡ with_words names ws → tail ≡ tail_of line → FindsEntry mid ws ns tail o after → o ≡ None → IsNoEntryLine names line

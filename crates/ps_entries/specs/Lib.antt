@@ -2,6 +2,7 @@ pub mod Words
 pub mod Causes
 pub mod Events
 pub mod Forms
+pub mod FirstLines
 pub mod Heads
 pub mod Says
 pub mod EntryLines

@@ -12,7 +12,7 @@ ghost use Rattle.ps_entries.specs.EntryLines.{IsLineOf};
 use super::events::{by_of, feedback_of, plain_event};
 use super::forms::is_entry;
 use super::words::{byte, head_of, names_of, number_at, tail_of};
-use ps_journal::print_entry;
+use ps_journal::Printed;
 use ps_machine::{By, Command, Entry, Event, Line, Query};
 use ps_script::{Read, read_line};
 use ps_text::{Names, Words};
@@ -118,26 +118,6 @@ fn event_of(
     }
 }
 
-/// The entry of a hand that words say, with what stands after them.
-fn entry_by(
-    alloc: Global,
-    names: &mut Names,
-    words: &Words,
-    known: &[Name],
-    tail: &[u8],
-    hand: u8,
-) -> Result<Option<Entry>, AllocError>
-    requires { up_to (2 ^ 8 - 1) (number_at words.now 0) ≡ Some hand }
-    ensures finds { IfOk result (λ o. FindsEntry names.old words.now known.now tail.now o
-        names.new) }
-    ensures kept { Keeps names.old names.new }
-{
-    match event_of(alloc, names, words, known, tail)? {
-        Some(what) => Ok(Some(Entry { hand, what })),
-        None => Ok(None),
-    }
-}
-
 /// The entry that words say, with what stands after them.
 fn entry_of(
     alloc: Global,
@@ -150,36 +130,46 @@ fn entry_of(
         names.new) }
     ensures kept { Keeps names.old names.new }
 {
-    match byte(number_at(words, 0)) {
-        Some(hand) => entry_by(alloc, names, words, known, tail, hand),
-        None => Ok(None),
+    let Some(hand) = byte(number_at(words, 0)) else {
+        return Ok(None);
+    };
+    // Matched as it is: `?` would move an event, which is large, once more.
+    match event_of(alloc, names, words, known, tail) {
+        Ok(Some(what)) => Ok(Some(Entry { hand, what })),
+        Ok(None) => Ok(None),
+        Err(AllocError) => Err(AllocError),
     }
 }
 
-/// Whether an entry is in form, and this is its text.
-fn is_printed(alloc: Global, names: &Names, entry: &Entry, line: &[u8]) -> Result<bool, AllocError>
+/// Whether two lines are one.
+// A loop of its own, since lines are short.
+fn is_same(line: &[u8], other: &[u8]) -> bool
+    ensures { result ≡ same_text line.now other.now }
+{
+    if line.len() != other.len() {
+        return false;
+    }
+    for (b, c) in line.iter().zip(other) {
+        if b != c {
+            return false;
+        }
+    }
+    true
+}
+
+/// Whether an entry is in form, and this is its text, which is printed in the room of this vector.
+fn is_printed(
+    names: &Names,
+    entry: &Entry,
+    line: &[u8],
+    printed: &mut Vec<u8>,
+) -> Result<bool, AllocError>
     ensures { IfOk result (λ b. b ≡ (is_entry (length names.now) entry.now
         && same_text (entry_line names.now entry.now) line.now)) }
 {
-    let printed = print_entry(alloc, names, entry)?;
-    Ok(is_entry(names.len(), entry) && printed.as_slice() == line)
-}
-
-/// An entry that the words of a line say, if this is its line.
-fn believed(
-    alloc: Global,
-    names: &Names,
-    entry: Entry,
-    line: &[u8],
-) -> Result<Option<Entry>, AllocError>
-    ensures { IfOk result (λ o. o ≡ (if is_entry (length names.now) entry
-        && same_text (entry_line names.now entry) line.now then Some entry else None)) }
-{
-    if is_printed(alloc, names, &entry, line)? {
-        Ok(Some(entry))
-    } else {
-        Ok(None)
-    }
+    printed.clear();
+    entry.print(names, printed)?;
+    Ok(is_entry(names.len(), entry) && is_same(printed.as_slice(), line))
 }
 
 /// The entry whose line this is, if there is one.
@@ -194,13 +184,33 @@ pub fn read_entry(
     ensures read { IfOk result (λ o. IsLineOf names.old line.now o names.new) }
     ensures kept { Keeps names.old names.new }
 {
+    let mut printed = Vec::new(alloc);
+    read_in(alloc, names, line, &mut printed)
+}
+
+/// Reads an entry, as `read_entry` does. Its text is printed in the room of this vector, so that many lines need it once.
+pub(crate) fn read_in(
+    alloc: Global,
+    names: &mut Names,
+    line: &[u8],
+    printed: &mut Vec<u8>,
+) -> Result<Option<Entry>, AllocError>
+    ensures read { IfOk result (λ o. IsLineOf names.old line.now o names.new) }
+    ensures kept { Keeps names.old names.new }
+{
     // A look at the table tells that its texts are names, none twice.
     let _count = names.len();
     let tail = tail_of(line);
     let words = Words::of(alloc, head_of(line, tail))?;
     let known = names_of(alloc, names, &words)?;
-    match entry_of(alloc, names, &words, &known, tail)? {
-        Some(entry) => believed(alloc, names, entry, line),
-        None => Ok(None),
+    match entry_of(alloc, names, &words, &known, tail) {
+        // It is believed if this is its line.
+        Ok(Some(entry)) => if is_printed(names, &entry, line, printed)? {
+            Ok(Some(entry))
+        } else {
+            Ok(None)
+        },
+        Ok(None) => Ok(None),
+        Err(AllocError) => Err(AllocError),
     }
 }

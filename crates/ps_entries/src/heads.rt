@@ -1,8 +1,9 @@
 //! The lines that a journal begins with.
-ghost use Rattle.std.specs.Prelude.{◌≡◌, ◌&&◌, ◌∷◌, IfOk};
+ghost use Rattle.std.specs.Prelude.{◌≡◌, ◌≤◌, ◌&&◌, ◌∷◌, IfOk, length};
 ghost use Rattle.ps_world.specs.Lines.{same_text};
 ghost use Rattle.ps_rules.specs.Heads.{settings_line, title};
 ghost use Rattle.ps_text.specs.Words.{AreWithin, pieces};
+ghost use Rattle.ps_entries.specs.FirstLines.{lines_end};
 ghost use Rattle.ps_entries.specs.Heads.{are_settings, believed_settings, settings_at};
 ghost use Rattle.ps_entries.specs.Journals.{BeginsWith, HasSettings, SaysOrNot};
 
@@ -110,8 +111,33 @@ pub(crate) fn heading_of(alloc: Global, bytes: &[u8], lines: &[Span]) -> Result<
     }
 }
 
+/// Where the first two lines of a text end, each with its LF.
+fn two_lines_end(bytes: &[u8]) -> usize
+    ensures end { result ≡ lines_end 2 bytes.now }
+    ensures within { result ≤ length bytes.now }
+{
+    let mut is_second = false;
+    for (i, b) in bytes.iter().enumerate() {
+        if *b == b'\n' {
+            if is_second {
+                return i + 1;
+            }
+            is_second = true;
+        }
+    }
+    bytes.len()
+}
+
 /// The settings that the head of a journal's text says, or none where it is of version 1 or no head.
 pub fn settings_in(alloc: Global, bytes: &[u8]) -> Result<Option<(u32, u8)>, AllocError>
+    ensures { IfOk result (HasSettings bytes.now) }
+{
+    // Only its first two lines can say them.
+    settings_of(alloc, &bytes[..two_lines_end(bytes)])
+}
+
+/// The settings that the head of a text says, all of whose lines are looked for.
+fn settings_of(alloc: Global, bytes: &[u8]) -> Result<Option<(u32, u8)>, AllocError>
     ensures { IfOk result (HasSettings bytes.now) }
 {
     let lines = lines(alloc, bytes)?;

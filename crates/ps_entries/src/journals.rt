@@ -8,9 +8,10 @@ ghost use Rattle.ps_text.specs.Words.{AreWithin, pieces};
 ghost use Rattle.ps_entries.specs.declared.heads.Heading.TheVariants.{Headed};
 ghost use Rattle.ps_entries.specs.Journals.{AreEntries, BeginsWith, IsFault, IsOther, IsSplit, IsText, TakesOrNot, is_reply};
 
-use super::entries::read_entry;
+use super::entries::read_in;
 use super::heads::{Heading, heading_of};
 use super::numbered::Numbered;
+use super::words::begins;
 use ps_text::{Names, Span, lines};
 use ps_world::Failure;
 use std::alloc::{AllocError, Global};
@@ -40,7 +41,7 @@ pub enum JournalRefusal {
 fn is_reply(line: &[u8]) -> bool
     ensures { result ≡ is_reply line.now }
 {
-    line.starts_with(b"  ")
+    begins(line, b"  ")
 }
 
 /// Takes the entry of line `n`, which is no reply. Whether there is one.
@@ -49,6 +50,7 @@ fn take_entry(
     names: &mut Names,
     n: u32,
     line: &[u8],
+    printed: &mut Vec<u8>,
     entries: &mut Numbered,
 ) -> Result<bool, AllocError>
     requires { is_reply line.now ≡ false }
@@ -56,12 +58,13 @@ fn take_entry(
         entries.new names.new) }
     ensures kept { Keeps names.old names.new }
 {
-    match read_entry(alloc, names, line)? {
-        Some(entry) => {
+    match read_in(alloc, names, line, printed) {
+        Ok(Some(entry)) => {
             entries.push(n, entry)?;
             Ok(true)
         }
-        None => Ok(false),
+        Ok(None) => Ok(false),
+        Err(AllocError) => Err(AllocError),
     }
 }
 
@@ -71,6 +74,7 @@ fn take_line(
     names: &mut Names,
     n: u32,
     line: &[u8],
+    printed: &mut Vec<u8>,
     entries: &mut Numbered,
 ) -> Result<bool, AllocError>
     ensures takes { IfOk result (λ b. TakesOrNot n names.old line.now entries.old b
@@ -80,7 +84,7 @@ fn take_line(
     if is_reply(line) {
         Ok(true)
     } else {
-        take_entry(alloc, names, n, line, entries)
+        take_entry(alloc, names, n, line, printed, entries)
     }
 }
 
@@ -100,10 +104,12 @@ fn read_lines(
         (pieces bytes.now lines.now) r) }
     ensures kept { Keeps names.old names.new }
 {
+    let mut printed = Vec::new(alloc);
     let mut entries = Numbered::new(alloc);
     for (i, span) in lines.iter().enumerate() {
         let n = i as u32 + first;
-        if !take_line(alloc, names, n, &bytes[span.from..span.to], &mut entries)? {
+        let line = &bytes[span.from..span.to];
+        if !take_line(alloc, names, n, line, &mut printed, &mut entries)? {
             return Err(Failure::Refused(JournalRefusal::Line { n }));
         }
     }

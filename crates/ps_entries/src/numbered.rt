@@ -43,11 +43,11 @@ impl Numbered {
     pub(crate) fn push(&mut self, line: u32, entry: Entry) -> Result<(), AllocError>
         ensures { OnOk result (self.new ≡ self.old ++ (line, entry) ∷ []) }
     {
-        self.lines.push(line)?;
-        if self.entries.push(entry).is_err() {
-            self.lines.pop();
-            return Err(AllocError);
-        }
+        // Room first, since a push that may fail moves an entry, which is large, once more.
+        self.lines.reserve(1)?;
+        self.entries.reserve(1)?;
+        self.lines.push_reserved(line);
+        self.entries.push_reserved(entry);
         Ok(())
     }
 

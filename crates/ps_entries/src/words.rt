@@ -1,7 +1,7 @@
 //! The words of an entry's line, and what they stand for.
-ghost use Rattle.std.specs.Prelude.{◌≡◌, ◌≤◌, ◌-◌, ◌^◌, position, IfOk, IfSome, IsTrue, OnOk, length, min};
+ghost use Rattle.std.specs.Prelude.{◌≡◌, ◌≤◌, ◌-◌, ◌^◌, position, IfOk, IfSome, IsTrue, OnOk, false, length, min, nat_eq};
 ghost use Rattle.std.specs.Char.{is_ascii_digit};
-ghost use Rattle.std.specs.List.{list_all, position_or_len};
+ghost use Rattle.std.specs.List.{list_all, position_or_len, starts_with};
 ghost use Rattle.std.specs.Str.Parse.{digits_value_after};
 ghost use Rattle.ps_text.specs.Decimals.{are_digits};
 ghost use Rattle.ps_text.specs.Names.{Keeps};
@@ -46,11 +46,29 @@ fn after_two(text: &[u8]) -> &[u8]
     after_word(after_word(text))
 }
 
+/// Whether two texts may begin alike, by their first bytes.
+fn may_begin(text: &[u8], start: &[u8]) -> bool
+    ensures { result ≡ false → starts_with nat_eq text.now start.now ≡ false }
+{
+    match (text, start) {
+        ([first, ..], [wanted, ..]) => first == wanted,
+        _ => true,
+    }
+}
+
+/// Whether a text begins with these bytes.
+// Most texts differ from them in their first byte.
+pub fn begins(text: &[u8], start: &[u8]) -> bool
+    ensures { result ≡ starts_with nat_eq text.now start.now }
+{
+    may_begin(text, start) && text.starts_with(start)
+}
+
 /// What stands after whoever edits, and a space.
 fn after_by(text: &[u8]) -> &[u8]
     ensures { result.now ≡ after_by text.now }
 {
-    if text.starts_with(b"performer ") {
+    if begins(text, b"performer ") {
         after_word(after_two(text))
     } else {
         after_two(text)
@@ -61,11 +79,11 @@ fn after_by(text: &[u8]) -> &[u8]
 fn tail_after(text: &[u8]) -> &[u8]
     ensures { result.now ≡ tail_after text.now }
 {
-    if text.starts_with(b"edit ") {
+    if begins(text, b"edit ") {
         after_by(after_word(text))
-    } else if text.starts_with(b"ask ") {
+    } else if begins(text, b"ask ") {
         after_word(text)
-    } else if text.starts_with(b"feedback ") {
+    } else if begins(text, b"feedback ") {
         after_two(after_two(text))
     } else {
         &[]
@@ -108,7 +126,7 @@ pub fn names_of(alloc: Global, names: &mut Names, words: &Words) -> Result<Vec<N
 {
     let mut found = Vec::with_capacity(alloc, words.len())?;
     for i in 0..words.len() {
-        found.push(name_of(names, words.word(i))?)?;
+        found.push_reserved(name_of(names, words.word(i))?);
     }
     Ok(found)
 }

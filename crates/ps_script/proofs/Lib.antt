@@ -1,5 +1,6 @@
 pub mod Balance
 pub mod FactsFit
+pub mod FactsSaid
 pub mod FileNames
 pub mod Fronts
 pub mod Judgements

@@ -1,5 +1,5 @@
 //! Lines that name a file.
-ghost use Rattle.std.specs.Prelude.{◌≡◌, not, length, position, IfOk, ◌≤◌};
+ghost use Rattle.std.specs.Prelude.{◌≡◌, ℕ, false, not, length, position, take, IfOk, ◌≤◌};
 ghost use Rattle.std.specs.List.{position_or_len};
 ghost use Rattle.ps_text.specs.Words.{is_blank, is_run_byte, reads_as};
 ghost use Rattle.ps_script.specs.Files.{after_run, file_in, first_run, is_run_plan, is_source, run_length, trimmed, without_end};
@@ -115,18 +115,38 @@ pub fn after_run(bytes: &[u8]) -> &[u8]
     &text[run_length(text)..]
 }
 
+/// Whether the first run of a text, with no blank before it, may be this word, by the first two bytes of both.
+fn may_begin(text: &[u8], word: &[u8]) -> bool
+    ensures { result ≡ false → (n : ℕ) → reads_as (take n text.now) word.now ≡ false }
+{
+    match (text, word) {
+        ([a, b, ..], [first, second, ..]) => {
+            a.to_ascii_lowercase() == *first && b.to_ascii_lowercase() == *second
+        }
+        _ => true,
+    }
+}
+
+/// Whether the first run of a text, with no blank before it, is this word.
+// Most lines begin otherwise, and their runs needn't be found.
+fn begins(text: &[u8], word: &[u8]) -> bool
+    ensures { result ≡ reads_as (take (run_length text.now) text.now) word.now }
+{
+    may_begin(text, word) && reads_as(&text[..run_length(text)], word)
+}
+
 /// Whether a line begins with `source`.
 pub fn is_source(bytes: &[u8]) -> bool
     ensures { result ≡ is_source bytes.now }
 {
-    reads_as(first_run(bytes), b"source")
+    begins(trimmed(bytes), b"source")
 }
 
 /// Whether a line begins with `run plan`.
 pub fn is_run_plan(bytes: &[u8]) -> bool
     ensures { result ≡ is_run_plan bytes.now }
 {
-    reads_as(first_run(bytes), b"run") && reads_as(first_run(after_run(bytes)), b"plan")
+    begins(trimmed(bytes), b"run") && begins(trimmed(after_run(bytes)), b"plan")
 }
 
 /// The name of a file, without blanks at its ends. None where it is empty or no UTF-8.

@@ -11,7 +11,7 @@ ghost use Rattle.ps_script.specs.Judged.{Fits};
 ghost use Rattle.ps_script.specs.Lines.{IsPlain, IsRead, bad, begins_nothing, cause_of, is_nothing, with_run_plan};
 
 use super::commands::command_of;
-use super::fact_lines::says_fact;
+use super::fact_lines::plain_command;
 use super::files::{FileName, after_run, file_in, is_run_plan, is_source, trimmed};
 use super::forms::{Form, form_of_leading};
 use super::judging::{judged, marks_of_words};
@@ -127,9 +127,6 @@ fn read_run_plan(alloc: Global, names: &mut Names, bytes: &[u8]) -> Result<Read,
 fn misfit_of(alloc: Global, form: Form, words: &[Lexeme]) -> Result<Option<usize>, AllocError>
     ensures { IfOk result (λ misfit. Fits (start_of form) (marks words.now) misfit) }
 {
-    if form.wants_fact() && says_fact(words) {
-        return Ok(None);
-    }
     let marks = marks_of_words(alloc, words)?;
     form.first_misfit(alloc, &marks)
 }
@@ -153,6 +150,9 @@ fn read_form(
 {
     let before = names.len();
     let words = lexemes_of(alloc, names, bytes, tokens)?;
+    if let Some(command) = plain_command(form, &words) {
+        return Ok(Read::Line(Line::Good(command)));
+    }
     let misfit = misfit_of(alloc, form, &words)?;
     match judged(alloc, bytes, tokens, &words, misfit)? {
         Ok(trees) => {

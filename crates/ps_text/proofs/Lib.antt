@@ -4,6 +4,7 @@ pub mod Cuts
 pub mod Digits
 pub mod Folds
 pub mod Kept
+pub mod LineFeeds
 pub mod NameRuns
 pub mod OneLexing
 pub mod Pieces

@@ -1,5 +1,5 @@
 -- The lines of a script.
-use Rattle.std.specs.Prelude.{◌≡◌, ℕ, ◌-◌, ◌<◌, Bool, false, ◌&&◌, ◌==◌, List, [], ◌∷◌, if◌then◌else◌, length, slice_index_or}
+use Rattle.std.specs.Prelude.{◌≡◌, ℕ, ◌-◌, ◌<◌, Bool, false, not, ◌&&◌, ◌==◌, List, [], ◌∷◌, if◌then◌else◌, length, slice_index_or}
 use Rattle.ps_world.specs.Lines.{lines_of}
 
 -- whether a text begins with an LF
@@ -19,3 +19,8 @@ script_lines text = lines_of (without_returns text)
 -- a CR stands right before the LF at this place, in a line that begins at the first one
 abbrev pub HasReturn : List ℕ → ℕ → ℕ → Type 0
 HasReturn bytes from to = (from < to) × (to < length bytes) × (slice_index_or bytes (to - 1) 0 ≡ 13)
+
+-- four bytes stand first of which none is an LF
+abbrev pub begins_with_four : List ℕ → Bool
+begins_with_four (a ∷ b ∷ c ∷ d ∷ bs) = (not (a == 10) && not (b == 10)) && (not (c == 10) && not (d == 10))
+begins_with_four _ = false

@@ -2,7 +2,7 @@
 ghost use Rattle.std.specs.Prelude.{◌≡◌, ◌+◌, ◌-◌, ◌≤◌, ◌==◌, drop, length, position, IfOk, vec_len};
 ghost use Rattle.std.specs.List.{position_or_len};
 ghost use Rattle.ps_world.specs.Lines.{lines_of};
-ghost use Rattle.ps_text.specs.ScriptLines.{HasReturn, script_lines};
+ghost use Rattle.ps_text.specs.ScriptLines.{HasReturn, begins_with_four, script_lines};
 ghost use Rattle.ps_text.specs.Words.{AreWithin, pieces};
 
 use std::alloc::{AllocError, Global};
@@ -20,14 +20,40 @@ fn first_line_feed(bytes: &[u8]) -> Option<usize>
     bytes.iter().position(|b| *b == b'\n')
 }
 
+/// Whether four bytes stand first of which none is an LF.
+fn begins_with_four(bytes: &[u8]) -> bool
+    ensures { result ≡ begins_with_four bytes.now }
+{
+    match bytes {
+        [a, b, c, d, ..] => (*a != b'\n' && *b != b'\n') && (*c != b'\n' && *d != b'\n'),
+        _ => false,
+    }
+}
+
+/// A place from another on, where no LF stands between them.
+// Four bytes are looked at for each step, since most lines are longer.
+fn near_line_end(bytes: &[u8], from: usize) -> usize
+    requires { from ≤ length bytes.now }
+    ensures within { result ≤ length bytes.now }
+    ensures same { result + position_or_len (λ b. b == 10) (drop result bytes.now)
+        ≡ from + position_or_len (λ b. b == 10) (drop from bytes.now) }
+{
+    let mut at = from;
+    while begins_with_four(&bytes[at..]) {
+        at += 4;
+    }
+    at
+}
+
 /// The place of the first LF from a place on, or the text's length.
 pub(crate) fn line_end(bytes: &[u8], from: usize) -> usize
     requires { from ≤ length bytes.now }
     ensures end { result ≡ from + position_or_len (λ b. b == 10) (drop from bytes.now) }
     ensures within { result ≤ length bytes.now }
 {
-    let rest = &bytes[from..];
-    from + first_line_feed(rest).unwrap_or(rest.len())
+    let near = near_line_end(bytes, from);
+    let rest = &bytes[near..];
+    near + first_line_feed(rest).unwrap_or(rest.len())
 }
 
 /// The lines of a text, in order, each without the LF that ends it. A last line needs none.

@@ -26,8 +26,8 @@ pub enum NameRefusal {
 fn is_name_byte(b: u8) -> bool
     ensures { result ≡ is_name_byte b }
 {
-    // Small letters first, which most bytes of names are.
-    b.is_ascii_lowercase() || b.is_ascii_alphanumeric() || b == b'-' || b == b'_'
+    // Small letters first, which most bytes of names are. What ends most names is below `-`.
+    b.is_ascii_lowercase() || (b >= b'-' && (b.is_ascii_alphanumeric() || b == b'-' || b == b'_'))
 }
 
 pub(crate) fn first_other_byte(text: &[u8]) -> Option<usize>

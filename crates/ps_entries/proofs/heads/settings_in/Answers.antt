@@ -1,7 +1,5 @@
-use Rattle.ps_entries.proofs.HeadLines.{other-settings}
+use Rattle.ps_entries.proofs.FirstLines.{first-answer}
 use Rattle.ps_entries.proofs.heads.settings_in.Goals as goal
 
 pub returns : goal.returns
-returns c =
-    other-settings c.args.bytes.now c.in_ok-lines.lines.items _ c.in_ok-settings.field-0 c.in_ok-lines.ensures.lines c.deref.ensures.value c.in_ok-settings.ensures
-    c.in-Untitled.is
+returns c = first-answer c.args.bytes.now c.two_lines_end.result c.settings_of.result c.two_lines_end.ensures.end c.settings_of.ensures
