@@ -37,10 +37,10 @@ use Rattle.ps_ends.specs.Working.{recorded, unit_due}
 use Rattle.ps_ends.proofs.Blocks.{running-block}
 use Rattle.ps_ends.proofs.Recording.{who_works_can_record}
 use Rattle.ps_board.specs.declared.whole.Core.{Core}
-use Rattle.ps_board.specs.Core.{Stands, with_turn}
+use Rattle.ps_board.specs.Core.{Gains, GainsNothing, Stands, with_turn}
 use Rattle.ps_board.specs.Grants.{AreOut, granted, performer_names}
 use Rattle.ps_board.specs.Kept.{HaveHeard, IsKept, IsShown}
-use Rattle.ps_board.specs.Ticks.{ends_work}
+use Rattle.ps_choices.specs.Ticks.{ends_work}
 use Rattle.ps_board.proofs.Granting.{heard-turn, names-apart, out-turn, Spares}
 use Rattle.ps_board.proofs.Observing.{observer-legal}
 
@@ -77,13 +77,13 @@ kept-turn old new hand grants heard halted done k stands shown input entries leg
 
 -- after a call that may append this, or run out of memory and append nothing, where the tree is shown then
 pub kept-result : {A E : Type 0} (old mid new : Core) (hand : ℕ) (grants : List (Option ℕ)) (heard : List ℕ) (halted : Bool) (done : Option Event) (r : Result A E)
-    → IsKept old grants heard halted → Stands new → IsShown new → new.input ≡ mid.input → new.entries.items ≡ mid.entries.items → mid.input ≡ old.input
-    → OnOk r (mid.entries.items ≡ with_turn old hand done) → OnErr r (mid.entries.items ≡ old.entries.items) → OnOk r (IfSome done (λ e. is_legal old.input old.entries.items e ≡ true))
+    → IsKept old grants heard halted → Stands new → IsShown new → new.input ≡ mid.input → new.entries.items ≡ mid.entries.items
+    → OnOk r (Gains hand done old mid) → OnErr r (GainsNothing old mid) → OnOk r (IfSome done (λ e. is_legal old.input old.entries.items e ≡ true))
     → IfSome done (Spares old.input grants) → (halted ≡ true → IfSome done (λ e. says_open e ≡ None)) → IsKept new grants heard halted
-kept-result old mid new hand grants heard halted what (Ok a) k stands shown input entries mid_input ok err legal spares leaves =
-    kept-turn old new hand grants heard halted what k stands shown (input ∙ mid_input) (entries ∙ ok) legal spares leaves
-kept-result old mid new hand grants heard halted what (Err e) k stands shown input entries mid_input ok err legal spares leaves =
-    kept-still old new grants heard halted k stands shown (input ∙ mid_input) (entries ∙ err)
+kept-result old mid new hand grants heard halted what (Ok a) k stands shown input entries did err legal spares leaves =
+    kept-turn old new hand grants heard halted what k stands shown (input ∙ did.input) (entries ∙ did.entries) legal spares leaves
+kept-result old mid new hand grants heard halted what (Err e) k stands shown input entries did err legal spares leaves =
+    kept-still old new grants heard halted k stands shown (input ∙ err.input) (entries ∙ err.entries)
 
 -- what isn't halted owes nothing of a halted one
 pub not-halted : (halted : Bool) (done : Option Event) → halted ≡ false → halted ≡ true → IfSome done (λ e. says_open e ≡ None)

@@ -1,4 +1,5 @@
 pub mod Answering
+pub mod Appending
 pub mod Asking
 pub mod Due
 pub mod Forced
@@ -12,8 +13,6 @@ pub mod Lent
 pub mod Observing
 pub mod Quiet
 pub mod Ready
-pub mod Rejecting
-pub mod Skipping
 pub mod Sparing
 pub mod Still
 pub mod Stuck

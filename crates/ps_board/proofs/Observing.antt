@@ -1,13 +1,11 @@
 -- What an observer does in its turn is legal.
 use Rattle.std.proofs.Common.{◌≡◌, ℕ, ◌&&◌, ◌==◌, nat_le, true, false, if◌then◌else◌, Option, Some, None, IsTrue, List, refl, ap, ◌∙◌}
-use Rattle.std.proofs.lemmas.Bool.{and_from}
 use Rattle.ps_world.specs.Knowledge.{edited}
 use Rattle.ps_world.specs.declared.names.Name.{Name}
 use Rattle.ps_world.specs.declared.edits.Edit.{Edit}
 use Rattle.ps_machine.specs.declared.inputs.Input.{Input}
 use Rattle.ps_machine.specs.declared.journal.By.TheVariants as by
 use Rattle.ps_machine.specs.declared.journal.Refusal.{Refusal}
-use Rattle.ps_machine.specs.declared.journal.Refusal.TheVariants as refusal
 use Rattle.ps_machine.specs.declared.journal.Entry.{Entry}
 use Rattle.ps_rules.specs.Runs.{is_running}
 use Rattle.ps_rules.specs.Known.{know}

@@ -27,7 +27,7 @@ use Rattle.ps_rules.proofs.Choosing.{legal-live, plan-so}
 use Rattle.ps_rules.proofs.SameThings.{same_outcome-decides}
 use Rattle.ps_rows.specs.Table.{MayBegin, MayBePlan}
 use Rattle.ps_rows.proofs.Grounded.{good-each}
-use Rattle.ps_board.specs.Core.{MayCome, Stands, with_turn}
+use Rattle.ps_board.specs.Core.{Gains, GainsNothing, MayCome, Stands}
 use Rattle.ps_board.specs.Kept.{IsKept, IsShown}
 use Rattle.ps_board.specs.declared.submits.Submitted.{Submitted}
 use Rattle.ps_board.specs.declared.submits.Submitted.TheVariants.{Taken, Stale}
@@ -153,20 +153,20 @@ kept-as : (c : Core) (grants : List (Option ℕ)) (heard : List ℕ) (halted oth
 kept-as c grants heard halted other k live = record { core = k.core; shown = k.shown; out = k.out; heard = k.heard; live = live }
 
 pub kept-submitted : {E : Type 0} (old mid new : Core) (hand : ℕ) (grants : List (Option ℕ)) (heard : List ℕ) (halted running : Bool) (a : Answer) (r : Result Submitted E)
-    → IsKept old grants heard halted → Stands new → IsShown new → new.input ≡ mid.input → new.entries.items ≡ mid.entries.items → mid.input ≡ old.input
-    → IfOk r (λ s. mid.entries.items ≡ with_turn old hand (taken_event s a)) → OnErr r (mid.entries.items ≡ old.entries.items)
+    → IsKept old grants heard halted → Stands new → IsShown new → new.input ≡ mid.input → new.entries.items ≡ mid.entries.items
+    → IfOk r (λ s. Gains hand (taken_event s a) old mid) → OnErr r (GainsNothing old mid)
     → IfOk r (λ s. IfSome (taken_event s a) (MayCome old)) → running ≡ is_running new.entries.items → IsKept new grants heard (halted && running)
-kept-submitted old mid new hand grants heard halted running a r k stands shown input entries mid_input ok err legal live =
-    kept-as new grants heard false (halted && running) (by-result r ok err legal) (λ h. sym live ∙ (and_parts halted running h).1)
+kept-submitted old mid new hand grants heard halted running a r k stands shown input entries did err legal live =
+    kept-as new grants heard false (halted && running) (by-result r did err legal) (λ h. sym live ∙ (and_parts halted running h).1)
   where
     calm : IsKept old grants heard false
     calm = kept-as old grants heard halted false k (λ h. absurd (true≢false (sym h)))
 
-    by-result : {E : Type 0} (r : Result Submitted E) → IfOk r (λ s. mid.entries.items ≡ with_turn old hand (taken_event s a)) → OnErr r (mid.entries.items ≡ old.entries.items)
+    by-result : {E : Type 0} (r : Result Submitted E) → IfOk r (λ s. Gains hand (taken_event s a) old mid) → OnErr r (GainsNothing old mid)
         → IfOk r (λ s. IfSome (taken_event s a) (MayCome old)) → IsKept new grants heard false
-    by-result (Ok s) ok err legal =
-        kept-turn old new hand grants heard false (taken_event s a) calm stands shown (input ∙ mid_input) (entries ∙ ok) legal (taken-spare old.input grants s a) (λ h. absurd (true≢false (sym h)))
-    by-result (Err e) ok err legal = kept-still old new grants heard false calm stands shown (input ∙ mid_input) (entries ∙ err)
+    by-result (Ok s) did err legal =
+        kept-turn old new hand grants heard false (taken_event s a) calm stands shown (input ∙ did.input) (entries ∙ did.entries) legal (taken-spare old.input grants s a) (λ h. absurd (true≢false (sym h)))
+    by-result (Err e) did err legal = kept-still old new grants heard false calm stands shown (input ∙ err.input) (entries ∙ err.entries)
 
 pub still-halted : (halted running : Bool) → (halted ≡ true → running ≡ true) → (halted && running) ≡ halted
 still-halted true running live = live refl

@@ -50,6 +50,14 @@ with_done b hand done = option_map_or (with_block b.input hand b.entries) done b
 abbrev pub spare_after : Shown → List Entry → ℕ
 spare_after b es = spent b.spare b.entries es
 
+-- the board has the block of what is done appended, if something is, and one less is spare for each entry of it; all else stays
+abbrev pub Appended : ℕ → Option Event → Shown → Shown → Type 0
+Appended hand done old new = new ≡ record old { entries = with_done old hand done; spare = spare_after old (with_done old hand done) }
+
+-- whether a board is halted once this is done, if something is: it was, and the run goes on
+abbrev pub still_halted : Shown → ℕ → Option Event → Bool
+still_halted b hand done = b.halted && is_running (with_done b hand done)
+
 -- something is done that takes no memory but room for its block, and that has at most as many entries as are spare
 abbrev pub IsReserved : Shown → ℕ → Option Event → Type 0
 IsReserved b hand done = CoversDone b.input b.entries b.spare hand done

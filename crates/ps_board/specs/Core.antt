@@ -162,6 +162,16 @@ observed_by c name = observer_turn c.input name c.entries.items
 abbrev pub with_turn : Core → ℕ → Option Event → List Entry
 with_turn c hand done = option_map_or (with_block c.input hand c.entries.items) done c.entries.items
 
+-- A core has the block of what is done more, if something is, and one less is spare for each entry of it; the input stays.
+pub record Gains (hand : ℕ) (done : Option Event) (old new : Core) : Type 0 where
+  pub input : new.input ≡ old.input
+  pub entries : new.entries.items ≡ with_turn old hand done
+  pub spare : Spends old new
+
+-- it has no entry more
+abbrev pub GainsNothing : Core → Core → Type 0
+GainsNothing = Gains 0 None
+
 -- what answers the next line, where one is left and the solver says this
 abbrev pub line_answer : Says → Core → Option Event
 line_answer says c = option_and_then (line_event says c.input c.entries.items) (next_line c.input c.entries.items)

@@ -20,9 +20,7 @@ pub fn push(entries: &mut Vec<Entry>, entry: Entry)
     ensures len { length entries.new.items ≡ length entries.old.items + 1 }
     ensures capacity { vec_capacity entries.old ≤ vec_capacity entries.new }
 {
-    if entries.push(entry).is_err() {
-        unreachable!();
-    }
+    entries.push_reserved(entry);
 }
 
 /// Puts an entry at the end, for which there is memory, and takes what it tells.

@@ -5,7 +5,7 @@ ghost use Rattle.std.specs.Option.{option_copied};
 ghost use Rattle.ps_board.specs.declared.ticks.Ticked.TheVariants.{Nothing as Idle};
 ghost use Rattle.ps_board.specs.declared.works.Grant.{Grant as GrantView};
 ghost use Rattle.ps_board.specs.declared.works.Turn.TheVariants.{Did, Nothing, Work as Handed};
-ghost use Rattle.ps_board.specs.Board.{answer_of, commanded, GoesOn, grants_after, grants_without, is_end, is_free, IsAtRest, IsOut, IsReserved, IsStep, nothing_done, observing, performing, performing_answer, recording, shown_tree, spare_after, tick_answer, ticking, with_done};
+ghost use Rattle.ps_board.specs.Board.{answer_of, Appended, commanded, GoesOn, grants_after, grants_without, is_end, is_free, IsAtRest, IsOut, IsReserved, IsStep, nothing_done, observing, performing, performing_answer, recording, shown_tree, still_halted, tick_answer, ticking};
 ghost use Rattle.ps_board.specs.Grants.{AreOut, granted, granted_after, performer_names};
 ghost use Rattle.ps_ends.specs.Working.{recorded};
 ghost use Rattle.ps_action.specs.Search.{Fits};
@@ -209,11 +209,8 @@ impl Board {
     /// Marks the open run as halted: from then on neither the ticker nor a member's turn does anything until the run has ended; a unit
     /// of work that is out may still be handed in. Changes nothing where no run is open.
     pub fn halt(&mut self)
-        ensures halted { self.new.halted ≡ (is_running self.old.entries || self.old.halted) }
-        ensures entries { self.new.entries ≡ self.old.entries }
-        ensures grants { self.new.grants ≡ self.old.grants }
-        ensures input { self.new.input ≡ self.old.input }
-        ensures spare { self.new.spare ≡ self.old.spare }
+        ensures { self.new
+            ≡ record self.old { halted = is_running self.old.entries || self.old.halted } }
     {
         if self.is_running() {
             self.halted = true;
@@ -249,12 +246,8 @@ impl Board {
             (IsStep (S.says solver.now) self.old.input self.old.entries) }
         ensures end { IfOk result
             (λ s. is_end s ≡ is_none (next_line self.old.input self.old.entries)) }
-        ensures entries { OnOk result
-            (self.new.entries ≡ with_done self.old 0 (commanded (S.says solver.now) self.old)) }
-        ensures input { self.new.input ≡ self.old.input }
-        ensures grants { self.new.grants ≡ self.old.grants }
-        ensures halted { self.new.halted ≡ self.old.halted }
-        ensures spare { self.new.spare ≡ spare_after self.old self.new.entries }
+        ensures did { OnOk result
+            (Appended 0 (commanded (S.says solver.now) self.old) self.old self.new) }
         ensures reserved { IsReserved self.old 0 (commanded (S.says solver.now) self.old)
             → IsOk result }
         ensures err { OnErr result (self.new ≡ self.old) }
@@ -274,12 +267,7 @@ impl Board {
         ensures ended { is_running self.old.entries ≡ false
             → is_some (last_outcome self.old.entries) ≡ true }
         ensures nobody_stuck { IfOk result (λ t. t ≡ Idle → GoesOn self.old) }
-        ensures entries { OnOk result
-            (self.new.entries ≡ with_done self.old hand (ticking self.old)) }
-        ensures input { self.new.input ≡ self.old.input }
-        ensures grants { self.new.grants ≡ self.old.grants }
-        ensures halted { self.new.halted ≡ self.old.halted }
-        ensures spare { self.new.spare ≡ spare_after self.old self.new.entries }
+        ensures did { OnOk result (Appended hand (ticking self.old) self.old self.new) }
         ensures reserved { IsReserved self.old hand (ticking self.old) → IsOk result }
         ensures err { OnErr result (self.new ≡ self.old) }
     {
@@ -302,12 +290,7 @@ impl Board {
         requires hand { IsTrue (nat_le 1 hand && nat_le hand 16) }
         requires there { o < length (observers self.now.input) }
         ensures answer { IfOk result (λ t. t ≡ answer_of (observing self.old o)) }
-        ensures entries { OnOk result
-            (self.new.entries ≡ with_done self.old hand (observing self.old o)) }
-        ensures input { self.new.input ≡ self.old.input }
-        ensures grants { self.new.grants ≡ self.old.grants }
-        ensures halted { self.new.halted ≡ self.old.halted }
-        ensures spare { self.new.spare ≡ spare_after self.old self.new.entries }
+        ensures did { OnOk result (Appended hand (observing self.old o) self.old self.new) }
         ensures err { OnErr result (self.new ≡ self.old) }
     {
         if self.is_running() && !self.halted {
@@ -348,13 +331,9 @@ impl Board {
         requires hand { IsTrue (nat_le 1 hand && nat_le hand 16) }
         requires there { p < length (performers self.now.input) }
         ensures answer { IfOk result (λ t. t ≡ performing_answer self.old p) }
-        ensures entries { OnOk result
-            (self.new.entries ≡ with_done self.old hand (performing self.old p)) }
-        ensures grants { OnOk result (self.new.grants ≡ grants_after self.old p) }
+        ensures did { OnOk result (Appended hand (performing self.old p)
+            (record self.old { grants = grants_after self.old p }) self.new) }
         ensures out { IfOk result (λ t. (g : GrantView) → t ≡ Handed g → IsOut self.new g) }
-        ensures input { self.new.input ≡ self.old.input }
-        ensures halted { self.new.halted ≡ self.old.halted }
-        ensures spare { self.new.spare ≡ spare_after self.old self.new.entries }
         ensures reserved { IsReserved self.old hand (performing self.old p) → IsOk result }
         ensures err { OnErr result (self.new ≡ self.old) }
     {
@@ -369,14 +348,9 @@ impl Board {
     /// out is dropped. The only error is that memory ran out: it hands the grant back, and nothing changes.
     pub fn after_unit(&mut self, hand: u8, grant: Grant) -> Result<(), GrantBack>
         requires hand { IsTrue (nat_le 1 hand && nat_le hand 16) }
-        ensures entries { OnOk result (IsOut self.old grant
-            → self.new.entries ≡ with_done self.old hand (recording self.old grant)) }
-        ensures grants { OnOk result (IsOut self.old grant
-            → self.new.grants ≡ grants_without self.old grant) }
+        ensures did { OnOk result (IsOut self.old grant → Appended hand (recording self.old grant)
+            (record self.old { grants = grants_without self.old grant }) self.new) }
         ensures dropped { (IsOut self.old grant → ⊥) → OnOk result (self.new ≡ self.old) }
-        ensures input { self.new.input ≡ self.old.input }
-        ensures halted { self.new.halted ≡ self.old.halted }
-        ensures spare { self.new.spare ≡ spare_after self.old self.new.entries }
         ensures reserved { IsReserved self.old hand (recording self.old grant) → IsOk result }
         ensures err { OnErr result (self.new ≡ self.old) }
         ensures back { IfErr result (λ b. b.grant ≡ grant) }
@@ -404,12 +378,9 @@ impl Board {
         requires known { snapshot.problem ≡ know self.now.input (take snapshot.at self.now.entries) }
         requires fits { Fits self.now.input.domain snapshot.problem self.now.input.budget answer }
         ensures answer { IfOk result (IsSubmitted self.old.input self.old.entries snapshot.at) }
-        ensures entries { IfOk result
-            (λ s. self.new.entries ≡ with_done self.old hand (taken_event s answer)) }
-        ensures input { self.new.input ≡ self.old.input }
-        ensures grants { self.new.grants ≡ self.old.grants }
-        ensures halted { self.new.halted ≡ (self.old.halted && is_running self.new.entries) }
-        ensures spare { self.new.spare ≡ spare_after self.old self.new.entries }
+        ensures did { IfOk result (λ s. Appended hand (taken_event s answer)
+            (record self.old { halted = still_halted self.old hand (taken_event s answer) })
+            self.new) }
         ensures reserved { NoEditFrom self.old.entries snapshot.at
             → IsReserved self.old hand (planned answer) → IsOk result }
         ensures err { OnErr result (self.new ≡ self.old) }
@@ -469,13 +440,9 @@ impl Board {
         requires there { p < length (performers self.now.input) }
         requires free { is_free self.now p ≡ true }
         ensures answer { IfOk result (λ t. t ≡ performing_answer self.old p) }
-        ensures entries { OnOk result
-            (self.new.entries ≡ with_done self.old hand (performing self.old p)) }
-        ensures grants { OnOk result (self.new.grants ≡ grants_after self.old p) }
+        ensures did { OnOk result (Appended hand (performing self.old p)
+            (record self.old { grants = grants_after self.old p }) self.new) }
         ensures out { IfOk result (λ t. (g : GrantView) → t ≡ Handed g → IsOut self.new g) }
-        ensures input { self.new.input ≡ self.old.input }
-        ensures halted { self.new.halted ≡ self.old.halted }
-        ensures spare { self.new.spare ≡ spare_after self.old self.new.entries }
         ensures reserved { IsReserved self.old hand (performing self.old p) → IsOk result }
         ensures err { OnErr result (self.new ≡ self.old) }
     {
@@ -503,13 +470,12 @@ impl Board {
     fn take_in(&mut self, hand: u8, r: u64, by: Name) -> Result<(), AllocError>
         requires hand { IsTrue (nat_le 1 hand && nat_le hand 16) }
         requires out { granted self.now.grants (place_in (performer_names self.now.input) by) ≡ Some r }
-        ensures entries { OnOk result (self.new.entries ≡ with_done self.old hand
-            (recorded self.old.input self.old.entries r by)) }
-        ensures grants { OnOk result (self.new.grants ≡ slice_set self.old.grants
-            (place_in (performer_names self.old.input) by) None) }
-        ensures input { self.new.input ≡ self.old.input }
-        ensures halted { self.new.halted ≡ self.old.halted }
-        ensures spare { self.new.spare ≡ spare_after self.old self.new.entries }
+        ensures did { OnOk result
+            (Appended hand (recorded self.old.input self.old.entries r by)
+            (record self.old {
+              grants = slice_set self.old.grants
+                  (place_in (performer_names self.old.input) by) None;
+            }) self.new) }
         ensures reserved { IsReserved self.old hand
             (recorded self.old.input self.old.entries r by) → IsOk result }
         ensures err { OnErr result (self.new ≡ self.old) }

@@ -17,7 +17,7 @@ pub use board::{Board, GrantBack, Shown};
 pub use boxes::Boxed;
 pub use commands::Next;
 pub use submits::Submitted;
-pub use ticks::{AboutAct, AboutRequest, Snapshot, Ticked};
+pub use ticks::{Snapshot, Ticked};
 pub use turns::Step;
 pub use whole::Core;
 pub use works::{Grant, Turn};

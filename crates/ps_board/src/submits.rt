@@ -7,7 +7,7 @@ ghost use Rattle.ps_action.specs.Search.{Fits};
 ghost use Rattle.ps_rules.specs.Choices.{planned, wants_plan};
 ghost use Rattle.ps_rules.specs.Known.{know};
 ghost use Rattle.ps_asked.specs.Asked.{Counts, ends_plan, WasAsked};
-ghost use Rattle.ps_board.specs.Core.{Covers, MayCome, Spends, Stands, with_turn};
+ghost use Rattle.ps_board.specs.Core.{Covers, Gains, GainsNothing, MayCome, Stands};
 ghost use Rattle.ps_board.specs.Submits.{edit_in, IsFirstFrom, IsSubmitted, MayComeAt, NoEditFrom, taken_event};
 
 use super::ticks::Snapshot;
@@ -136,12 +136,9 @@ impl Core {
             (know self.now.input self.now.entries.items) self.now.input.budget answer }
         requires hand { IsTrue (nat_le 1 hand && nat_le hand 16) }
         ensures stands { Stands self.new }
-        ensures ok { OnOk result
-            (self.new.entries.items ≡ with_turn self.old hand (planned answer)) }
+        ensures did { OnOk result (Gains hand (planned answer) self.old self.new) }
         ensures legal { IfSome (planned answer) (MayCome self.old) }
-        ensures err { OnErr result (self.new.entries.items ≡ self.old.entries.items) }
-        ensures input { self.new.input ≡ self.old.input }
-        ensures spare { Spends self.old self.new }
+        ensures err { OnErr result (GainsNothing self.old self.new) }
         ensures reserved { Covers self.old hand (planned answer) → IsOk result }
     {
         let event = event_of(answer);
@@ -166,12 +163,9 @@ impl Core {
         ensures stands { Stands self.new }
         ensures answer { IfOk result
             (IsSubmitted self.old.input self.old.entries.items snapshot.at) }
-        ensures ok { IfOk result (λ s. self.new.entries.items
-            ≡ with_turn self.old hand (taken_event s answer)) }
+        ensures did { IfOk result (λ s. Gains hand (taken_event s answer) self.old self.new) }
         ensures legal { IfOk result (λ s. IfSome (taken_event s answer) (MayCome self.old)) }
-        ensures err { OnErr result (self.new.entries.items ≡ self.old.entries.items) }
-        ensures input { self.new.input ≡ self.old.input }
-        ensures spare { Spends self.old self.new }
+        ensures err { OnErr result (GainsNothing self.old self.new) }
         ensures reserved { NoEditFrom self.old.entries.items snapshot.at
             → Covers self.old hand (planned answer) → IsOk result }
     {

@@ -7,7 +7,7 @@ ghost use Rattle.ps_rules.specs.Lines.{next_line};
 ghost use Rattle.ps_rules.specs.Runs.{is_running};
 ghost use Rattle.ps_board.specs.Board.{answer_to, is_end, IsStep};
 ghost use Rattle.ps_board.specs.Commands.{asks_plan};
-ghost use Rattle.ps_board.specs.Core.{Covers, line_answer, MayCome, observed_by, Spends, Stands, with_turn};
+ghost use Rattle.ps_board.specs.Core.{Covers, Gains, GainsNothing, line_answer, MayCome, observed_by, Stands};
 
 use super::commands::Next;
 use super::whole::Core;
@@ -53,13 +53,11 @@ impl Core {
             (IsStep (S.says solver.now) self.old.input self.old.entries.items) }
         ensures end { IfOk result
             (λ s. is_end s ≡ is_none (next_line self.old.input self.old.entries.items)) }
-        ensures ok { OnOk result (self.new.entries.items
-            ≡ with_turn self.old 0 (line_answer (S.says solver.now) self.old)) }
+        ensures did { OnOk result
+            (Gains 0 (line_answer (S.says solver.now) self.old) self.old self.new) }
         ensures legal { OnOk result
             (IfSome (line_answer (S.says solver.now) self.old) (MayCome self.old)) }
-        ensures err { OnErr result (self.new.entries.items ≡ self.old.entries.items) }
-        ensures input { self.new.input ≡ self.old.input }
-        ensures spare { Spends self.old self.new }
+        ensures err { OnErr result (GainsNothing self.old self.new) }
         ensures reserved { Covers self.old 0 (line_answer (S.says solver.now) self.old)
             → IsOk result }
     {
@@ -89,11 +87,8 @@ impl Core {
         requires hand { IsTrue (nat_le 1 hand && nat_le hand 16) }
         ensures stands { Stands self.new }
         ensures answer { IfOk result (λ did. did ≡ is_some (observed_by self.old name)) }
-        ensures ok { OnOk result (self.new.entries.items
-            ≡ with_turn self.old hand (observed_by self.old name)) }
-        ensures err { OnErr result (self.new.entries.items ≡ self.old.entries.items) }
-        ensures input { self.new.input ≡ self.old.input }
-        ensures spare { Spends self.old self.new }
+        ensures did { OnOk result (Gains hand (observed_by self.old name) self.old self.new) }
+        ensures err { OnErr result (GainsNothing self.old self.new) }
     {
         let next = match self.present.next_seen(&self.input, name) {
             Some(edit) => edit.copy(alloc)?,

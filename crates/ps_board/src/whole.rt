@@ -3,7 +3,7 @@ ghost use Rattle.std.specs.Prelude.{◌≡◌, ◌≤◌, IsTrue, true, false, m
 ghost use Rattle.ps_rules.specs.Legal.{has_hand};
 ghost use Rattle.ps_rows.specs.Table.{MayBegin};
 ghost use Rattle.ps_board.specs.Kept.{IsShown};
-ghost use Rattle.ps_board.specs.Core.{Covers, edit_of, HasBlock, HasPlaces, HasSpare, is_quiet, IsDue, IsGrown, makes_plan, MayCome, most_entries, Spends, Stands};
+ghost use Rattle.ps_board.specs.Core.{Covers, edit_of, Gains, GainsNothing, HasBlock, HasPlaces, HasSpare, is_quiet, IsDue, IsGrown, makes_plan, MayCome, most_entries, Spends, Stands};
 ghost use Rattle.ps_board.specs.Touching.{touched_by};
 
 use super::blocks::{cancel_all, enter, is_fail, only_if, reserve};
@@ -229,10 +229,8 @@ impl Core {
         requires plan { MayBegin what self.now.present }
         requires by { IsTrue (has_hand what hand) }
         ensures stands { Stands self.new }
-        ensures ok { OnOk result (HasBlock self.old hand what self.new) }
-        ensures err { OnErr result (self.new.entries.items ≡ self.old.entries.items) }
-        ensures input { self.new.input ≡ self.old.input }
-        ensures spare { Spends self.old self.new }
+        ensures did { OnOk result (Gains hand (Some what) self.old self.new) }
+        ensures err { OnErr result (GainsNothing self.old self.new) }
         ensures reserved { Covers self.old hand (Some what) → IsOk result }
     {
         let changed = self.prepare(alloc, hand, &what)?;
@@ -248,10 +246,8 @@ impl Core {
         requires plan { MayBegin choice.now self.now.present }
         requires by { IsTrue (has_hand choice.now hand) }
         ensures stands { Stands self.new }
-        ensures ok { OnOk result (HasBlock self.old hand choice.now self.new) }
-        ensures err { OnErr result (self.new.entries.items ≡ self.old.entries.items) }
-        ensures input { self.new.input ≡ self.old.input }
-        ensures spare { Spends self.old self.new }
+        ensures did { OnOk result (Gains hand (Some choice.now) self.old self.new) }
+        ensures err { OnErr result (GainsNothing self.old self.new) }
         ensures reserved { Covers self.old hand (Some choice.now) → IsOk result }
     {
         let what = choice.event();
@@ -267,10 +263,9 @@ impl Core {
         requires legal { MayCome self.now (edit_of self.now by edit) }
         requires hand { IsTrue (has_hand (edit_of self.now by edit) hand) }
         ensures stands { Stands self.new }
-        ensures ok { OnOk result (HasBlock self.old hand (edit_of self.old by edit) self.new) }
-        ensures err { OnErr result (self.new.entries.items ≡ self.old.entries.items) }
-        ensures input { self.new.input ≡ self.old.input }
-        ensures spare { Spends self.old self.new }
+        ensures did { OnOk result
+            (Gains hand (Some (edit_of self.old by edit)) self.old self.new) }
+        ensures err { OnErr result (GainsNothing self.old self.new) }
     {
         self.make_room(&Event::Quit, 257)?;
         match self.present.problem.edit(&self.present.expert, &edit) {

@@ -9,7 +9,7 @@ ghost use Rattle.ps_rules.specs.Runs.{is_running};
 ghost use Rattle.ps_ends.specs.Working.{recorded, unit_due};
 ghost use Rattle.ps_choices.specs.Heard.{HasHeard};
 ghost use Rattle.ps_choices.specs.Turns.{is_choice_of};
-ghost use Rattle.ps_board.specs.Core.{Covers, Spends, Stands, with_turn};
+ghost use Rattle.ps_board.specs.Core.{Covers, Gains, GainsNothing, Stands};
 ghost use Rattle.ps_board.specs.Grants.{grant_for, is_bare, performed_answer};
 
 use super::boxes::Boxed;
@@ -96,11 +96,9 @@ impl Core {
         requires next { unit_due self.now.input r by self.now.entries.items ≡ Some unit }
         requires hand { IsTrue (nat_le 1 hand && nat_le hand 16) }
         ensures stands { Stands self.new }
-        ensures ok { OnOk result (self.new.entries.items ≡ with_turn self.old hand
-            (Some (unit_event self.old.input self.old.entries.items r by unit))) }
-        ensures err { OnErr result (self.new.entries.items ≡ self.old.entries.items) }
-        ensures input { self.new.input ≡ self.old.input }
-        ensures spare { Spends self.old self.new }
+        ensures did { OnOk result (Gains hand
+            (Some (unit_event self.old.input self.old.entries.items r by unit)) self.old self.new) }
+        ensures err { OnErr result (GainsNothing self.old self.new) }
         ensures reserved { Covers self.old hand
             (Some (unit_event self.old.input self.old.entries.items r by unit)) → IsOk result }
     {
@@ -134,11 +132,9 @@ impl Core {
         requires works { is_working r by self.now.entries.items ≡ true }
         requires hand { IsTrue (nat_le 1 hand && nat_le hand 16) }
         ensures stands { Stands self.new }
-        ensures ok { OnOk result (self.new.entries.items ≡ with_turn self.old hand
-            (recorded self.old.input self.old.entries.items r by)) }
-        ensures err { OnErr result (self.new.entries.items ≡ self.old.entries.items) }
-        ensures input { self.new.input ≡ self.old.input }
-        ensures spare { Spends self.old self.new }
+        ensures did { OnOk result (Gains hand
+            (recorded self.old.input self.old.entries.items r by) self.old self.new) }
+        ensures err { OnErr result (GainsNothing self.old self.new) }
         ensures reserved { Covers self.old hand
             (recorded self.old.input self.old.entries.items r by) → IsOk result }
     {
@@ -150,6 +146,14 @@ impl Core {
         }
     }
 
+    /// The grant of a unit to a performer that works on this request.
+    fn grant_of(alloc: Global, r: u64, by: Name, unit: &Unit) -> Result<Grant, AllocError>
+        ensures { IfOk result (λ g. g ≡ record { r = r; by = by; unit = unit.now }) }
+    {
+        let unit = Boxed::new(alloc, unit.copy(alloc)?)?;
+        Ok(Grant { r, by, unit })
+    }
+
     /// The grant of the work that a performer has to do now, if it has some.
     fn grant_for(&self, alloc: Global, name: Name) -> Result<Option<Grant>, AllocError>
         requires stands { Stands self.now }
@@ -158,10 +162,7 @@ impl Core {
             (λ g. g ≡ grant_for self.now.input self.now.entries.items name) }
     {
         match work_of(&self.present, &self.input, name) {
-            Some((r, unit)) => {
-                let unit = Boxed::new(alloc, unit.copy(alloc)?)?;
-                Ok(Some(Grant { r, by: name, unit }))
-            }
+            Some((r, unit)) => Ok(Some(Core::grant_of(alloc, r, name, unit)?)),
             None => Ok(None),
         }
     }
@@ -182,11 +183,9 @@ impl Core {
         ensures stands { Stands self.new }
         ensures answer { IfOk result
             (λ t. t ≡ performed_answer self.old.input self.old.entries.items name) }
-        ensures ok { OnOk result (self.new.entries.items ≡ with_turn self.old hand
-            (performed self.old.input name self.old.entries.items)) }
-        ensures err { OnErr result (self.new.entries.items ≡ self.old.entries.items) }
-        ensures input { self.new.input ≡ self.old.input }
-        ensures spare { Spends self.old self.new }
+        ensures did { OnOk result (Gains hand
+            (performed self.old.input name self.old.entries.items) self.old self.new) }
+        ensures err { OnErr result (GainsNothing self.old self.new) }
         ensures reserved { Covers self.old hand
             (performed self.old.input name self.old.entries.items) → IsOk result }
         ensures its { IfSome (performed self.old.input name self.old.entries.items)

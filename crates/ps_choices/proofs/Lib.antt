@@ -1,5 +1,9 @@
+pub mod Answering
 pub mod First
 pub mod Fitting
 pub mod Hearing
 pub mod Heads
 pub mod Older
+pub mod Rejecting
+pub mod Skipping
+pub mod Ticking

@@ -1,3 +1,4 @@
 pub mod Choice
 pub mod Heard
+pub mod Ticks
 pub mod Turns

@@ -1,8 +1,9 @@
--- What a performer may do in its turn.
-use Rattle.std.specs.Prelude.{◌≡◌, ℕ, Bool, true, false, Option, List, [], ◌∷◌, find}
+-- What is chosen in a turn, and what a performer may do in its own.
+use Rattle.std.specs.Prelude.{◌≡◌, ℕ, Bool, true, false, Option, Some, None, List, [], ◌∷◌, find}
 use Rattle.ps_world.specs.Names.{same_name}
 use Rattle.ps_world.specs.declared.names.Name.{Name}
 use Rattle.ps_machine.specs.declared.inputs.Input.{Input}
+use Rattle.ps_machine.specs.declared.journal.PassWhy.{PassWhy}
 use Rattle.ps_machine.specs.declared.journal.PassWhy.TheVariants as pass
 use Rattle.ps_machine.specs.declared.journal.Event.{Event}
 use Rattle.ps_machine.specs.declared.journal.Event.TheVariants as event
@@ -55,6 +56,12 @@ passes_on name r = event.Pass r name pass.Late ∷ event.Pass r name pass.Other 
 -- its answers to a request, in that order
 abbrev pub answers_on : Name → ℕ → List Event
 answers_on name r = event.Offer r name ∷ passes_on name r
+
+-- the answer to a request that a performer has not answered, by why it would pass it and whether it is of the run
+abbrev pub answer_by : Name → ℕ → Option PassWhy → Bool → Option Event
+answer_by name r None of_run = Some (event.Offer r name)
+answer_by name r (Some why) true = Some (event.Pass r name why)
+answer_by name r (Some why) false = None
 
 -- the stop of the work on a request, or its beginning
 abbrev pub work_event : AboutWork → Name → ℕ → Event

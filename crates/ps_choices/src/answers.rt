@@ -1,49 +1,27 @@
 //! How a performer answers requests.
-ghost use Rattle.std.specs.Prelude.{◌∷◌, [], IfSome, IsTrue};
-ghost use Rattle.ps_machine.specs.declared.journal.Event.TheVariants.{Pass};
-ghost use Rattle.ps_machine.specs.declared.journal.PassWhy.TheVariants.{Busy, Other};
+ghost use Rattle.std.specs.Prelude.{◌≡◌, IfSome, IsTrue};
 ghost use Rattle.ps_rules.specs.Choices.{answers};
-ghost use Rattle.ps_choices.specs.Turns.{answers_on, ChoosesFor, ChoosesFrom, first_legal, is_choice_of, passes_on};
+ghost use Rattle.ps_choices.specs.Turns.{answer_by, answers_on, ChoosesFor, ChoosesFrom, first_legal, is_choice_of};
 
 use super::choice::{Choice, Chosen};
 use ps_machine::{Input, PassWhy};
-use ps_rows::Present;
+use ps_rows::{Present, performer_of};
 use ps_world::Name;
 
-/// A pass for this reason, if it may come.
-fn pass_for(present: &Present, input: &Input, name: Name, r: u64, why: PassWhy) -> Option<Choice>
-    ensures first { ChoosesFor input.now present.now result
-        (λ es. first_legal input.now es (Pass r name why ∷ [])) }
+/// The answer to a request that a performer has not answered, by why it would pass it and whether it is of the run.
+fn answer_by(name: Name, r: u64, why: Option<PassWhy>, of_run: bool) -> Option<Choice>
+    ensures first { result ≡ answer_by name r why of_run }
     ensures its { IfSome result (λ e. IsTrue (is_choice_of name e)) }
 {
-    if present.may_pass(input, r, name, why) {
-        Some(Choice::of(Chosen::Pass { r, by: name, why }))
-    } else {
-        None
-    }
-}
-
-/// How a performer passes a request that it does not pass as late, if it may.
-fn pass_open(present: &Present, input: &Input, name: Name, r: u64) -> Option<Choice>
-    ensures first { ChoosesFor input.now present.now result
-        (λ es. first_legal input.now es (Pass r name Other ∷ Pass r name Busy ∷ [])) }
-    ensures its { IfSome result (λ e. IsTrue (is_choice_of name e)) }
-{
-    match pass_for(present, input, name, r, PassWhy::Other) {
-        Some(event) => Some(event),
-        None => pass_for(present, input, name, r, PassWhy::Busy),
-    }
-}
-
-/// How a performer passes a request, if it may.
-fn pass_on(present: &Present, input: &Input, name: Name, r: u64) -> Option<Choice>
-    ensures first { ChoosesFor input.now present.now result
-        (λ es. first_legal input.now es (passes_on name r)) }
-    ensures its { IfSome result (λ e. IsTrue (is_choice_of name e)) }
-{
-    match pass_for(present, input, name, r, PassWhy::Late) {
-        Some(event) => Some(event),
-        None => pass_open(present, input, name, r),
+    match why {
+        None => Some(Choice::of(Chosen::Offer { r, by: name })),
+        Some(why) => {
+            if of_run {
+                Some(Choice::of(Chosen::Pass { r, by: name, why }))
+            } else {
+                None
+            }
+        }
     }
 }
 
@@ -53,10 +31,16 @@ fn answer_on(present: &Present, input: &Input, name: Name, r: u64) -> Option<Cho
         (λ es. first_legal input.now es (answers_on name r)) }
     ensures its { IfSome result (λ e. IsTrue (is_choice_of name e)) }
 {
-    if present.may_offer(input, r, name) {
-        Some(Choice::of(Chosen::Offer { r, by: name }))
-    } else {
-        pass_on(present, input, name, r)
+    if present.ledger.has_answered(r, name) {
+        return None;
+    }
+    match performer_of(input, name) {
+        Some(performer) => {
+            let why = present.pass_reason(performer, r);
+            let of_run = present.ledger.requests.is_of_run(r);
+            answer_by(name, r, why, of_run)
+        }
+        None => None,
     }
 }
 

@@ -1,7 +1,8 @@
 //! What is chosen in a turn.
-ghost use Rattle.std.specs.Prelude.{◌≡◌};
+ghost use Rattle.std.specs.Prelude.{◌≡◌, if◌then◌else◌, IfSome, None, Some};
 ghost use Rattle.ps_ledger.specs.Ends.{outcome_of};
 ghost use Rattle.ps_choices.specs.Choice.{event_of};
+ghost use Rattle.ps_choices.specs.Ticks.{IsTickers};
 
 use ps_machine::{Event, FailWhy, Outcome, PassWhy};
 use ps_world::Name;
@@ -81,4 +82,12 @@ impl Choice {
             Chosen::Over(how) => Event::Over(how),
         }
     }
+}
+
+/// What the ticker chooses, if it may come.
+pub fn chosen_if(may: bool, chosen: Chosen) -> Option<Choice>
+    ensures event { result ≡ (if may then Some (event_of chosen) else None) }
+    ensures its { IsTickers (event_of chosen) → IfSome result IsTickers }
+{
+    if may { Some(Choice::of(chosen)) } else { None }
 }

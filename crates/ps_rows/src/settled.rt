@@ -1,5 +1,5 @@
 //! When a run is settled, and how it ends without the solver.
-ghost use Rattle.std.specs.Prelude.{◌≡◌, ◌≤◌, List, None, length, not};
+ghost use Rattle.std.specs.Prelude.{◌≡◌, ◌≤◌, ◌||◌, List, None, length, not};
 ghost use Rattle.std.specs.List.{list_all, list_any};
 ghost use Rattle.ps_action.specs.declared.states.ActState.{ActState as ActStateView};
 ghost use Rattle.ps_machine.specs.declared.journal.Entry.{Entry};
@@ -229,6 +229,20 @@ impl Present {
         !harmed && (ready && (stuck && unseen))
     }
 
+    /// Whether an act was harmed, as this says, or all have ended, as that says, or the run is blocked, which takes longest to find.
+    fn is_at_end(&self, input: &Input, harmed: bool, done: bool) -> bool
+        ensures { SaysFor input.now self.now result
+            (λ es. harmed || (done || is_blocked input.now es)) }
+    {
+        if harmed {
+            return true;
+        }
+        if done {
+            return true;
+        }
+        self.is_blocked(input)
+    }
+
     /// Whether the run is settled.
     pub fn is_settled(&self, input: &Input) -> bool
         ensures { SaysFor input.now self.now result (is_settled input.now) }
@@ -237,8 +251,8 @@ impl Present {
         let free = self.all_free();
         let harmed = self.any_harmed();
         let done = self.all_done();
-        let blocked = self.is_blocked(input);
-        idle && (free && (harmed || (done || blocked)))
+        let ended = self.is_at_end(input, harmed, done);
+        idle && (free && ended)
     }
 
     /// Whether the goal holds, where there is one.

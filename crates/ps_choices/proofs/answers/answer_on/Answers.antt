@@ -1,14 +1,28 @@
-use Rattle.std.proofs.Common.{Some, ap, refl, sym, ◌∙◌}
-use Rattle.ps_machine.specs.declared.journal.Event.TheVariants.{Offer}
-use Rattle.ps_choices.specs.Turns.{passes_on}
-use Rattle.ps_choices.proofs.Fitting.{first-is, first-later}
+use Rattle.std.proofs.Common.{◌≡◌, if◌then◌else◌, option_copied, Some, None, ap, sym, ◌∙◌}
+use Rattle.ps_machine.specs.declared.members.Performer.{Performer}
+use Rattle.ps_rules.specs.Auctions.{is_of_run}
+use Rattle.ps_rules.specs.Legal.{pass_reason}
+use Rattle.ps_rules.specs.Members.{performer_of}
+use Rattle.ps_choices.specs.Turns.{answer_by}
+use Rattle.ps_choices.proofs.Answering.{answers-by, nobody-answers}
+use Rattle.ps_choices.proofs.Hearing.{no-answer}
 use Rattle.ps_choices.proofs.answers.answer_on.Goals as goal
 
-pub returns-then-may_offer-clause-first : goal.returns-then-may_offer-clause-first
-returns-then-may_offer-clause-first c = λ es o.
-    ap Some c.of.ensures ∙ first-is c.args.input.now es (Offer c.args.r c.args.name) (passes_on c.args.name c.args.r) o.live refl (sym c.if-may_offer.true ∙ c.may_offer.ensures es o.kept)
+pub returns-then-has_answered-clause-first : goal.returns-then-has_answered-clause-first
+returns-then-has_answered-clause-first c = λ es o.
+    no-answer c.args.input.now es c.args.name c.args.r o.history o.live (λ now. sym (c.has_answered.ensures es o.kept.told) ∙ c.if-has_answered.true)
 
-pub returns-else-may_offer-clause-first : goal.returns-else-may_offer-clause-first
-returns-else-may_offer-clause-first c = λ es o.
-    first-later c.args.input.now es (Offer c.args.r c.args.name) (passes_on c.args.name c.args.r) c.pass_on.result o.live refl
-    (sym c.if-may_offer.false ∙ c.may_offer.ensures es o.kept) (c.pass_on.ensures.first es o)
+pub returns-in-Some-clause-first : goal.returns-in-Some-clause-first
+returns-in-Some-clause-first c = λ es o.
+    let q : Performer = c.in-Some.performer.now in
+    let its : performer_of c.args.input.now c.args.name ≡ Some q = sym c.performer_of.ensures ∙ ap option_copied c.in-Some.is in
+    c.answer_by.ensures.first
+    ∙ ap (λ why. answer_by c.args.name c.args.r why c.is_of_run-of_run.result) (c.pass_reason-why.ensures c.args.input.now es o.kept)
+    ∙ ap (answer_by c.args.name c.args.r (pass_reason q c.args.r es)) (c.is_of_run-of_run.ensures es o.kept.told.requests)
+    ∙ sym (answers-by c.args.input.now es c.args.name c.args.r o.live q its
+    ∙ ap (λ b. if b then None else answer_by c.args.name c.args.r (pass_reason q c.args.r es) (is_of_run c.args.r es))
+    (sym (c.has_answered.ensures es o.kept.told) ∙ c.if-has_answered.false))
+
+pub returns-in-None-clause-first : goal.returns-in-None-clause-first
+returns-in-None-clause-first c = λ es o.
+    sym (nobody-answers c.args.input.now es c.args.name c.args.r o.live (sym c.performer_of.ensures ∙ ap option_copied c.in-None.is))

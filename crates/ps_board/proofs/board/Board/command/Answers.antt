@@ -16,6 +16,6 @@ invariant_of-self g c =
     let halted = c.self.inside.halted in
     let closed : is_running core.entries.items ≡ false = ap (λ v. is_running v.entries) view ∙ c.requires.closed in
     kept-result core c.command-result.new.self c.show.new.self 0 grants heard halted _ c.command-result.result held c.show.ensures.stands c.show.ensures.shown c.show.ensures.input
-    c.show.ensures.entries c.command-result.ensures.input c.command-result.ensures.ok c.command-result.ensures.err c.command-result.ensures.legal
+    c.show.ensures.entries c.command-result.ensures.did c.command-result.ensures.err c.command-result.ensures.legal
     (by-option (Spares core.input grants) _ (λ e is. closed-spares core grants heard halted held closed e))
     (not-halted halted _ (closed-goes halted (is_running core.entries.items) held.live closed))

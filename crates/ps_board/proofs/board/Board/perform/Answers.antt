@@ -43,7 +43,7 @@ invariant_of-self c =
     let what = performed core.input name core.entries.items in
     let kept : IsKept c.show.new.self grants heard halted =
     kept-result core c.perform-result.new.self c.show.new.self c.args.hand grants heard halted what c.perform-result.result told c.show.ensures.stands c.show.ensures.shown c.show.ensures.input
-    c.show.ensures.entries c.perform-result.ensures.input c.perform-result.ensures.ok c.perform-result.ensures.err
+    c.show.ensures.entries c.perform-result.ensures.did c.perform-result.ensures.err
     (on-ok c.perform-result.result (first-legal core.input core.entries.items _))
     (some-weaker (λ e. is_choice_of name e ≡ true) (Spares core.input grants) what (λ e its. performers-spare core.input held.core.sound grants c.args.p name at free e its)
     c.perform-result.ensures.its) (not-halted halted what goes) in
@@ -69,13 +69,13 @@ invariant_of-self-2 c =
     let what = performed core.input name core.entries.items in
     let kept : IsKept c.show.new.self grants heard halted =
     kept-result core c.perform-result.new.self c.show.new.self c.args.hand grants heard halted what c.perform-result.result told c.show.ensures.stands c.show.ensures.shown c.show.ensures.input
-    c.show.ensures.entries c.perform-result.ensures.input c.perform-result.ensures.ok c.perform-result.ensures.err
+    c.show.ensures.entries c.perform-result.ensures.did c.perform-result.ensures.err
     (on-ok c.perform-result.result (first-legal core.input core.entries.items _))
     (some-weaker (λ e. is_choice_of name e ≡ true) (Spares core.input grants) what (λ e its. performers-spare core.input held.core.sound grants c.args.p name at free e its)
     c.perform-result.ensures.its) (not-halted halted what goes) in
     subst (λ gs. IsKept c.show.new.self gs heard halted) (sym c.note_grant.ensures)
-    (kept-handed core c.show.new.self c.args.hand grants heard halted c.args.p name c.in_ok-turn.turn kept (c.show.ensures.input ∙ c.perform-result.ensures.input)
-    (c.show.ensures.entries ∙ c.in_ok-turn.ensures.ok) at c.in_ok-turn.ensures.answer)
+    (kept-handed core c.show.new.self c.args.hand grants heard halted c.args.p name c.in_ok-turn.turn kept (c.show.ensures.input ∙ c.in_ok-turn.ensures.did.input)
+    (c.show.ensures.entries ∙ c.in_ok-turn.ensures.did.entries) at c.in_ok-turn.ensures.answer)
 
 pub returns-clause-out : goal.returns-clause-out
 returns-clause-out c =
@@ -87,4 +87,4 @@ returns-clause-out c =
     let old : Shown = record { input = core.input; entries = core.entries.items; grants = c.self.inside.grants.items; halted = c.self.inside.halted; spare = core.spare } in
     out-is old _ c.args.hand c.args.p name c.in_ok-turn.turn held.core.sound
     (place-below core.input core.entries.items c.self.inside.grants.items held.out c.args.p name at) at c.in_ok-turn.ensures.answer
-    (c.show.ensures.input ∙ c.perform-result.ensures.input) (c.show.ensures.entries ∙ c.in_ok-turn.ensures.ok) c.note_grant.ensures
+    (c.show.ensures.input ∙ c.in_ok-turn.ensures.did.input) (c.show.ensures.entries ∙ c.in_ok-turn.ensures.did.entries) c.note_grant.ensures

@@ -13,8 +13,8 @@ invariant_of-self c =
     let core : Core = c.deref_mut-core.result.now in
     let held = kept-lent c.deref_mut-core.ensures.value c.self.invariant in
     kept-submitted core c.submit-result.new.self c.show.new.self c.args.hand c.self.inside.grants.items c.self.inside.heard.items c.self.inside.halted c.is_running-running.result
-    c.args.answer c.submit-result.result held c.show.ensures.stands c.show.ensures.shown c.show.ensures.input c.show.ensures.entries c.submit-result.ensures.input
-    c.submit-result.ensures.ok c.submit-result.ensures.err c.submit-result.ensures.legal (c.is_running-running.ensures c.show.new.self.entries.items c.show.ensures.stands.kept.told.run)
+    c.args.answer c.submit-result.result held c.show.ensures.stands c.show.ensures.shown c.show.ensures.input c.show.ensures.entries
+    c.submit-result.ensures.did c.submit-result.ensures.err c.submit-result.ensures.legal (c.is_running-running.ensures c.show.new.self.entries.items c.show.ensures.stands.kept.told.run)
 
 pub returns-clause-reserved : goal.returns-clause-reserved
 returns-clause-reserved c = λ none covered.

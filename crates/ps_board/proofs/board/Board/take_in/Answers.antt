@@ -43,8 +43,8 @@ invariant_of-self-2 c =
     let place : c.number_of-place.result ≡ k = c.number_of-place.ensures ∙ sym (ap (λ v. place_in (performer_names v.input) c.args.by) view) in
     subst (λ n. IsKept c.show.new.self (slice_set grants n None) heard halted) (sym place)
     (kept-result core c.record_work-result.new.self c.show.new.self c.args.hand (slice_set grants k None) heard halted (recorded core.input core.entries.items c.args.r c.args.by)
-    c.record_work-result.result fewer c.show.ensures.stands c.show.ensures.shown c.show.ensures.input c.show.ensures.entries c.record_work-result.ensures.input
-    c.record_work-result.ensures.ok c.record_work-result.ensures.err
+    c.record_work-result.result fewer c.show.ensures.stands c.show.ensures.shown c.show.ensures.input c.show.ensures.entries
+    c.record_work-result.ensures.did c.record_work-result.ensures.err
     (on-ok c.record_work-result.result (recorded-legal core.input core.entries.items held.core.sound held.core.history c.args.r c.args.by works))
     (recorded-spares core.input held.core.sound core.entries.items (slice_set grants k None) k c.args.r c.args.by at (get_or-set_same grants k None None below))
     (λ h. recorded-leaves core.input core.entries.items c.args.r c.args.by))

@@ -4,7 +4,8 @@ use Rattle.ps_rules.specs.Runs.{is_running}
 use Rattle.ps_board.specs.declared.board.Shown.{Shown}
 use Rattle.ps_board.specs.declared.whole.Core.{Core}
 use Rattle.ps_board.specs.Board.{GoesOn, tick_answer}
-use Rattle.ps_board.specs.Ticks.{answer_of, IsTickers, tick_of}
+use Rattle.ps_board.specs.Ticks.{answer_of, tick_of}
+use Rattle.ps_choices.specs.Ticks.{IsTickers}
 use Rattle.ps_board.proofs.Lent.{kept-lent, view-lent}
 use Rattle.ps_board.proofs.Granting.{Spares}
 use Rattle.ps_board.proofs.Keeping.{first-legal, kept-result, not-halted, on-ok, some-weaker, ticks-spare}
@@ -17,7 +18,7 @@ invariant_of-self c =
     let held = kept-lent c.deref_mut-core.ensures.value c.self.invariant in
     let grants = c.self.inside.grants.items in
     kept-result core c.tick-result.new.self c.show.new.self c.args.hand grants c.self.inside.heard.items c.self.inside.halted (tick_of core) c.tick-result.result held c.show.ensures.stands
-    c.show.ensures.shown c.show.ensures.input c.show.ensures.entries c.tick-result.ensures.input c.tick-result.ensures.ok c.tick-result.ensures.err
+    c.show.ensures.shown c.show.ensures.input c.show.ensures.entries c.tick-result.ensures.did c.tick-result.ensures.err
     (on-ok c.tick-result.result (first-legal core.input core.entries.items _))
     (some-weaker IsTickers (Spares core.input grants) (tick_of core) (λ e h. ticks-spare core.input grants e h.1) c.tick-result.ensures.its)
     (not-halted c.self.inside.halted (tick_of core) c.if-self.false)

@@ -1,9 +1,9 @@
-use Rattle.std.proofs.Common.{◌≡◌, ◌&&◌, is_none, OnOk, subst, sym}
+use Rattle.std.proofs.Common.{◌&&◌, is_none, OnOk, subst, sym}
 use Rattle.std.proofs.lemmas.Bool.{and_parts}
 use Rattle.ps_rules.specs.Runs.{is_running}
 use Rattle.ps_rules.specs.Settled.{is_settled, verdict}
 use Rattle.ps_board.specs.declared.whole.Core.{Core}
-use Rattle.ps_board.specs.Core.{with_turn}
+use Rattle.ps_board.specs.Core.{Gains}
 use Rattle.ps_board.proofs.Submitting.{follows-legal, follows-may, taken-legal}
 use Rattle.ps_board.proofs.Ticking.{tick-hand}
 use Rattle.ps_board.proofs.whole.Core.follow.Goals as goal
@@ -23,10 +23,10 @@ put-requires-clause-by c =
     (and_parts (is_running core.entries.items) (is_settled core.input core.entries.items && is_none (verdict core.input core.entries.items)) c.requires.asked).0
     (follows-legal core.input core.entries.items c.args.answer c.event_of-event.result c.requires.asked c.requires.fits c.event_of-event.ensures) c.requires.hand
 
-pub returns-clause-ok : goal.returns-clause-ok
-returns-clause-ok c =
+pub returns-clause-did : goal.returns-clause-did
+returns-clause-did c =
     let core : Core = c.args.self.now in
-    subst (λ o. OnOk c.put.result (c.put.new.self.entries.items ≡ with_turn core c.args.hand o)) (sym c.event_of-event.ensures) c.put.ensures.ok
+    subst (λ o. OnOk c.put.result (Gains c.args.hand o core c.put.new.self)) (sym c.event_of-event.ensures) c.put.ensures.did
 
 pub returns-clause-legal : goal.returns-clause-legal
 returns-clause-legal c = taken-legal c.args.self.now c.args.answer c.requires.stands c.requires.asked c.requires.fits

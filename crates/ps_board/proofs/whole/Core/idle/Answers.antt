@@ -1,14 +1,14 @@
-use Rattle.std.proofs.Common.{if◌then◌else◌, Some, None, length, ap, sym}
+use Rattle.std.proofs.Common.{if◌then◌else◌, Some, None, length, ap, sym, ◌∙◌}
 use Rattle.ps_rules.specs.Known.{know}
 use Rattle.ps_board.specs.Ticks.{idle_answer}
 use Rattle.ps_board.specs.declared.whole.Core.{Core}
-use Rattle.ps_board.proofs.Skipping.{not-wanted}
+use Rattle.ps_board.proofs.Ticking.{open-now}
 use Rattle.ps_board.proofs.whole.Core.idle.Goals as goal
 
-pub returns-then-any_active : goal.returns-then-any_active
-returns-then-any_active c =
+pub returns-else-wants_plan : goal.returns-else-wants_plan
+returns-else-wants_plan c =
     let core : Core = c.args.self.now in
     let i = core.input in
     let es = core.entries.items in
     ap (λ b. idle_answer (if b then Some (record { at = length es; problem = know i es }) else None))
-    (sym (not-wanted i es (c.any_active.ensures c.if-any_active.true)))
+    (sym c.if-wants_plan.false ∙ c.wants_plan.ensures es (open-now core c.requires.stands c.requires.live))

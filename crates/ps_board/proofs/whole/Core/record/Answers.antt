@@ -10,7 +10,7 @@ use Rattle.ps_rows.specs.Present as rows
 use Rattle.ps_rows.proofs.Awaiting.{edit-ahead, others-ahead}
 use Rattle.ps_board.specs.declared.whole.Core.{Core}
 use Rattle.ps_board.specs.Core.{edit_of, MayCome}
-use Rattle.ps_board.proofs.Ready.{block-grown, due-still, edit-grown, event-accepted, event-refused, legal-grown, stands-again, stands-grown}
+use Rattle.ps_board.proofs.Ready.{block-grown, due-still, edit-grown, event-accepted, event-refused, legal-grown, on-err, stands-again, stands-grown}
 use Rattle.ps_board.proofs.Sparing.{spent-from, spent-still}
 use Rattle.ps_board.proofs.Touching.{listed}
 use Rattle.ps_board.proofs.whole.Core.record.Goals as goal
@@ -58,26 +58,34 @@ append_quiet-requires-clause-due c =
 pub returns-in_err-make_room-clause-stands : goal.returns-in_err-make_room-clause-stands
 returns-in_err-make_room-clause-stands c = stands-grown c.args.self.now c.make_room.new.self c.requires.stands c.make_room.ensures.grown c.make_room.ensures.spare
 
-pub returns-in-Ok-clause-ok : goal.returns-in-Ok-clause-ok
-returns-in-Ok-clause-ok c =
+pub returns-in-Ok-clause-did : goal.returns-in-Ok-clause-did
+returns-in-Ok-clause-did c =
     let old : Core = c.args.self.now in
     let mid : Core = c.make_room.new.self in
     let grown = c.make_room.ensures.grown in
     let stands = stands-grown old mid c.requires.stands grown c.make_room.ensures.spare in
     let is = event-accepted mid c.edit.new.self c.args.by c.args.edit stands c.in-Ok.ensures.0 in
-    c.append.ensures.entries ∙ ap (with_block mid.input c.args.hand mid.entries.items) (sym is ∙ edit-grown old mid grown c.args.by c.args.edit)
-    ∙ block-grown old mid grown c.args.hand (edit_of old c.args.by c.args.edit)
+    record {
+      input = c.append.ensures.input ∙ grown.input;
+      entries = c.append.ensures.entries ∙ ap (with_block mid.input c.args.hand mid.entries.items) (sym is ∙ edit-grown old mid grown c.args.by c.args.edit)
+          ∙ block-grown old mid grown c.args.hand (edit_of old c.args.by c.args.edit);
+      spare = spent-from old (record mid { present = record mid.present { problem = c.edit.new.self } }) c.append.new.self grown.entries c.make_room.ensures.spare c.append.ensures.spare;
+    }
 
-pub returns-in-Err-Refused-clause-ok : goal.returns-in-Err-Refused-clause-ok
-returns-in-Err-Refused-clause-ok c =
+pub returns-in-Err-Refused-clause-did : goal.returns-in-Err-Refused-clause-did
+returns-in-Err-Refused-clause-did c =
     let old : Core = c.args.self.now in
     let mid : Core = c.make_room.new.self in
     let grown = c.make_room.ensures.grown in
     let refused = subst (λ f. Edits mid.present.expert c.args.edit mid.present.problem (Err f) c.edit.new.self) c.in-Err-Refused.field-0-is c.in-Err-Refused.ensures in
     let stands = stands-grown old mid c.requires.stands grown c.make_room.ensures.spare in
     let is = event-refused mid c.in-Err-Refused.why c.args.by c.args.edit stands refused.0 in
-    c.append_quiet.ensures.entries ∙ ap (with_block mid.input c.args.hand mid.entries.items) (sym is ∙ edit-grown old mid grown c.args.by c.args.edit)
-    ∙ block-grown old mid grown c.args.hand (edit_of old c.args.by c.args.edit)
+    record {
+      input = c.append_quiet.ensures.input ∙ grown.input;
+      entries = c.append_quiet.ensures.entries ∙ ap (with_block mid.input c.args.hand mid.entries.items) (sym is ∙ edit-grown old mid grown c.args.by c.args.edit)
+          ∙ block-grown old mid grown c.args.hand (edit_of old c.args.by c.args.edit);
+      spare = spent-from old (record mid { present = record mid.present { problem = c.edit.new.self } }) c.append_quiet.new.self grown.entries c.make_room.ensures.spare c.append_quiet.ensures.spare;
+    }
 
 pub returns-clause-stands : goal.returns-clause-stands
 returns-clause-stands c =
@@ -87,18 +95,10 @@ returns-clause-stands c =
     stands-again mid _ stands refl refl (subst (λ k. rows.Stands mid.input mid.entries.items (record mid.present { problem = k })) (sym failed.1) stands.kept) (λ act. refl)
     (record { entries = stands.spare.entries; ledger = stands.spare.ledger })
 
-pub returns-in_err-make_room-clause-spare : goal.returns-in_err-make_room-clause-spare
-returns-in_err-make_room-clause-spare c = spent-still c.args.self.now c.make_room.new.self c.make_room.ensures.grown.entries c.make_room.ensures.spare
-
-pub returns-in-Ok-clause-spare : goal.returns-in-Ok-clause-spare
-returns-in-Ok-clause-spare c =
-    let mid : Core = c.make_room.new.self in
-    spent-from c.args.self.now (record mid { present = record mid.present { problem = c.edit.new.self } }) c.append.new.self c.make_room.ensures.grown.entries c.make_room.ensures.spare c.append.ensures.spare
-
-pub returns-in-Err-Refused-clause-spare : goal.returns-in-Err-Refused-clause-spare
-returns-in-Err-Refused-clause-spare c =
-    let mid : Core = c.make_room.new.self in
-    spent-from c.args.self.now (record mid { present = record mid.present { problem = c.edit.new.self } }) c.append_quiet.new.self c.make_room.ensures.grown.entries c.make_room.ensures.spare c.append_quiet.ensures.spare
+pub returns-in_err-make_room-clause-err : goal.returns-in_err-make_room-clause-err
+returns-in_err-make_room-clause-err c =
+    let grown = c.make_room.ensures.grown in
+    on-err c.from_residual.result (record { input = grown.input; entries = grown.entries; spare = spent-still c.args.self.now c.make_room.new.self grown.entries c.make_room.ensures.spare })
 
 pub append-requires-clause-changed : goal.append-requires-clause-changed
 append-requires-clause-changed c = listed c.edited_by-changed.result c.as_slice.result.now c.as_slice.ensures ∙ ap option_to_list c.edited_by-changed.ensures
