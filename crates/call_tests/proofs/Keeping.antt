@@ -7,7 +7,7 @@ use Rattle.ps_rules.specs.History.{forced}
 use Rattle.ps_rules.specs.Known.{know}
 use Rattle.ps_asked.specs.Asked.{WasAsked}
 use Rattle.ps_asked.proofs.Counted.{asked_for_good, known_then}
-use Rattle.ps_board.specs.Board.{with_done}
+use Rattle.ps_board.specs.Board.{Appended}
 use Rattle.ps_board.specs.declared.board.Shown.{Shown}
 use Rattle.call_tests.specs.Asked.{KeepsAsked}
 
@@ -25,8 +25,8 @@ keeps-same b new input same at was = (
   ap (λ i. know i (take at new.entries)) input ∙ ap (λ es. know b.input (take at es)) same,
 )
 
-pub keeps : (b new : Shown) (hand : ℕ) (done : Option Event) → new.input ≡ b.input → new.entries ≡ with_done b hand done → KeepsAsked b new
-keeps b new hand None input all = keeps-same b new input all
-keeps b new hand (Some e) input all =
+pub keeps : (b new : Shown) (hand : ℕ) (done : Option Event) → Appended hand done b new → KeepsAsked b new
+keeps b new hand None did = keeps-same b new (ap (λ (s : Shown). s.input) did) (ap (λ (s : Shown). s.entries) did)
+keeps b new hand (Some e) did =
     let entry : Entry = record { hand = hand; what = e } in
-    keeps-more b new (entry ∷ forced b.input b.entries entry) input all
+    keeps-more b new (entry ∷ forced b.input b.entries entry) (ap (λ (s : Shown). s.input) did) (ap (λ (s : Shown). s.entries) did)

@@ -2,6 +2,7 @@ pub mod Asking
 pub mod Closing
 pub mod Ending
 pub mod Forcing
+pub mod GoingAlone
 pub mod Outs
 pub mod OwnTurns
 pub mod Ran

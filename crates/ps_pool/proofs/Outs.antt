@@ -5,7 +5,6 @@ use Rattle.std.proofs.Math.Seq.{take-append_seam}
 use Rattle.std.proofs.lemmas.List.{length-append}
 use Rattle.std.proofs.lemmas.Bool.{true≢false, eq-eqb, eqb-true}
 use Rattle.ps_world.proofs.Optionals.{none_not_some, some_same}
-use Rattle.ps_action.specs.declared.answers.Answer.{Answer}
 use Rattle.ps_machine.specs.declared.inputs.Input.{Input}
 use Rattle.ps_machine.specs.declared.journal.Event.{Event}
 use Rattle.ps_machine.specs.declared.journal.Outcome.{Outcome}
@@ -18,9 +17,7 @@ use Rattle.ps_ends.specs.Working.{unit_due}
 use Rattle.ps_ends.proofs.Picking.{by_test}
 use Rattle.ps_rows.specs.Same.{same_unit}
 use Rattle.ps_rows.proofs.Units.{same_unit-is, same_unit-itself}
-use Rattle.ps_board.specs.Board.{IsOut, number_of, recording, tick_answer, ticking, with_done}
-use Rattle.ps_board.specs.Submits.{taken_event}
-use Rattle.ps_board.specs.declared.submits.Submitted.{Submitted}
+use Rattle.ps_board.specs.Board.{Appended, grants_without, IsOut, number_of, recording, tick_answer, ticking, with_done}
 use Rattle.ps_board.specs.declared.ticks.Snapshot.{Snapshot}
 use Rattle.ps_board.specs.declared.ticks.Ticked.{Ticked}
 use Rattle.ps_board.specs.declared.ticks.Ticked.TheVariants as tick
@@ -35,25 +32,25 @@ use Rattle.ps_pool.proofs.Working.{did-by, nothing-by}
 
 -- ---- turns
 
-pub call-by : {A E : Type 0} (r : Result A E) (b new : Shown) (hand : ℕ) (done : Option Event) → OnOk r (new.entries ≡ with_done b hand done) → OnErr r (new ≡ b)
-    → GoesOnBy hand b.entries new.entries
-call-by (Ok a) b new hand done did left = did-by b.input hand b.entries new.entries done did
-call-by (Err e) b new hand done did left = nothing-by hand b.entries new.entries (ap (λ (s : Shown). s.entries) left)
+-- a call that went well leaves this board, and one that failed that one
+pub call-by : {A E : Type 0} (r : Result A E) (b new did left : Shown) (hand : ℕ) (what : Option Event) → did.entries ≡ with_done b hand what → left.entries ≡ b.entries
+    → OnOk r (new ≡ did) → OnErr r (new ≡ left) → GoesOnBy hand b.entries new.entries
+call-by (Ok a) b new did left hand what more same goes stops = did-by b.input hand b.entries new.entries what (ap (λ (s : Shown). s.entries) goes ∙ more)
+call-by (Err e) b new did left hand what more same goes stops = nothing-by hand b.entries new.entries (ap (λ (s : Shown). s.entries) stops ∙ same)
 
-pub tick-by : {A E : Type 0} (r : Result A E) (b new : Shown) (hand : ℕ) (done : Option Event) → OnOk r (new.entries ≡ with_done b hand done) → OnErr r (new.entries ≡ b.entries)
-    → GoesOnBy hand b.entries new.entries
-tick-by (Ok a) b new hand done did left = did-by b.input hand b.entries new.entries done did
-tick-by (Err e) b new hand done did left = nothing-by hand b.entries new.entries left
+-- all of a board but what is spare is as after what a tick does
+abbrev pub HasTicked : ℕ → Shown → Shown → Type 0
+HasTicked hand b new = new ≡ record b { entries = with_done b hand (ticking b); spare = new.spare }
 
-pub tick-wanted : {E : Type 0} (r : Result Ticked E) (b : Shown) (hand : ℕ) (new : List Entry) → IfOk r (λ t. t ≡ tick_answer b) → OnOk r (new ≡ with_done b hand (ticking b))
-    → IfOk r (λ t. (s : Snapshot) → t ≡ tick.WantsPlan s → IsWanted b.input new s)
-tick-wanted (Ok t) b hand new is did = λ s asks. asked-wanted b (asked-calm b t s is asks) hand t s new is asks did
-tick-wanted (Err e) b hand new is did = tt
+pub tick-wanted : {E : Type 0} (r : Result Ticked E) (b new : Shown) (hand : ℕ) → IfOk r (λ t. t ≡ tick_answer b) → OnOk r (HasTicked hand b new)
+    → IfOk r (λ t. (s : Snapshot) → t ≡ tick.WantsPlan s → IsWanted b.input new.entries s)
+tick-wanted (Ok t) b new hand is did = λ s asks. asked-wanted b (asked-calm b t s is asks) hand t s new.entries is asks (ap (λ (n : Shown). n.entries) did)
+tick-wanted (Err e) b new hand is did = tt
 
-pub tick-ended : {E : Type 0} (r : Result Ticked E) (b : Shown) (hand : ℕ) (new : List Entry) → IfOk r (λ t. t ≡ tick_answer b) → OnOk r (new ≡ with_done b hand (ticking b))
-    → IfOk r (λ t. (how : Outcome) → t ≡ tick.Over how → is_running new ≡ false)
-tick-ended (Ok t) b hand new is did = λ how over. tick-shut b hand t how new is over did
-tick-ended (Err e) b hand new is did = tt
+pub tick-ended : {E : Type 0} (r : Result Ticked E) (b new : Shown) (hand : ℕ) → IfOk r (λ t. t ≡ tick_answer b) → OnOk r (HasTicked hand b new)
+    → IfOk r (λ t. (how : Outcome) → t ≡ tick.Over how → is_running new.entries ≡ false)
+tick-ended (Ok t) b new hand is did = λ how over. tick-shut b hand t how new.entries is over (ap (λ (n : Shown). n.entries) did)
+tick-ended (Err e) b new hand is did = tt
 
 -- ---- answers of the solver
 
@@ -68,11 +65,6 @@ wanted-still i seen es more s wanted is =
       asked = record { few = omega (arith, at, many); asks = ap (wants_plan i) front ∙ wanted-asks i seen s wanted };
       known = sym (ap (λ (x : Snapshot). x.problem) now) ∙ ap (know i) (sym front);
     }
-
-pub answer-by : {E : Type 0} (r : Result Submitted E) (b new : Shown) (hand : ℕ) (a : Answer) → IfOk r (λ t. new.entries ≡ with_done b hand (taken_event t a)) → OnErr r (new ≡ b)
-    → GoesOnBy hand b.entries new.entries
-answer-by (Ok t) b new hand a did left = did-by b.input hand b.entries new.entries (taken_event t a) did
-answer-by (Err e) b new hand a did left = nothing-by hand b.entries new.entries (ap (λ (s : Shown). s.entries) left)
 
 -- ---- grants
 
@@ -91,14 +83,18 @@ out-or-not b g = by_both (granted b.grants (number_of b g)) (unit_due b.input g.
         (λ other. inr (λ out. true≢false (sym (subst (λ v. same_unit u v ≡ true) (some_same u g.unit (sym eu ∙ out.unit)) (same_unit-itself u)) ∙ other))))
         (λ apart. inr (λ out. true≢false (sym (eq-eqb r g.r (some_same r g.r (sym er ∙ out.request))) ∙ apart)))
 
-handed-by : (b new : Shown) (hand : ℕ) (g : Grant) → (IsOut b g → new.entries ≡ with_done b hand (recording b g)) → ((IsOut b g → ⊥) → new ≡ b) → GoesOnBy hand b.entries new.entries
+-- handing it in, where it is out, or dropping it
+abbrev HandsIn : ℕ → Grant → Shown → Shown → Type 0
+HandsIn hand g b new = IsOut b g → Appended hand (recording b g) (record b { grants = grants_without b g }) new
+
+handed-by : (b new : Shown) (hand : ℕ) (g : Grant) → HandsIn hand g b new → ((IsOut b g → ⊥) → new ≡ b) → (GoesOnBy hand b.entries new.entries) × (new.input ≡ b.input)
 handed-by b new hand g did left =
     elim (out-or-not b g) [
-      | inl out ↦ did-by b.input hand b.entries new.entries (recording b g) (did out)
-      | inr away ↦ nothing-by hand b.entries new.entries (ap (λ (s : Shown). s.entries) (left away))
+      | inl out ↦ (did-by b.input hand b.entries new.entries (recording b g) (ap (λ (s : Shown). s.entries) (did out)), ap (λ (s : Shown). s.input) (did out))
+      | inr away ↦ (nothing-by hand b.entries new.entries (ap (λ (s : Shown). s.entries) (left away)), ap (λ (s : Shown). s.input) (left away))
     ]
 
-pub unit-by : {A E : Type 0} (r : Result A E) (b new : Shown) (hand : ℕ) (g : Grant) → OnOk r (IsOut b g → new.entries ≡ with_done b hand (recording b g))
-    → ((IsOut b g → ⊥) → OnOk r (new ≡ b)) → OnErr r (new ≡ b) → GoesOnBy hand b.entries new.entries
+pub unit-by : {A E : Type 0} (r : Result A E) (b new : Shown) (hand : ℕ) (g : Grant) → OnOk r (HandsIn hand g b new) → ((IsOut b g → ⊥) → OnOk r (new ≡ b)) → OnErr r (new ≡ b)
+    → (GoesOnBy hand b.entries new.entries) × (new.input ≡ b.input)
 unit-by (Ok a) b new hand g did left same = handed-by b new hand g did left
-unit-by (Err e) b new hand g did left same = nothing-by hand b.entries new.entries (ap (λ (s : Shown). s.entries) same)
+unit-by (Err e) b new hand g did left same = (nothing-by hand b.entries new.entries (ap (λ (s : Shown). s.entries) same), ap (λ (s : Shown). s.input) same)

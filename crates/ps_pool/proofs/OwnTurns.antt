@@ -7,7 +7,6 @@ use Rattle.ps_world.specs.declared.names.Name.{Name}
 use Rattle.ps_action.specs.declared.answers.Answer.{Answer}
 use Rattle.ps_action.specs.declared.answers.Answer.TheVariants as answer
 use Rattle.ps_machine.specs.declared.inputs.Input.{Input}
-use Rattle.ps_machine.specs.declared.members.Unit.TheVariants as unit
 use Rattle.ps_machine.specs.declared.journal.By.TheVariants as by
 use Rattle.ps_machine.specs.declared.journal.FailWhy.TheVariants as fail
 use Rattle.ps_machine.specs.declared.journal.PassWhy.TheVariants as pass

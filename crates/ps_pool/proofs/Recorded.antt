@@ -3,7 +3,7 @@ use Rattle.std.proofs.Common.{◌≡◌, ℕ, ◌&&◌, true, Some, None, option
 use Rattle.std.specs.Option.{option_or}
 use Rattle.std.proofs.lemmas.Bool.{and_parts}
 use Rattle.ps_world.specs.declared.names.Name.{Name}
-use Rattle.ps_world.proofs.Optionals.{none_not_some, some_same}
+use Rattle.ps_world.proofs.Optionals.{none_not_some}
 use Rattle.ps_machine.specs.declared.inputs.Input.{Input}
 use Rattle.ps_machine.specs.declared.members.Unit.{Unit as Task}
 use Rattle.ps_machine.specs.declared.journal.Event.TheVariants as event

@@ -1,5 +1,5 @@
 -- What the turns of members come to where no run was halted and no grant is out.
-use Rattle.std.proofs.Common.{◌≡◌, ℕ, zero, suc, ◌<◌, ◌&&◌, not, Bool, true, false, Option, Some, None, is_none, option_map, option_and_then, if◌then◌else◌, List, [], ◌∷◌, length, slice_get, slice_index_or, slice_set, OnOk, Result, Ok, Err, refl, arith, ap, sym, ◌∙◌}
+use Rattle.std.proofs.Common.{◌≡◌, ℕ, zero, suc, ◌<◌, ◌&&◌, not, Bool, true, false, Option, Some, None, is_none, option_map, option_and_then, if◌then◌else◌, List, [], ◌∷◌, length, slice_get, slice_index_or, slice_set, refl, arith, ap, sym, ◌∙◌}
 use Rattle.std.specs.Option.{option_map_or}
 use Rattle.std.proofs.lemmas.List.{length-map}
 use Rattle.ps_world.specs.declared.names.Name.{Name}
@@ -29,11 +29,6 @@ turn-work : (o : Option Event) (w : Option (ℕ × Task)) (mark : ℕ × Task �
 turn-work (Some e) w mark g is = absurd (cc)
 turn-work None None mark g is = absurd (cc)
 turn-work None (Some v) mark g is = let same : mark v ≡ g = cc in (refl, (v, refl, same))
-
--- what follows where a call went well
-pub on-both : {A E P Q R : Type 0} (r : Result A E) → (P → Q → R) → OnOk r P → OnOk r Q → OnOk r R
-on-both (Ok a) f p q = f p q
-on-both (Err e) f p q = tt
 
 -- ---- names
 

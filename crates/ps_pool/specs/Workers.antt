@@ -16,9 +16,10 @@ use Rattle.ps_rules.specs.Known.{know}
 use Rattle.ps_rules.specs.Members.{observers, performers}
 use Rattle.ps_rules.specs.Runs.{has_run, is_running}
 use Rattle.ps_asked.specs.Asked.{WasAsked}
+use Rattle.ps_board.specs.declared.board.Shown.{Shown}
 use Rattle.ps_board.specs.declared.ticks.Snapshot.{Snapshot}
 use Rattle.ps_turn.specs.Books.{Book, IsFree, Place}
-use Rattle.ps_turn.specs.Hands.{GoesOnByHands, IsBeginning}
+use Rattle.ps_turn.specs.Hands.{GoesOnBy, GoesOnByHands, IsBeginning}
 use Rattle.ps_pool.specs.Courses.{GrowsInRun}
 use Rattle.ps_pool.specs.Rounds.{IsWanted}
 use Rattle.ps_pool.specs.declared.spot.Aside.{Aside}
@@ -130,6 +131,11 @@ is_of_one_act es = option_map_or (λ e. opens_one_act e.what) (slice_get es (len
 -- anew, and there is no observer, who could edit meanwhile
 abbrev pub is_for_one : Input → List Entry → Bool
 is_for_one i es = is_of_one_act es && not (list_any is_observer i.members)
+
+-- The first worker went on alone: the entries that it added have its hand, and the input is the same.
+pub record GoesOnAlone (old new : Shown) : Type 0 where
+  pub grows : GoesOnBy 1 old.entries new.entries
+  pub input : new.input ≡ old.input
 
 -- ---- a run
 

@@ -26,8 +26,6 @@ pub(crate) struct Crew<'a, S: Solver, G: Gate> {
     pub(crate) gate: &'a G,
     pub(crate) budget: u32,
     pub(crate) workers: usize,
-    /// Nothing is to be done beside a unit of work.
-    pub(crate) is_for_one: bool,
     pub(crate) lead: Lead,
     pub(crate) searches: Searches,
 }

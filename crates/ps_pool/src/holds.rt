@@ -20,7 +20,7 @@ use std::alloc::{AllocError, Global};
 use std::sync::Wait;
 
 /// Does the turn of a member.
-fn do_turn(board: &mut Board, hand: u8, who: Who) -> Result<Turn, AllocError>
+pub(crate) fn do_turn(board: &mut Board, hand: u8, who: Who) -> Result<Turn, AllocError>
     requires hand { IsTrue (nat_le 1 hand && nat_le hand 16) }
     requires there { IsThere board.old.input who }
     ensures grows { GoesOnBy hand board.old.entries board.new.entries }
@@ -33,7 +33,7 @@ fn do_turn(board: &mut Board, hand: u8, who: Who) -> Result<Turn, AllocError>
 }
 
 /// Does the turn of the ticker, with room for its block. Where it asks the solver, nothing was appended.
-fn do_tick(board: &mut Board, hand: u8) -> Result<Ticked, AllocError>
+pub(crate) fn do_tick(board: &mut Board, hand: u8) -> Result<Ticked, AllocError>
     requires hand { IsTrue (nat_le 1 hand && nat_le hand 16) }
     requires ran { has_run board.old.entries ≡ true }
     ensures wanted { IfOk result (λ t. (s : SnapshotView) → t ≡ Wanted s
@@ -47,7 +47,7 @@ fn do_tick(board: &mut Board, hand: u8) -> Result<Ticked, AllocError>
 }
 
 /// Hands in a grant. On an error nothing changes, and the grant stays out.
-fn do_unit(board: &mut Board, hand: u8, grant: Grant) -> Result<(), AllocError>
+pub(crate) fn do_unit(board: &mut Board, hand: u8, grant: Grant) -> Result<(), AllocError>
     requires hand { IsTrue (nat_le 1 hand && nat_le hand 16) }
     ensures grows { GoesOnBy hand board.old.entries board.new.entries }
     ensures input { board.new.input ≡ board.old.input }
@@ -60,7 +60,7 @@ fn do_unit(board: &mut Board, hand: u8, grant: Grant) -> Result<(), AllocError>
 
 /// Hands in the solver's answer for a snapshot, which is left where an entry has counted since. On an error nothing
 /// changes.
-fn do_answer(
+pub(crate) fn do_answer(
     board: &mut Board,
     hand: u8,
     snapshot: Snapshot,

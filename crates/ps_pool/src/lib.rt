@@ -2,6 +2,7 @@
 //! workers, each in a thread of its own.
 #![tactic(auto)]
 
+mod alone;
 mod crew;
 mod gate;
 mod holds;

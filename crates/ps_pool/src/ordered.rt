@@ -5,7 +5,7 @@ ghost use Rattle.ps_rules.specs.Choices.{Says};
 ghost use Rattle.ps_rules.specs.Members.{observers, performers};
 ghost use Rattle.ps_rules.specs.Runs.{has_run, is_running};
 ghost use Rattle.ps_rules.specs.Sound.{IsSound};
-ghost use Rattle.ps_board.specs.Board.{grants_without, IsAtRest, IsOut, recording, tick_answer, ticking, with_done};
+ghost use Rattle.ps_board.specs.Board.{Appended, grants_without, IsAtRest, IsOut, recording, tick_answer, ticking, with_done};
 ghost use Rattle.ps_pool.specs.Courses.{GrowsInRun};
 ghost use Rattle.ps_pool.specs.Ordered.{EndsAs, StopsAs};
 ghost use Rattle.ps_pool.specs.Rounds.{after_answer, after_observer, after_performer, after_ticker, IsWanted, LeadsTo, passed_before, StopsFrom};
@@ -27,11 +27,8 @@ pub struct RunStop {
 /// Hands in a grant that is out, once its unit is done. On an error nothing changes, and the grant is still out.
 fn hand_in(board: &mut Board, grant: Grant) -> Result<(), AllocError>
     requires out { IsOut board.old grant }
-    ensures entries { OnOk result
-        (board.new.entries ≡ with_done board.old 1 (recording board.old grant)) }
-    ensures grants { OnOk result (board.new.grants ≡ grants_without board.old grant) }
-    ensures input { board.new.input ≡ board.old.input }
-    ensures halted { board.new.halted ≡ board.old.halted }
+    ensures did { OnOk result (Appended 1 (recording board.old grant)
+        (record board.old { grants = grants_without board.old grant }) board.new) }
     ensures err { OnErr result (board.new ≡ board.old) }
 {
     match board.after_unit(1, grant) {
@@ -155,7 +152,11 @@ fn take_members<R: Wait, G: Gate>(rt: &R, board: &mut Board, gate: &G) -> Result
 }
 
 /// What the solver answers for what is known now, where it is asked. The only error is that memory ran out.
-fn ask<S: Solver>(board: &Board, solver: &S, snapshot: &Snapshot) -> Result<Answer, AllocError>
+pub(crate) fn ask<S: Solver>(
+    board: &Board,
+    solver: &S,
+    snapshot: &Snapshot,
+) -> Result<Answer, AllocError>
     requires asked { IsWanted board.now.input board.now.entries snapshot.now }
     ensures says { IfOk result (λ answer. answer
         ≡ S.says solver.now board.now.input.domain snapshot.now.problem board.now.input.budget) }
@@ -206,11 +207,11 @@ pub(crate) fn tick_with_room(board: &mut Board, hand: u8) -> Result<Ticked, Allo
     requires hand { IsTrue (nat_le 1 hand && nat_le hand 16) }
     requires ran { has_run board.old.entries ≡ true }
     ensures answer { IfOk result (λ t. t ≡ tick_answer board.old) }
-    ensures entries { OnOk result
-        (board.new.entries ≡ with_done board.old hand (ticking board.old)) }
-    ensures input { board.new.input ≡ board.old.input }
-    ensures kept { (board.new.grants ≡ board.old.grants) × (board.new.halted ≡ board.old.halted) }
-    ensures err { OnErr result (board.new.entries ≡ board.old.entries) }
+    ensures did { OnOk result (board.new ≡ record board.old {
+      entries = with_done board.old hand (ticking board.old);
+      spare = board.new.spare;
+    }) }
+    ensures err { OnErr result (board.new ≡ record board.old { spare = board.new.spare }) }
 {
     make_room(board);
     board.tick(hand)

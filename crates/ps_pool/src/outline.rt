@@ -42,7 +42,7 @@ fn who_at(board: &Board, k: usize, passed: Passed) -> (Who, Passed)
 }
 
 /// All members, in their order.
-fn all_members(alloc: Global, board: &Board) -> Result<Vec<Who>, AllocError>
+pub(crate) fn all_members(alloc: Global, board: &Board) -> Result<Vec<Who>, AllocError>
     ensures { IfOk result (λ members. All (IsThere board.now.input) members.items) }
 {
     let mut members = Vec::new(alloc);
@@ -88,7 +88,7 @@ fn has_observer(members: &[Member]) -> bool
 
 /// Whether nothing is to be done beside a unit of work in the run that the last entry opens: it is of one act, so that there
 /// is one unit at a time, and there is no observer, who could edit meanwhile.
-fn is_for_one(board: &Board) -> bool
+pub(crate) fn is_for_one(board: &Board) -> bool
     ensures { result ≡ is_for_one board.now.input board.now.entries }
 {
     is_of_one_act(board.entries()) && !has_observer(board.input().members.as_slice())
@@ -99,8 +99,6 @@ fn is_for_one(board: &Board) -> bool
 pub(crate) struct Outline {
     pub(crate) members: Vec<Who>,
     pub(crate) budget: u32,
-    /// Nothing is to be done beside a unit of work.
-    pub(crate) is_for_one: bool,
 }
 
 /// What workers have to know of this board.
@@ -111,6 +109,5 @@ pub(crate) fn outline_of(alloc: Global, board: &Board) -> Result<Outline, AllocE
     Ok(Outline {
         members,
         budget: board.input().budget,
-        is_for_one: is_for_one(board),
     })
 }

@@ -7,14 +7,15 @@ ghost use Rattle.ps_rules.specs.Runs.{has_run, is_running};
 ghost use Rattle.ps_turn.specs.Books.{new_place, hands};
 ghost use Rattle.ps_turn.specs.Hands.{GoesOnByHands};
 ghost use Rattle.ps_board.specs.Board.{IsAtRest};
-ghost use Rattle.ps_pool.specs.Workers.{EndedBy, FirstIs, HasLeft, HasSeenOver, HasStayed, IsOutline, IsReady, MayWork, StepsAside, StoppedBy};
+ghost use Rattle.ps_pool.specs.Workers.{EndedBy, FirstIs, HasLeft, HasSeenOver, HasStayed, IsCrew, IsOutline, IsReady, MayWork, StepsAside, StoppedBy};
 
+use crate::alone::work_alone;
 use crate::crew::Crew;
 use crate::gate::Gate;
 use crate::holds::look;
 use crate::lead::Lead;
 use crate::ordered::RunStop;
-use crate::outline::Outline;
+use crate::outline::{Outline, is_for_one};
 use crate::searches::Searches;
 use crate::spot::{Aside, Spot};
 use ps_board::Board;
@@ -26,86 +27,17 @@ use std::sync::Wait;
 use std::thread;
 use std::thread::Threads;
 
-/// What a worker does with its seat, where that suits the input.
-trait Works {
-    ghost use Rattle.ps_machine.specs.declared.inputs.Input.{Input as InputView};
-    ghost use Rattle.ps_pool.specs.Workers.{HasLeft, HasStayed, IsReady, MayWork, StepsAside};
-
-    ghost suits: { Self → InputView → Type 0 };
-
-    /// Whether nothing is to be done beside a unit of work, so that no other worker is started. No contract rests on it.
-    fn is_for_one(&self) -> bool;
-
-    /// Takes turns until something is to be done aside, or until the run is seen to be over or halted.
-    fn begin<R: Wait>(
-        &self,
-        rt: &R,
-        book: &TurnBook<Board>,
-        seat: &mut Seat<Board>,
-        spot: &mut Spot,
-    ) -> Option<Aside>
-        requires ready { IsReady book.now seat.old spot.old.stand }
-        requires suits { suits self.now book.now.input }
-        ensures aside { StepsAside book.now.input result seat.new.seen spot.new.stand }
-        ensures seat { HasStayed book.now seat.old seat.new };
-
-    /// Does what is to be done aside, if anything, and then goes on until the run is seen to be over or halted.
-    fn go_on<R: Wait>(
-        &self,
-        rt: &R,
-        book: &TurnBook<Board>,
-        seat: &mut Seat<Board>,
-        spot: &mut Spot,
-        aside: Option<Aside>,
-    )
-        requires seat { MayWork book.now seat.old }
-        requires aside { StepsAside book.now.input aside seat.old.seen spot.old.stand }
-        requires suits { suits self.now book.now.input }
-        ensures left { HasLeft seat.new.seen spot.new.stand }
-        ensures seat { HasStayed book.now seat.old seat.new };
-}
-
-impl<'a, S: Solver, G: Gate> Works for Crew<'a, S, G> {
-    ghost use Rattle.ps_pool.specs.Workers.{IsCrew};
-
-    ghost suits = { λ crew i. IsCrew i crew.members.now crew.expert.now crew.budget crew.workers };
-
-    fn is_for_one(&self) -> bool {
-        self.is_for_one
-    }
-
-    fn begin<R: Wait>(
-        &self,
-        rt: &R,
-        book: &TurnBook<Board>,
-        seat: &mut Seat<Board>,
-        spot: &mut Spot,
-    ) -> Option<Aside> {
-        self.lead_on(rt, book, seat, spot)
-    }
-
-    fn go_on<R: Wait>(
-        &self,
-        rt: &R,
-        book: &TurnBook<Board>,
-        seat: &mut Seat<Board>,
-        spot: &mut Spot,
-        aside: Option<Aside>,
-    ) {
-        self.work_on(rt, book, seat, spot, aside)
-    }
-}
-
 /// The first of these seats' workers begins in this thread. Answers whether it has seen that the run is over.
 #[cycle(seats)]
-fn work_all<R: Threads + Wait + Sync, C: Works + Sync>(
+fn work_all<R: Threads + Wait + Sync, S: Solver + Sync, G: Gate + Sync>(
     rt: &R,
-    crew: &C,
+    crew: &Crew<'_, S, G>,
     book: &TurnBook<Board>,
     seats: &mut [Seat<Board>],
 ) -> bool
     requires seats { All (MayWork book.now) seats.old }
-    requires crew { C.suits crew.now book.now.input }
+    requires crew { IsCrew book.now.input crew.now.members.now crew.now.expert.now crew.now.budget
+        crew.now.workers }
     ensures over { result ≡ true → FirstIs HasSeenOver seats.new }
     ensures seats { (i : ℕ) (d : _) → i < length seats.old
         → HasStayed book.now (slice_index_or seats.old i d) (slice_index_or seats.new i d) }
@@ -118,11 +50,11 @@ fn work_all<R: Threads + Wait + Sync, C: Works + Sync>(
     spot.is_over()
 }
 
-/// A worker begins. Once it steps aside, those of the other seats are started in the same way, unless they had nothing to do.
+/// A worker begins. Once it steps aside, those of the other seats are started in the same way.
 #[cycle(seats)]
-fn work_first<R: Threads + Wait + Sync, C: Works + Sync>(
+fn work_first<R: Threads + Wait + Sync, S: Solver + Sync, G: Gate + Sync>(
     rt: &R,
-    crew: &C,
+    crew: &Crew<'_, S, G>,
     book: &TurnBook<Board>,
     seat: &mut Seat<Board>,
     spot: &mut Spot,
@@ -130,15 +62,16 @@ fn work_first<R: Threads + Wait + Sync, C: Works + Sync>(
 )
     requires ready { IsReady book.now seat.old spot.old.stand }
     requires rest { All (MayWork book.now) rest.old }
-    requires crew { C.suits crew.now book.now.input }
+    requires crew { IsCrew book.now.input crew.now.members.now crew.now.expert.now crew.now.budget
+        crew.now.workers }
     ensures left { HasLeft seat.new.seen spot.new.stand }
     ensures seat { HasStayed book.now seat.old seat.new }
     ensures rest { (i : ℕ) (d : _) → i < length rest.old
         → HasStayed book.now (slice_index_or rest.old i d) (slice_index_or rest.new i d) }
 {
-    let aside = crew.begin(rt, book, seat, spot);
-    if rest.is_empty() || aside.is_none() || crew.is_for_one() {
-        crew.go_on(rt, book, seat, spot, aside);
+    let aside = crew.lead_on(rt, book, seat, spot);
+    if rest.is_empty() || aside.is_none() {
+        crew.work_on(rt, book, seat, spot, aside);
     } else {
         work_beside(rt, crew, book, seat, spot, aside, rest);
     }
@@ -146,9 +79,9 @@ fn work_first<R: Threads + Wait + Sync, C: Works + Sync>(
 
 /// A worker that steps aside goes on beside those of the other seats, in a thread of their own if there are threads.
 #[cycle(seats)]
-fn work_beside<R: Threads + Wait + Sync, C: Works + Sync>(
+fn work_beside<R: Threads + Wait + Sync, S: Solver + Sync, G: Gate + Sync>(
     rt: &R,
-    crew: &C,
+    crew: &Crew<'_, S, G>,
     book: &TurnBook<Board>,
     seat: &mut Seat<Board>,
     spot: &mut Spot,
@@ -158,14 +91,16 @@ fn work_beside<R: Threads + Wait + Sync, C: Works + Sync>(
     requires seat { MayWork book.now seat.old }
     requires aside { StepsAside book.now.input aside seat.old.seen spot.old.stand }
     requires rest { All (MayWork book.now) rest.old }
-    requires crew { C.suits crew.now book.now.input }
+    requires crew { IsCrew book.now.input crew.now.members.now crew.now.expert.now crew.now.budget
+        crew.now.workers }
     ensures left { HasLeft seat.new.seen spot.new.stand }
     ensures seat { HasStayed book.now seat.old seat.new }
     ensures rest { (i : ℕ) (d : _) → i < length rest.old
         → HasStayed book.now (slice_index_or rest.old i d) (slice_index_or rest.new i d) }
 {
     let mut others = ||
-        requires { IsSync R.row × IsSync C.row × All (MayWork book.now) rest.now × C.suits crew.now book.now.input }
+        requires { IsSync R.row × IsSync S.row × IsSync G.row × All (MayWork book.now) rest.now
+            × IsCrew book.now.input crew.now.members.now crew.now.expert.now crew.now.budget crew.now.workers }
         ensures { (i : ℕ) (d : _) → i < length rest.entry.now
             → HasStayed book.entry.now (slice_index_or rest.entry.now i d) (slice_index_or rest.exit.now i d) }
     {
@@ -173,9 +108,9 @@ fn work_beside<R: Threads + Wait + Sync, C: Works + Sync>(
     };
     let mut one = ||
         requires { MayWork book.now seat.now × StepsAside book.now.input aside seat.now.seen spot.now.stand
-            × C.suits crew.now book.now.input }
+            × IsCrew book.now.input crew.now.members.now crew.now.expert.now crew.now.budget crew.now.workers }
         ensures { HasLeft seat.exit.now.seen spot.exit.now.stand × HasStayed book.entry.now seat.entry.now seat.exit.now }
-    { crew.go_on(rt, book, seat, spot, aside.take()) };
+    { crew.work_on(rt, book, seat, spot, aside.take()) };
     thread::join_mut(rt, &mut others, &mut one);
 }
 
@@ -198,18 +133,17 @@ fn look_first<R: Wait>(
     look(rt, alloc, book, seat)
 }
 
-/// Has a worker at each of these seats, all of a book of a board, go on with the run that was opened until it is
-/// over. The first begins alone, in this thread, and each other one is started, in a thread of its own if there are
-/// threads, when the one before it first steps aside. A run of one act without observers is done by the first alone,
-/// since nothing is to be done beside its units of work. They take the board in turns, for one call in each, and
-/// nothing else is done to it. Each worker repeats rounds: a turn of each member that is at home with it, one of the
-/// ticker, and one of each other member, in the order of the members. The member at place `m`, counted from 0, is at
-/// home with the worker of the hand `m % seats + 1`. Units of work are done between turns, and so is solving: one
-/// worker at a time does rounds, and while it steps aside to do a unit or to solve, another goes on. Two at most
-/// solve at the same time, and where nothing is to be done before one of those aside hands something in, the others
-/// sleep. Afterwards each seat is free again and has seen what it had seen and more; where all went well, the first
-/// has seen that the run is over. It promises no return. The only error is that memory ran out: the run is as far as
-/// it came, and it may be halted, with grants out.
+/// Has a worker at each of these seats, all of a book of a board, go on with the run that was opened until it is over.
+/// The first begins alone, in this thread, and each other one is started, in a thread of its own if there are threads,
+/// when the one before it first steps aside. They take the board in turns, for one call in each, and nothing else is
+/// done to it. Each worker repeats rounds: a turn of each member that is at home with it, one of the ticker, and one of
+/// each other member, in the order of the members. The member at place `m`, counted from 0, is at home with the worker
+/// of the hand `m % seats + 1`. Units of work are done between turns, and so is solving: one worker at a time does
+/// rounds, and while it steps aside to do a unit or to solve, another goes on. Two at most solve at the same time, and
+/// where nothing is to be done before one of those aside hands something in, the others sleep. Afterwards each seat is
+/// free again and has seen what it had seen and more; where all went well, the first has seen that the run is over. It
+/// promises no return. The only error is that memory ran out: the run is as far as it came, and it may be halted, with
+/// grants out.
 pub fn work<R: Threads + Wait + Sync, S: Solver + Sync, G: Gate + Sync>(
     rt: &R,
     alloc: Global,
@@ -234,7 +168,6 @@ pub fn work<R: Threads + Wait + Sync, S: Solver + Sync, G: Gate + Sync>(
         gate,
         budget: outline.budget,
         workers: seats.len(),
-        is_for_one: outline.is_for_one,
         lead: Lead::new(),
         searches: Searches::new(),
     };
@@ -283,6 +216,27 @@ fn settle(board: Board) -> Result<Board, RunStop>
     }
 }
 
+/// Has the first of so many workers go on alone with the open run until it is over.
+fn run_alone<R: Wait, S: Solver, G: Gate>(
+    rt: &R,
+    alloc: Global,
+    board: Board,
+    solver: &S,
+    gate: &G,
+    workers: u8,
+) -> Result<Board, RunStop>
+    requires opened { is_running board.entries ≡ true }
+    requires some { 1 ≤ workers }
+    ensures ended { IfOk result (λ b. EndedBy workers board.input board.entries b.entries) }
+    ensures rest { IfOk result IsAtRest }
+    ensures input { IfOk result (λ b. b.input ≡ board.input) }
+    ensures stopped { IfErr result
+        (λ stop. StoppedBy workers board.input board.entries stop.board.entries) }
+    ensures stopped_input { IfErr result (λ stop. stop.board.input ≡ board.input) }
+{
+    settle(work_alone(rt, alloc, board, solver, gate, workers))
+}
+
 /// A run that stops as it is, since there was no memory for a book.
 fn stopped(refused: NotOpened<Board>) -> RunStop
     ensures { result.board ≡ refused.value }
@@ -291,10 +245,11 @@ fn stopped(refused: NotOpened<Board>) -> RunStop
     RunStop { board: value }
 }
 
-/// Goes on with the open run until it is over, by at most this many workers: the board is put into a book with a seat for
-/// each, they `work` at these seats, and the book is closed. The worker at place `w` has the hand `w + 1`. It promises no
-/// return. The only error is that memory ran out: the run is still open and as far as it came, and it may be halted, with
-/// grants out.
+/// Goes on with the open run until it is over, by at most this many workers: the board is put into a book with a seat
+/// for each, they `work` at these seats, and the book is closed. The worker at place `w` has the hand `w + 1`. A run of
+/// one act without observers is done by the first alone, in the same order, since nothing is to be done beside its
+/// units of work: it holds the board throughout, and no book is opened. It promises no return. The only error is that
+/// memory ran out: the run is still open and as far as it came, and it may be halted, with grants out.
 pub fn run_workers<R: Threads + Wait + Sync, S: Solver + Sync, G: Gate + Sync>(
     rt: &R,
     alloc: Global,
@@ -316,6 +271,9 @@ pub fn run_workers<R: Threads + Wait + Sync, S: Solver + Sync, G: Gate + Sync>(
     ensures stopped_input { IfErr result (λ stop. stop.board.input ≡ board.input) }
 {
     let _history = board.entries();
+    if is_for_one(&board) {
+        return run_alone(rt, alloc, board, solver, gate, workers);
+    }
     match TurnBook::open(alloc, board, workers) {
         Ok((book, seats)) => settle(work_book(rt, alloc, book, seats, expert, solver, gate)),
         Err(refused) => Err(stopped(refused)),

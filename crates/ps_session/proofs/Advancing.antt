@@ -16,8 +16,8 @@ use Rattle.ps_rules.specs.Choices.{line_event, Says, with_block}
 use Rattle.ps_rules.specs.History.{IsHistory}
 use Rattle.ps_rules.specs.Lines.{answered, next_line}
 use Rattle.ps_rules.specs.Runs.{is_running, opens}
-use Rattle.ps_board.specs.Board.{commanded, is_end, IsStep, nothing_done, spare_after, with_done}
-use Rattle.ps_board.specs.Grants.{granted}
+use Rattle.ps_board.specs.Board.{Appended, commanded, is_end, IsStep, nothing_done, with_done}
+use Rattle.ps_board.proofs.Appending.{nothing-appended}
 use Rattle.ps_board.specs.declared.board.Shown.{Shown}
 use Rattle.ps_board.specs.declared.turns.Step.{Step}
 use Rattle.ps_board.specs.declared.turns.Step.TheVariants.{Said, Planned, Opened, End}
@@ -48,28 +48,24 @@ idle-first i b e = subst (IsIdle i) (sym e) (record {
   closed = refl;
 })
 
-rest-kept : (old new : Shown) → new.grants ≡ old.grants → new.halted ≡ old.halted → IsAtRest old → IsAtRest new
-rest-kept old new grants halted rest = record {
-  halted = halted ∙ rest.halted;
-  all_in = λ p. ap (λ gs. granted gs p) grants ∙ rest.all_in p;
-}
-
 -- what a call does that answers the next line
 pub record Commanded (says : Says) (old new : Shown) (s : Step) : Type 0 where
   pub answer : IsStep says old.input old.entries s
   pub end : is_end s ≡ is_none (next_line old.input old.entries)
-  pub entries : new.entries ≡ with_done old 0 (commanded says old)
-  pub input : new.input ≡ old.input
-  pub grants : new.grants ≡ old.grants
-  pub halted : new.halted ≡ old.halted
-  pub spare : new.spare ≡ spare_after old new.entries
+  pub did : Appended 0 (commanded says old) old new
 
 module _ (how : Turns) (says : Says) (old new : Shown) (s : Step) (c : Commanded says old new s) (idle : IsIdle old.input old) where
   abbrev i : Input
   i = old.input
 
+  entries-so : new.entries ≡ with_done old 0 (commanded says old)
+  entries-so = ap (λ (b : Shown). b.entries) c.did
+
+  input-so : new.input ≡ i
+  input-so = ap (λ (b : Shown). b.input) c.did
+
   pub rests : IsAtRest new
-  rests = rest-kept old new c.grants c.halted idle.rest
+  rests = subst IsAtRest (sym c.did) (record { halted = idle.rest.halted; all_in = idle.rest.all_in })
 
   -- the event that answers a line
   pub record Answering : Type 0 where
@@ -86,7 +82,7 @@ module _ (how : Turns) (says : Says) (old new : Shown) (s : Step) (c : Commanded
         next = here.1;
         event = e;
         made = sym (ap (option_and_then (line_event says i old.entries)) here.1) ∙ made;
-        entries = c.entries ∙ ap (λ o. option_map_or (with_block i 0 old.entries) o old.entries) made;
+        entries = entries-so ∙ ap (λ o. option_map_or (with_block i 0 old.entries) o old.entries) made;
       }
 
   -- ---- a line that opens no run
@@ -131,7 +127,7 @@ module _ (how : Turns) (says : Says) (old new : Shown) (s : Step) (c : Commanded
       subst (IsAnswered how says i old.entries) (sym a.entries)
       (said-answered says i old.entries a.line history idle.closed a.next how a.event a.made shut) in
       let still : IsIdle i new = record {
-        input = c.input;
+        input = input-so;
         rest = rests;
         closed = ap is_running a.entries ∙ said-closed i old.entries a.event shut idle.closed;
       } in
@@ -168,8 +164,8 @@ module _ (how : Turns) (says : Says) (old new : Shown) (s : Step) (c : Commanded
   advances-run came final same history is ends rest input =
       let a = opening is in
       let ended : HasEnded how says i (with_block i 0 old.entries a.0.event) final.entries =
-      subst (λ es. HasEnded how says i es final.entries) a.0.entries (subst (λ j. HasEnded how says j new.entries final.entries) c.input ends) in
-      let still : IsIdle i final = record { input = input ∙ c.input; rest = rest; closed = ends.over } in
+      subst (λ es. HasEnded how says i es final.entries) a.0.entries (subst (λ j. HasEnded how says j new.entries final.entries) input-so ends) in
+      let still : IsIdle i final = record { input = input ∙ input-so; rest = rest; closed = ends.over } in
       goes-on came final same still
       (run-answered says i old.entries a.0.line history idle.closed a.0.next how a.0.event final.entries a.0.made a.1 ended)
       (told-run says i (acts_in came.plan) old.entries a.0.event (opening-none (acts_in came.plan) a.0.event a.1) final.entries ended.grown)
@@ -180,10 +176,8 @@ module _ (how : Turns) (says : Says) (old new : Shown) (s : Step) (c : Commanded
   advances-end came same is =
       let none : next_line i old.entries ≡ None = no-line (next_line i old.entries) (sym (ap is_end is) ∙ c.end) in
       let undone : commanded says old ≡ None = ap (option_and_then (line_event says i old.entries)) none in
-      let entries : new.entries ≡ old.entries = c.entries ∙ ap (λ o. option_map_or (with_block i 0 old.entries) o old.entries) undone in
-      let len : length new.entries ≡ length old.entries = ap length entries in
-      let spare : new.spare ≡ old.spare = c.spare ∙ omega (arith, len) in
-      let all : new ≡ old = λ t. record { input = c.input t; entries = entries t; grants = c.grants t; halted = c.halted t; spare = spare t } in
+      let all : new ≡ old = c.did ∙ sym (nothing-appended 0 (commanded says old) old undone) in
+      let entries : new.entries ≡ old.entries = ap (λ (b : Shown). b.entries) all in
       record {
         idle = subst (IsIdle i) (sym all) idle;
         place = same;
@@ -196,16 +190,11 @@ module _ (how : Turns) (says : Says) (old new : Shown) (s : Step) (c : Commanded
 
 -- a call that answered something
 pub commanded-so : {E : Type 0} → (says : Says) (old new : Shown) (r : Result Step E) (s : Step) → r ≡ Ok s → IfOk r (IsStep says old.input old.entries)
-    → IfOk r (λ t. is_end t ≡ is_none (next_line old.input old.entries)) → OnOk r (new.entries ≡ with_done old 0 (commanded says old)) → new.input ≡ old.input
-    → new.grants ≡ old.grants → new.halted ≡ old.halted → new.spare ≡ spare_after old new.entries → Commanded says old new s
-commanded-so says old new r s is answer end entries input grants halted spare = record {
+    → IfOk r (λ t. is_end t ≡ is_none (next_line old.input old.entries)) → OnOk r (Appended 0 (commanded says old) old new) → Commanded says old new s
+commanded-so says old new r s is answer end did = record {
   answer = subst (λ x. IfOk x (IsStep says old.input old.entries)) is answer;
   end = subst (λ x. IfOk x (λ t. is_end t ≡ is_none (next_line old.input old.entries))) is end;
-  entries = subst (λ x. OnOk x (new.entries ≡ with_done old 0 (commanded says old))) is entries;
-  input = input;
-  grants = grants;
-  halted = halted;
-  spare = spare;
+  did = subst (λ x. OnOk x (Appended 0 (commanded says old) old new)) is did;
 }
 
 -- workers went on with the run that a line opened

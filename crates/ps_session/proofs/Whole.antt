@@ -9,7 +9,7 @@ use Rattle.ps_rules.specs.Journal.{journal_text}
 use Rattle.ps_rules.specs.Sound.{IsSound}
 use Rattle.ps_rules.proofs.Notes.{histories_are_read_back}
 use Rattle.ps_text.specs.Names.{AreNames}
-use Rattle.ps_text.specs.Outside.{Puts, SinkView}
+use Rattle.ps_text.specs.Outside.{SinkView}
 use Rattle.ps_text.specs.declared.sinks.SinkRefusal.{SinkRefusal}
 use Rattle.ps_text.specs.declared.sinks.SinkRefusal.TheVariants as sink
 use Rattle.ps_journal.proofs.NameLines.{AreLines-names}
@@ -22,7 +22,7 @@ use Rattle.ps_session.specs.declared.lines.Advanced.{Advanced}
 use Rattle.ps_session.specs.declared.ways.Turns.{Turns}
 use Rattle.ps_session.proofs.Advancing.{idle-first}
 use Rattle.ps_session.proofs.Journals.{journal-of}
-use Rattle.ps_session.proofs.Writing.{counts-work, cut-between, cut-head, cut-nothing, cut-on, no-more, work-since, written-first, written-on}
+use Rattle.ps_session.proofs.Writing.{cut-between, cut-head, cut-nothing, cut-on, no-more, work-since, written-first, written-on}
 
 -- ---- one line
 

@@ -1,5 +1,5 @@
 //! The text of entries with their replies.
-ghost use Rattle.std.specs.Prelude.{◌≡◌, ℕ, ◌<◌, ◌≤◌, ◌++◌, drop, length, OnOk, Some};
+ghost use Rattle.std.specs.Prelude.{◌≡◌, ℕ, ◌<◌, ◌≤◌, ◌++◌, [], drop, length, IfOk, OnOk, Some};
 ghost use Rattle.ps_rules.specs.Heads.{head_text, settings_of};
 ghost use Rattle.ps_rules.specs.History.{IsHistory};
 ghost use Rattle.ps_session.specs.Answers.{AskAtEnd};
@@ -51,6 +51,13 @@ pub fn write_head<O: Sink>(alloc: Global, input: &Input, out: &mut O) -> Result<
     put(out, &head)
 }
 
+/// An empty text with room for that of so many entries, which most don't pass.
+fn with_room(alloc: Global, entries: usize) -> Result<Vec<u8>, AllocError>
+    ensures { IfOk result (λ text. text.items ≡ []) }
+{
+    Vec::with_capacity(alloc, entries.saturating_mul(24).saturating_add(64))
+}
+
 /// Writes the text of the entries from a place on by one `put`. None but the last asks, and this is the plan that it may ask for.
 pub fn write_entries<O: Sink>(
     alloc: Global,
@@ -67,7 +74,7 @@ pub fn write_entries<O: Sink>(
         (O.shown out.old) (O.shown out.new) result }
     ensures history { IsHistory board.now.input board.now.entries }
 {
-    let mut text = Vec::new(alloc);
+    let mut text = with_room(alloc, board.entries().len().saturating_sub(from))?;
     for k in from..board.entries().len() {
         push_at(alloc, names, board, plan, k, &mut text)?;
     }

@@ -104,7 +104,9 @@ pub fn push_plain(alloc: Global, line: &[u8], script: &mut Script) -> Result<(),
     let Read::Line(read) = read_line(alloc, &mut script.names, line)? else {
         unreachable!()
     };
-    script.lines.push(read)?;
+    // Room first, since a push that may fail moves a line, which is large, once more.
+    script.lines.reserve(1)?;
+    script.lines.push_reserved(read);
     Ok(())
 }
 

@@ -12,8 +12,8 @@ returns-in-WantsPlan-clause-asked c =
     let new : Shown = c.tick.new.self in
     let at = c.in-WantsPlan.snapshot.at in
     let w = wants-asked old c.in-WantsPlan.snapshot (sym c.in_ok-snapshot.ensures.answer ∙ c.in-WantsPlan.is) in
-    let same : new.entries ≡ old.entries = c.in_ok-snapshot.ensures.entries ∙ ap (with_done old 1) w.0 in
-    subst (λ i. WasAsked i new.entries at) (sym c.tick.ensures.input) (subst (λ es. WasAsked old.input es at) (sym same) w.1)
+    let same : new.entries ≡ old.entries = ap (λ (b : Shown). b.entries) c.in_ok-snapshot.ensures.did ∙ ap (with_done old 1) w.0 in
+    subst (λ i. WasAsked i new.entries at) (sym (ap (λ (b : Shown). b.input) c.in_ok-snapshot.ensures.did)) (subst (λ es. WasAsked old.input es at) (sym same) w.1)
 
 pub returns-in-WantsPlan-clause-known : goal.returns-in-WantsPlan-clause-known
 returns-in-WantsPlan-clause-known c =
@@ -21,5 +21,5 @@ returns-in-WantsPlan-clause-known c =
     let new : Shown = c.tick.new.self in
     let at = c.in-WantsPlan.snapshot.at in
     let w = wants-asked old c.in-WantsPlan.snapshot (sym c.in_ok-snapshot.ensures.answer ∙ c.in-WantsPlan.is) in
-    let same : new.entries ≡ old.entries = c.in_ok-snapshot.ensures.entries ∙ ap (with_done old 1) w.0 in
-    w.2 ∙ sym (ap (λ i. know i (take at new.entries)) c.tick.ensures.input ∙ ap (λ es. know old.input (take at es)) same)
+    let same : new.entries ≡ old.entries = ap (λ (b : Shown). b.entries) c.in_ok-snapshot.ensures.did ∙ ap (with_done old 1) w.0 in
+    w.2 ∙ sym (ap (λ i. know i (take at new.entries)) (ap (λ (b : Shown). b.input) c.in_ok-snapshot.ensures.did) ∙ ap (λ es. know old.input (take at es)) same)

@@ -4,4 +4,4 @@ use Rattle.call_tests.proofs.replans.let_edit.Goals as goal
 
 pub returns-in_ok-observer_turn-clause-kept : goal.returns-in_ok-observer_turn-clause-kept
 returns-in_ok-observer_turn-clause-kept c =
-    keeps c.args.board.now c.observer_turn.new.self 1 (observing c.args.board.now 0) c.observer_turn.ensures.input c.in_ok-observer_turn.ensures.entries
+    keeps c.args.board.now c.observer_turn.new.self 1 (observing c.args.board.now 0) c.in_ok-observer_turn.ensures.did

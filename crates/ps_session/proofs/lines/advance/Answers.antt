@@ -10,7 +10,7 @@ go_on-requires-clause-opened g c =
     let did = c.in_ok-command.ensures in
     let says = g.S.Solver.says c.args.solver.now in
     let did : Commanded says c.args.board.now c.command.new.self c.in_ok-command.field-0 =
-    record { answer = did.answer; end = did.end; entries = did.entries; input = did.input; grants = did.grants; halted = did.halted; spare = did.spare } in
+    record { answer = did.answer; end = did.end; did = did.did } in
     now-running InOrder says c.args.board.now c.command.new.self c.in_ok-command.field-0 did c.requires.idle c.in-Opened.is
 
 pub returns-in-End : goal.returns-in-End
@@ -18,7 +18,7 @@ returns-in-End g c =
     let did = c.in_ok-command.ensures in
     let says = g.S.Solver.says c.args.solver.now in
     let did : Commanded says c.args.board.now c.command.new.self c.in_ok-command.field-0 =
-    record { answer = did.answer; end = did.end; entries = did.entries; input = did.input; grants = did.grants; halted = did.halted; spare = did.spare } in
+    record { answer = did.answer; end = did.end; did = did.did } in
     let place = ap length c.entries-from.ensures.entries in
     advances-end InOrder says c.args.board.now c.command.new.self c.in_ok-command.field-0 did c.requires.idle c.without_plan.result (ap (λ (a : Advanced). a.from) c.without_plan.ensures ∙ place) c.in-End.is
 
@@ -27,7 +27,7 @@ returns-in-Said g c =
     let did = c.in_ok-command.ensures in
     let says = g.S.Solver.says c.args.solver.now in
     let did : Commanded says c.args.board.now c.command.new.self c.in_ok-command.field-0 =
-    record { answer = did.answer; end = did.end; entries = did.entries; input = did.input; grants = did.grants; halted = did.halted; spare = did.spare } in
+    record { answer = did.answer; end = did.end; did = did.did } in
     let place = ap length c.entries-from.ensures.entries in
     advances-said InOrder says c.args.board.now c.command.new.self c.in_ok-command.field-0 did c.requires.idle c.without_plan-in-Said.result
     (ap (λ (a : Advanced). a.from) c.without_plan-in-Said.ensures ∙ place) c.entries-from.ensures.history c.in-Said.is
@@ -37,7 +37,7 @@ returns-in-Planned g c =
     let did = c.in_ok-command.ensures in
     let says = g.S.Solver.says c.args.solver.now in
     let did : Commanded says c.args.board.now c.command.new.self c.in_ok-command.field-0 =
-    record { answer = did.answer; end = did.end; entries = did.entries; input = did.input; grants = did.grants; halted = did.halted; spare = did.spare } in
+    record { answer = did.answer; end = did.end; did = did.did } in
     let place = ap length c.entries-from.ensures.entries in
     let came : Advanced = record { from = length c.entries-from.result.now; plan = Some c.in-Planned.acts } in
     advances-planned InOrder says c.args.board.now c.command.new.self c.in_ok-command.field-0 did c.requires.idle came c.in-Planned.acts place c.entries-from.ensures.history
@@ -48,7 +48,7 @@ returns-in_ok-go_on-in-Opened g c =
     let did = c.in_ok-command.ensures in
     let says = g.S.Solver.says c.args.solver.now in
     let did : Commanded says c.args.board.now c.command.new.self c.in_ok-command.field-0 =
-    record { answer = did.answer; end = did.end; entries = did.entries; input = did.input; grants = did.grants; halted = did.halted; spare = did.spare } in
+    record { answer = did.answer; end = did.end; did = did.did } in
     let place = ap length c.entries-from.ensures.entries in
     let ran = c.in_ok-go_on-in-Opened.ensures in
     advances-run InOrder says c.args.board.now c.command.new.self c.in_ok-command.field-0 did c.requires.idle c.without_plan-in-Opened.result c.go_on.new.board

@@ -9,7 +9,7 @@ work_on-requires-clause-opened g c κs within =
     let says = g.S.Solver.says c.args.solver.now in
     let e = c.command-step.ensures in
     let did : Commanded says c.args.board c.command-step.new.self c.in-Ok.step =
-    commanded-so says c.args.board c.command-step.new.self c.command-step.result c.in-Ok.step c.in-Ok.is e.answer e.end e.entries e.input e.grants e.halted e.spare in
+    commanded-so says c.args.board c.command-step.new.self c.command-step.result c.in-Ok.step c.in-Ok.is e.answer e.end e.did in
     now-running (Workers c.args.workers) says c.args.board c.command-step.new.self c.in-Ok.step did c.requires.idle c.in-Opened.is
 
 pub returns-in-End : goal.returns-in-End
@@ -17,7 +17,7 @@ returns-in-End g c =
     let says = g.S.Solver.says c.args.solver.now in
     let e = c.command-step.ensures in
     let did : Commanded says c.args.board c.command-step.new.self c.in-Ok.step =
-    commanded-so says c.args.board c.command-step.new.self c.command-step.result c.in-Ok.step c.in-Ok.is e.answer e.end e.entries e.input e.grants e.halted e.spare in
+    commanded-so says c.args.board c.command-step.new.self c.command-step.result c.in-Ok.step c.in-Ok.is e.answer e.end e.did in
     advances-end (Workers c.args.workers) says c.args.board c.command-step.new.self c.in-Ok.step did c.requires.idle c.without_plan.result
     (ap (λ (a : Advanced). a.from) c.without_plan.ensures ∙ ap length c.entries-from.ensures.entries) c.in-End.is
 
@@ -26,7 +26,7 @@ returns-in-Said g c =
     let says = g.S.Solver.says c.args.solver.now in
     let e = c.command-step.ensures in
     let did : Commanded says c.args.board c.command-step.new.self c.in-Ok.step =
-    commanded-so says c.args.board c.command-step.new.self c.command-step.result c.in-Ok.step c.in-Ok.is e.answer e.end e.entries e.input e.grants e.halted e.spare in
+    commanded-so says c.args.board c.command-step.new.self c.command-step.result c.in-Ok.step c.in-Ok.is e.answer e.end e.did in
     advances-said (Workers c.args.workers) says c.args.board c.command-step.new.self c.in-Ok.step did c.requires.idle c.without_plan-in-Said.result
     (ap (λ (a : Advanced). a.from) c.without_plan-in-Said.ensures ∙ ap length c.entries-from.ensures.entries) c.entries-from.ensures.history c.in-Said.is
 
@@ -35,7 +35,7 @@ returns-in-Planned g c =
     let says = g.S.Solver.says c.args.solver.now in
     let e = c.command-step.ensures in
     let did : Commanded says c.args.board c.command-step.new.self c.in-Ok.step =
-    commanded-so says c.args.board c.command-step.new.self c.command-step.result c.in-Ok.step c.in-Ok.is e.answer e.end e.entries e.input e.grants e.halted e.spare in
+    commanded-so says c.args.board c.command-step.new.self c.command-step.result c.in-Ok.step c.in-Ok.is e.answer e.end e.did in
     let came : Advanced = record { from = length c.entries-from.result.now; plan = Some c.in-Planned.acts } in
     advances-planned (Workers c.args.workers) says c.args.board c.command-step.new.self c.in-Ok.step did c.requires.idle came c.in-Planned.acts
     (ap length c.entries-from.ensures.entries) c.entries-from.ensures.history c.in-Planned.is refl
@@ -45,7 +45,7 @@ returns-in-Opened g c =
     let says = g.S.Solver.says c.args.solver.now in
     let e = c.command-step.ensures in
     let did : Commanded says c.args.board c.command-step.new.self c.in-Ok.step =
-    commanded-so says c.args.board c.command-step.new.self c.command-step.result c.in-Ok.step c.in-Ok.is e.answer e.end e.entries e.input e.grants e.halted e.spare in
+    commanded-so says c.args.board c.command-step.new.self c.command-step.result c.in-Ok.step c.in-Ok.is e.answer e.end e.did in
     let w = c.work_on.ensures in
     let came : Advanced = record { from = length c.entries-from.result.now; plan = None } in
     advances-worked c.args.workers says c.args.board c.command-step.new.self c.in-Ok.step did c.requires.idle c.work_on.result.1 came c.work_on.result.0

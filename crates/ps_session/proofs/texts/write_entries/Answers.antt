@@ -8,9 +8,14 @@ use Rattle.ps_session.proofs.texts.write_entries.Goals as goal
 pub push_at-requires-clause-asks : goal.push_at-requires-clause-asks
 push_at-requires-clause-asks g c = asks-last c.args.from c.args.board.now.entries c.loop-k.k c.loop-k.invariant.0 c.requires.asks
 
+pub returns-in_err-text-clause-text : goal.returns-in_err-text-clause-text
+returns-in_err-text-clause-text g c =
+    let p = err_from_is_err_and c.from_residual.result c.from_residual.ensures.1 in
+    rw (p.1, p.2) (textless (text_from c.args.names.now c.args.board.now.input c.args.board.now.entries c.args.from) (g.O.Sink.shown c.args.out.now))
+
 pub returns-in_err-push_at-clause-text : goal.returns-in_err-push_at-clause-text
 returns-in_err-push_at-clause-text g c =
-    let p = err_from_is_err_and c.from_residual.result c.from_residual.ensures.1 in
+    let p = err_from_is_err_and c.from_residual-in_err-push_at.result c.from_residual-in_err-push_at.ensures.1 in
     rw (p.1, p.2) (textless (text_from c.args.names.now c.args.board.now.input c.args.board.now.entries c.args.from) (g.O.Sink.shown c.args.out.now))
 
 pub loop-k-preserved : goal.loop-k-preserved
