@@ -4,8 +4,10 @@ ghost use Rattle.std.specs.Prelude.{◌<◌};
 use super::case::Case;
 use super::lines::Stream;
 use super::starving::Starving;
-use ps_calls::{plansys, tell, told_of_itself};
+use ps_calls::{give_up, plansys, tell, told_of_itself};
+use ps_explain::explain;
 use ps_pool::NoGate;
+use ps_shows::show;
 use ps_text::{MemFiles, MemSink};
 use std::alloc::{AllocError, Global};
 use std::sync::Wait;
@@ -143,6 +145,28 @@ fn judge(
     Ok(None)
 }
 
+/// Makes the call that words ask for: of the program that draws pictures and explains, where the first word is `picture` or `explain`, and else
+/// of plansys.
+fn made<R: Threads + Wait + Sync>(
+    rt: &R,
+    alloc: Global,
+    words: &[String],
+    files: &mut Starving<MemFiles>,
+    out: &mut MemSink,
+    err: &mut MemSink,
+) -> u8 {
+    match words {
+        [mode, ..] if mode.as_str() == "picture" => show(alloc, words, files, out, err),
+        [mode, call @ ..] if mode.as_str() == "explain" => {
+            match explain(rt, alloc, call, files, out) {
+                Ok(status) => status,
+                Err(why) => give_up(err, why),
+            }
+        }
+        _ => plansys(rt, alloc, words, files, out, err, &NoGate),
+    }
+}
+
 /// Makes the call of a case over files and sinks of which no call is chosen to fail yet.
 fn call<R: Threads + Wait + Sync>(
     rt: &R,
@@ -156,7 +180,7 @@ fn call<R: Threads + Wait + Sync>(
     let words = case.words.as_slice();
     let status = match told_of_itself(words) {
         Some(answer) => tell(answer.as_bytes(), out, err),
-        None => plansys(rt, alloc, words, files, out, err, &NoGate),
+        None => made(rt, alloc, words, files, out, err),
     };
     judge(alloc, case, status, out.bytes(), err.bytes())
 }

@@ -1,7 +1,7 @@
 //! cases: makes the calls that the case files of the current folder describe, and says how many went as expected.
 //!
-//! A case is one call of `plansys` over files and sinks in memory, or what the program says of itself where its words ask for that, with
-//! what is expected of it. A file whose name ends in
+//! A case is one call of `plansys` over files and sinks in memory, or of the program that draws pictures and explains, where its first word is
+//! `picture` or `explain`, or what the program says of itself where its words ask for that, with what is expected of it. A file whose name ends in
 //! `.cases` holds cases, written as in this example:
 //!
 //! ```text

@@ -1,13 +1,29 @@
-//! shows: what a journal has, drawn.
+//! shows: what a journal has, drawn; and what of a call of plansys is refused or goes wrong, explained.
 #![tactic(auto)]
 
+use ps_explain::explain;
 use ps_real::{RealFiles, RealSink};
-use ps_shows::{USAGE, VERSION, give_up, show, tell};
+use ps_shows::{VERSION, give_up, show, tell};
 use ps_text::{Sink, SinkRefusal};
 use std::alloc::{AllocError, Global};
 use std::io::ErrorKind;
 use std::process::ExitCode;
+use std::sync::Wait;
+use std::thread::Threads;
 use std::{env, rt};
+
+/// How the program is used: for each of its first words.
+const USAGES: [&str; 2] = [ps_shows::USAGE, ps_explain::USAGE];
+
+/// What the program is asked to do.
+#[derive(Clone, Copy)]
+enum Asked<'a> {
+    Help,
+    Version,
+    Explanation(&'a [String]),
+    /// A picture, or words of no form.
+    Picture,
+}
 
 /// The words after the program's name. Words of which one isn't UTF-8 are read as none, which is a faulty command line.
 fn words(rt: &HostRuntime) -> Result<Vec<String>, AllocError> {
@@ -18,29 +34,44 @@ fn words(rt: &HostRuntime) -> Result<Vec<String>, AllocError> {
     }
 }
 
-/// What the program says of itself, where the one word `--help` or `--version` asks for it.
-fn told_of_itself(words: &[String]) -> Option<&'static str> {
+/// What the words ask for.
+fn asked_by(words: &[String]) -> Asked<'_> {
     match words {
-        [word] if word.as_str() == "--help" => Some(USAGE),
-        [word] if word.as_str() == "--version" => Some(VERSION),
-        _ => None,
+        [word] if word.as_str() == "--help" => Asked::Help,
+        [word] if word.as_str() == "--version" => Asked::Version,
+        [mode, call @ ..] if mode.as_str() == "explain" => Asked::Explanation(call),
+        _ => Asked::Picture,
     }
 }
 
-/// Says what the program is asked of itself, or makes the call that the words ask for, and gives the status.
-fn run<R: rt::Files, O: Sink, E: Sink>(
+/// Says how the program is used, and gives the status.
+fn tell_usages<O: Sink, E: Sink>(out: &mut O, err: &mut E) -> u8 {
+    for usage in USAGES {
+        let status = tell(usage.as_bytes(), out, err);
+        if status != 0 {
+            return status;
+        }
+    }
+    0
+}
+
+/// Does what the words ask for, and gives the status.
+fn run<R: Threads + Wait + Sync + rt::Files, O: Sink, E: Sink>(
     rt: &R,
     alloc: Global,
     words: &[String],
     out: &mut O,
     err: &mut E,
 ) -> u8 {
-    match told_of_itself(words) {
-        Some(answer) => tell(answer.as_bytes(), out, err),
-        None => {
-            let mut files = RealFiles::new(rt);
-            show(alloc, words, &mut files, out, err)
-        }
+    let mut files = RealFiles::new(rt);
+    match asked_by(words) {
+        Asked::Help => tell_usages(out, err),
+        Asked::Version => tell(VERSION.as_bytes(), out, err),
+        Asked::Explanation(call) => match explain(rt, alloc, call, &mut files, out) {
+            Ok(status) => status,
+            Err(why) => give_up(err, why),
+        },
+        Asked::Picture => show(alloc, words, &mut files, out, err),
     }
 }
 
