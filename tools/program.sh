@@ -71,7 +71,8 @@ build_program() {
 }
 
 # Proves and builds in this folder, where rt sees just the crates that are needed. The programs come after their libraries, one after the other,
-# since each takes much memory: what builds one proves it too, so that an earlier check of it would only be done twice.
+# since each takes 7 GB of memory, for 5 to 7 minutes of processor time: what builds one proves it too, so that an earlier check of it would only
+# be done twice. Their libraries have to be there before: else rt reads the sources of all of them at once first, which takes over 13 GB.
 build_in() {
   local name
   touch "$1/begun" && needed | grep -vE "^(${programs// /|}):" >"$1/crates.txt" && cp "$root/HANDLES" "$1/" || return 1
