@@ -3,12 +3,13 @@ ghost use Rattle.std.specs.Prelude.{◌≡◌, ◌≤◌};
 ghost use Rattle.ps_board.specs.Board.{nothing_done};
 
 use super::kept::Kept;
+use super::named::mark_name;
+use super::replays::explain_replay;
 use super::sessions::{Teller, Watch};
 use ps_action::{Act, Answer, PlanRefusal};
-use ps_audit::{Finding, audit};
 use ps_board::Board;
 use ps_domain::Expert;
-use ps_inputs::{Fault, Planning, Replay, Session, Validation, Work, load};
+use ps_inputs::{Fault, Planning, Session, Validation, Work, load};
 use ps_machine::{Entry, Event, Input, Refusal};
 use ps_members::read_member;
 use ps_plan::{Solver, read_plan};
@@ -20,12 +21,12 @@ use ps_reasons::{
     say_text_fault,
 };
 use ps_remarks::{
-    Page, Said, Source, Sources, domain_or_fault, explain_words, part_of, sources_of, text_in,
+    Page, Source, Sources, domain_or_fault, explain_words, part_of, sources_of, text_in,
 };
 use ps_script::{Kind, kind_of};
 use ps_session::run_unwritten;
 use ps_solve::Forward;
-use ps_text::{Files, Names, Sink, SinkRefusal, lines, put, script_lines};
+use ps_text::{Files, Names, Sink, SinkRefusal, put};
 use ps_validate::{Invalid, known_after, verdict};
 use ps_words::{Asked, read_words};
 use ps_world::{Duplicate, Failure};
@@ -181,47 +182,6 @@ fn explain_domain<F: Files>(
     let mut names = Names::new(alloc)?;
     let _expert = expert_in(alloc, called, &mut names, files, page)?;
     Ok(())
-}
-
-/// Whether a line of a member's text has no word.
-fn has_no_word(alloc: Global, line: &[u8]) -> Result<bool, AllocError> {
-    Ok(matches!(kind_of(alloc, line)?, Kind::Nothing))
-}
-
-/// The byte of a line at which its second word stands, if that is this name.
-fn second_place(alloc: Global, line: &[u8], name: &[u8]) -> Result<Option<usize>, AllocError> {
-    let said = Said::of(alloc, line)?;
-    if said.is(1, name) {
-        Ok(said.place(1))
-    } else {
-        Ok(None)
-    }
-}
-
-/// The byte of a member's text at which its name stands, if it has this name.
-fn place_of_name(alloc: Global, text: &[u8], name: &[u8]) -> Result<Option<usize>, AllocError> {
-    for span in &script_lines(alloc, text)? {
-        let line = part_of(text, span.from, span.to);
-        if !has_no_word(alloc, line)? {
-            let place = second_place(alloc, line, name)?;
-            return Ok(place.map(|place| span.from.saturating_add(place)));
-        }
-    }
-    Ok(None)
-}
-
-/// Says where a member's name stands in its file, if it has this name.
-fn mark_name(
-    alloc: Global,
-    source: &Source,
-    name: &[u8],
-    page: &mut Page,
-) -> Result<(), AllocError> {
-    let text = source.text.as_slice();
-    match place_of_name(alloc, text, name)? {
-        Some(at) => page.mark(source.file.as_str(), text, at, b"it stands here"),
-        None => Ok(()),
-    }
 }
 
 /// Says where the name of a member stands that an earlier one has.
@@ -716,66 +676,6 @@ fn explain_planning<R: Threads + Sync, F: Files>(
     explain_planning_over(rt, &teller, page)
 }
 
-/// What a journal is found to be.
-fn finding_of(alloc: Global, replay: &mut Replay) -> Result<Finding, AllocError> {
-    let journal = replay.journal.as_slice();
-    let solver = Forward::new();
-    let audited = audit(
-        alloc,
-        &mut replay.names,
-        &replay.input,
-        journal,
-        &solver,
-        false,
-    )?;
-    Ok(audited.finding)
-}
-
-/// Says at which line a journal isn't legal.
-fn explain_replay(
-    alloc: Global,
-    called: &Called<'_>,
-    replay: &mut Replay,
-    page: &mut Page,
-) -> Result<(), AllocError> {
-    match finding_of(alloc, replay)? {
-        Finding::Legal => Ok(()),
-        Finding::Illegal { line } => {
-            let file = called.other.unwrap_or("");
-            say_illegal(alloc, file, replay.journal.as_slice(), line, page)
-        }
-    }
-}
-
-/// Says which line of a journal is the first that isn't legal.
-fn say_illegal(
-    alloc: Global,
-    file: &str,
-    journal: &[u8],
-    line: usize,
-    page: &mut Page,
-) -> Result<(), AllocError> {
-    let spans = lines(alloc, journal)?;
-    if line == 1 {
-        let sentence = b"the first line of a journal is 'plansys-journal 1' or 'plansys-journal 2'";
-        return page.mark(file, journal, 0, sentence);
-    }
-    match spans.as_slice().get(line.saturating_sub(1)) {
-        Some(span) => page.mark(
-            file,
-            journal,
-            span.from,
-            b"no session of these files writes this line after those before it",
-        ),
-        None => page.mark(
-            file,
-            journal,
-            journal.len().saturating_sub(1),
-            b"the journal ends here, where more has to come",
-        ),
-    }
-}
-
 /// Does the work of a call in memory, and says what of it was refused or went wrong.
 fn explain_work<R: Threads + Wait + Sync, F: Files>(
     rt: &R,
@@ -791,7 +691,9 @@ fn explain_work<R: Threads + Wait + Sync, F: Files>(
             explain_validation(alloc, called, &mut validation, files, page)
         }
         Work::Planning(planning) => explain_planning(rt, alloc, called, &planning, files, page),
-        Work::Replay(mut replay) => explain_replay(alloc, called, &mut replay, page),
+        Work::Replay(mut replay) => {
+            explain_replay(alloc, called.other.unwrap_or(""), &mut replay, page)
+        }
         Work::Check { .. } | Work::Editing(_) | Work::Generation(_) => Ok(()),
     }
 }

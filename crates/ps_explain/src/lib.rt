@@ -3,6 +3,8 @@
 
 mod calls;
 mod kept;
+mod named;
+mod replays;
 mod sessions;
 mod tallies;
 mod usage;
