@@ -10,7 +10,7 @@ ghost use Rattle.ps_session.specs.Lines.{acts_in, AsksFor, IsIdle, PutsMore, tex
 ghost use Rattle.ps_session.specs.Session.{AreTurns, IsJournal, Runs, RunsTo};
 ghost use Rattle.ps_session.specs.declared.ways.Turns.TheVariants.{InOrder};
 
-use super::lines::{Advanced, advance, advance_by};
+use super::lines::{Advanced, Session, advance};
 use super::texts::{write_entries, write_head};
 use super::ways::Turns;
 use ps_board::Board;
@@ -72,68 +72,63 @@ fn write_more<O: Sink>(
     Ok(came.from < board.entries().len())
 }
 
-/// Answers the next line, if one is left, with the run that it opens, and writes their entries by one `put`. Answers whether one was left.
-fn write_line<R: Threads + Wait + Sync, S: Solver + Sync, G: Gate + Sync, O: Sink>(
-    rt: &R,
-    alloc: Global,
-    names: &Names,
-    board: Board,
-    expert: &Expert,
-    solver: &S,
-    gate: &G,
-    turns: Turns,
-    out: &mut O,
-) -> (Board, Result<bool, SinkRefusal>)
-    requires solver { GivesLeast (S.says solver.now) }
-    requires idle { IsIdle board.input board }
-    requires expert { expert.now ≡ board.input.domain }
-    requires turns { AreTurns turns }
-    ensures { WritesLine turns (S.says solver.now) board.input names.now board result.0
-        (O.shown out.old) (O.shown out.new) result.1 }
-{
-    let (board, came) = advance_by(rt, alloc, board, expert, solver, gate, turns);
-    match came {
-        Ok(came) => {
-            let more = write_more(alloc, names, &board, &came, out);
-            (board, more)
+impl<'a, S: Solver + Sync, G: Gate + Sync> Session<'a, S, G> {
+    /// Answers the next line, if one is left, with the run that it opens, and writes their entries by one `put`. Answers whether one was
+    /// left.
+    fn write_line<R: Threads + Wait + Sync, O: Sink>(
+        &self,
+        rt: &R,
+        alloc: Global,
+        board: Board,
+        out: &mut O,
+    ) -> (Board, Result<bool, SinkRefusal>)
+        requires solver { GivesLeast (S.says self.now.solver.now) }
+        requires idle { IsIdle board.input board }
+        requires expert { self.now.expert.now ≡ board.input.domain }
+        requires turns { AreTurns self.now.turns }
+        ensures { WritesLine self.now.turns (S.says self.now.solver.now) board.input
+            self.now.names.now board result.0 (O.shown out.old) (O.shown out.new) result.1 }
+    {
+        let (board, came) = self.advance(rt, alloc, board);
+        match came {
+            Ok(came) => {
+                let more = write_more(alloc, self.names, &board, &came, out);
+                (board, more)
+            }
+            Err(AllocError) => (board, Err(SinkRefusal::OutOfMemory)),
         }
-        Err(AllocError) => (board, Err(SinkRefusal::OutOfMemory)),
     }
-}
 
-/// Answers all lines, with the runs that they open, and writes the entries of each by one `put`.
-fn write_lines<R: Threads + Wait + Sync, S: Solver + Sync, G: Gate + Sync, O: Sink>(
-    rt: &R,
-    alloc: Global,
-    names: &Names,
-    mut board: Board,
-    expert: &Expert,
-    solver: &S,
-    gate: &G,
-    turns: Turns,
-    out: &mut O,
-) -> (Board, Result<(), SinkRefusal>)
-    requires solver { GivesLeast (S.says solver.now) }
-    requires fresh { board ≡ nothing_done board.input }
-    requires expert { expert.now ≡ board.input.domain }
-    requires turns { AreTurns turns }
-    ensures { WritesLines turns board.input names.now result.0 (O.shown out.old) (O.shown out.new)
-        result.1 }
-{
-    match write_head(alloc, board.input(), out) {
-        Ok(()) => {}
-        Err(why) => return (board, Err(why)),
-    }
-    for _ in rt.forever() {
-        let (next, more) = write_line(rt, alloc, names, board, expert, solver, gate, turns, out);
-        board = next;
-        match more {
-            Ok(true) => {}
-            Ok(false) => return (board, Ok(())),
+    /// Answers all lines, with the runs that they open, and writes the entries of each by one `put`.
+    fn write_lines<R: Threads + Wait + Sync, O: Sink>(
+        &self,
+        rt: &R,
+        alloc: Global,
+        mut board: Board,
+        out: &mut O,
+    ) -> (Board, Result<(), SinkRefusal>)
+        requires solver { GivesLeast (S.says self.now.solver.now) }
+        requires fresh { board ≡ nothing_done board.input }
+        requires expert { self.now.expert.now ≡ board.input.domain }
+        requires turns { AreTurns self.now.turns }
+        ensures { WritesLines self.now.turns board.input self.now.names.now result.0
+            (O.shown out.old) (O.shown out.new) result.1 }
+    {
+        match write_head(alloc, board.input(), out) {
+            Ok(()) => {}
             Err(why) => return (board, Err(why)),
         }
+        for _ in rt.forever() {
+            let (next, more) = self.write_line(rt, alloc, board, out);
+            board = next;
+            match more {
+                Ok(true) => {}
+                Ok(false) => return (board, Ok(())),
+                Err(why) => return (board, Err(why)),
+            }
+        }
+        unreachable!()
     }
-    unreachable!()
 }
 
 /// Does the session of an input: each line up to the first `quit`, with the runs that they open, whose members take turns like this. It
@@ -157,7 +152,14 @@ pub fn run_to_board<R: Threads + Wait + Sync, S: Solver + Sync, G: Gate + Sync, 
 {
     let expert = Expert::new(alloc, input.domain.copy(alloc)?)?;
     let board = Board::open(alloc, input)?;
-    let (board, written) = write_lines(rt, alloc, names, board, &expert, solver, gate, turns, out);
+    let session = Session {
+        names,
+        expert: &expert,
+        solver,
+        gate,
+        turns,
+    };
+    let (board, written) = session.write_lines(rt, alloc, board, out);
     match written {
         Ok(()) => Ok(board),
         Err(why) => Err(why),

@@ -2,11 +2,11 @@ use Rattle.std.proofs.Common.{None, Some, ap, length, refl, ◌∙◌}
 use Rattle.ps_session.specs.declared.ways.Turns.TheVariants.{Workers}
 use Rattle.ps_session.proofs.Advancing.{advances-end, advances-planned, advances-said, advances-worked, commanded-so, Commanded, now-running}
 use Rattle.ps_session.specs.declared.lines.Advanced.{Advanced}
-use Rattle.ps_session.proofs.lines.advance_by_workers.Goals as goal
+use Rattle.ps_session.proofs.lines.Session.advance_by_workers.Goals as goal
 
 pub work_on-requires-clause-opened : goal.work_on-requires-clause-opened
 work_on-requires-clause-opened g c κs within =
-    let says = g.S.Solver.says c.args.solver.now in
+    let says = g.S.Solver.says c.args.self.now.solver.now in
     let e = c.command-step.ensures in
     let did : Commanded says c.args.board c.command-step.new.self c.in-Ok.step =
     commanded-so says c.args.board c.command-step.new.self c.command-step.result c.in-Ok.step c.in-Ok.is e.answer e.end e.did in
@@ -14,7 +14,7 @@ work_on-requires-clause-opened g c κs within =
 
 pub returns-in-End : goal.returns-in-End
 returns-in-End g c =
-    let says = g.S.Solver.says c.args.solver.now in
+    let says = g.S.Solver.says c.args.self.now.solver.now in
     let e = c.command-step.ensures in
     let did : Commanded says c.args.board c.command-step.new.self c.in-Ok.step =
     commanded-so says c.args.board c.command-step.new.self c.command-step.result c.in-Ok.step c.in-Ok.is e.answer e.end e.did in
@@ -23,7 +23,7 @@ returns-in-End g c =
 
 pub returns-in-Said : goal.returns-in-Said
 returns-in-Said g c =
-    let says = g.S.Solver.says c.args.solver.now in
+    let says = g.S.Solver.says c.args.self.now.solver.now in
     let e = c.command-step.ensures in
     let did : Commanded says c.args.board c.command-step.new.self c.in-Ok.step =
     commanded-so says c.args.board c.command-step.new.self c.command-step.result c.in-Ok.step c.in-Ok.is e.answer e.end e.did in
@@ -32,7 +32,7 @@ returns-in-Said g c =
 
 pub returns-in-Planned : goal.returns-in-Planned
 returns-in-Planned g c =
-    let says = g.S.Solver.says c.args.solver.now in
+    let says = g.S.Solver.says c.args.self.now.solver.now in
     let e = c.command-step.ensures in
     let did : Commanded says c.args.board c.command-step.new.self c.in-Ok.step =
     commanded-so says c.args.board c.command-step.new.self c.command-step.result c.in-Ok.step c.in-Ok.is e.answer e.end e.did in
@@ -42,7 +42,7 @@ returns-in-Planned g c =
 
 pub returns-in-Opened : goal.returns-in-Opened
 returns-in-Opened g c =
-    let says = g.S.Solver.says c.args.solver.now in
+    let says = g.S.Solver.says c.args.self.now.solver.now in
     let e = c.command-step.ensures in
     let did : Commanded says c.args.board c.command-step.new.self c.in-Ok.step =
     commanded-so says c.args.board c.command-step.new.self c.command-step.result c.in-Ok.step c.in-Ok.is e.answer e.end e.did in
