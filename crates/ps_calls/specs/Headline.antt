@@ -1,5 +1,5 @@
 -- What a call of the program claims.
-use Rattle.std.specs.Prelude.{◌≡◌, ℕ, ◌⊎◌, Bool, true, false, if◌then◌else◌, Option, List, [], Result, Ok, Err, IfOk, OnErr}
+use Rattle.std.specs.Prelude.{◌≡◌, ℕ, ◌⊎◌, Bool, true, false, if◌then◌else◌, Option, List, [], Result, Ok, Err, IfOk}
 use Rattle.std.specs.Global.{Vec}
 use Rattle.std.specs.Io.KnownBytes.{Appends}
 use Rattle.ps_world.specs.Names.{Table}
@@ -8,7 +8,8 @@ use Rattle.ps_machine.specs.declared.inputs.Line.{Line}
 use Rattle.ps_world.specs.DomainTexts.{domain_text}
 use Rattle.ps_world.specs.declared.failures.Failure.{Failure}
 use Rattle.ps_world.specs.declared.failures.Failure.TheVariants as failure
-use Rattle.ps_text.specs.Outside.{AppendsPrefix, CountsWork, FilesView, Puts, SinkView}
+use Rattle.ps_text.specs.Outside.{AppendsPrefix, FilesView, Puts, SinkView}
+use Rattle.ps_text.specs.Work.{DoesWork}
 use Rattle.ps_text.specs.declared.sinks.SinkRefusal.{SinkRefusal}
 use Rattle.ps_text.specs.declared.sinks.SinkRefusal.TheVariants.{Failed, OutOfMemory}
 use Rattle.ps_validate.specs.Verdicts.{known_after, verdict}
@@ -120,16 +121,12 @@ IsWorkCut (work.Replay r) old new =
 IsWorkCut (work.Editing e) old new = IsEditedInPart e.domain e.names (edit_lines e) old.bytes new.bytes
 
 -- Doing the work: it is done, with the status that is answered, or broken off, where a write was refused or memory ran out.
-pub record Performs (w : Work) (old new : SinkView) (r : Result ℕ SinkRefusal) : Type 0 where
-  pub done : IfOk r (IsWorkDone w old.bytes new.bytes)
-  pub cut : OnErr r (IsWorkCut w old new)
-  pub counted : CountsWork old new r
+abbrev pub Performs : Work → SinkView → SinkView → Result ℕ SinkRefusal → Type 0
+Performs w old new = DoesWork (IsWorkDone w old.bytes new.bytes) (IsWorkCut w old new) old new
 
 -- doing the session of an input in memory, and writing the counts of its journal
-pub record CountsSession (i : Input) (carts : ℕ) (old new : SinkView) (r : Result ℕ SinkRefusal) : Type 0 where
-  pub done : IfOk r (IsCountDone i carts old.bytes new.bytes)
-  pub cut : OnErr r (IsCountCut i carts old.bytes new.bytes)
-  pub counted : CountsWork old new r
+abbrev pub CountsSession : Input → ℕ → SinkView → SinkView → Result ℕ SinkRefusal → Type 0
+CountsSession i carts old new = DoesWork (IsCountDone i carts old.bytes new.bytes) (IsCountCut i carts old.bytes new.bytes) old new
 
 -- work that always returns
 abbrev pub IsQuiet : Work → Type 0
@@ -139,10 +136,9 @@ IsQuiet (work.Planning p) = ⊥
 IsQuiet w = Unit {0}
 
 -- Writing a text: all of it, with this status, or a prefix of it, where a write was refused or memory ran out.
-pub record WritesWithStatus (text : List ℕ) (status : ℕ) (old new : SinkView) (r : Result ℕ SinkRefusal) : Type 0 where
-  pub done : IfOk r (λ s. (s ≡ status) × Appends old.bytes new.bytes text)
-  pub cut : OnErr r (AppendsPrefix old.bytes new.bytes text)
-  pub counted : CountsWork old new r
+abbrev pub WritesWithStatus : List ℕ → ℕ → SinkView → SinkView → Result ℕ SinkRefusal → Type 0
+WritesWithStatus text status old new =
+    DoesWork (λ s. (s ≡ status) × Appends old.bytes new.bytes text) (AppendsPrefix old.bytes new.bytes text) old new
 
 -- ---- telling why it isn't done
 

@@ -1,10 +1,11 @@
 -- What a session with reports comes to.
-use Rattle.std.specs.Prelude.{◌≡◌, ℕ, List, Option, Result, IfOk, OnErr}
+use Rattle.std.specs.Prelude.{◌≡◌, ℕ, List, Option, Result, IfOk}
 use Rattle.ps_world.specs.Names.{Table}
 use Rattle.ps_rules.specs.History.{status_of}
 use Rattle.ps_machine.specs.declared.inputs.Input.{Input}
 use Rattle.ps_machine.specs.declared.journal.Entry.{Entry}
-use Rattle.ps_text.specs.Outside.{CountsWork, SinkView}
+use Rattle.ps_text.specs.Outside.{SinkView}
+use Rattle.ps_text.specs.Work.{DoesWork}
 use Rattle.ps_text.specs.declared.sinks.SinkRefusal.{SinkRefusal}
 use Rattle.ps_hub.specs.declared.report.Report.{Report}
 use Rattle.ps_report_lines.specs.Lines.{report_lines}
@@ -25,7 +26,5 @@ pub record IsReported (how : Turns) (i : Input) (names : Table) (old new : Optio
   pub lines : IfOk r.lines (λ text. AreLines names i journal text.items)
 
 -- Doing a session with reports: it is done and there are lines for its reports, or it is broken off, as one without reports is.
-pub record RunsReported (how : Turns) (i : Input) (names : Table) (old new : SinkView) (r : Result Reported SinkRefusal) : Type 0 where
-  pub done : IfOk r (IsReported how i names old.bytes new.bytes)
-  pub cut : OnErr r (IsCut how i names old new)
-  pub counted : CountsWork old new r
+abbrev pub RunsReported : Turns → Input → Table → SinkView → SinkView → Result Reported SinkRefusal → Type 0
+RunsReported how i names old new = DoesWork (IsReported how i names old.bytes new.bytes) (IsCut how i names old new) old new

@@ -1,11 +1,12 @@
 -- What an editor does with its lines, one after another, and the text of that.
-use Rattle.std.specs.Prelude.{◌≡◌, ℕ, suc, if◌then◌else◌, List, [], ◌∷◌, ◌++◌, Option, Result, IfOk, OnErr, length, take}
+use Rattle.std.specs.Prelude.{◌≡◌, ℕ, suc, if◌then◌else◌, List, [], ◌∷◌, ◌++◌, Option, Result, length, take}
 use Rattle.std.specs.List.{flat_map, list_any}
 use Rattle.std.specs.Io.KnownBytes.{Appends}
 use Rattle.ps_world.specs.Knowledge.{opening}
 use Rattle.ps_world.specs.Names.{Table}
 use Rattle.ps_world.specs.declared.domains.Domain.{Domain}
-use Rattle.ps_text.specs.Outside.{AppendsPrefix, CountsWork, SinkView}
+use Rattle.ps_text.specs.Outside.{AppendsPrefix, SinkView}
+use Rattle.ps_text.specs.Work.{DoesWork}
 use Rattle.ps_text.specs.declared.sinks.SinkRefusal.{SinkRefusal}
 use Rattle.ps_undo.specs.Editing.{begun}
 use Rattle.ps_undo.specs.declared.editing.Editing.{Editing}
@@ -55,7 +56,5 @@ pub record IsEditedInPart (d : Domain) (names : Table) (lines : List EditLine) (
   pub written : AppendsPrefix old new (run_text names d stages)
 
 -- Doing the lines of an editor, and writing the text of that: all of it, or a prefix, where a write was refused or memory ran out.
-pub record WritesRun (d : Domain) (names : Table) (lines : List EditLine) (old new : SinkView) (r : Result ℕ SinkRefusal) : Type 0 where
-  pub done : IfOk r (IsEdited d names lines old.bytes new.bytes)
-  pub cut : OnErr r (IsEditedInPart d names lines old.bytes new.bytes)
-  pub counted : CountsWork old new r
+abbrev pub WritesRun : Domain → Table → List EditLine → SinkView → SinkView → Result ℕ SinkRefusal → Type 0
+WritesRun d names lines old new = DoesWork (IsEdited d names lines old.bytes new.bytes) (IsEditedInPart d names lines old.bytes new.bytes) old new

@@ -20,6 +20,7 @@ use Rattle.ps_machine.specs.declared.journal.RunKind.TheVariants as run
 use Rattle.ps_machine.specs.declared.journal.Event.TheVariants as event
 use Rattle.ps_machine.specs.declared.journal.Entry.{Entry}
 use Rattle.ps_text.specs.Outside.{AppendsPrefix, CountsWork, next, SinkView}
+use Rattle.ps_text.specs.Work.{DoesWork}
 use Rattle.ps_text.specs.declared.sinks.SinkRefusal.{SinkRefusal}
 use Rattle.ps_board.specs.declared.board.Shown.{Shown}
 use Rattle.ps_session.specs.declared.ways.Turns.{Turns}
@@ -126,10 +127,8 @@ pub record IsCut (how : Turns) (i : Input) (names : Table) (old new : SinkView) 
 
 -- Doing a session: the sink took a whole one, which ends with the status that is answered, or, where a write was refused or memory
 -- ran out, a prefix of the text of a beginning of one.
-pub record Runs (how : Turns) (i : Input) (names : Table) (old new : SinkView) (r : Result ℕ SinkRefusal) : Type 0 where
-  pub done : IfOk r (IsDone how i names old.bytes new.bytes)
-  pub cut : OnErr r (IsCut how i names old new)
-  pub counted : CountsWork old new r
+abbrev pub Runs : Turns → Input → Table → SinkView → SinkView → Result ℕ SinkRefusal → Type 0
+Runs how i names old new = DoesWork (IsDone how i names old.bytes new.bytes) (IsCut how i names old new) old new
 
 -- Doing a session whose board is given back: the same, where the board is one of this input and has the journal.
 pub record RunsTo (how : Turns) (i : Input) (names : Table) (old new : SinkView) (r : Result Shown SinkRefusal) : Type 0 where

@@ -5,4 +5,5 @@ pub mod Names
 pub mod Outside
 pub mod ScriptLines
 pub mod Tokens
+pub mod Work
 pub mod Words
