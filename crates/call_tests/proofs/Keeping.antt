@@ -5,8 +5,8 @@ use Rattle.ps_machine.specs.declared.journal.Event.{Event}
 use Rattle.ps_machine.specs.declared.journal.Entry.{Entry}
 use Rattle.ps_rules.specs.History.{forced}
 use Rattle.ps_rules.specs.Known.{know}
-use Rattle.ps_asked.specs.Asked.{WasAsked}
-use Rattle.ps_asked.proofs.Counted.{asked_for_good, known_then}
+use Rattle.ps_stale_plan_laws.specs.Asked.{WasAsked}
+use Rattle.ps_stale_plan_laws.proofs.Counted.{asked_for_good, known_then}
 use Rattle.ps_board.specs.Board.{Appended}
 use Rattle.ps_board.specs.declared.board.Shown.{Shown}
 use Rattle.call_tests.specs.Asked.{KeepsAsked}

@@ -1,7 +1,7 @@
 -- What stays of who asked the solver.
 use Rattle.std.specs.Prelude.{◌≡◌, ℕ, take}
 use Rattle.ps_rules.specs.Known.{know}
-use Rattle.ps_asked.specs.Asked.{WasAsked}
+use Rattle.ps_stale_plan_laws.specs.Asked.{WasAsked}
 use Rattle.ps_board.specs.declared.board.Shown.{Shown}
 
 -- who asked the solver on one board did so on the other, and knew the same

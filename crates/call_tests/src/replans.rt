@@ -1,7 +1,7 @@
 //! A run whose plan fails, so that the solver is asked for another one.
 ghost use Rattle.std.specs.Prelude.{◌≡◌, true, IfOk, IsSome, OnOk, take};
 ghost use Rattle.ps_action.specs.Search.{Fits};
-ghost use Rattle.ps_asked.specs.Asked.{WasAsked};
+ghost use Rattle.ps_stale_plan_laws.specs.Asked.{WasAsked};
 ghost use Rattle.call_tests.specs.Asked.{KeepsAsked};
 ghost use Rattle.ps_rules.specs.Known.{know};
 ghost use Rattle.ps_rules.specs.Runs.{has_run};

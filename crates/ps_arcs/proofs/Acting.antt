@@ -11,7 +11,7 @@ use Rattle.ps_action.specs.declared.refusals.EffectRefusal.{EffectRefusal}
 use Rattle.ps_action.specs.declared.touched.Touched.{Touched}
 use Rattle.ps_action.specs.declared.touched.Touched.TheVariants.{Fact, Value, Instance, Facts, Values, Instances}
 use Rattle.ps_eval.specs.Laws.{Agree}
-use Rattle.ps_orders.specs.Acts.{Acts, Acting, AreSame, IsCondition, IsEffect}
+use Rattle.ps_order_laws.specs.Acts.{Acts, Acting, AreSame, IsCondition, IsEffect}
 use Rattle.ps_action.specs.Arcs.{changes, is_arc, read_by_action, reads}
 use Rattle.ps_action.specs.Things.{Thing, a_fact, a_value, is_met, touched}
 use Rattle.ps_action.proofs.ArcTables.{true_false}

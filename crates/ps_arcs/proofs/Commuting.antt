@@ -7,11 +7,11 @@ use Rattle.ps_world.specs.declared.known.Knowledge.{Knowledge}
 use Rattle.ps_action.specs.Effects.{effect}
 use Rattle.ps_action.specs.declared.acts.GroundAction.{GroundAction}
 use Rattle.ps_action.specs.declared.refusals.EffectRefusal.{EffectRefusal}
-use Rattle.ps_orders.proofs.Going.{any_beginning, any_order}
-use Rattle.ps_orders.specs.Beginnings.{CanGoOn as CanAllGoOn, Comes}
-use Rattle.ps_orders.specs.Beginnings.Comes.{opened as all_opened, started as all_started, closed as all_closed, retold as all_retold}
-use Rattle.ps_orders.specs.Acts.{GoodPlan}
-use Rattle.ps_orders.specs.Orders.{AllHold as AllHolds, Event, begins, ends, GoesWell, IsOrder, Stage, running, ended, all_waiting, moved}
+use Rattle.ps_order_laws.proofs.Going.{any_beginning, any_order}
+use Rattle.ps_order_laws.specs.Beginnings.{CanGoOn as CanAllGoOn, Comes}
+use Rattle.ps_order_laws.specs.Beginnings.Comes.{opened as all_opened, started as all_started, closed as all_closed, retold as all_retold}
+use Rattle.ps_order_laws.specs.Acts.{GoodPlan}
+use Rattle.ps_order_laws.specs.Orders.{AllHold as AllHolds, Event, begins, ends, GoesWell, IsOrder, Stage, running, ended, all_waiting, moved}
 use Rattle.ps_action.specs.Arcs.{arcs_of, is_arc}
 use Rattle.ps_action.specs.ArcTables.{Pairs, has_pair}
 use Rattle.ps_arcs.specs.Commuting.{AllHold, EveryOrderGoesWell, GoWell, IsGood, OrdersGoWell, TellTheSame}

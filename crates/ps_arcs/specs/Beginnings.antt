@@ -7,8 +7,8 @@ use Rattle.ps_action.specs.declared.acts.GroundAction.{GroundAction}
 use Rattle.ps_action.specs.Arcs.{is_arc}
 use Rattle.ps_action.specs.Effects.{effect}
 use Rattle.ps_action.specs.Truth.{all_true}
-use Rattle.ps_orders.specs.Beginnings.{IsReady}
-use Rattle.ps_orders.specs.Orders.{Stage, waiting, running, ended, all_waiting, moved}
+use Rattle.ps_order_laws.specs.Beginnings.{IsReady}
+use Rattle.ps_order_laws.specs.Orders.{Stage, waiting, running, ended, all_waiting, moved}
 use Rattle.ps_arcs.specs.Commuting.{AllHold, IsGood, TellTheSame}
 
 -- The stages to which ground actions come, and the state then, from a first state: one that waits may start where each one with an arc

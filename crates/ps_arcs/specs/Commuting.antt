@@ -11,7 +11,7 @@ use Rattle.ps_action.specs.Plans.{judged, step_of}
 use Rattle.ps_action.specs.Truth.{all_true}
 use Rattle.ps_action.specs.declared.touched.Touched.{Touched}
 use Rattle.ps_eval.specs.Laws.{Agree}
-use Rattle.ps_orders.specs.Orders.{Event, begins, ends, IsOrder, Stage, running, ended, all_waiting, moved}
+use Rattle.ps_order_laws.specs.Orders.{Event, begins, ends, IsOrder, Stage, running, ended, all_waiting, moved}
 use Rattle.ps_action.specs.Arcs.{is_arc}
 use Rattle.ps_action.specs.ArcTables.{Pairs, has_pair}
 

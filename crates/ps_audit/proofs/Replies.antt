@@ -11,16 +11,16 @@ use Rattle.ps_machine.specs.declared.journal.Event.TheVariants as event
 use Rattle.ps_machine.specs.declared.journal.Entry.{Entry}
 use Rattle.ps_rules.specs.Choices.{Says}
 use Rattle.ps_rules.specs.Known.{know}
-use Rattle.ps_rows.specs.Present.{Stands}
+use Rattle.ps_rows.specs.State.{Stands}
 use Rattle.ps_rows.specs.Table.{KeepsStanding}
-use Rattle.ps_rows.specs.declared.present.Present.{Present}
+use Rattle.ps_rows.specs.declared.state.State.{State}
 use Rattle.ps_rows.proofs.PlanTrees.{tree-is}
-use Rattle.ps_replay.specs.Course.{GoesTo, Reaches, TellsPlan}
-use Rattle.ps_replay.specs.declared.course.Course.{Course}
+use Rattle.ps_replay.specs.Judge.{GoesTo, Reaches, TellsPlan}
+use Rattle.ps_replay.specs.declared.judge.Judge.{Judge}
 use Rattle.ps_replies.specs.Plans.{GivesLeast, RepliesTo, RepliesToQuery}
 use Rattle.ps_replies.proofs.Queries.{ask, replies-before}
 
-module _ (says : Says) (i : Input) (es : List Entry) (e : Entry) (p : Present) (plan : List Act) (gives : GivesLeast says) (stands : Stands i (es ++ e ∷ []) p)
+module _ (says : Says) (i : Input) (es : List Entry) (e : Entry) (p : State) (plan : List Act) (gives : GivesLeast says) (stands : Stands i (es ++ e ∷ []) p)
     (told : TellsPlan says i es e.what plan) (shown : e.what ≡ event.Ask query.Tree → p.tree.states ≡ p.ledger.acts.states.items) where
   reply-after : (q : Query) → e.what ≡ event.Ask q → RepliesToQuery i es q p.expert p.problem plan (Some p.tree)
   reply-after q is =
@@ -36,11 +36,11 @@ module _ (says : Says) (i : Input) (es : List Entry) (e : Entry) (p : Present) (
     by-event (event.Ask q) is = reply-after q is
     by-event what is = tt
 
--- a course whose tree is shown has reached the same
-pub shown-reached : (i : Input) (es : List Entry) (old new : Course) → Reaches i es old → KeepsStanding old.present new.present → new.forced ≡ old.forced → new.met ≡ old.met
+-- a judge whose tree is shown has reached the same
+pub shown-reached : (i : Input) (es : List Entry) (old new : Judge) → Reaches i es old → KeepsStanding old.state new.state → new.forced ≡ old.forced → new.met ≡ old.met
     → Reaches i es new
 shown-reached i es old new r keeps forced met =
-    let moved : Reaches i es (record { present = new.present; forced = old.forced; met = old.met; plan = new.plan }) =
+    let moved : Reaches i es (record { state = new.state; forced = old.forced; met = old.met; plan = new.plan }) =
     record { stands = keeps i es r.stands; prefix = r.prefix; within = r.within; met = r.met } in
-    subst (λ m. Reaches i es (record { present = new.present; forced = new.forced; met = m; plan = new.plan })) (sym met)
-    (subst (λ f. Reaches i es (record { present = new.present; forced = f; met = old.met; plan = new.plan })) (sym forced) moved)
+    subst (λ m. Reaches i es (record { state = new.state; forced = new.forced; met = m; plan = new.plan })) (sym met)
+    (subst (λ f. Reaches i es (record { state = new.state; forced = f; met = old.met; plan = new.plan })) (sym forced) moved)

@@ -5,28 +5,28 @@ ghost use Rattle.ps_machine.specs.declared.journal.Event.TheVariants.{Ask};
 ghost use Rattle.ps_rules.specs.Journal.{entry_text, text_after};
 ghost use Rattle.ps_rules.specs.Sound.{IsSound};
 ghost use Rattle.ps_rows.specs.Table.{KeepsStanding};
-ghost use Rattle.ps_replay.specs.Course.{GoesTo, may_come, Reaches, still_due};
+ghost use Rattle.ps_replay.specs.Judge.{GoesTo, may_come, Reaches, still_due};
 ghost use Rattle.ps_replay.specs.Replay.{Replays};
 ghost use Rattle.ps_replies.specs.Plans.{GivesLeast};
 ghost use Rattle.ps_audit.specs.Texts.{AddsIfLegal};
 
 use ps_machine::{Entry, Event, Input, Query};
 use ps_plan::Solver;
-use ps_replay::{Course, Verdict};
+use ps_replay::{Judge, Verdict};
 use ps_replies::push_entry;
-use ps_rows::Present;
+use ps_rows::State;
 use ps_text::Names;
 use std::alloc::{AllocError, Global};
 
 /// Lets the tree show the states of the acts, where an event asks for it.
-fn show_tree(present: &mut Present, what: &Event)
-    requires { length present.now.ledger.acts.states.items ≡ length present.now.tree.waits }
+fn show_tree(state: &mut State, what: &Event)
+    requires { length state.now.ledger.acts.states.items ≡ length state.now.tree.waits }
     ensures states { what.now ≡ Ask Tree
-        → present.new.tree.states ≡ present.new.ledger.acts.states.items }
-    ensures stands { KeepsStanding present.old present.new }
+        → state.new.tree.states ≡ state.new.ledger.acts.states.items }
+    ensures stands { KeepsStanding state.old state.new }
 {
     if let Event::Ask(Query::Tree) = what {
-        present.tick_tree();
+        state.tick_tree();
     }
 }
 
@@ -38,63 +38,63 @@ fn judge_one<S: Solver>(
     before: &[Entry],
     entry: &Entry,
     solver: &S,
-    course: &mut Course,
+    judge: &mut Judge,
     out: &mut Vec<u8>,
 ) -> Result<bool, AllocError>
     requires sound { IsSound input.now }
     requires solver { GivesLeast (S.says solver.now) }
     requires few { length before.now < 18446744073709551615 }
-    requires reaches { Reaches input.now before.now course.now }
+    requires reaches { Reaches input.now before.now judge.now }
     ensures answer { IfOk result
-        (λ b. b ≡ may_come input.now before.now (still_due course.old) entry.now) }
+        (λ b. b ≡ may_come input.now before.now (still_due judge.old) entry.now) }
     ensures comes { IfOk result (λ b. IsTrue b
-        → GoesTo input.now before.now entry.now (still_due course.old) course.new) }
+        → GoesTo input.now before.now entry.now (still_due judge.old) judge.new) }
     ensures text { IfOk result (λ b. IsTrue b → out.new.items
         ≡ out.old.items ++ entry_text names.now input.now before.now entry.now) }
 {
-    let comes = course.step(alloc, solver, input, before, entry)?;
+    let comes = judge.step(alloc, solver, input, before, entry)?;
     if !comes {
         return Ok(false);
     }
-    show_tree(&mut course.present, &entry.what);
+    show_tree(&mut judge.state, &entry.what);
     push_entry(
         alloc,
         names,
-        &course.present.expert,
-        &course.present.problem,
-        course.plan.as_slice(),
-        Some(&course.present.tree),
+        &judge.state.expert,
+        &judge.state.problem,
+        judge.plan.as_slice(),
+        Some(&judge.state.tree),
         entry,
         out,
     )?;
     Ok(true)
 }
 
-/// Judges the entries of a journal, whose course is before the first of them, and adds their text.
+/// Judges the entries of a journal, whose judge is before the first of them, and adds their text.
 fn judge_all<S: Solver>(
     alloc: Global,
     names: &Names,
     input: &Input,
     entries: &[Entry],
     solver: &S,
-    course: &mut Course,
+    judge: &mut Judge,
     out: &mut Vec<u8>,
 ) -> Result<Verdict, AllocError>
     requires sound { IsSound input.now }
     requires solver { GivesLeast (S.says solver.now) }
-    requires reaches { Reaches input.now [] course.now }
+    requires reaches { Reaches input.now [] judge.now }
     ensures verdict { Replays input.now entries.now result }
     ensures text { IfOk result (AddsIfLegal (text_after names.now input.now [] entries.now)
         out.old.items out.new.items) }
 {
     for (at, entry) in entries.iter().enumerate() {
         let before = &entries[..at];
-        let comes = judge_one(alloc, names, input, before, entry, solver, course, out)?;
+        let comes = judge_one(alloc, names, input, before, entry, solver, judge, out)?;
         if !comes {
             return Ok(Verdict::Illegal { at });
         }
     }
-    if course.is_whole() {
+    if judge.is_whole() {
         Ok(Verdict::Legal)
     } else {
         Ok(Verdict::Illegal { at: entries.len() })
@@ -117,6 +117,6 @@ pub fn judge_text<S: Solver>(
     ensures text { IfOk result (AddsIfLegal (text_after names.now input.now [] entries.now)
         out.old.items out.new.items) }
 {
-    let mut course = Course::new(alloc, input)?;
-    judge_all(alloc, names, input, entries, solver, &mut course, out)
+    let mut judge = Judge::new(alloc, input)?;
+    judge_all(alloc, names, input, entries, solver, &mut judge, out)
 }

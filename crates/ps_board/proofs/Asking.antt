@@ -14,7 +14,7 @@ use Rattle.ps_rules.specs.Choices.{ticked, wants_plan}
 use Rattle.ps_rules.specs.Known.{know}
 use Rattle.ps_rules.specs.Runs.{is_running, kind}
 use Rattle.ps_rules.specs.Settled.{is_reached, is_settled, unreached, verdict}
-use Rattle.ps_asked.specs.Asked.{WasAsked}
+use Rattle.ps_stale_plan_laws.specs.Asked.{WasAsked}
 use Rattle.ps_ledger.specs.Ends.{last_outcome, outcome_of}
 use Rattle.ps_board.specs.declared.board.Shown.{Shown}
 use Rattle.ps_board.specs.declared.ticks.Snapshot.{Snapshot}

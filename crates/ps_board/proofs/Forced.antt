@@ -13,13 +13,13 @@ use Rattle.ps_machine.specs.declared.journal.CancelWhy.TheVariants as cancel
 use Rattle.ps_rules.specs.Runs.{is_active, plan, state}
 use Rattle.ps_rules.specs.Known.{grounds, know}
 use Rattle.ps_rules.specs.Settled.{may_go_on}
-use Rattle.ps_rules.specs.History.{any_of, broken as broken_after, cancels, forced, is_fail, sound}
+use Rattle.ps_rules.specs.History.{any_of, broken as broken_after, cancels, forced, is_fail, unbroken}
 use Rattle.ps_monitor.specs.declared.acts.Acts.{Acts}
 use Rattle.ps_monitor.specs.declared.monitor.Monitor.{Monitor}
 use Rattle.ps_monitor.specs.Watched.{broken, is_false, others, watched}
 use Rattle.ps_monitor.proofs.Lists.{filter-same}
 use Rattle.ps_rules.specs.Choices.{with_block}
-use Rattle.ps_board.specs.Core.{over_in, watch_for}
+use Rattle.ps_board.specs.Parts.{over_in, watch_for}
 
 -- a monitor watches exactly the active acts after these entries
 abbrev pub Watches : Monitor → List GroundAction → List Entry → Type 0
@@ -61,7 +61,7 @@ sound-for false false gs = refl
 pub others-told : (i : Input) (es : List Entry) (d : Domain) (k : Knowledge) (gs : List GroundAction) (m : Monitor) (these : Acts) → IsAt i es d k gs → Watches m gs es
     → length (plan es) ≤ 256
     → ((act : ℕ) → act < 256 → slice_index_or these.marks act false ≡ is_false d k (watched m act))
-    → others m these (length (plan es)) ≡ sound i es
+    → others m these (length (plan es)) ≡ unbroken i es
 others-told i es d k gs m these h w few each =
     filter-same (λ act. is_some (watched m act) && not (slice_index_or these.marks act false)) (λ act. is_active (state act es) && may_go_on i es act) 0 (length (plan es))
     (λ act low high.
@@ -76,15 +76,15 @@ map-if false hand xs = refl
 -- the entries of a block
 pub block-told : (i : Input) (es : List Entry) (hand : ℕ) (what : Event) (broke stopped : List ℕ)
     → broke ≡ broken_after i (es ++ record { hand = hand; what = what } ∷ [])
-    → stopped ≡ (if is_fail what || any_of broke then sound i (es ++ record { hand = hand; what = what } ∷ []) else [])
+    → stopped ≡ (if is_fail what || any_of broke then unbroken i (es ++ record { hand = hand; what = what } ∷ []) else [])
     → ((es ++ record { hand = hand; what = what } ∷ []) ++ map (cancels hand cancel.OverAll) broke) ++ map (cancels hand cancel.Stop) stopped
     ≡ es ++ record { hand = hand; what = what } ∷ forced i es (record { hand = hand; what = what })
 block-told i es hand what broke stopped one two =
     let e : Entry = record { hand = hand; what = what } in
     let after : List Entry = es ++ e ∷ [] in
-    let stops : map (cancels hand cancel.Stop) stopped ≡ (if is_fail what || any_of (broken_after i after) then map (cancels hand cancel.Stop) (sound i after) else []) =
-    ap (map (cancels hand cancel.Stop)) two ∙ map-if (is_fail what || any_of broke) hand (sound i after)
-    ∙ ap (λ b. if is_fail what || any_of b then map (cancels hand cancel.Stop) (sound i after) else []) one in
+    let stops : map (cancels hand cancel.Stop) stopped ≡ (if is_fail what || any_of (broken_after i after) then map (cancels hand cancel.Stop) (unbroken i after) else []) =
+    ap (map (cancels hand cancel.Stop)) two ∙ map-if (is_fail what || any_of broke) hand (unbroken i after)
+    ∙ ap (λ b. if is_fail what || any_of b then map (cancels hand cancel.Stop) (unbroken i after) else []) one in
     append_assoc after (map (cancels hand cancel.OverAll) broke) (map (cancels hand cancel.Stop) stopped)
     ∙ ap (λ xs. after ++ (map (cancels hand cancel.OverAll) xs ++ map (cancels hand cancel.Stop) stopped)) one
     ∙ ap (λ xs. after ++ (map (cancels hand cancel.OverAll) (broken_after i after) ++ xs)) stops
@@ -93,7 +93,7 @@ block-told i es hand what broke stopped one two =
 -- how many they are
 pub block-long : (i : Input) (es : List Entry) (hand : ℕ) (what : Event) (broke stopped : List ℕ)
     → broke ≡ broken_after i (es ++ record { hand = hand; what = what } ∷ [])
-    → stopped ≡ (if is_fail what || any_of broke then sound i (es ++ record { hand = hand; what = what } ∷ []) else [])
+    → stopped ≡ (if is_fail what || any_of broke then unbroken i (es ++ record { hand = hand; what = what } ∷ []) else [])
     → length (with_block i hand es what) ≡ length es + 1 + length broke + length stopped
 block-long i es hand what broke stopped one two =
     let e : Entry = record { hand = hand; what = what } in
@@ -109,6 +109,6 @@ pub broken-fit : (i : Input) (es : List Entry) (hand : ℕ) (what : Event) (brok
     → broke ≡ broken_after i (es ++ record { hand = hand; what = what } ∷ [])
     → length es + 1 + length broke ≤ length (with_block i hand es what)
 broken-fit i es hand what broke one =
-    let stopped : List ℕ = if is_fail what || any_of broke then sound i (es ++ record { hand = hand; what = what } ∷ []) else [] in
+    let stopped : List ℕ = if is_fail what || any_of broke then unbroken i (es ++ record { hand = hand; what = what } ∷ []) else [] in
     let long = block-long i es hand what broke stopped one refl in
     omega (arith, long)

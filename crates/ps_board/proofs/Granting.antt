@@ -20,11 +20,11 @@ use Rattle.ps_rules.specs.Choices.{with_block}
 use Rattle.ps_rules.specs.Legal.{is_legal}
 use Rattle.ps_rules.specs.Members.{as_performer}
 use Rattle.ps_rules.specs.Sound.{IsSound, member_name}
-use Rattle.ps_choices.proofs.Hearing.{hearing_stays}
-use Rattle.ps_ends.proofs.Blocks.{working-block}
-use Rattle.ps_ends.proofs.Lists.{In}
-use Rattle.ps_ends.proofs.Picking.{clash, pick_no, stays}
-use Rattle.ps_ends.proofs.SoundMembers.{all-one, differ-head, differ-tail}
+use Rattle.ps_actors.proofs.Hearing.{hearing_stays}
+use Rattle.ps_progress_laws.proofs.Blocks.{working-block}
+use Rattle.ps_progress_laws.proofs.Lists.{In}
+use Rattle.ps_progress_laws.proofs.Picking.{clash, pick_no, stays}
+use Rattle.ps_progress_laws.proofs.SoundMembers.{all-one, differ-head, differ-tail}
 use Rattle.ps_ledger.specs.Members.{place_in}
 use Rattle.ps_board.specs.Grants.{AreOut, granted, performer_names}
 use Rattle.ps_board.specs.Kept.{HaveHeard}

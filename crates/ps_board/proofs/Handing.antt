@@ -11,15 +11,15 @@ use Rattle.ps_rules.specs.Auctions.{is_working}
 use Rattle.ps_rules.specs.Choices.{performed, with_block, work_of}
 use Rattle.ps_rules.specs.Runs.{is_running}
 use Rattle.ps_rules.specs.Sound.{IsSound}
-use Rattle.ps_ends.specs.Working.{unit_due}
+use Rattle.ps_progress_laws.specs.Working.{unit_due}
 use Rattle.ps_ledger.specs.Members.{place_in}
 use Rattle.ps_board.specs.declared.board.Shown.{Shown}
-use Rattle.ps_board.specs.declared.whole.Core.{Core}
+use Rattle.ps_board.specs.declared.whole.Parts.{Parts}
 use Rattle.ps_board.specs.declared.works.Grant.{Grant}
 use Rattle.ps_board.specs.declared.works.Turn.{Turn}
 use Rattle.ps_board.specs.declared.works.Turn.TheVariants as turn
 use Rattle.ps_board.specs.Board.{handing, is_free, IsOut, performing, performing_answer, with_done}
-use Rattle.ps_board.specs.Core.{with_turn}
+use Rattle.ps_board.specs.Parts.{with_turn}
 use Rattle.ps_board.specs.Grants.{grant_for, granted, granted_after, performed_answer, performer_names, turn_of}
 use Rattle.ps_board.specs.Kept.{IsKept}
 use Rattle.ps_board.proofs.Granting.{place-is}
@@ -83,7 +83,7 @@ pub handed : (i : Input) (es : List Entry) (n : Name) (t : Turn) (g : Grant) →
 handed i es n t g answer is = of-turn n (performed i n es) (work_of i n es) g (sym answer ∙ is)
 
 -- it is noted, and whose it is works
-pub kept-handed : (old new : Core) (hand : ℕ) (grants : List (Option ℕ)) (heard : List ℕ) (halted : Bool) (p : ℕ) (n : Name) (t : Turn) → IsKept new grants heard halted → new.input ≡ old.input
+pub kept-handed : (old new : Parts) (hand : ℕ) (grants : List (Option ℕ)) (heard : List ℕ) (halted : Bool) (p : ℕ) (n : Name) (t : Turn) → IsKept new grants heard halted → new.input ≡ old.input
     → new.entries.items ≡ with_turn old hand (performed old.input n old.entries.items) → slice_get (performer_names old.input) p ≡ Some n → t ≡ performed_answer old.input old.entries.items n
     → IsKept new (granted_after grants p t) heard halted
 kept-handed old new hand grants heard halted p n turn.Did k input entries at answer = k
@@ -93,7 +93,7 @@ kept-handed old new hand grants heard halted p n (turn.Work g) k input entries a
     let still : new.entries.items ≡ old.entries.items = entries ∙ ap (λ o. option_map_or (with_block old.input hand old.entries.items) o old.entries.items) w.0 in
     let works : is_working g.r n new.entries.items ≡ true = ap (is_working g.r n) still ∙ (work-works old.input n old.entries.items g.r g.unit w.2).0 in
     record {
-      core = k.core;
+      parts = k.parts;
       shown = k.shown;
       out = out-more new.input new.entries.items grants k.out p g.r n (ap (λ i. slice_get (performer_names i) p) input ∙ at) works;
       heard = k.heard;

@@ -19,8 +19,8 @@ use Rattle.ps_rules.proofs.Going.{active_acts_may_go_on}
 use Rattle.ps_monitor.specs.Hits.{but_for, HeldBefore, is_started}
 use Rattle.ps_monitor.specs.Naming.{NamesChange}
 use Rattle.ps_monitor.specs.Watched.{is_false, watched}
-use Rattle.ps_board.specs.declared.whole.Core.{Core}
-use Rattle.ps_board.specs.Core.{IsDue, over_in, watch_for}
+use Rattle.ps_board.specs.declared.whole.Parts.{Parts}
+use Rattle.ps_board.specs.Parts.{IsDue, over_in, watch_for}
 use Rattle.ps_board.specs.Touching.{started_by, touched_by}
 use Rattle.ps_board.proofs.Forced.{false-for}
 use Rattle.ps_board.proofs.Touching.{change-named}
@@ -62,28 +62,28 @@ held-on d k gs e act s h = still d k gs act s (h refl)
 
 -- ---- where a block is due
 
-went-on : (c : Core) (hand : ℕ) (e : Event) (act : ℕ) → IsDue c hand e → says_plan e ≡ None → Held c.present.expert (know c.input c.entries.items) c.present.grounds.items act (state act c.entries.items)
+went-on : (c : Parts) (hand : ℕ) (e : Event) (act : ℕ) → IsDue c hand e → says_plan e ≡ None → Held c.state.expert (know c.input c.entries.items) c.state.grounds.items act (state act c.entries.items)
 went-on c hand e act d plans active =
     let es : List Entry = c.entries.items in
     let k : Knowledge = know c.input es in
-    let same : c.present.grounds.items ≡ grounds c.input.domain (plan es) = d.kept.grounds ∙ ap (λ o. grounds c.input.domain (unwrap_or o (plan es))) plans in
-    ap (λ x. all_true x k (over_in c.present.grounds.items act)) d.kept.domain
+    let same : c.state.grounds.items ≡ grounds c.input.domain (plan es) = d.kept.grounds ∙ ap (λ o. grounds c.input.domain (unwrap_or o (plan es))) plans in
+    ap (λ x. all_true x k (over_in c.state.grounds.items act)) d.kept.domain
     ∙ ap (λ gs. all_true c.input.domain k (over_in gs act)) same
     ∙ active_acts_may_go_on c.input es d.history act (active-so (state act es) active)
 
 -- the acts that an event may have broken are found by what it changed and by what it starts
-pub held-before : (c : Core) (hand : ℕ) (e : Event) (changed : List Touched) (started : Option ℕ) → IsDue c hand e → changed ≡ touched_by c.present.grounds.items e → started ≡ started_by e
-    → HeldBefore c.present.expert c.present.problem (but_for started (watched c.monitor)) changed
+pub held-before : (c : Parts) (hand : ℕ) (e : Event) (changed : List Touched) (started : Option ℕ) → IsDue c hand e → changed ≡ touched_by c.state.grounds.items e → started ≡ started_by e
+    → HeldBefore c.state.expert c.state.problem (but_for started (watched c.monitor)) changed
 held-before c hand e changed started d all is =
     let es : List Entry = c.entries.items in
     let k : Knowledge = know c.input es in
-    let gs : List GroundAction = c.present.grounds.items in
+    let gs : List GroundAction = c.state.grounds.items in
     record {
       before = k;
-      named = subst (λ ts. NamesChange ts k c.present.problem) (sym all)
+      named = subst (λ ts. NamesChange ts k c.state.problem) (sym all)
           (subst (NamesChange (touched_by gs e) k) (sym d.kept.known) (change-named c.input.domain (plan es) k e gs d.kept.grounds));
       held = λ act low unhit broken.
-          ap (λ o. is_false c.present.expert k (but_for o (watched c.monitor) act)) is
-          ∙ ap (λ w. is_false c.present.expert k (if is_started (started_by e) act then None else w)) (d.watching act)
-          ∙ held-on c.present.expert k gs e act (state act es) (went-on c hand e act d);
+          ap (λ o. is_false c.state.expert k (but_for o (watched c.monitor) act)) is
+          ∙ ap (λ w. is_false c.state.expert k (if is_started (started_by e) act then None else w)) (d.watching act)
+          ∙ held-on c.state.expert k gs e act (state act es) (went-on c hand e act d);
     }

@@ -22,7 +22,7 @@ use Rattle.ps_machine.specs.declared.journal.Event.{Event}
 use Rattle.ps_machine.specs.declared.journal.Event.TheVariants as event
 use Rattle.ps_machine.specs.declared.journal.Entry.{Entry}
 use Rattle.ps_rules.specs.Auctions.{is_for_active, is_last, is_working}
-use Rattle.ps_rules.specs.Choices.{all_requests, edit_event, head_of, observer_turn, outcome_of, unit_event, unit_on, with_block, work_of}
+use Rattle.ps_rules.specs.Choices.{all_requests, edit_event, edit_outcome, head_of, observer_turn, unit_event, unit_on, with_block, work_of}
 use Rattle.ps_rules.specs.History.{IsHistory}
 use Rattle.ps_rules.specs.Known.{know}
 use Rattle.ps_rules.specs.Legal.{is_legal}
@@ -30,17 +30,17 @@ use Rattle.ps_rules.specs.Lines.{edit_refusal}
 use Rattle.ps_rules.specs.Members.{next_seen, next_unit, performers}
 use Rattle.ps_rules.specs.Runs.{is_running, says_open}
 use Rattle.ps_rules.specs.Sound.{IsSound}
-use Rattle.ps_choices.specs.Heard.{HasHeard}
-use Rattle.ps_choices.specs.Turns.{is_choice_of}
-use Rattle.ps_choices.proofs.First.{passes}
-use Rattle.ps_ends.specs.Working.{recorded, unit_due}
-use Rattle.ps_ends.proofs.Blocks.{running-block}
-use Rattle.ps_ends.proofs.Recording.{who_works_can_record}
-use Rattle.ps_board.specs.declared.whole.Core.{Core}
-use Rattle.ps_board.specs.Core.{Gains, GainsNothing, Stands, with_turn}
+use Rattle.ps_actors.specs.Heard.{HasHeard}
+use Rattle.ps_actors.specs.Turns.{is_choice_of}
+use Rattle.ps_actors.proofs.First.{passes}
+use Rattle.ps_progress_laws.specs.Working.{recorded, unit_due}
+use Rattle.ps_progress_laws.proofs.Blocks.{running-block}
+use Rattle.ps_progress_laws.proofs.Recording.{who_works_can_record}
+use Rattle.ps_board.specs.declared.whole.Parts.{Parts}
+use Rattle.ps_board.specs.Parts.{BoardStands, Gains, GainsNothing, with_turn}
 use Rattle.ps_board.specs.Grants.{AreOut, granted, performer_names}
 use Rattle.ps_board.specs.Kept.{HaveHeard, IsKept, IsShown}
-use Rattle.ps_choices.specs.Ticks.{ends_work}
+use Rattle.ps_actors.specs.Ticks.{ends_work}
 use Rattle.ps_board.proofs.Granting.{heard-turn, names-apart, out-turn, Spares}
 use Rattle.ps_board.proofs.Observing.{observer-legal}
 
@@ -52,21 +52,21 @@ live-turn : (i : Input) (es : List Entry) (hand : ℕ) (done : Option Event) →
 live-turn i es hand None leaves live = live
 live-turn i es hand (Some e) leaves live = running-block i es (record { hand = hand; what = e }) ∙ ap (λ o. unwrap_or o (is_running es)) leaves ∙ live
 
-pub kept-still : (old new : Core) (grants : List (Option ℕ)) (heard : List ℕ) (halted : Bool) → IsKept old grants heard halted → Stands new → IsShown new → new.input ≡ old.input
+pub kept-still : (old new : Parts) (grants : List (Option ℕ)) (heard : List ℕ) (halted : Bool) → IsKept old grants heard halted → BoardStands new → IsShown new → new.input ≡ old.input
     → new.entries.items ≡ old.entries.items → IsKept new grants heard halted
 kept-still old new grants heard halted k stands shown input entries = record {
-  core = stands;
+  parts = stands;
   shown = shown;
   out = subst (λ i. AreOut i new.entries.items grants) (sym input) (subst (λ es. AreOut old.input es grants) (sym entries) k.out);
   heard = subst (λ i. HaveHeard i new.entries.items heard) (sym input) (subst (λ es. HaveHeard old.input es heard) (sym entries) k.heard);
   live = λ h. ap is_running entries ∙ k.live h;
 }
 
-pub kept-turn : (old new : Core) (hand : ℕ) (grants : List (Option ℕ)) (heard : List ℕ) (halted : Bool) (done : Option Event) → IsKept old grants heard halted → Stands new → IsShown new
+pub kept-turn : (old new : Parts) (hand : ℕ) (grants : List (Option ℕ)) (heard : List ℕ) (halted : Bool) (done : Option Event) → IsKept old grants heard halted → BoardStands new → IsShown new
     → new.input ≡ old.input → new.entries.items ≡ with_turn old hand done → IfSome done (λ e. is_legal old.input old.entries.items e ≡ true) → IfSome done (Spares old.input grants)
     → (halted ≡ true → IfSome done (λ e. says_open e ≡ None)) → IsKept new grants heard halted
 kept-turn old new hand grants heard halted done k stands shown input entries legal spares leaves = record {
-  core = stands;
+  parts = stands;
   shown = shown;
   out = subst (λ i. AreOut i new.entries.items grants) (sym input)
       (subst (λ es. AreOut old.input es grants) (sym entries) (out-turn old.input old.entries.items hand grants done k.out spares));
@@ -76,8 +76,8 @@ kept-turn old new hand grants heard halted done k stands shown input entries leg
 }
 
 -- after a call that may append this, or run out of memory and append nothing, where the tree is shown then
-pub kept-result : {A E : Type 0} (old mid new : Core) (hand : ℕ) (grants : List (Option ℕ)) (heard : List ℕ) (halted : Bool) (done : Option Event) (r : Result A E)
-    → IsKept old grants heard halted → Stands new → IsShown new → new.input ≡ mid.input → new.entries.items ≡ mid.entries.items
+pub kept-result : {A E : Type 0} (old mid new : Parts) (hand : ℕ) (grants : List (Option ℕ)) (heard : List ℕ) (halted : Bool) (done : Option Event) (r : Result A E)
+    → IsKept old grants heard halted → BoardStands new → IsShown new → new.input ≡ mid.input → new.entries.items ≡ mid.entries.items
     → OnOk r (Gains hand done old mid) → OnErr r (GainsNothing old mid) → OnOk r (IfSome done (λ e. is_legal old.input old.entries.items e ≡ true))
     → IfSome done (Spares old.input grants) → (halted ≡ true → IfSome done (λ e. says_open e ≡ None)) → IsKept new grants heard halted
 kept-result old mid new hand grants heard halted what (Ok a) k stands shown input entries did err legal spares leaves =
@@ -116,9 +116,9 @@ replicated (suc n) x = ap suc (replicated n x)
 hears-nothing : (name : Name) (es : List Entry) → HasHeard name 0 es
 hears-nothing name es = record { heard = λ r lt h. absurd (omega (arith, lt)); there = omega arith }
 
-pub kept-open : (c : Core) (n : ℕ) → n ≡ length (performers c.input) → Stands c → IsShown c → IsKept c (replicate n None) (replicate n 0) false
+pub kept-open : (c : Parts) (n : ℕ) → n ≡ length (performers c.input) → BoardStands c → IsShown c → IsKept c (replicate n None) (replicate n 0) false
 kept-open c n many stands shown = record {
-  core = stands;
+  parts = stands;
   shown = shown;
   out = record { all = replicated n None ∙ many; working = λ p r name at e. absurd (granted-nowhere n p r e) };
   heard = record {
@@ -131,10 +131,10 @@ kept-open c n many stands shown = record {
 -- ---- who is spared
 
 -- where no run is open no grant is out
-pub closed-spares : (c : Core) (grants : List (Option ℕ)) (heard : List ℕ) (halted : Bool) → IsKept c grants heard halted → is_running c.entries.items ≡ false
+pub closed-spares : (c : Parts) (grants : List (Option ℕ)) (heard : List ℕ) (halted : Bool) → IsKept c grants heard halted → is_running c.entries.items ≡ false
     → (e : Event) → Spares c.input grants e
 closed-spares c grants heard halted k closed e p r name at its =
-    let can = who_works_can_record c.input c.entries.items k.core.sound k.core.history r name (k.out.working p r name at its) in
+    let can = who_works_can_record c.input c.entries.items k.parts.sound k.parts.history r name (k.out.working p r name at its) in
     absurd (true≢false (sym can.running ∙ closed))
 
 -- and it isn't halted
@@ -150,7 +150,7 @@ last-ends e h r p = refl
 pub ticks-spare : (i : Input) (grants : List (Option ℕ)) (e : Event) → ends_work e ≡ false → Spares i grants e
 ticks-spare i grants e h p r name at its = last-ends e h r name
 
-outcome-spares : (o : Name) (edit : Edit) (why : Option Refusal) → ends_work (outcome_of (by.Observer o) edit why) ≡ false
+outcome-spares : (o : Name) (edit : Edit) (why : Option Refusal) → ends_work (edit_outcome (by.Observer o) edit why) ≡ false
 outcome-spares o edit None = refl
 outcome-spares o edit (Some w) = refl
 
@@ -197,7 +197,7 @@ unit-spares i es s q unit.Work r m other = refl
 unit-spares i es s q (unit.Feedback percent text) r m other = refl
 unit-spares i es s q (unit.Edit edit) r m other = by-outcome (edit_refusal (edited i.domain (know i es) edit))
   where
-    by-outcome : (why : Option Refusal) → is_last r m (outcome_of (by.Performer s q) edit why) ≡ false
+    by-outcome : (why : Option Refusal) → is_last r m (edit_outcome (by.Performer s q) edit why) ≡ false
     by-outcome None = refl
     by-outcome (Some w) = refl
 unit-spares i es s q (unit.Finish ok) r m other = and_right (r == s) (same_name m q) other
@@ -220,7 +220,7 @@ unit-leaves i es s q unit.Work = refl
 unit-leaves i es s q (unit.Feedback percent text) = refl
 unit-leaves i es s q (unit.Edit edit) = by-outcome (edit_refusal (edited i.domain (know i es) edit))
   where
-    by-outcome : (why : Option Refusal) → says_open (outcome_of (by.Performer s q) edit why) ≡ None
+    by-outcome : (why : Option Refusal) → says_open (edit_outcome (by.Performer s q) edit why) ≡ None
     by-outcome None = refl
     by-outcome (Some w) = refl
 unit-leaves i es s q (unit.Finish ok) = refl
@@ -332,7 +332,7 @@ place-there (m ∷ ms) n lt = by-first (place-there ms n) (same_name n m) refl
         ap (slice_get (m ∷ ms)) is ∙ rest (omega (arith, lt, is))
 
 -- where no run is open no grant is out
-pub closed-in : (c : Core) (grants : List (Option ℕ)) (heard : List ℕ) (halted : Bool) → IsKept c grants heard halted → is_running c.entries.items ≡ false
+pub closed-in : (c : Parts) (grants : List (Option ℕ)) (heard : List ℕ) (halted : Bool) → IsKept c grants heard halted → is_running c.entries.items ≡ false
     → (p : ℕ) → granted grants p ≡ None
 closed-in c grants heard halted k closed p = by-grant (granted grants p) refl
   where
@@ -342,7 +342,7 @@ closed-in c grants heard halted k closed p = by-grant (granted grants p) refl
         let names : List Name = performer_names c.input in
         let below : p < length names = subst (λ n. p < n) (k.out.all ∙ sym (mapped-length (λ p. p.name) (performers c.input))) (granted-below grants p r its) in
         let name : Name = get_or names p (object) in
-        let can = who_works_can_record c.input c.entries.items k.core.sound k.core.history r name (k.out.working p r name (slice_get-get_or names p object below) its) in
+        let can = who_works_can_record c.input c.entries.items k.parts.sound k.parts.history r name (k.out.working p r name (slice_get-get_or names p object below) its) in
         absurd (true≢false (sym can.running ∙ closed))
 
 -- the performer whose grant is out stands at its place
@@ -370,10 +370,10 @@ heard-more i es heard have k upto n at hears = record {
         subst (λ u. HasHeard m u es) (sym (at-set heard k p upto 0 true same below)) (subst (λ x. HasHeard x upto es) (sym m_is) hears)
     by-place p m there false other = subst (λ u. HasHeard m u es) (sym (at-set heard k p upto 0 false other below)) (have.each p m there)
 
-pub kept-heard : (c : Core) (grants : List (Option ℕ)) (heard : List ℕ) (halted : Bool) → IsKept c grants heard halted → (k upto : ℕ) (n : Name) → slice_get (performer_names c.input) k ≡ Some n
+pub kept-heard : (c : Parts) (grants : List (Option ℕ)) (heard : List ℕ) (halted : Bool) → IsKept c grants heard halted → (k upto : ℕ) (n : Name) → slice_get (performer_names c.input) k ≡ Some n
     → HasHeard n upto c.entries.items → IsKept c grants (slice_set heard k upto) halted
 kept-heard c grants heard halted kept k upto n at hears = record {
-  core = kept.core;
+  parts = kept.parts;
   shown = kept.shown;
   out = kept.out;
   heard = heard-more c.input c.entries.items heard kept.heard k upto n at hears;

@@ -16,8 +16,8 @@ use Rattle.ps_rules.specs.Reading.{only_if}
 use Rattle.ps_rules.specs.Runs.{is_active, is_running, plan, says_plan, says_state, state}
 use Rattle.ps_rules.specs.Lines.{answers_line}
 use Rattle.ps_rules.specs.Settled.{may_go_on}
-use Rattle.ps_rules.specs.Legal.{fits, is_act_active, is_legal, same_flag}
-use Rattle.ps_rules.specs.History.{any_of, broken as broken_after, IsHistory, is_fail, sound}
+use Rattle.ps_rules.specs.Legal.{is_act_active, is_legal, row_allows, same_flag}
+use Rattle.ps_rules.specs.History.{any_of, broken as broken_after, IsHistory, is_fail, unbroken}
 use Rattle.ps_rules.specs.Choices.{with_block}
 use Rattle.ps_rules.proofs.Pushed.{read-push}
 use Rattle.ps_rules.proofs.Failing.{fail_active}
@@ -27,7 +27,7 @@ use Rattle.ps_ledger.specs.declared.ledger.Ledger.{Ledger}
 use Rattle.ps_ledger.proofs.Speaking.{acts-there}
 use Rattle.ps_monitor.proofs.Lists.{filter-same}
 use Rattle.ps_rows.specs.Taking.{leaves_known}
-use Rattle.ps_board.specs.Core.{is_quiet, makes_plan, most_entries, takes_only_room}
+use Rattle.ps_board.specs.Parts.{is_quiet, makes_plan, most_entries, takes_only_room}
 use Rattle.ps_board.proofs.Forced.{block-long, broken-fit}
 use Rattle.ps_board.proofs.Quiet.{quiet-block}
 
@@ -54,10 +54,10 @@ if-fits false xs = omega arith
 pub block-fits : (i : Input) (es : List Entry) (hand : ℕ) (e : Event) → length (with_block i hand es e) ≤ length es + 1 + length (plan (es ++ record { hand = hand; what = e } ∷ []))
 block-fits i es hand e =
     let after : List Entry = es ++ record { hand = hand; what = e } ∷ [] in
-    let stopped : List ℕ = if is_fail e || any_of (broken_after i after) then sound i after else [] in
+    let stopped : List ℕ = if is_fail e || any_of (broken_after i after) then unbroken i after else [] in
     let long = block-long i es hand e (broken_after i after) stopped refl refl in
     let two = two-fit (λ act. is_active (state act after) && not (may_go_on i after act)) (λ act. is_active (state act after) && may_go_on i after act) 0 (length (plan after)) (λ act h. exclude (is_active (state act after)) (may_go_on i after act) h) in
-    let fewer = if-fits (is_fail e || any_of (broken_after i after)) (sound i after) in
+    let fewer = if-fits (is_fail e || any_of (broken_after i after)) (unbroken i after) in
     omega (arith, long, two, fewer)
 
 -- ---- the block of a failure
@@ -129,7 +129,7 @@ fail-block i es hand act why l t on there =
     let after : List Entry = es ++ x ∷ [] in
     let plans : plan after ≡ plan es = read-push (λ a f. unwrap_or (says_plan f) a) [] es x in
     let states : (k : ℕ) → state k after ≡ unwrap_or (only_if (k == act) Failed) (state k es) = λ k. read-push (λ a f. unwrap_or (says_state k f) a) Waiting es x in
-    let long = block-long i es hand (event.Fail act why) (broken_after i after) (sound i after) refl refl in
+    let long = block-long i es hand (event.Fail act why) (broken_after i after) (unbroken i after) refl refl in
     let split = two-split (λ k. is_active (state k after)) (λ k. may_go_on i after k) 0 (length (plan after)) in
     let many : length (plan after) ≡ length (plan es) = ap length plans in
     let fewer : length (filter (λ k. is_active (state k after)) (range_with_len 0 (length (plan after)))) + 1 ≡ length (filter (λ k. is_active (state k es)) (range_with_len 0 (length (plan after)))) =
@@ -144,8 +144,8 @@ fail-block i es hand act why l t on there =
 
 -- ---- how much room a block needs
 
-legal-fits : (i : Input) (es : List Entry) (e : Event) → is_legal i es e ≡ true → fits i es e ≡ true
-legal-fits i es e legal = (and_parts (same_flag (answers_line e) (not (is_running es))) (fits i es e) legal).1
+legal-fits : (i : Input) (es : List Entry) (e : Event) → is_legal i es e ≡ true → row_allows i es e ≡ true
+legal-fits i es e legal = (and_parts (same_flag (answers_line e) (not (is_running es))) (row_allows i es e) legal).1
 
 failed-block : (i : Input) (es : List Entry) (hand act : ℕ) (why : FailWhy) (l : Acts) → TellsActs es l → is_legal i es (event.Fail act why) ≡ true
     → length (with_block i hand es (event.Fail act why)) ≡ length es + count_by is_active l.states.items

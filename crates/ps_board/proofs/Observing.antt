@@ -12,10 +12,10 @@ use Rattle.ps_rules.specs.Known.{know}
 use Rattle.ps_rules.specs.Lines.{answers_line, edit_refusal}
 use Rattle.ps_rules.specs.Members.{next_seen}
 use Rattle.ps_rules.specs.Legal.{has_hand, is_legal}
-use Rattle.ps_rules.specs.Choices.{edit_event, outcome_of}
+use Rattle.ps_rules.specs.Choices.{edit_event, edit_outcome}
 use Rattle.ps_rules.proofs.Choosing.{legal-live, observer-edit}
 
-own-outcome : (o : Name) (edit : Edit) (why : Option Refusal) → answers_line (outcome_of (by.Observer o) edit why) ≡ false
+own-outcome : (o : Name) (edit : Edit) (why : Option Refusal) → answers_line (edit_outcome (by.Observer o) edit why) ≡ false
 own-outcome o edit None = refl
 own-outcome o edit (Some w) = refl
 

@@ -12,7 +12,7 @@ use Rattle.ps_rules.specs.Runs.{is_active, plan, says_plan, says_state, state}
 use Rattle.ps_rules.specs.Known.{know}
 use Rattle.ps_rules.specs.Settled.{may_go_on}
 use Rattle.ps_rules.specs.Laws.{is_change}
-use Rattle.ps_rules.specs.History.{any_of, broken, cancels, IsHistory, is_fail, sound}
+use Rattle.ps_rules.specs.History.{any_of, broken, cancels, IsHistory, is_fail, unbroken}
 use Rattle.ps_rules.specs.Choices.{with_block}
 use Rattle.ps_rules.proofs.Going.{active_acts_may_go_on}
 use Rattle.ps_rules.proofs.Pushed.{know-push, known_after-other, read-push}
@@ -20,7 +20,7 @@ use Rattle.ps_ledger.specs.Ledger.{HasSameMembers}
 use Rattle.ps_ledger.specs.Legal.{HasMembersOf}
 use Rattle.ps_ledger.specs.declared.ledger.Ledger.{Ledger}
 use Rattle.ps_monitor.proofs.Lists.{filter-none}
-use Rattle.ps_board.specs.Core.{is_quiet}
+use Rattle.ps_board.specs.Parts.{is_quiet}
 
 quiet-plan : (e : Event) → is_quiet e ≡ true → says_plan e ≡ None
 quiet-plan (event.Run for acts) h = absurd (cc)
@@ -66,8 +66,8 @@ none-broken i es x h q =
 pub quiet-block : (i : Input) (es : List Entry) (hand : ℕ) (e : Event) → IsHistory i es → is_quiet e ≡ true → with_block i hand es e ≡ es ++ record { hand = hand; what = e } ∷ []
 quiet-block i es hand e h q =
     let x : Entry = record { hand = hand; what = e } in
-    ap (λ xs. es ++ x ∷ (map (cancels hand cancel.OverAll) xs ++ (if is_fail e || any_of xs then map (cancels hand cancel.Stop) (sound i (es ++ x ∷ [])) else []))) (none-broken i es x h q)
-    ∙ ap (λ b. es ++ x ∷ (if b || false then map (cancels hand cancel.Stop) (sound i (es ++ x ∷ [])) else [])) (quiet-fail e q)
+    ap (λ xs. es ++ x ∷ (map (cancels hand cancel.OverAll) xs ++ (if is_fail e || any_of xs then map (cancels hand cancel.Stop) (unbroken i (es ++ x ∷ [])) else []))) (none-broken i es x h q)
+    ∙ ap (λ b. es ++ x ∷ (if b || false then map (cancels hand cancel.Stop) (unbroken i (es ++ x ∷ [])) else [])) (quiet-fail e q)
 
 -- members that are as they were are still those of the input
 pub members-kept : (i : Input) (old new : Ledger) → HasSameMembers old new → HasMembersOf i old → HasMembersOf i new

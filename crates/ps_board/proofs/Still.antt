@@ -8,12 +8,12 @@ use Rattle.ps_machine.specs.declared.journal.Entry.{Entry}
 use Rattle.ps_machine.specs.declared.journal.CancelWhy.TheVariants as cancel
 use Rattle.ps_rules.specs.Runs.{is_active, plan, state}
 use Rattle.ps_rules.specs.Settled.{may_go_on}
-use Rattle.ps_rules.specs.History.{any_of, broken, cancels, is_fail, sound}
+use Rattle.ps_rules.specs.History.{any_of, broken, cancels, is_fail, unbroken}
 use Rattle.ps_rules.specs.Choices.{with_block}
 use Rattle.ps_monitor.proofs.Lists.{filter-none}
 use Rattle.ps_ledger.specs.Ledger.{TellsAll}
 use Rattle.ps_ledger.specs.declared.ledger.Ledger.{Ledger}
-use Rattle.ps_board.specs.declared.whole.Core.{Core}
+use Rattle.ps_board.specs.declared.whole.Parts.{Parts}
 use Rattle.ps_board.proofs.Due.{after}
 use Rattle.ps_board.proofs.Lengths.{counts-first}
 
@@ -38,16 +38,16 @@ pub still-block : (i : Input) (es : List Entry) (hand : ℕ) (e : Event) → ((a
 still-block i es hand e still =
     let x : Entry = record { hand = hand; what = e } in
     let later : List Entry = es ++ x ∷ [] in
-    let unbroken : broken i later ≡ [] =
+    let no-broken : broken i later ≡ [] =
     filter-none (λ act. is_active (state act later) && not (may_go_on i later act)) 0 (length (plan later)) (λ act. ap (λ b. b && not (may_go_on i later act)) (still act)) in
-    let unsound : sound i later ≡ [] =
+    let unsound : unbroken i later ≡ [] =
     filter-none (λ act. is_active (state act later) && may_go_on i later act) 0 (length (plan later)) (λ act. ap (λ b. b && may_go_on i later act) (still act)) in
-    ap (λ xs. es ++ x ∷ (map (cancels hand cancel.OverAll) xs ++ (if is_fail e || any_of xs then map (cancels hand cancel.Stop) (sound i later) else []))) unbroken
+    ap (λ xs. es ++ x ∷ (map (cancels hand cancel.OverAll) xs ++ (if is_fail e || any_of xs then map (cancels hand cancel.Stop) (unbroken i later) else []))) no-broken
     ∙ ap (λ xs. es ++ x ∷ (if is_fail e || false then map (cancels hand cancel.Stop) xs else [])) unsound
     ∙ ap (λ xs. es ++ x ∷ xs) (either-way {A = List Entry} (is_fail e || false) [])
 
 -- so it is where a ledger that tells of it counts none
-pub told-still : (c : Core) (hand : ℕ) (e : Event) (b : Ledger) → TellsAll (after c hand e) b → count_by is_active b.acts.states.items ≡ 0
+pub told-still : (c : Parts) (hand : ℕ) (e : Event) (b : Ledger) → TellsAll (after c hand e) b → count_by is_active b.acts.states.items ≡ 0
     → with_block c.input hand c.entries.items e ≡ after c hand e
 told-still c hand e b told none =
     still-block c.input c.entries.items hand e (λ act. ap is_active (told.acts.states act) ∙ none-active b.acts.states.items act none)

@@ -12,7 +12,7 @@ use Rattle.ps_rules.specs.Known.{know}
 use Rattle.ps_rules.specs.Members.{observers}
 use Rattle.ps_rules.specs.Runs.{is_running}
 use Rattle.ps_rules.specs.Sound.{IsSound}
-use Rattle.ps_ends.proofs.GoingOn.{somebody_goes_on}
+use Rattle.ps_progress_laws.proofs.GoingOn.{somebody_goes_on}
 use Rattle.ps_ledger.specs.Ends.{last_outcome, outcome_of}
 use Rattle.ps_board.specs.declared.board.Shown.{Shown}
 use Rattle.ps_board.specs.declared.ticks.Ticked.{Ticked}

@@ -27,17 +27,17 @@ use Rattle.ps_rules.proofs.Choosing.{legal-live, plan-so}
 use Rattle.ps_rules.proofs.SameThings.{same_outcome-decides}
 use Rattle.ps_rows.specs.Table.{MayBegin, MayBePlan}
 use Rattle.ps_rows.proofs.Grounded.{good-each}
-use Rattle.ps_board.specs.Core.{Gains, GainsNothing, MayCome, Stands}
+use Rattle.ps_board.specs.Parts.{BoardStands, Gains, GainsNothing, MayCome}
 use Rattle.ps_board.specs.Kept.{IsKept, IsShown}
 use Rattle.ps_board.specs.declared.submits.Submitted.{Submitted}
 use Rattle.ps_board.specs.declared.submits.Submitted.TheVariants.{Taken, Stale}
-use Rattle.ps_board.specs.declared.whole.Core.{Core}
+use Rattle.ps_board.specs.declared.whole.Parts.{Parts}
 use Rattle.ps_board.proofs.Granting.{Spares}
 use Rattle.ps_board.proofs.Keeping.{by-option, kept-still, kept-turn, ticks-spare}
-use Rattle.ps_asked.specs.Asked.{Counts, ends_plan, may_come}
-use Rattle.ps_asked.proofs.Accepted.{edits_are_made}
+use Rattle.ps_stale_plan_laws.specs.Asked.{Counts, ends_plan, may_come}
+use Rattle.ps_stale_plan_laws.proofs.Accepted.{edits_are_made}
 use Rattle.ps_board.specs.Submits.{edit_in, taken_event}
-use Rattle.ps_asked.specs.Asked.Counts.{planned as by_plan, changed as by_change}
+use Rattle.ps_stale_plan_laws.specs.Asked.Counts.{planned as by_plan, changed as by_change}
 
 -- ---- whether an entry counts
 
@@ -75,8 +75,8 @@ other-counts i es k e same at = (λ t. by_plan e at t, by-cause)
     by-cause (by_change differ) = absurd (differ (sym same))
 
 -- an edit that an entry records was accepted, and made what is known after it
-pub edit-made : (c : Core) (k : ℕ) (e : Entry) (edit : Edit) (old : Knowledge) → Stands c → slice_get c.entries.items k ≡ Some e → edit_in e.what ≡ Some edit
-    → old ≡ know c.input (take k c.entries.items) → edited c.present.expert old edit ≡ Ok (know c.input (take (k + 1) c.entries.items))
+pub edit-made : (c : Parts) (k : ℕ) (e : Entry) (edit : Edit) (old : Knowledge) → BoardStands c → slice_get c.entries.items k ≡ Some e → edit_in e.what ≡ Some edit
+    → old ≡ know c.input (take k c.entries.items) → edited c.state.expert old edit ≡ Ok (know c.input (take (k + 1) c.entries.items))
 edit-made c k e edit old s at is known =
     let w = edit-by e.what edit is in
     ap (λ d. edited d old edit) s.kept.domain ∙ ap (λ x. edited c.input.domain x edit) known
@@ -86,16 +86,16 @@ ok-same : {R : Type 0} (k l : Knowledge) (r : Result Knowledge R) → r ≡ Ok k
 ok-same k l r e f = let same : Ok k ≡ Ok l = sym e ∙ f in cc
 
 -- where it is made again it counts if that changes what is known
-pub made-counts : {E : Type 0} (c : Core) (k : ℕ) (e : Entry) (edit : Edit) (old new : Knowledge) (r : Result Bool E) → Stands c → slice_get c.entries.items k ≡ Some e → edit_in e.what ≡ Some edit
-    → old ≡ know c.input (take k c.entries.items) → OnOk r (edited c.present.expert old edit ≡ Ok new) → IfOk r (λ b. Decides b (new ≢ old))
+pub made-counts : {E : Type 0} (c : Parts) (k : ℕ) (e : Entry) (edit : Edit) (old new : Knowledge) (r : Result Bool E) → BoardStands c → slice_get c.entries.items k ≡ Some e → edit_in e.what ≡ Some edit
+    → old ≡ know c.input (take k c.entries.items) → OnOk r (edited c.state.expert old edit ≡ Ok new) → IfOk r (λ b. Decides b (new ≢ old))
     → IfOk r (λ b. Decides b (Counts c.input c.entries.items k))
 made-counts c k e edit old new (Err x) s at is known made changed = tt
 made-counts c k e edit old new (Ok b) s at is known made changed =
     edit-counts c.input c.entries.items k e edit new b at is (ok-same new (know c.input (take (k + 1) c.entries.items)) _ made (edit-made c k e edit old s at is known))
     (subst (λ x. Decides b (new ≢ x)) known changed)
 
-pub made-known : {E : Type 0} (c : Core) (k : ℕ) (e : Entry) (edit : Edit) (old new : Knowledge) (r : Result Bool E) → Stands c → slice_get c.entries.items k ≡ Some e → edit_in e.what ≡ Some edit
-    → old ≡ know c.input (take k c.entries.items) → OnOk r (edited c.present.expert old edit ≡ Ok new) → OnOk r (new ≡ know c.input (take (k + 1) c.entries.items))
+pub made-known : {E : Type 0} (c : Parts) (k : ℕ) (e : Entry) (edit : Edit) (old new : Knowledge) (r : Result Bool E) → BoardStands c → slice_get c.entries.items k ≡ Some e → edit_in e.what ≡ Some edit
+    → old ≡ know c.input (take k c.entries.items) → OnOk r (edited c.state.expert old edit ≡ Ok new) → OnOk r (new ≡ know c.input (take (k + 1) c.entries.items))
 made-known c k e edit old new (Err x) s at is known made = tt
 made-known c k e edit old new (Ok b) s at is known made = ok-same new (know c.input (take (k + 1) c.entries.items)) _ made (edit-made c k e edit old s at is known)
 
@@ -115,8 +115,8 @@ replan-legal i es acts wants fit =
     let live = and_parts (is_running es) (is_settled i es && is_none (verdict i es)) wants in
     let settled = and_parts (is_settled i es) (is_none (verdict i es)) live.1 in
     legal-live i es (event.Replan acts) live.0 refl
-    (and_from (is_settled i es) (is_none (verdict i es) && is_plan i.domain i.budget (know i es) acts) settled.0
-    (and_from (is_none (verdict i es)) (is_plan i.domain i.budget (know i es) acts) settled.1 (plan-so i.domain (know i es) i.budget acts fit)))
+    (and_from (is_settled i es) (is_none (verdict i es) && is_plan i.domain (know i es) i.budget acts) settled.0
+    (and_from (is_none (verdict i es)) (is_plan i.domain (know i es) i.budget acts) settled.1 (plan-so i.domain (know i es) i.budget acts fit)))
 
 -- what follows a solver's answer may come where the solver is asked
 pub follows-legal : (i : Input) (es : List Entry) (a : Answer) (e : Event) → wants_plan i es ≡ true → Fits i.domain (know i es) i.budget a → planned a ≡ Some e → is_legal i es e ≡ true
@@ -127,15 +127,15 @@ follows-legal i es (answer.Spent depth) e wants fit made =
 follows-legal i es answer.TooMany e wants fit made = ap (is_legal i es) (some_same e (event.Over outcome.TooMany) (sym made)) ∙ over-legal i es outcome.TooMany wants (ap given_up fit)
 
 -- the acts of a plan that follows can be grounded
-pub follows-may : (c : Core) (a : Answer) (e : Event) → Stands c → Fits c.input.domain (know c.input c.entries.items) c.input.budget a → planned a ≡ Some e → MayBegin e c.present
+pub follows-may : (c : Parts) (a : Answer) (e : Event) → BoardStands c → Fits c.input.domain (know c.input c.entries.items) c.input.budget a → planned a ≡ Some e → MayBegin e c.state
 follows-may c (answer.Plan acts) e s fit made =
     let now : MayBePlan c.input.domain (know c.input c.entries.items) acts =
     record { few = fit.0.few; grounded = good-each c.input.domain (know c.input c.entries.items) acts fit.0.goes_well } in
-    subst (λ x. MayBegin x c.present) (some_same (event.Replan acts) e made)
-    (subst (λ d. MayBePlan d c.present.problem acts) (sym s.kept.domain) (subst (λ k. MayBePlan c.input.domain k acts) (sym s.kept.known) now))
-follows-may c answer.NoPlan e s fit made = subst (λ x. MayBegin x c.present) (some_same (event.Over outcome.NoPlan) e made) tt
-follows-may c (answer.Spent depth) e s fit made = subst (λ x. MayBegin x c.present) (some_same (event.Over (outcome.Spent depth)) e made) tt
-follows-may c answer.TooMany e s fit made = subst (λ x. MayBegin x c.present) (some_same (event.Over outcome.TooMany) e made) tt
+    subst (λ x. MayBegin x c.state) (some_same (event.Replan acts) e made)
+    (subst (λ d. MayBePlan d c.state.problem acts) (sym s.kept.domain) (subst (λ k. MayBePlan c.input.domain k acts) (sym s.kept.known) now))
+follows-may c answer.NoPlan e s fit made = subst (λ x. MayBegin x c.state) (some_same (event.Over outcome.NoPlan) e made) tt
+follows-may c (answer.Spent depth) e s fit made = subst (λ x. MayBegin x c.state) (some_same (event.Over (outcome.Spent depth)) e made) tt
+follows-may c answer.TooMany e s fit made = subst (λ x. MayBegin x c.state) (some_same (event.Over outcome.TooMany) e made) tt
 
 -- ---- what a board keeps after it
 
@@ -149,11 +149,11 @@ taken-spare : (i : Input) (grants : List (Option ℕ)) (s : Submitted) (a : Answ
 taken-spare i grants Taken a = follows-spare i grants a
 taken-spare i grants (Stale k) a = tt
 
-kept-as : (c : Core) (grants : List (Option ℕ)) (heard : List ℕ) (halted other : Bool) → IsKept c grants heard halted → (other ≡ true → is_running c.entries.items ≡ true) → IsKept c grants heard other
-kept-as c grants heard halted other k live = record { core = k.core; shown = k.shown; out = k.out; heard = k.heard; live = live }
+kept-as : (c : Parts) (grants : List (Option ℕ)) (heard : List ℕ) (halted other : Bool) → IsKept c grants heard halted → (other ≡ true → is_running c.entries.items ≡ true) → IsKept c grants heard other
+kept-as c grants heard halted other k live = record { parts = k.parts; shown = k.shown; out = k.out; heard = k.heard; live = live }
 
-pub kept-submitted : {E : Type 0} (old mid new : Core) (hand : ℕ) (grants : List (Option ℕ)) (heard : List ℕ) (halted running : Bool) (a : Answer) (r : Result Submitted E)
-    → IsKept old grants heard halted → Stands new → IsShown new → new.input ≡ mid.input → new.entries.items ≡ mid.entries.items
+pub kept-submitted : {E : Type 0} (old mid new : Parts) (hand : ℕ) (grants : List (Option ℕ)) (heard : List ℕ) (halted running : Bool) (a : Answer) (r : Result Submitted E)
+    → IsKept old grants heard halted → BoardStands new → IsShown new → new.input ≡ mid.input → new.entries.items ≡ mid.entries.items
     → IfOk r (λ s. Gains hand (taken_event s a) old mid) → OnErr r (GainsNothing old mid)
     → IfOk r (λ s. IfSome (taken_event s a) (MayCome old)) → running ≡ is_running new.entries.items → IsKept new grants heard (halted && running)
 kept-submitted old mid new hand grants heard halted running a r k stands shown input entries did err legal live =
@@ -172,6 +172,6 @@ pub still-halted : (halted running : Bool) → (halted ≡ true → running ≡ 
 still-halted true running live = live refl
 still-halted false running live = refl
 
-pub taken-legal : (c : Core) (a : Answer) → Stands c → wants_plan c.input c.entries.items ≡ true → Fits c.input.domain (know c.input c.entries.items) c.input.budget a
+pub taken-legal : (c : Parts) (a : Answer) → BoardStands c → wants_plan c.input c.entries.items ≡ true → Fits c.input.domain (know c.input c.entries.items) c.input.budget a
     → IfSome (planned a) (MayCome c)
 taken-legal c a s wants fit = by-option (MayCome c) (planned a) (λ e is. follows-legal c.input c.entries.items a e wants fit is)

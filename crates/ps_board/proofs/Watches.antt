@@ -20,7 +20,7 @@ use Rattle.ps_rules.proofs.Kept.{fits-legal}
 use Rattle.ps_ledger.proofs.Lists.{differ}
 use Rattle.ps_monitor.specs.declared.monitor.Monitor.{Monitor}
 use Rattle.ps_monitor.specs.Watched.{watched}
-use Rattle.ps_board.specs.Core.{over_in, watch_for}
+use Rattle.ps_board.specs.Parts.{over_in, watch_for}
 use Rattle.ps_board.specs.Watching.{IsWatchedAs, StartsWithin, watched_after, watched_from, watched_without}
 
 -- ---- one act

@@ -11,7 +11,7 @@ use Rattle.ps_ledger.specs.Legal.{HasMembersOf}
 use Rattle.ps_monitor.specs.declared.acts.Acts.{Acts}
 use Rattle.ps_monitor.specs.declared.monitor.Monitor.{Monitor}
 use Rattle.ps_monitor.specs.Watched.{marked}
-use Rattle.ps_board.specs.Core.{IsWatching}
+use Rattle.ps_board.specs.Parts.{IsWatching}
 
 -- an act, if it is to be cancelled
 abbrev pub due_act : ℕ → Bool → List ℕ

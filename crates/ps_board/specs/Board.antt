@@ -14,12 +14,12 @@ use Rattle.ps_rules.specs.Members.{observers}
 use Rattle.ps_rules.specs.Choices.{line_event, observer_turn, performed, Says, ticked, with_block}
 use Rattle.ps_rules.specs.Lines.{next_line}
 use Rattle.ps_action.specs.Trees.{TreeView}
-use Rattle.ps_ends.specs.Working.{recorded, unit_due}
+use Rattle.ps_progress_laws.specs.Working.{recorded, unit_due}
 use Rattle.ps_ledger.specs.Members.{place_in}
 use Rattle.ps_ledger.specs.Ends.{last_outcome}
 use Rattle.ps_machine.specs.declared.inputs.Input.{Input}
 use Rattle.ps_board.specs.Grants.{grant_for, granted, granted_after, performer_names, turn_of}
-use Rattle.ps_board.specs.Core.{CoversDone, spent}
+use Rattle.ps_board.specs.Parts.{CoversDone, spent}
 use Rattle.ps_board.specs.Kept.{all_in}
 use Rattle.ps_board.specs.Ticks.{closed_answer, snapshot_of, ticked_answer}
 use Rattle.ps_board.specs.declared.ticks.Ticked.{Ticked}

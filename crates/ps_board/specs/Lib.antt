@@ -1,9 +1,9 @@
 pub mod Blocks
 pub mod Board
 pub mod Commands
-pub mod Core
 pub mod Grants
 pub mod Kept
+pub mod Parts
 pub mod Submits
 pub mod Ticks
 pub mod Touching

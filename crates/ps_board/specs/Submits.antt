@@ -7,7 +7,7 @@ use Rattle.ps_machine.specs.declared.journal.Event.{Event}
 use Rattle.ps_machine.specs.declared.journal.Event.TheVariants as event
 use Rattle.ps_machine.specs.declared.journal.Entry.{Entry}
 use Rattle.ps_rules.specs.Choices.{planned}
-use Rattle.ps_asked.specs.Asked.{IsFirstToCount, may_come, NoneCount}
+use Rattle.ps_stale_plan_laws.specs.Asked.{IsFirstToCount, may_come, NoneCount}
 use Rattle.ps_board.specs.declared.submits.Submitted.{Submitted}
 use Rattle.ps_board.specs.declared.submits.Submitted.TheVariants.{Taken, Stale}
 

@@ -10,7 +10,7 @@ use Rattle.ps_ledger.specs.Ends.{outcome_of}
 use Rattle.ps_board.specs.declared.ticks.Snapshot.{Snapshot}
 use Rattle.ps_board.specs.declared.ticks.Ticked.{Ticked}
 use Rattle.ps_board.specs.declared.ticks.Ticked.TheVariants as tick
-use Rattle.ps_board.specs.declared.whole.Core.{Core}
+use Rattle.ps_board.specs.declared.whole.Parts.{Parts}
 
 -- what is handed out where the solver is asked: how many entries there are, and what is known after them
 abbrev pub snapshot_of : Input → List Entry → Option Snapshot
@@ -37,9 +37,9 @@ closed_answer (Some how) = tick.Over how
 closed_answer None = tick.Nothing
 
 -- what a tick does in an open run
-abbrev pub tick_of : Core → Option Event
+abbrev pub tick_of : Parts → Option Event
 tick_of c = ticked c.input c.entries.items
 
 -- its answer
-abbrev pub answer_of : Core → Ticked
+abbrev pub answer_of : Parts → Ticked
 answer_of c = ticked_answer (snapshot_of c.input c.entries.items) (tick_of c)

@@ -6,7 +6,7 @@ use Rattle.ps_machine.specs.declared.journal.Event.{Event}
 use Rattle.ps_machine.specs.declared.journal.Event.TheVariants as event
 use Rattle.ps_monitor.specs.declared.monitor.Monitor.{Monitor}
 use Rattle.ps_monitor.specs.Watched.{watched}
-use Rattle.ps_board.specs.Core.{over_in}
+use Rattle.ps_board.specs.Parts.{over_in}
 
 -- an event that starts an act starts one of so many
 abbrev pub StartsWithin : ℕ → Event → Type 0

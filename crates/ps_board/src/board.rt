@@ -7,9 +7,9 @@ ghost use Rattle.ps_board.specs.declared.works.Grant.{Grant as GrantView};
 ghost use Rattle.ps_board.specs.declared.works.Turn.TheVariants.{Did, Nothing, Work as Handed};
 ghost use Rattle.ps_board.specs.Board.{answer_of, Appended, commanded, GoesOn, grants_after, grants_without, is_end, is_free, IsAtRest, IsOut, IsReserved, IsStep, nothing_done, observing, performing, performing_answer, recording, shown_tree, still_halted, tick_answer, ticking};
 ghost use Rattle.ps_board.specs.Grants.{AreOut, granted, granted_after, performer_names};
-ghost use Rattle.ps_ends.specs.Working.{recorded};
+ghost use Rattle.ps_progress_laws.specs.Working.{recorded};
 ghost use Rattle.ps_action.specs.Search.{Fits};
-ghost use Rattle.ps_asked.specs.Asked.{WasAsked};
+ghost use Rattle.ps_stale_plan_laws.specs.Asked.{WasAsked};
 ghost use Rattle.ps_board.specs.Submits.{IsSubmitted, NoEditFrom, taken_event};
 ghost use Rattle.ps_rules.specs.Choices.{planned};
 ghost use Rattle.ps_rules.specs.Members.{observers, performers};
@@ -24,17 +24,17 @@ ghost use Rattle.ps_rules.specs.Sound.{IsSound};
 use super::submits::Submitted;
 use super::ticks::{Snapshot, Ticked, closed_answer};
 use super::turns::Step;
-use super::whole::Core;
+use super::whole::Parts;
 use super::works::{Grant, Turn};
 use ps_action::Answer;
-use ps_choices::heard_upto;
+use ps_actors::heard_upto;
 use ps_domain::Expert;
 use ps_ledger::place_in;
 use ps_machine::{Entry, Grows, Input, Unit};
 use ps_monitor::Monitor;
 use ps_plan::Solver;
 use ps_problem::Problem;
-use ps_rows::{Present, same_unit};
+use ps_rows::{State, same_unit};
 use ps_tree::Tree;
 use ps_world::{Name, Seq};
 use std::alloc::{AllocError, Global};
@@ -112,7 +112,7 @@ pub struct GrantBack {
 pub struct Board {
     alloc: Global,
     /// In one box, so that whoever hands a board on moves a few words.
-    core: Box<Core>,
+    parts: Box<Parts>,
     /// For each performer the request of its grant that is out.
     grants: Vec<Option<u64>>,
     /// For each performer a number below which it has answered all requests of the last run.
@@ -129,9 +129,9 @@ impl Model for Board {
 
     ghost coded = { the_row.coded };
 
-    ghost view = { λ b. record { input = b.core.value.input; entries = b.core.value.entries.items; grants = b.grants.items; halted = b.halted; spare = b.core.value.spare } };
+    ghost view = { λ b. record { input = b.parts.value.input; entries = b.parts.value.entries.items; grants = b.grants.items; halted = b.halted; spare = b.parts.value.spare } };
 
-    ghost invariant = { λ b. IsKept b.core.value b.grants.items b.heard.items b.halted };
+    ghost invariant = { λ b. IsKept b.parts.value b.grants.items b.heard.items b.halted };
 }
 
 impl Grows for Board {
@@ -146,22 +146,22 @@ impl Board {
         requires { IsSound input }
         ensures { IfOk result (λ b. b ≡ nothing_done input) }
     {
-        let present = Present::new(alloc, &input)?;
-        let performers = present.ledger.performers.names.len();
-        let mut core = Core {
+        let state = State::new(alloc, &input)?;
+        let performers = state.ledger.performers.names.len();
+        let mut parts = Parts {
             input,
             entries: Vec::new(alloc),
-            present,
+            state,
             monitor: Monitor::new(alloc),
             spare: 0,
         };
-        core.show();
-        let core = Box::new(alloc, core)?;
+        parts.show();
+        let parts = Box::new(alloc, parts)?;
         let grants = vec![in alloc; None; performers]?;
         let heard = vec![in alloc; 0; performers]?;
         Ok(Board {
             alloc,
-            core,
+            parts,
             grants,
             heard,
             halted: false,
@@ -172,14 +172,14 @@ impl Board {
     pub fn problem(&self) -> &Problem
         ensures { result.now ≡ know self.now.input self.now.entries }
     {
-        &self.core.present.problem
+        &self.parts.state.problem
     }
 
     /// The domain.
     pub fn expert(&self) -> &Expert
         ensures { result.now ≡ self.now.input.domain }
     {
-        &self.core.present.expert
+        &self.parts.state.expert
     }
 
     /// The journal, which is a history of the input.
@@ -187,7 +187,7 @@ impl Board {
         ensures entries { result.now ≡ self.now.entries }
         ensures history { IsHistory self.now.input self.now.entries }
     {
-        &self.core.entries
+        &self.parts.entries
     }
 
     /// The input, which is sound.
@@ -195,7 +195,7 @@ impl Board {
         ensures input { result.now ≡ self.now.input }
         ensures sound { IsSound self.now.input }
     {
-        &self.core.input
+        &self.parts.input
     }
 
     /// Whether a run is open. Where none is, the board is at rest: it isn't halted, and no grant is out.
@@ -203,7 +203,7 @@ impl Board {
         ensures running { result ≡ is_running self.now.entries }
         ensures rest { is_running self.now.entries ≡ false → IsAtRest self.now }
     {
-        self.core.present.ledger.run.is_running()
+        self.parts.state.ledger.run.is_running()
     }
 
     /// Marks the open run as halted: from then on neither the ticker nor a member's turn does anything until the run has ended; a unit
@@ -226,15 +226,15 @@ impl Board {
         ensures ok { OnOk result (self.new ≡ record self.old { spare = max self.old.spare n }) }
         ensures err { OnErr result (self.new ≡ self.old) }
     {
-        let core = &mut *self.core;
-        core.reserve(n as usize)
+        let parts = &mut *self.parts;
+        parts.reserve(n as usize)
     }
 
     /// For how many entries more memory is kept.
     pub fn spare(&self) -> u64
         ensures { result ≡ self.now.spare }
     {
-        self.core.spare as u64
+        self.parts.spare as u64
     }
 
     /// Does the next line of the terminal's script, where one is left and none before it was `quit`. A run for the goal has the plan
@@ -252,9 +252,9 @@ impl Board {
             → IsOk result }
         ensures err { OnErr result (self.new ≡ self.old) }
     {
-        let core = &mut *self.core;
-        let result = core.command(self.alloc, solver);
-        core.show();
+        let parts = &mut *self.parts;
+        let result = parts.command(self.alloc, solver);
+        parts.show();
         result
     }
 
@@ -272,13 +272,13 @@ impl Board {
         ensures err { OnErr result (self.new ≡ self.old) }
     {
         if !self.is_running() {
-            Ok(closed_answer(self.core.present.ledger.ends.last()))
+            Ok(closed_answer(self.parts.state.ledger.ends.last()))
         } else if self.halted {
             Ok(Ticked::Halted)
         } else {
-            let core = &mut *self.core;
-            let result = core.tick(self.alloc, hand);
-            core.show();
+            let parts = &mut *self.parts;
+            let result = parts.tick(self.alloc, hand);
+            parts.show();
             result
         }
     }
@@ -295,9 +295,9 @@ impl Board {
     {
         if self.is_running() && !self.halted {
             let name = self.observer_name(o as usize);
-            let core = &mut *self.core;
-            let result = core.observe(self.alloc, hand, name);
-            core.show();
+            let parts = &mut *self.parts;
+            let result = parts.observe(self.alloc, hand, name);
+            parts.show();
             Ok(told(result?))
         } else {
             Ok(Turn::Nothing)
@@ -308,8 +308,8 @@ impl Board {
     pub fn tree(&self) -> Option<&Tree>
         ensures { option_copied result ≡ shown_tree self.now }
     {
-        if self.core.present.ledger.run.has_run() {
-            Some(&self.core.present.tree)
+        if self.parts.state.ledger.run.has_run() {
+            Some(&self.parts.state.tree)
         } else {
             None
         }
@@ -385,10 +385,10 @@ impl Board {
             → IsReserved self.old hand (planned answer) → IsOk result }
         ensures err { OnErr result (self.new ≡ self.old) }
     {
-        let core = &mut *self.core;
-        let result = core.submit(self.alloc, hand, snapshot, answer);
-        core.show();
-        let running = core.present.ledger.run.is_running();
+        let parts = &mut *self.parts;
+        let result = parts.submit(self.alloc, hand, snapshot, answer);
+        parts.show();
+        let running = parts.state.ledger.run.is_running();
         self.halted &= running;
         result
     }
@@ -415,7 +415,7 @@ impl Board {
     fn number_of(&self, name: Name) -> usize
         ensures { result ≡ place_in (performer_names self.now.input) name }
     {
-        place_in(&self.core.present.ledger.performers.names, name)
+        place_in(&self.parts.state.ledger.performers.names, name)
     }
 
     /// The name of the performer with this number.
@@ -423,7 +423,7 @@ impl Board {
         requires { p < length (performers self.now.input) }
         ensures { slice_get (performer_names self.now.input) p ≡ Some result }
     {
-        self.core.present.ledger.performers.names[p]
+        self.parts.state.ledger.performers.names[p]
     }
 
     /// The name of the observer with this number.
@@ -431,7 +431,7 @@ impl Board {
         requires { o < length (observers self.now.input) }
         ensures { slice_get (map (λ w. w.name) (observers self.now.input)) o ≡ Some result }
     {
-        self.core.present.ledger.observers.names[o]
+        self.parts.state.ledger.observers.names[o]
     }
 
     /// Does the turn of a performer that may do something.
@@ -447,11 +447,11 @@ impl Board {
         ensures err { OnErr result (self.new ≡ self.old) }
     {
         let name = self.performer_name(p);
-        let core = &mut *self.core;
-        let upto = heard_upto(&core.present, name, number_at(&self.heard, p));
+        let parts = &mut *self.parts;
+        let upto = heard_upto(&parts.state, name, number_at(&self.heard, p));
         self.heard[p] = upto;
-        let result = core.perform(self.alloc, hand, name, upto);
-        core.show();
+        let result = parts.perform(self.alloc, hand, name, upto);
+        parts.show();
         let turn = result?;
         note_grant(&mut self.grants, p, &turn);
         Ok(turn)
@@ -462,7 +462,7 @@ impl Board {
         ensures { Decides result (IsOut self.now grant.now) }
     {
         let request = self.grant_of(self.number_of(grant.by));
-        let unit = self.core.unit_due(grant.r, grant.by);
+        let unit = self.parts.unit_due(grant.r, grant.by);
         is_request(request, grant.r) && is_unit(unit, grant.unit.get())
     }
 
@@ -481,9 +481,9 @@ impl Board {
         ensures err { OnErr result (self.new ≡ self.old) }
     {
         let place = self.number_of(by);
-        let core = &mut *self.core;
-        let result = core.record_work(self.alloc, hand, r, by);
-        core.show();
+        let parts = &mut *self.parts;
+        let result = parts.record_work(self.alloc, hand, r, by);
+        parts.show();
         result?;
         self.grants[place] = None;
         Ok(())

@@ -8,10 +8,10 @@ ghost use Rattle.ps_machine.specs.declared.journal.By.TheVariants.{Terminal};
 ghost use Rattle.ps_machine.specs.declared.journal.Event.TheVariants.{Ask, Refused};
 ghost use Rattle.ps_rules.specs.Lines.{answered, refusal_of_steps};
 ghost use Rattle.ps_rules.specs.Sound.{IsSoundLine};
-ghost use Rattle.ps_board.specs.Core.{Stands};
+ghost use Rattle.ps_board.specs.Parts.{BoardStands};
 ghost use Rattle.ps_board.specs.Commands.{AnswersAnyway, AnswersBy, asks_plan, IsNext, IsNextAnyway, IsNextBy, line_of, MayAnswer};
 
-use super::whole::Core;
+use super::whole::Parts;
 use ps_action::{Act, Answer, PlanStep, PlanTextRefusal};
 use ps_machine::{By, Command, Event, Line, LineCause, Query, Refusal, RunKind};
 use ps_plan::Solver;
@@ -32,19 +32,19 @@ pub enum Next {
     Plan(Seq<Act>),
 }
 
-impl Core {
+impl Parts {
     /// The number of the line that is answered next, counted from 1.
     fn number(&self) -> u32
-        requires stands { Stands self.now }
+        requires stands { BoardStands self.now }
         requires left { IsSome (line_of self.now) }
         ensures { result ≡ answered self.now.entries.items + 1 }
     {
-        self.present.ledger.lines.answered() as u32 + 1
+        self.state.ledger.lines.answered() as u32 + 1
     }
 
     /// The refusal of the next line.
     fn refuse(&self, why: Refusal) -> Event
-        requires stands { Stands self.now }
+        requires stands { BoardStands self.now }
         requires left { IsSome (line_of self.now) }
         ensures { result ≡ Refused (Terminal (answered self.now.entries.items + 1)) why }
     {
@@ -54,7 +54,7 @@ impl Core {
 
     /// What answers a line that isn't in form.
     fn answer_bad(&self, cause: LineCause) -> Event
-        requires stands { Stands self.now }
+        requires stands { BoardStands self.now }
         requires next { line_of self.now ≡ Some (Bad cause) }
         ensures { AnswersAnyway self.now result }
     {
@@ -63,7 +63,7 @@ impl Core {
 
     /// The edit that a line says.
     fn answer_edit(&self, alloc: Global, edit: &Edit) -> Result<Next, AllocError>
-        requires stands { Stands self.now }
+        requires stands { BoardStands self.now }
         requires next { line_of self.now ≡ Some (Good (EditLine edit.now)) }
         ensures { IfOk result (IsNextAnyway self.now) }
     {
@@ -79,17 +79,17 @@ impl Core {
         solver: &S,
         query: Query,
     ) -> Result<Event, AllocError>
-        requires stands { Stands self.now }
+        requires stands { BoardStands self.now }
         requires next { line_of self.now ≡ Some (Good (AskLine query)) }
         requires other { asks_plan (Ask query) ≡ false }
         ensures { IfOk result (AnswersAnyway self.now) }
     {
-        let run = self.present.ledger.run.has_run();
+        let run = self.state.ledger.run.has_run();
         let why = refusal_of_query(
             alloc,
             solver,
-            &self.present.expert,
-            &self.present.problem,
+            &self.state.expert,
+            &self.state.problem,
             self.input.budget,
             run,
             query,
@@ -102,10 +102,10 @@ impl Core {
 
     /// What answers the query for a plan, where there is a goal and the solver answers this.
     fn tell_plan(&self, answer: Answer) -> Next
-        requires stands { Stands self.now }
+        requires stands { BoardStands self.now }
         requires next { line_of self.now ≡ Some (Good (AskLine Plan)) }
-        requires goal { IsSome self.now.present.problem.goal }
-        requires fits { Fits self.now.present.expert self.now.present.problem
+        requires goal { IsSome self.now.state.problem.goal }
+        requires fits { Fits self.now.state.expert self.now.state.problem
             self.now.input.budget answer }
         ensures { IsNextBy self.now answer result }
     {
@@ -119,12 +119,12 @@ impl Core {
 
     /// What answers the query for a plan.
     fn answer_plan_query<S: Solver>(&self, alloc: Global, solver: &S) -> Result<Next, AllocError>
-        requires stands { Stands self.now }
+        requires stands { BoardStands self.now }
         requires next { line_of self.now ≡ Some (Good (AskLine Plan)) }
         ensures { IfOk result (IsNext (S.says solver.now) self.now) }
     {
-        let expert = &self.present.expert;
-        let problem = &self.present.problem;
+        let expert = &self.state.expert;
+        let problem = &self.state.problem;
         if lacks_goal(problem) {
             Ok(Next::Event(self.refuse(Refusal::NoGoal)))
         } else {
@@ -140,7 +140,7 @@ impl Core {
         solver: &S,
         query: Query,
     ) -> Result<Next, AllocError>
-        requires stands { Stands self.now }
+        requires stands { BoardStands self.now }
         requires next { line_of self.now ≡ Some (Good (AskLine query)) }
         ensures { IfOk result (IsNext (S.says solver.now) self.now) }
     {
@@ -155,10 +155,10 @@ impl Core {
 
     /// What answers the command to run for the goal, where there is one and the solver answers this.
     fn run_by(&self, answer: Answer) -> Event
-        requires stands { Stands self.now }
+        requires stands { BoardStands self.now }
         requires next { line_of self.now ≡ Some (Good RunLine) }
-        requires goal { IsSome self.now.present.problem.goal }
-        requires fits { Fits self.now.present.expert self.now.present.problem
+        requires goal { IsSome self.now.state.problem.goal }
+        requires fits { Fits self.now.state.expert self.now.state.problem
             self.now.input.budget answer }
         ensures { AnswersBy self.now answer result }
     {
@@ -175,12 +175,12 @@ impl Core {
 
     /// What answers the command to run for the goal.
     fn answer_run<S: Solver>(&self, alloc: Global, solver: &S) -> Result<Event, AllocError>
-        requires stands { Stands self.now }
+        requires stands { BoardStands self.now }
         requires next { line_of self.now ≡ Some (Good RunLine) }
         ensures { IfOk result (MayAnswer (S.says solver.now) self.now) }
     {
-        let expert = &self.present.expert;
-        let problem = &self.present.problem;
+        let expert = &self.state.expert;
+        let problem = &self.state.problem;
         if lacks_goal(problem) {
             Ok(self.refuse(Refusal::NoGoal))
         } else {
@@ -191,11 +191,11 @@ impl Core {
 
     /// What answers the command to run one act.
     fn answer_action(&self, alloc: Global, act: &Act) -> Result<Event, AllocError>
-        requires stands { Stands self.now }
+        requires stands { BoardStands self.now }
         requires next { line_of self.now ≡ Some (Good (ActionLine act.now)) }
         ensures { IfOk result (AnswersAnyway self.now) }
     {
-        match ground_refusal(&self.present.expert, &self.present.problem, act) {
+        match ground_refusal(&self.state.expert, &self.state.problem, act) {
             Some(why) => Ok(self.refuse(why)),
             None => {
                 let mut acts = Seq::new(alloc);
@@ -212,12 +212,12 @@ impl Core {
         alloc: Global,
         steps: &Result<Seq<PlanStep>, PlanTextRefusal>,
     ) -> Result<Event, AllocError>
-        requires stands { Stands self.now }
+        requires stands { BoardStands self.now }
         requires next { line_of self.now ≡ Some (Good (PlanLine steps.now)) }
         requires few { IfOk steps.now (λ plan. length plan ≤ 256) }
         ensures { IfOk result (AnswersAnyway self.now) }
     {
-        match refusal_of_steps(alloc, &self.present.expert, &self.present.problem, steps)? {
+        match refusal_of_steps(alloc, &self.state.expert, &self.state.problem, steps)? {
             Some(why) => Ok(self.refuse(why)),
             None => self.run_steps(alloc, steps),
         }
@@ -229,10 +229,10 @@ impl Core {
         alloc: Global,
         steps: &Result<Seq<PlanStep>, PlanTextRefusal>,
     ) -> Result<Event, AllocError>
-        requires stands { Stands self.now }
+        requires stands { BoardStands self.now }
         requires next { line_of self.now ≡ Some (Good (PlanLine steps.now)) }
         requires few { IfOk steps.now (λ plan. length plan ≤ 256) }
-        requires fine { refusal_of_steps self.now.present.expert self.now.present.problem steps.now
+        requires fine { refusal_of_steps self.now.state.expert self.now.state.problem steps.now
             ≡ None }
         ensures { IfOk result (AnswersAnyway self.now) }
     {
@@ -253,7 +253,7 @@ impl Core {
         solver: &S,
         line: &Line,
     ) -> Result<Next, AllocError>
-        requires stands { Stands self.now }
+        requires stands { BoardStands self.now }
         requires next { line_of self.now ≡ Some line.now }
         requires sound { IsSoundLine line.now }
         ensures next { IfOk result (IsNext (S.says solver.now) self.now) }
@@ -281,11 +281,11 @@ impl Core {
 
     /// What the next line asks for.
     pub fn next<S: Solver>(&self, alloc: Global, solver: &S) -> Result<Next, AllocError>
-        requires { Stands self.now }
+        requires { BoardStands self.now }
         ensures next { IfOk result (IsNext (S.says solver.now) self.now) }
         ensures reserved { line_of self.now ≡ Some (Good QuitLine) → IsOk result }
     {
-        match self.present.next_line(&self.input) {
+        match self.state.next_line(&self.input) {
             Some(line) => self.answer_line(alloc, solver, line),
             None => Ok(Next::End),
         }

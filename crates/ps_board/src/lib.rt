@@ -19,5 +19,5 @@ pub use commands::Next;
 pub use submits::Submitted;
 pub use ticks::{Snapshot, Ticked};
 pub use turns::Step;
-pub use whole::Core;
+pub use whole::Parts;
 pub use works::{Grant, Turn};

@@ -6,12 +6,12 @@ ghost use Rattle.ps_world.specs.Knowledge.{edited};
 ghost use Rattle.ps_action.specs.Search.{Fits};
 ghost use Rattle.ps_rules.specs.Choices.{planned, wants_plan};
 ghost use Rattle.ps_rules.specs.Known.{know};
-ghost use Rattle.ps_asked.specs.Asked.{Counts, ends_plan, WasAsked};
-ghost use Rattle.ps_board.specs.Core.{Covers, Gains, GainsNothing, MayCome, Stands};
+ghost use Rattle.ps_stale_plan_laws.specs.Asked.{Counts, ends_plan, WasAsked};
+ghost use Rattle.ps_board.specs.Parts.{BoardStands, Covers, Gains, GainsNothing, MayCome};
 ghost use Rattle.ps_board.specs.Submits.{edit_in, IsFirstFrom, IsSubmitted, MayComeAt, NoEditFrom, taken_event};
 
 use super::ticks::Snapshot;
-use super::whole::Core;
+use super::whole::Parts;
 use ps_action::Answer;
 use ps_domain::Expert;
 use ps_machine::{Event, Outcome};
@@ -74,11 +74,11 @@ fn make(expert: &Expert, problem: &mut Problem, edit: &Edit) -> Result<bool, All
     }
 }
 
-impl Core {
+impl Parts {
     /// Whether the entry at this place counts for who asked the solver before it, where this was known there. Then it is what was
     /// known after that entry. The only error is that memory ran out.
     fn counts(&self, problem: &mut Problem, k: usize) -> Result<bool, AllocError>
-        requires stands { Stands self.now }
+        requires stands { BoardStands self.now }
         requires there { k < length self.now.entries.items }
         requires may { MayComeAt self.now.entries.items k }
         requires known { problem.old ≡ know self.now.input (take k self.now.entries.items) }
@@ -90,7 +90,7 @@ impl Core {
     {
         let what = &self.entries[k].what;
         match edit_in(what) {
-            Some(edit) => make(&self.present.expert, problem, edit),
+            Some(edit) => make(&self.state.expert, problem, edit),
             None => Ok(ends_plan(what)),
         }
     }
@@ -98,7 +98,7 @@ impl Core {
     /// The first entry from this place on that counts, if one does, where the solver was asked and this was known. The only error is
     /// that memory ran out.
     fn first_to_count(&self, at: u64, problem: &mut Problem) -> Result<Option<u64>, AllocError>
-        requires stands { Stands self.now }
+        requires stands { BoardStands self.now }
         requires asked { WasAsked self.now.input self.now.entries.items at }
         requires known { problem.old ≡ know self.now.input (take at self.now.entries.items) }
         ensures first { IfOk result (IsFirstFrom self.now.input self.now.entries.items at) }
@@ -114,7 +114,7 @@ impl Core {
 
     /// The first entry since a snapshot that counts, if one does. The only error is that memory ran out.
     fn first_since(&self, snapshot: Snapshot) -> Result<Option<u64>, AllocError>
-        requires stands { Stands self.now }
+        requires stands { BoardStands self.now }
         requires asked { WasAsked self.now.input self.now.entries.items snapshot.at }
         requires known { snapshot.problem
             ≡ know self.now.input (take snapshot.at self.now.entries.items) }
@@ -130,12 +130,12 @@ impl Core {
     /// Appends the block of the event that follows an answer to what is known now. The only error is that memory ran out, and then no
     /// entry is appended.
     fn follow(&mut self, alloc: Global, hand: u8, answer: Answer) -> Result<(), AllocError>
-        requires stands { Stands self.now }
+        requires stands { BoardStands self.now }
         requires asked { wants_plan self.now.input self.now.entries.items ≡ true }
         requires fits { Fits self.now.input.domain
             (know self.now.input self.now.entries.items) self.now.input.budget answer }
         requires hand { IsTrue (nat_le 1 hand && nat_le hand 16) }
-        ensures stands { Stands self.new }
+        ensures stands { BoardStands self.new }
         ensures did { OnOk result (Gains hand (planned answer) self.old self.new) }
         ensures legal { IfSome (planned answer) (MayCome self.old) }
         ensures err { OnErr result (GainsNothing self.old self.new) }
@@ -154,13 +154,13 @@ impl Core {
         snapshot: Snapshot,
         answer: Answer,
     ) -> Result<Submitted, AllocError>
-        requires stands { Stands self.now }
+        requires stands { BoardStands self.now }
         requires hand { IsTrue (nat_le 1 hand && nat_le hand 16) }
         requires asked { WasAsked self.now.input self.now.entries.items snapshot.at }
         requires known { snapshot.problem
             ≡ know self.now.input (take snapshot.at self.now.entries.items) }
         requires fits { Fits self.now.input.domain snapshot.problem self.now.input.budget answer }
-        ensures stands { Stands self.new }
+        ensures stands { BoardStands self.new }
         ensures answer { IfOk result
             (IsSubmitted self.old.input self.old.entries.items snapshot.at) }
         ensures did { IfOk result (λ s. Gains hand (taken_event s answer) self.old self.new) }

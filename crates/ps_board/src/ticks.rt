@@ -1,13 +1,13 @@
 //! The turn of the ticker.
 ghost use Rattle.std.specs.Prelude.{◌≡◌, ◌&&◌, nat_le, true, IfOk, IfSome, IsOk, IsTrue, OnErr, OnOk};
 ghost use Rattle.ps_rules.specs.Runs.{is_running};
-ghost use Rattle.ps_choices.specs.Ticks.{IsTickers};
-ghost use Rattle.ps_board.specs.Core.{Covers, Gains, GainsNothing, Stands};
+ghost use Rattle.ps_actors.specs.Ticks.{IsTickers};
+ghost use Rattle.ps_board.specs.Parts.{BoardStands, Covers, Gains, GainsNothing};
 ghost use Rattle.ps_board.specs.Ticks.{answer_of, closed_answer, done_answer, idle_answer, snapshot_of, tick_of};
 
 use super::boxes::Boxed;
-use super::whole::Core;
-use ps_choices::{ticked, wants_plan};
+use super::whole::Parts;
+use ps_actors::{ticked, wants_plan};
 use ps_machine::Outcome;
 use ps_problem::Problem;
 use std::alloc::{AllocError, Global};
@@ -55,17 +55,17 @@ pub fn closed_answer(last: Option<Outcome>) -> Ticked
     }
 }
 
-impl Core {
+impl Parts {
     /// The answer of a tick that does nothing. The only error is that memory ran out.
     fn idle(&self) -> Result<Ticked, AllocError>
-        requires stands { Stands self.now }
+        requires stands { BoardStands self.now }
         requires live { is_running self.now.entries.items ≡ true }
         ensures { IfOk result
             (λ t. t ≡ idle_answer (snapshot_of self.now.input self.now.entries.items)) }
     {
-        if wants_plan(&self.present, &self.input) {
+        if wants_plan(&self.state, &self.input) {
             let at = self.entries.len() as u64;
-            let problem = self.present.problem.copy()?;
+            let problem = self.state.problem.copy()?;
             let problem = Boxed::new(problem.allocator(), problem)?;
             Ok(Ticked::WantsPlan(Snapshot { at, problem }))
         } else {
@@ -76,17 +76,17 @@ impl Core {
     /// Appends the block of what the ticker does in an open run, if it does something. The only error is that memory ran out, and
     /// then no entry is appended.
     pub fn tick(&mut self, alloc: Global, hand: u8) -> Result<Ticked, AllocError>
-        requires stands { Stands self.now }
+        requires stands { BoardStands self.now }
         requires live { is_running self.now.entries.items ≡ true }
         requires hand { IsTrue (nat_le 1 hand && nat_le hand 16) }
-        ensures stands { Stands self.new }
+        ensures stands { BoardStands self.new }
         ensures answer { IfOk result (λ t. t ≡ answer_of self.old) }
         ensures did { OnOk result (Gains hand (tick_of self.old) self.old self.new) }
         ensures its { IfSome (tick_of self.old) IsTickers }
         ensures err { OnErr result (GainsNothing self.old self.new) }
         ensures reserved { Covers self.old hand (tick_of self.old) → IsOk result }
     {
-        match ticked(&self.present, &self.input) {
+        match ticked(&self.state, &self.input) {
             Some(choice) => {
                 let how = choice.outcome();
                 self.choose(alloc, hand, &choice)?;

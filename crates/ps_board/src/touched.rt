@@ -1,6 +1,6 @@
 //! What an event changes.
 ghost use Rattle.std.specs.Prelude.{◌≡◌, true, IfOk, IsOk};
-ghost use Rattle.ps_board.specs.Core.{takes_only_room};
+ghost use Rattle.ps_board.specs.Parts.{takes_only_room};
 ghost use Rattle.ps_board.specs.Touching.{started_by, touched_by, touched_by_edit};
 
 use ps_action::{GroundAction, Touched};

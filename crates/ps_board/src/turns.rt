@@ -7,10 +7,10 @@ ghost use Rattle.ps_rules.specs.Lines.{next_line};
 ghost use Rattle.ps_rules.specs.Runs.{is_running};
 ghost use Rattle.ps_board.specs.Board.{answer_to, is_end, IsStep};
 ghost use Rattle.ps_board.specs.Commands.{asks_plan};
-ghost use Rattle.ps_board.specs.Core.{Covers, Gains, GainsNothing, line_answer, MayCome, observed_by, Stands};
+ghost use Rattle.ps_board.specs.Parts.{BoardStands, Covers, Gains, GainsNothing, line_answer, MayCome, observed_by};
 
 use super::commands::Next;
-use super::whole::Core;
+use super::whole::Parts;
 use ps_action::Act;
 use ps_machine::{By, Event, Query};
 use ps_plan::Solver;
@@ -42,13 +42,13 @@ fn step_of(event: &Event) -> Step
     }
 }
 
-impl Core {
+impl Parts {
     /// Appends the block of what answers the next line, if one is left. The only error is that memory ran out, and then no entry is
     /// appended.
     pub fn command<S: Solver>(&mut self, alloc: Global, solver: &S) -> Result<Step, AllocError>
-        requires stands { Stands self.now }
+        requires stands { BoardStands self.now }
         requires closed { is_running self.now.entries.items ≡ false }
-        ensures stands { Stands self.new }
+        ensures stands { BoardStands self.new }
         ensures answer { IfOk result
             (IsStep (S.says solver.now) self.old.input self.old.entries.items) }
         ensures end { IfOk result
@@ -82,15 +82,15 @@ impl Core {
     /// Makes and records the next edit of the observer of this name, where it may be made now. Answers whether it did. The only
     /// error is that memory ran out, and then no entry is appended.
     pub fn observe(&mut self, alloc: Global, hand: u8, name: Name) -> Result<bool, AllocError>
-        requires stands { Stands self.now }
+        requires stands { BoardStands self.now }
         requires running { is_running self.now.entries.items ≡ true }
         requires hand { IsTrue (nat_le 1 hand && nat_le hand 16) }
-        ensures stands { Stands self.new }
+        ensures stands { BoardStands self.new }
         ensures answer { IfOk result (λ did. did ≡ is_some (observed_by self.old name)) }
         ensures did { OnOk result (Gains hand (observed_by self.old name) self.old self.new) }
         ensures err { OnErr result (GainsNothing self.old self.new) }
     {
-        let next = match self.present.next_seen(&self.input, name) {
+        let next = match self.state.next_seen(&self.input, name) {
             Some(edit) => edit.copy(alloc)?,
             None => return Ok(false),
         };

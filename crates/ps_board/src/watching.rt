@@ -2,7 +2,7 @@
 ghost use Rattle.std.specs.Prelude.{◌≡◌, ℕ, ◌<◌, ◌≤◌, false, true, length, slice_index_or, IsOk, OnOk, OnErr};
 ghost use Rattle.ps_monitor.specs.Hits.{but_for, HeldBefore};
 ghost use Rattle.ps_monitor.specs.Watched.{broken, is_false, marked, watched};
-ghost use Rattle.ps_board.specs.Core.{takes_only_room};
+ghost use Rattle.ps_board.specs.Parts.{takes_only_room};
 ghost use Rattle.ps_board.specs.Watching.{IsWatchedAs, StartsWithin, watched_after, watched_from, watched_without};
 
 use ps_action::{GroundAction, Touched};

@@ -3,27 +3,27 @@ ghost use Rattle.std.specs.Prelude.{◌≡◌, ◌≤◌, IsTrue, true, false, m
 ghost use Rattle.ps_rules.specs.Legal.{has_hand};
 ghost use Rattle.ps_rows.specs.Table.{MayBegin};
 ghost use Rattle.ps_board.specs.Kept.{IsShown};
-ghost use Rattle.ps_board.specs.Core.{Covers, edit_of, Gains, GainsNothing, HasBlock, HasPlaces, HasSpare, is_quiet, IsDue, IsGrown, makes_plan, MayCome, most_entries, Spends, Stands};
+ghost use Rattle.ps_board.specs.Parts.{BoardStands, Covers, edit_of, Gains, GainsNothing, HasBlock, HasPlaces, HasSpare, is_quiet, IsDue, IsGrown, makes_plan, MayCome, most_entries, Spends};
 ghost use Rattle.ps_board.specs.Touching.{touched_by};
 
 use super::blocks::{cancel_all, enter, is_fail, only_if, reserve};
 use super::touched::{started_by, touched_by};
 use super::watching::{broken_since, unwatch_ended, unwatch_started, watch_started};
 use ps_action::Touched;
-use ps_choices::Choice;
+use ps_actors::Choice;
 use ps_eval::edited_by;
 use ps_machine::{By, CancelWhy, Entry, Event, Input, Refusal};
 use ps_monitor::Monitor;
-use ps_rows::Present;
+use ps_rows::State;
 use ps_world::{Edit, Failure};
 use std::alloc::{AllocError, Global};
 
 /// The parts of a board.
 #[derive(Drop)]
-pub struct Core {
+pub struct Parts {
     pub input: Input,
     pub entries: Vec<Entry>,
-    pub present: Present,
+    pub state: State,
     pub monitor: Monitor,
     /// For how many entries more, and for what they tell, room is kept.
     pub spare: usize,
@@ -56,14 +56,14 @@ fn makes_plan(what: &Event) -> bool
     }
 }
 
-impl Core {
+impl Parts {
     /// Appends the block of an event that changed these things, where all but the entries and what they tell is as it is after that
     /// event.
     #[inline(always)]
     fn append(&mut self, hand: u8, what: Event, changed: &[Touched])
         requires due { IsDue self.now hand what }
-        requires changed { changed.now ≡ touched_by self.now.present.grounds.items what }
-        ensures stands { Stands self.new }
+        requires changed { changed.now ≡ touched_by self.now.state.grounds.items what }
+        ensures stands { BoardStands self.new }
         ensures entries { HasBlock self.old hand what self.new }
         ensures input { self.new.input ≡ self.old.input }
         ensures spare { Spends self.old self.new }
@@ -80,13 +80,13 @@ impl Core {
     fn append_quiet(&mut self, hand: u8, what: Event)
         requires due { IsDue self.now hand what }
         requires quiet { is_quiet what ≡ true }
-        ensures stands { Stands self.new }
+        ensures stands { BoardStands self.new }
         ensures entries { HasBlock self.old hand what self.new }
         ensures input { self.new.input ≡ self.old.input }
         ensures spare { Spends self.old self.new }
     {
         let entry = Entry { hand, what };
-        enter(&mut self.entries, &mut self.present.ledger, entry);
+        enter(&mut self.entries, &mut self.state.ledger, entry);
         self.spare = self.spare.saturating_sub(1);
     }
 
@@ -95,8 +95,8 @@ impl Core {
     #[inline(always)]
     fn append_forcing(&mut self, hand: u8, what: Event, changed: &[Touched])
         requires due { IsDue self.now hand what }
-        requires changed { changed.now ≡ touched_by self.now.present.grounds.items what }
-        ensures stands { Stands self.new }
+        requires changed { changed.now ≡ touched_by self.now.state.grounds.items what }
+        ensures stands { BoardStands self.new }
         ensures entries { HasBlock self.old hand what self.new }
         ensures input { self.new.input ≡ self.old.input }
         ensures spare { Spends self.old self.new }
@@ -105,8 +105,8 @@ impl Core {
         let started = started_by(&what);
         let before = self.entries.len();
         let entry = Entry { hand, what };
-        enter(&mut self.entries, &mut self.present.ledger, entry);
-        let active = self.present.ledger.acts.count_active();
+        enter(&mut self.entries, &mut self.state.ledger, entry);
+        let active = self.state.ledger.acts.count_active();
         if active == 0 {
             let left = self.spare.saturating_sub(1);
             self.spare = left;
@@ -114,15 +114,15 @@ impl Core {
         }
         let broken = broken_since(
             &self.monitor,
-            &self.present.problem,
-            &self.present.expert,
+            &self.state.problem,
+            &self.state.expert,
             changed,
             started,
         );
         let others = self.monitor.others(&broken);
         let any = cancel_all(
             &mut self.entries,
-            &mut self.present.ledger,
+            &mut self.state.ledger,
             &mut self.monitor,
             hand,
             CancelWhy::OverAll,
@@ -131,7 +131,7 @@ impl Core {
         let stopped = only_if(fails | any, others);
         cancel_all(
             &mut self.entries,
-            &mut self.present.ledger,
+            &mut self.state.ledger,
             &mut self.monitor,
             hand,
             CancelWhy::Stop,
@@ -142,12 +142,12 @@ impl Core {
 
     /// How many entries the block of an event has at most.
     fn most_entries(&self, what: &Event) -> usize
-        ensures { result ≡ most_entries self.now.present.ledger what.now }
+        ensures { result ≡ most_entries self.now.state.ledger what.now }
     {
         if is_quiet(what) {
             1
         } else if is_fail(what) {
-            self.present.ledger.acts.count_active()
+            self.state.ledger.acts.count_active()
         } else {
             257
         }
@@ -160,7 +160,7 @@ impl Core {
         requires room { HasSpare self.now.spare self.now }
         ensures ok { OnOk result (HasPlaces what.now most self.new) }
         ensures grown { IsGrown self.old self.new }
-        ensures plan { MayBegin what.now self.old.present → MayBegin what.now self.new.present }
+        ensures plan { MayBegin what.now self.old.state → MayBegin what.now self.new.state }
         ensures spare { self.new.spare ≡ self.old.spare }
         ensures reserved { makes_plan what.now ≡ false → most ≤ self.old.spare → IsOk result }
     {
@@ -168,21 +168,21 @@ impl Core {
             let _capacity = self.entries.capacity();
             return Ok(());
         }
-        self.present.make_room(what)?;
+        self.state.make_room(what)?;
         reserve(&mut self.entries, most)
     }
 
     /// Makes room, so that at least so many entries are spare. The only error is that memory ran out.
     pub fn reserve(&mut self, n: usize) -> Result<(), AllocError>
-        requires { Stands self.now }
-        ensures stands { Stands self.new }
+        requires { BoardStands self.now }
+        ensures stands { BoardStands self.new }
         ensures grown { IsGrown self.old self.new }
         ensures shown { IsShown self.old → IsShown self.new }
         ensures ok { OnOk result (self.new.spare ≡ max self.old.spare n) }
         ensures err { OnErr result (self.new.spare ≡ self.old.spare) }
     {
         if self.spare < n {
-            self.present.reserve(n)?;
+            self.state.reserve(n)?;
             reserve(&mut self.entries, n)?;
             self.spare = n;
         }
@@ -192,14 +192,14 @@ impl Core {
     /// Makes all that is kept ready for the block of a legal event: memory, what is watched, what is known and the plan. Answers what
     /// the event changes. The only error is that memory ran out, and then what is kept still stands.
     fn prepare(&mut self, alloc: Global, hand: u8, what: &Event) -> Result<Vec<Touched>, AllocError>
-        requires stands { Stands self.now }
+        requires stands { BoardStands self.now }
         requires legal { MayCome self.now what.now }
-        requires plan { MayBegin what.now self.now.present }
+        requires plan { MayBegin what.now self.now.state }
         requires by { IsTrue (has_hand what.now hand) }
         ensures ok { OnOk result (IsDue self.new hand what.now) }
         ensures changed { IfOk result
-            (λ changed. changed.items ≡ touched_by self.new.present.grounds.items what.now) }
-        ensures err { OnErr result (Stands self.new) }
+            (λ changed. changed.items ≡ touched_by self.new.state.grounds.items what.now) }
+        ensures err { OnErr result (BoardStands self.new) }
         ensures entries { self.new.entries.items ≡ self.old.entries.items }
         ensures input { self.new.input ≡ self.old.input }
         ensures spare { self.new.spare ≡ self.old.spare }
@@ -207,9 +207,9 @@ impl Core {
     {
         let most = self.most_entries(what);
         self.make_room(what, most)?;
-        let changed = touched_by(alloc, &self.present.grounds, what)?;
-        watch_started(&mut self.monitor, &self.present.grounds, what)?;
-        match self.present.advance(alloc, what) {
+        let changed = touched_by(alloc, &self.state.grounds, what)?;
+        watch_started(&mut self.monitor, &self.state.grounds, what)?;
+        match self.state.advance(alloc, what) {
             Ok(()) => {
                 unwatch_ended(&mut self.monitor, what);
                 Ok(changed)
@@ -224,11 +224,11 @@ impl Core {
     /// Appends the block of a legal event. The only error is that memory ran out, and then no entry is appended; a block that is covered
     /// takes none.
     pub fn put(&mut self, alloc: Global, hand: u8, what: Event) -> Result<(), AllocError>
-        requires stands { Stands self.now }
+        requires stands { BoardStands self.now }
         requires legal { MayCome self.now what }
-        requires plan { MayBegin what self.now.present }
+        requires plan { MayBegin what self.now.state }
         requires by { IsTrue (has_hand what hand) }
-        ensures stands { Stands self.new }
+        ensures stands { BoardStands self.new }
         ensures did { OnOk result (Gains hand (Some what) self.old self.new) }
         ensures err { OnErr result (GainsNothing self.old self.new) }
         ensures reserved { Covers self.old hand (Some what) → IsOk result }
@@ -241,11 +241,11 @@ impl Core {
     /// Appends the block of a legal event that was chosen. The only error is that memory ran out, and then no entry is appended; a
     /// block that is covered takes none.
     pub fn choose(&mut self, alloc: Global, hand: u8, choice: &Choice) -> Result<(), AllocError>
-        requires stands { Stands self.now }
+        requires stands { BoardStands self.now }
         requires legal { MayCome self.now choice.now }
-        requires plan { MayBegin choice.now self.now.present }
+        requires plan { MayBegin choice.now self.now.state }
         requires by { IsTrue (has_hand choice.now hand) }
-        ensures stands { Stands self.new }
+        ensures stands { BoardStands self.new }
         ensures did { OnOk result (Gains hand (Some choice.now) self.old self.new) }
         ensures err { OnErr result (GainsNothing self.old self.new) }
         ensures reserved { Covers self.old hand (Some choice.now) → IsOk result }
@@ -259,16 +259,16 @@ impl Core {
     /// Makes an edit and records it, or records why it is refused, where what records it is legal. The only error is that memory
     /// ran out, and then no entry is appended.
     pub fn record(&mut self, hand: u8, by: By, edit: Edit) -> Result<(), AllocError>
-        requires stands { Stands self.now }
+        requires stands { BoardStands self.now }
         requires legal { MayCome self.now (edit_of self.now by edit) }
         requires hand { IsTrue (has_hand (edit_of self.now by edit) hand) }
-        ensures stands { Stands self.new }
+        ensures stands { BoardStands self.new }
         ensures did { OnOk result
             (Gains hand (Some (edit_of self.old by edit)) self.old self.new) }
         ensures err { OnErr result (GainsNothing self.old self.new) }
     {
         self.make_room(&Event::Quit, 257)?;
-        match self.present.problem.edit(&self.present.expert, &edit) {
+        match self.state.problem.edit(&self.state.expert, &edit) {
             Ok(_) => {
                 let changed = edited_by(&edit);
                 self.append(hand, Event::Edit { by, edit }, changed.as_slice());
@@ -285,13 +285,13 @@ impl Core {
 
     /// Lets the tree show the states of the acts. It takes no memory.
     pub fn show(&mut self)
-        requires { Stands self.now }
-        ensures stands { Stands self.new }
+        requires { BoardStands self.now }
+        ensures stands { BoardStands self.new }
         ensures shown { IsShown self.new }
         ensures entries { self.new.entries.items ≡ self.old.entries.items }
         ensures input { self.new.input ≡ self.old.input }
         ensures spare { self.new.spare ≡ self.old.spare }
     {
-        self.present.tick_tree();
+        self.state.tick_tree();
     }
 }

@@ -6,15 +6,15 @@ ghost use Rattle.ps_rules.specs.Auctions.{is_for_active, is_working};
 ghost use Rattle.ps_rules.specs.Choices.{performed, unit_event};
 ghost use Rattle.ps_rules.specs.Legal.{is_legal};
 ghost use Rattle.ps_rules.specs.Runs.{is_running};
-ghost use Rattle.ps_ends.specs.Working.{recorded, unit_due};
-ghost use Rattle.ps_choices.specs.Heard.{HasHeard};
-ghost use Rattle.ps_choices.specs.Turns.{is_choice_of};
-ghost use Rattle.ps_board.specs.Core.{Covers, Gains, GainsNothing, Stands};
+ghost use Rattle.ps_progress_laws.specs.Working.{recorded, unit_due};
+ghost use Rattle.ps_actors.specs.Heard.{HasHeard};
+ghost use Rattle.ps_actors.specs.Turns.{is_choice_of};
+ghost use Rattle.ps_board.specs.Parts.{BoardStands, Covers, Gains, GainsNothing};
 ghost use Rattle.ps_board.specs.Grants.{grant_for, is_bare, performed_answer};
 
 use super::boxes::Boxed;
-use super::whole::Core;
-use ps_choices::{performed, work_of};
+use super::whole::Parts;
+use ps_actors::{performed, work_of};
 use ps_machine::{By, Event, Unit};
 use ps_rows::performer_of;
 use ps_world::{Duplicate, Name};
@@ -53,21 +53,21 @@ fn copy_of(alloc: Global, unit: &Unit) -> Result<Unit, AllocError>
     }
 }
 
-impl Core {
+impl Parts {
     /// The unit that stands next in the job of a performer, if it works on this request.
     pub fn unit_due(&self, r: u64, by: Name) -> Option<&Unit>
-        requires { Stands self.now }
+        requires { BoardStands self.now }
         ensures { option_copied result ≡ unit_due self.now.input r by self.now.entries.items }
     {
         match performer_of(&self.input, by) {
-            Some(performer) => self.present.unit_of(performer, r, by),
+            Some(performer) => self.state.unit_of(performer, r, by),
             None => None,
         }
     }
 
     /// A copy of the next unit of one who works on a request.
     fn copy_due(&self, alloc: Global, r: u64, by: Name) -> Result<Unit, AllocError>
-        requires stands { Stands self.now }
+        requires stands { BoardStands self.now }
         requires works { is_working r by self.now.entries.items ≡ true }
         ensures next { IfOk result
             (λ u. unit_due self.now.input r by self.now.entries.items ≡ Some u) }
@@ -90,12 +90,12 @@ impl Core {
         by: Name,
         unit: Unit,
     ) -> Result<(), AllocError>
-        requires stands { Stands self.now }
+        requires stands { BoardStands self.now }
         requires works { is_working r by self.now.entries.items ≡ true }
         requires active { is_for_active r self.now.entries.items ≡ true }
         requires next { unit_due self.now.input r by self.now.entries.items ≡ Some unit }
         requires hand { IsTrue (nat_le 1 hand && nat_le hand 16) }
-        ensures stands { Stands self.new }
+        ensures stands { BoardStands self.new }
         ensures did { OnOk result (Gains hand
             (Some (unit_event self.old.input self.old.entries.items r by unit)) self.old self.new) }
         ensures err { OnErr result (GainsNothing self.old self.new) }
@@ -128,17 +128,17 @@ impl Core {
         r: u64,
         by: Name,
     ) -> Result<(), AllocError>
-        requires stands { Stands self.now }
+        requires stands { BoardStands self.now }
         requires works { is_working r by self.now.entries.items ≡ true }
         requires hand { IsTrue (nat_le 1 hand && nat_le hand 16) }
-        ensures stands { Stands self.new }
+        ensures stands { BoardStands self.new }
         ensures did { OnOk result (Gains hand
             (recorded self.old.input self.old.entries.items r by) self.old self.new) }
         ensures err { OnErr result (GainsNothing self.old self.new) }
         ensures reserved { Covers self.old hand
             (recorded self.old.input self.old.entries.items r by) → IsOk result }
     {
-        if self.present.ledger.is_for_active(r) {
+        if self.state.ledger.is_for_active(r) {
             let unit = self.copy_due(alloc, r, by)?;
             self.record_unit(alloc, hand, r, by, unit)
         } else {
@@ -156,13 +156,13 @@ impl Core {
 
     /// The grant of the work that a performer has to do now, if it has some.
     fn grant_for(&self, alloc: Global, name: Name) -> Result<Option<Grant>, AllocError>
-        requires stands { Stands self.now }
+        requires stands { BoardStands self.now }
         requires live { is_running self.now.entries.items ≡ true }
         ensures { IfOk result
             (λ g. g ≡ grant_for self.now.input self.now.entries.items name) }
     {
-        match work_of(&self.present, &self.input, name) {
-            Some((r, unit)) => Ok(Some(Core::grant_of(alloc, r, name, unit)?)),
+        match work_of(&self.state, &self.input, name) {
+            Some((r, unit)) => Ok(Some(Parts::grant_of(alloc, r, name, unit)?)),
             None => Ok(None),
         }
     }
@@ -176,11 +176,11 @@ impl Core {
         name: Name,
         upto: u64,
     ) -> Result<Turn, AllocError>
-        requires stands { Stands self.now }
+        requires stands { BoardStands self.now }
         requires live { is_running self.now.entries.items ≡ true }
         requires heard { HasHeard name upto self.now.entries.items }
         requires hand { IsTrue (nat_le 1 hand && nat_le hand 16) }
-        ensures stands { Stands self.new }
+        ensures stands { BoardStands self.new }
         ensures answer { IfOk result
             (λ t. t ≡ performed_answer self.old.input self.old.entries.items name) }
         ensures did { OnOk result (Gains hand
@@ -191,7 +191,7 @@ impl Core {
         ensures its { IfSome (performed self.old.input name self.old.entries.items)
             (λ e. is_choice_of name e ≡ true) }
     {
-        match performed(&self.present, &self.input, name, upto) {
+        match performed(&self.state, &self.input, name, upto) {
             Some(choice) => {
                 self.choose(alloc, hand, &choice)?;
                 Ok(Turn::Did)

@@ -16,8 +16,8 @@ use Rattle.ps_undo.specs.declared.editing.Editing.{Editing as Held}
 use Rattle.ps_editing.specs.Runs.{IsRun, Stage, run_status}
 use Rattle.ps_audit.specs.Findings.{finding_status}
 use Rattle.ps_audit.specs.declared.findings.Finding.{Finding}
-use Rattle.ps_course.specs.Beginnings.{GoInOrder}
-use Rattle.ps_course.specs.Segments.{GoWell}
+use Rattle.ps_good_plan_laws.specs.Beginnings.{GoInOrder}
+use Rattle.ps_good_plan_laws.specs.Segments.{GoWell}
 use Rattle.ps_session.specs.Session.{IsSession}
 use Rattle.ps_hub.specs.declared.report.Report.{Report}
 use Rattle.ps_calls.specs.Headline.{Answers, Call, IsFound, LoadsAs, PerformsAs, edit_lines, lines_of, plan_of, turns_of, verdict_of}

@@ -20,13 +20,13 @@ use Rattle.ps_rules.specs.Auctions.{confirmed, has_answered, is_for_active, is_o
 use Rattle.ps_rules.specs.Known.{know}
 use Rattle.ps_rules.specs.Lines.{edit_refusal}
 use Rattle.ps_rules.specs.Members.{as_edit, is_observed, next_edit, next_seen, next_unit, observer_of, performer_of, performers, seen_by, unit_of}
-use Rattle.ps_rules.specs.Legal.{fits, is_cause, is_confirmed, is_edit, is_feedback, is_finish, is_pass, is_work, pass_reason}
+use Rattle.ps_rules.specs.Legal.{is_cause, is_confirmed, is_edit, is_feedback, is_finish, is_pass, is_work, pass_reason, row_allows}
 use Rattle.ps_rules.specs.History.{IsHistory}
 use Rattle.ps_rules.proofs.Kept.{confirmed_by, fits-legal}
-use Rattle.ps_ends.proofs.Lists.{In}
-use Rattle.ps_ends.proofs.Offers.{confirmed_offered, offer_says}
-use Rattle.ps_ends.proofs.Passes.{offered_member}
-use Rattle.ps_ends.proofs.Picking.{by_test, clash}
+use Rattle.ps_progress_laws.proofs.Lists.{In}
+use Rattle.ps_progress_laws.proofs.Offers.{confirmed_offered, offer_says}
+use Rattle.ps_progress_laws.proofs.Passes.{offered_member}
+use Rattle.ps_progress_laws.proofs.Picking.{by_test, clash}
 use Rattle.ps_choice_laws.specs.Whose.{is_performer_event, MembersAloneAct}
 
 -- who is named by a performer is found by the name
@@ -59,7 +59,7 @@ module _ (i : Input) (es : List Entry) (h : IsHistory i es) where
   performs : (p q : Name) → same_name p q ≡ true → is_some (performer_of i q) ≡ true → is_some (performer_of i p) ≡ true
   performs p q same m = ap (λ n. is_some (performer_of i n)) (same_name-is p q same) ∙ m
 
-  by_performer : (p : Name) (e : Event) → is_performer_event p e ≡ true → fits i es e ≡ true → is_some (performer_of i p) ≡ true
+  by_performer : (p : Name) (e : Event) → is_performer_event p e ≡ true → row_allows i es e ≡ true → is_some (performer_of i p) ≡ true
   by_performer p (event.Offer r q) own f = performs p q own (offer_says i es r q f).member
   by_performer p (event.Pass r q why) own f =
       performs p q own (some_passed (λ performer. is_of_run r es && (not (has_answered r q es) && is_pass why (pass_reason performer r es))) (performer_of i q) f)
@@ -86,7 +86,7 @@ seen_by_one i es o n test none same t = by_found (observer_of i o) (ap (λ n. te
     by_found None t = clash (test None) t none
     by_found (Some x) t = refl
 
-by_observer : (i : Input) (es : List Entry) (o : Name) (e : Event) → is_observed o e ≡ true → fits i es e ≡ true → is_some (observer_of i o) ≡ true
+by_observer : (i : Input) (es : List Entry) (o : Name) (e : Event) → is_observed o e ≡ true → row_allows i es e ≡ true → is_some (observer_of i o) ≡ true
 by_observer i es o (event.Edit (by.Observer n) edit) own f =
     seen_by_one i es o n (is_edit edit) refl own (and_parts (is_edit edit (next_seen i n es)) (is_ok (edited i.domain (know i es) edit)) f).0
 by_observer i es o (event.Refused (by.Observer n) why) own f =

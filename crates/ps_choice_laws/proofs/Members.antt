@@ -18,15 +18,15 @@ use Rattle.ps_rules.specs.Auctions.{is_unit, requests}
 use Rattle.ps_rules.specs.Known.{know}
 use Rattle.ps_rules.specs.Lines.{edit_refusal}
 use Rattle.ps_rules.specs.Members.{as_edit, is_observed, next_edit, next_seen, next_unit}
-use Rattle.ps_rules.specs.Legal.{fits, is_cause, is_edit, is_feedback, is_finish, is_legal, is_work}
+use Rattle.ps_rules.specs.Legal.{is_cause, is_edit, is_feedback, is_finish, is_legal, is_work, row_allows}
 use Rattle.ps_rules.specs.Choices.{all_requests, answers, beginnings, edit_event, performed, stops, unit_event, unit_on, work_of}
 use Rattle.ps_rules.specs.History.{IsHistory}
 use Rattle.ps_rules.proofs.Kept.{fits-legal}
 use Rattle.ps_rules.proofs.Speaking.{legal_events_speak}
-use Rattle.ps_ends.proofs.Lists.{find_none, In, in_flat, in_left, in_map, in_right}
-use Rattle.ps_ends.proofs.OneWork.{one_work}
-use Rattle.ps_ends.proofs.Picking.{by_test, clash}
-use Rattle.ps_ends.proofs.Quiet.{by_option}
+use Rattle.ps_progress_laws.proofs.Lists.{find_none, In, in_flat, in_left, in_map, in_right}
+use Rattle.ps_progress_laws.proofs.OneWork.{one_work}
+use Rattle.ps_progress_laws.proofs.Picking.{by_test, clash}
+use Rattle.ps_progress_laws.proofs.Quiet.{by_option}
 use Rattle.ps_choice_laws.specs.Whose.{is_performer_event}
 use Rattle.ps_choice_laws.specs.Choosing.{IsWork, ObserversLeaveNothing, performer_choices, PerformersLeaveNothing, PerformersListAll}
 use Rattle.ps_choice_laws.proofs.Stood.{head_in, in_mapped, in_of, mapped_in, requested, some_head, stands}
@@ -144,7 +144,7 @@ performers_leave_nothing i es h p idle e own =
 -- ---- observers
 
 -- who sees nothing to do makes no edit, and none of its edits is refused
-no_edit : (i : Input) (es : List Entry) (o : Name) → next_seen i o es ≡ None → (e : Event) → is_observed o e ≡ true → fits i es e ≡ true → false ≡ true
+no_edit : (i : Input) (es : List Entry) (o : Name) → next_seen i o es ≡ None → (e : Event) → is_observed o e ≡ true → row_allows i es e ≡ true → false ≡ true
 no_edit i es o none (event.Edit (by.Observer n) edit) own f =
     ap (λ s. is_edit edit s && is_ok (edited i.domain (know i es) edit)) (sym none)
     ∙ ap (λ n. is_edit edit (next_seen i n es) && is_ok (edited i.domain (know i es) edit)) (same_name-is o n own) ∙ f

@@ -10,9 +10,9 @@ use Rattle.ps_machine.specs.declared.journal.Entry.{Entry}
 use Rattle.ps_rules.specs.Auctions.{requests}
 use Rattle.ps_rules.specs.Runs.{is_running}
 use Rattle.ps_rules.specs.Lines.{answers_line}
-use Rattle.ps_rules.specs.Legal.{fits, is_legal, same_flag}
+use Rattle.ps_rules.specs.Legal.{is_legal, row_allows, same_flag}
 use Rattle.ps_rules.specs.Choices.{all_requests, head_of}
-use Rattle.ps_ends.proofs.Lists.{In, in_range}
+use Rattle.ps_progress_laws.proofs.Lists.{In, in_range}
 
 -- ---- lists
 
@@ -74,4 +74,4 @@ requested es r l = in_range r 0 (requests es) (omega arith) (omega (arith, l))
 
 -- an event that answers no line is legal in an open run alone
 pub live : (i : Input) (es : List Entry) (e : Event) → answers_line e ≡ false → is_legal i es e ≡ true → is_running es ≡ true
-live i es e own h = not_not (is_running es) (and_parts (same_flag false (not (is_running es))) (fits i es e) (sym (ap (λ b. same_flag b (not (is_running es)) && fits i es e) own) ∙ h)).0
+live i es e own h = not_not (is_running es) (and_parts (same_flag false (not (is_running es))) (row_allows i es e) (sym (ap (λ b. same_flag b (not (is_running es)) && row_allows i es e) own) ∙ h)).0

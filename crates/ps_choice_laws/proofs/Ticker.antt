@@ -23,11 +23,11 @@ use Rattle.ps_rules.proofs.Kept.{confirmed_by, fits-legal}
 use Rattle.ps_rules.proofs.SameThings.{same_outcome-decides}
 use Rattle.ps_rules.proofs.Speaking.{legal_events_speak}
 use Rattle.ps_rules.proofs.Between.{active-so}
-use Rattle.ps_ends.proofs.Lists.{find_none, In, in_flat, in_left, in_map, in_range, in_right}
-use Rattle.ps_ends.proofs.Offers.{numbered}
-use Rattle.ps_ends.proofs.Picking.{by_test, clash}
-use Rattle.ps_ends.proofs.Requests.{asked, offered}
-use Rattle.ps_ends.proofs.Quiet.{by_option}
+use Rattle.ps_progress_laws.proofs.Lists.{find_none, In, in_flat, in_left, in_map, in_range, in_right}
+use Rattle.ps_progress_laws.proofs.Offers.{numbered}
+use Rattle.ps_progress_laws.proofs.Picking.{by_test, clash}
+use Rattle.ps_progress_laws.proofs.Requests.{asked, offered}
+use Rattle.ps_progress_laws.proofs.Quiet.{by_option}
 use Rattle.ps_choice_laws.specs.Whose.{is_ticker_event}
 use Rattle.ps_choice_laws.specs.Choosing.{IsTickersChoice, ticker_choices, TickerLeavesNothing, TickerListsAll}
 use Rattle.ps_choice_laws.proofs.Stood.{in_of, live, requested, stands}

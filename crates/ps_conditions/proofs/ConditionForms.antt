@@ -2,11 +2,11 @@
 use Rattle.std.proofs.Common.{◌≡◌, ◌≤◌, Bool, true, ◌&&◌, Option, Some, None, is_none, List, [], ◌∷◌, length, map, slice_index_or, refl, arith}
 use Rattle.ps_world.specs.declared.conditions.Rel.{Rel}
 use Rattle.ps_world.specs.declared.domains.Param.{Param}
-use Rattle.ps_forms.specs.Nested.{Nested, Nesteds, word, group, none, more, nesteds}
-use Rattle.ps_forms.specs.NestedViews.{nested}
-use Rattle.ps_forms.specs.Places.{head, items, rest, word_of}
-use Rattle.ps_forms.specs.declared.lexemes.Lexeme.{Lexeme}
-use Rattle.ps_forms.specs.declared.trees.Tree.{Tree}
+use Rattle.ps_lists.specs.Nested.{Nested, Nesteds, word, group, none, more, nesteds}
+use Rattle.ps_lists.specs.NestedViews.{nested}
+use Rattle.ps_lists.specs.Places.{head, items, rest, word_of}
+use Rattle.ps_lists.specs.declared.lexemes.Lexeme.{Lexeme}
+use Rattle.ps_lists.specs.declared.trees.Tree.{Tree}
 use Rattle.ps_conditions.specs.Conditions.{condition, form, implication, nothing, plain_condition, quantified, stated}
 use Rattle.ps_conditions.specs.Signs.{head_of, is_plain, rel_of}
 use Rattle.ps_conditions.specs.Steps.{Steps}

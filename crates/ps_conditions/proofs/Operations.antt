@@ -3,13 +3,13 @@ use Rattle.std.proofs.Common.{◌≡◌, ◌≤◌, List, [], ◌∷◌, length,
 use Rattle.std.specs.Bool.{if◌then◌else◌}
 use Rattle.ps_world.specs.ExprViews.{expr_tree}
 use Rattle.ps_world.specs.declared.expressions.Expr.TheVariants.{Neg}
-use Rattle.ps_shape.specs.Marks.{is}
-use Rattle.ps_shape.specs.declared.marks.Mark.TheVariants.{Minus}
-use Rattle.ps_forms.specs.Nested.{Nesteds, nesteds, rank, ranks}
-use Rattle.ps_forms.specs.NestedViews.{nested}
-use Rattle.ps_forms.specs.Places.{head, rest}
-use Rattle.ps_forms.specs.declared.trees.Tree.{Tree}
-use Rattle.ps_forms.specs.declared.trees.Tree.TheVariants.{Group}
+use Rattle.ps_grammar.specs.Marks.{is}
+use Rattle.ps_grammar.specs.declared.marks.Mark.TheVariants.{Minus}
+use Rattle.ps_lists.specs.Nested.{Nesteds, nesteds, rank, ranks}
+use Rattle.ps_lists.specs.NestedViews.{nested}
+use Rattle.ps_lists.specs.Places.{head, rest}
+use Rattle.ps_lists.specs.declared.trees.Tree.{Tree}
+use Rattle.ps_lists.specs.declared.trees.Tree.TheVariants.{Group}
 use Rattle.ps_conditions.specs.Signs.{operator_of}
 use Rattle.ps_conditions.specs.Steps.{Steps}
 use Rattle.ps_conditions.specs.Values.{function_value, operated, operation, value}

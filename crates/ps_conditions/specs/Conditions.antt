@@ -7,11 +7,11 @@ use Rattle.ps_world.specs.declared.conditions.Rel.{Rel}
 use Rattle.ps_world.specs.declared.conditions.Rel.TheVariants.{Eq}
 use Rattle.ps_world.specs.declared.conditions.Cond.{Cond}
 use Rattle.ps_world.specs.declared.conditions.Cond.TheVariants as cond
-use Rattle.ps_shape.specs.Marks.{is}
-use Rattle.ps_shape.specs.declared.marks.Mark.TheVariants.{Number}
-use Rattle.ps_forms.specs.Nested.{Nested, Nesteds, word, group, none, more}
-use Rattle.ps_forms.specs.Places.{items, word_of}
-use Rattle.ps_forms.specs.declared.lexemes.Lexeme.{Lexeme}
+use Rattle.ps_grammar.specs.Marks.{is}
+use Rattle.ps_grammar.specs.declared.marks.Mark.TheVariants.{Number}
+use Rattle.ps_lists.specs.Nested.{Nested, Nesteds, word, group, none, more}
+use Rattle.ps_lists.specs.Places.{items, word_of}
+use Rattle.ps_lists.specs.declared.lexemes.Lexeme.{Lexeme}
 use Rattle.ps_conditions.specs.Signs.{by_head, head_of, rel_of}
 use Rattle.ps_conditions.specs.Steps.{Steps}
 use Rattle.ps_conditions.specs.Values.{value}

@@ -4,10 +4,10 @@ use Rattle.ps_world.specs.declared.conditions.Rel.{Rel}
 use Rattle.ps_world.specs.declared.conditions.Rel.TheVariants.{Lt, Le, Eq, Ge, Gt}
 use Rattle.ps_world.specs.declared.expressions.Op.{Op}
 use Rattle.ps_world.specs.declared.expressions.Op.TheVariants.{Add, Sub, Mul, Div}
-use Rattle.ps_shape.specs.declared.marks.Mark.{Mark}
+use Rattle.ps_grammar.specs.declared.marks.Mark.{Mark}
 use Rattle.ps_conditions.specs.declared.signs.Head.{Head}
 use Rattle.ps_conditions.specs.declared.signs.Head.TheVariants.{All, Any, No, Implied, ForSome, ForAll, Plain}
-use Rattle.ps_shape.specs.declared.marks.Mark.TheVariants.{And, Or, Not, Imply, Exists, Forall, Plus, Minus, Times, Divide, Equal, Less, Greater, LessEqual, GreaterEqual}
+use Rattle.ps_grammar.specs.declared.marks.Mark.TheVariants.{And, Or, Not, Imply, Exists, Forall, Plus, Minus, Times, Divide, Equal, Less, Greater, LessEqual, GreaterEqual}
 
 -- the form of a condition that begins with this word
 abbrev pub head_of : Mark → Head

@@ -4,8 +4,8 @@ use Rattle.ps_world.specs.declared.domains.Param.{Param}
 use Rattle.ps_world.specs.declared.schemas.Term.{Term}
 use Rattle.ps_world.specs.declared.schemas.Lifted.{Lifted}
 use Rattle.ps_world.specs.declared.expressions.Expr.{Expr}
-use Rattle.ps_forms.specs.Nested.{Nested, Nesteds}
-use Rattle.ps_forms.specs.declared.lexemes.Lexeme.{Lexeme}
+use Rattle.ps_lists.specs.Nested.{Nested, Nesteds}
+use Rattle.ps_lists.specs.declared.lexemes.Lexeme.{Lexeme}
 use Rattle.ps_conditions.specs.Steps.{Steps, certain, refusable}
 
 -- What the words of a domain's action or of a line mean: the term that a word is; the second of two terms that are to be the same, after

@@ -3,9 +3,9 @@ ghost use Rattle.std.specs.Prelude.{◌≡◌, ◌≤◌, ◌++◌, ◌&&◌, is
 ghost use Rattle.ps_world.specs.Failures.{Gives};
 ghost use Rattle.ps_world.specs.CondViews.{cond_tree};
 ghost use Rattle.ps_world.specs.declared.conditions.Cond.TheVariants.{Imply as Implication, Not as Negated};
-ghost use Rattle.ps_forms.specs.Nested.{more, nesteds, none};
-ghost use Rattle.ps_forms.specs.NestedViews.{nested};
-ghost use Rattle.ps_forms.specs.Places.{head as first_of, items as items_of, rest as rest_of};
+ghost use Rattle.ps_lists.specs.Nested.{more, nesteds, none};
+ghost use Rattle.ps_lists.specs.NestedViews.{nested};
+ghost use Rattle.ps_lists.specs.Places.{head as first_of, items as items_of, rest as rest_of};
 ghost use Rattle.ps_conditions.specs.declared.scopes.TheConstants.{MOST_IN_FORCE};
 ghost use Rattle.ps_conditions.specs.Signs.{head_of, is_plain, rel_of};
 ghost use Rattle.ps_conditions.specs.Steps.{refusable};
@@ -14,8 +14,8 @@ ghost use Rattle.ps_conditions.specs.Conditions.{comparison, condition, conditio
 use super::scopes::Scope;
 use super::signs::{Head, head_of, is_number, rel_of};
 use super::values::value;
-use ps_forms::{Lexeme, Tree, head, items, rest};
-use ps_shape::Mark;
+use ps_grammar::Mark;
+use ps_lists::{Lexeme, Tree, head, items, rest};
 use ps_world::{BoxedCond, Cond, Conds, Failure, Param, Params, Rel};
 use std::alloc::{AllocError, Global};
 

@@ -1,11 +1,11 @@
 //! Where a condition stands.
 ghost use Rattle.std.specs.Prelude.{◌≡◌, ◌≤◌, ◌++◌, length, map, IfOk};
 ghost use Rattle.ps_world.specs.Failures.{Gives};
-ghost use Rattle.ps_forms.specs.Nested.{nesteds};
-ghost use Rattle.ps_forms.specs.NestedViews.{nested};
+ghost use Rattle.ps_lists.specs.Nested.{nesteds};
+ghost use Rattle.ps_lists.specs.NestedViews.{nested};
 ghost use Rattle.ps_conditions.specs.declared.scopes.TheConstants.{MOST_IN_FORCE};
 
-use ps_forms::{Lexeme, Tree};
+use ps_lists::{Lexeme, Tree};
 use ps_world::{Expr, Failure, Lifted, Param, Params, Term};
 use std::alloc::Global;
 

@@ -1,10 +1,10 @@
 //! The words that a form begins with.
 ghost use Rattle.std.specs.Prelude.{◌≡◌};
-ghost use Rattle.ps_shape.specs.Marks.{is};
-ghost use Rattle.ps_shape.specs.declared.marks.Mark.TheVariants.{And, Minus, Not, Number};
+ghost use Rattle.ps_grammar.specs.Marks.{is};
+ghost use Rattle.ps_grammar.specs.declared.marks.Mark.TheVariants.{And, Minus, Not, Number};
 ghost use Rattle.ps_conditions.specs.Signs.{head_of, operator_of, rel_of};
 
-use ps_shape::Mark;
+use ps_grammar::Mark;
 use ps_world::{Op, Rel};
 
 /// The forms of conditions, by the words that they begin with.

@@ -3,15 +3,15 @@ ghost use Rattle.std.specs.Prelude.{◌≡◌, ◌≤◌, IfOk, length, map};
 ghost use Rattle.ps_world.specs.Failures.{Gives};
 ghost use Rattle.ps_world.specs.ExprViews.{expr_tree};
 ghost use Rattle.ps_world.specs.declared.expressions.Expr.TheVariants.{Bin, Neg};
-ghost use Rattle.ps_forms.specs.Nested.{nesteds};
-ghost use Rattle.ps_forms.specs.NestedViews.{nested};
+ghost use Rattle.ps_lists.specs.Nested.{nesteds};
+ghost use Rattle.ps_lists.specs.NestedViews.{nested};
 ghost use Rattle.ps_conditions.specs.Steps.{refusable};
 ghost use Rattle.ps_conditions.specs.declared.scopes.TheConstants.{MOST_IN_FORCE};
 ghost use Rattle.ps_conditions.specs.Values.{function_value, operation, value};
 
 use super::scopes::Scope;
 use super::signs::{is_minus, operator_of};
-use ps_forms::{Lexeme, Tree, head, rest};
+use ps_lists::{Lexeme, Tree, head, rest};
 use ps_world::{BoxedExpr, Expr, Failure, Num, Op, Param};
 use std::alloc::{AllocError, Global};
 

@@ -10,8 +10,8 @@ use Rattle.ps_text.specs.declared.lexing.Token.{Token}
 use Rattle.ps_text.proofs.Folds.{IsNameText-folded}
 use Rattle.ps_text.proofs.Kept.{kept_along, kept_interned, kept_same}
 use Rattle.ps_text.proofs.Tables.{AreNames-interned}
-use Rattle.ps_forms.specs.Lexemes.{IsTokenOf, lexemes_of, name_within, named, table_after}
-use Rattle.ps_forms.proofs.TokenNames.{are_tokens_of, is_name-class, is_name-variable}
+use Rattle.ps_lists.specs.Lexemes.{IsTokenOf, lexemes_of, name_within, named, table_after}
+use Rattle.ps_lists.proofs.TokenNames.{are_tokens_of, is_name-class, is_name-variable}
 use Rattle.ps_script.specs.Lines.{IsRead, with_run_plan}
 use Rattle.ps_script.specs.Lines.IsRead.{nothing, source, source_nothing, run_plan, run_nothing, without_class, without_number, without_form, without_shape, good}
 use Rattle.ps_script.specs.declared.reading.Read.{Read}

@@ -1,29 +1,29 @@
 -- What is taken where a fact, a value or a condition of a goal is wanted is one, and each is taken there.
 use Rattle.std.proofs.Common.{◌≡◌, ℕ, zero, suc, ◌+◌, ◌≤◌, List, ◌∷◌, true, refl, ap, subst, ◌⊎◌, inl, inr, arith}
-use Rattle.ps_shape.specs.Marks.{is_goal_name, is_name, is_term}
-use Rattle.ps_shape.specs.Rules.{most_names}
-use Rattle.ps_shape.specs.Shape.{deepest}
-use Rattle.ps_shape.specs.Symbols.{level}
-use Rattle.ps_shape.specs.declared.marks.Mark.TheVariants as mark
-use Rattle.ps_shape.specs.declared.symbols.Symbol.{Symbol}
-use Rattle.ps_shape.specs.declared.symbols.Symbol.TheVariants.{The, InAction, InGoal}
-use Rattle.ps_shape.specs.declared.symbols.ActionPart.TheVariants.{Parameters}
-use Rattle.ps_shape.specs.declared.symbols.GoalPart.TheVariants as goal
-use Rattle.ps_forms.specs.Conditions.{AreArguments, AreConditionsOf, IsAtomOf, IsConditionOf, IsValueOf, goals, is_operator, is_relation}
-use Rattle.ps_forms.specs.Conditions.AreArguments.{no_argument, one_argument}
-use Rattle.ps_forms.specs.Conditions.AreConditionsOf.{no_condition, one_condition}
-use Rattle.ps_forms.specs.Conditions.IsAtomOf.{atom}
-use Rattle.ps_forms.specs.Conditions.IsConditionOf.{a_fact, all_of, any_of, comparison, each_choice, implication, not_so, same, some_choice}
-use Rattle.ps_forms.specs.Conditions.IsValueOf.{a_number, an_argument, an_atom, negation, operation}
-use Rattle.ps_forms.specs.Nested.{Nested, Nesteds, word, group, none, more}
-use Rattle.ps_forms.specs.Places.{count}
-use Rattle.ps_forms.specs.TypedLists.{IsTypedList, is_variable}
-use Rattle.ps_forms.specs.declared.lexemes.Lexeme.{Lexeme}
-use Rattle.ps_forms.proofs.JudgedForms.{only_close}
-use Rattle.ps_forms.proofs.OneWord as one
-use Rattle.ps_forms.proofs.OneWord.{no_word}
-use Rattle.ps_forms.proofs.Taking.{Takes, TakesAll}
-use Rattle.ps_forms.proofs.VariableLists.{bound_of_taken, bound_taken}
+use Rattle.ps_grammar.specs.Marks.{is_goal_name, is_name, is_term}
+use Rattle.ps_grammar.specs.Rules.{most_names}
+use Rattle.ps_grammar.specs.Shape.{deepest}
+use Rattle.ps_grammar.specs.Symbols.{level}
+use Rattle.ps_grammar.specs.declared.marks.Mark.TheVariants as mark
+use Rattle.ps_grammar.specs.declared.symbols.Symbol.{Symbol}
+use Rattle.ps_grammar.specs.declared.symbols.Symbol.TheVariants.{The, InAction, InGoal}
+use Rattle.ps_grammar.specs.declared.symbols.ActionPart.TheVariants.{Parameters}
+use Rattle.ps_grammar.specs.declared.symbols.GoalPart.TheVariants as goal
+use Rattle.ps_lists.specs.Conditions.{AreArguments, AreConditionsOf, IsAtomOf, IsConditionOf, IsValueOf, goals, is_operator, is_relation}
+use Rattle.ps_lists.specs.Conditions.AreArguments.{no_argument, one_argument}
+use Rattle.ps_lists.specs.Conditions.AreConditionsOf.{no_condition, one_condition}
+use Rattle.ps_lists.specs.Conditions.IsAtomOf.{atom}
+use Rattle.ps_lists.specs.Conditions.IsConditionOf.{a_fact, all_of, any_of, comparison, each_choice, implication, not_so, same, some_choice}
+use Rattle.ps_lists.specs.Conditions.IsValueOf.{a_number, an_argument, an_atom, negation, operation}
+use Rattle.ps_lists.specs.Nested.{Nested, Nesteds, word, group, none, more}
+use Rattle.ps_lists.specs.Places.{count}
+use Rattle.ps_lists.specs.TypedLists.{IsTypedList, is_variable}
+use Rattle.ps_lists.specs.declared.lexemes.Lexeme.{Lexeme}
+use Rattle.ps_lists.proofs.JudgedForms.{only_close}
+use Rattle.ps_lists.proofs.OneWord as one
+use Rattle.ps_lists.proofs.OneWord.{no_word}
+use Rattle.ps_lists.proofs.Taking.{Takes, TakesAll}
+use Rattle.ps_lists.proofs.VariableLists.{bound_of_taken, bound_taken}
 use Rattle.ps_grammar_laws.proofs.GoalWords as here
 
 -- ---- terms

@@ -1,17 +1,17 @@
 -- What one word tells where a symbol of a goal is wanted (`told`), and which words fit there (`fits`).
 use Rattle.std.proofs.Common.{◌≡◌, ℕ, suc, Bool, true, false, List, [], ◌∷◌, ◌++◌, Some, refl, ◌⊎◌, inl, inr}
 use Rattle.std.specs.Option.{option_and_then}
-use Rattle.ps_shape.specs.Marks.{is_goal_name, is_name, is_term}
-use Rattle.ps_shape.specs.Rules.{most_names, where_it_is}
-use Rattle.ps_shape.specs.declared.marks.Mark.{Mark}
-use Rattle.ps_shape.specs.declared.marks.Mark.TheVariants as mark
-use Rattle.ps_shape.specs.declared.symbols.Symbol.{Symbol}
-use Rattle.ps_shape.specs.declared.symbols.Symbol.TheVariants.{The, InAction, InGoal}
-use Rattle.ps_shape.specs.declared.symbols.ActionPart.TheVariants.{Parameters}
-use Rattle.ps_shape.specs.declared.symbols.GoalPart.TheVariants as goal
-use Rattle.ps_forms.specs.Conditions.{is_operator, is_relation}
-use Rattle.ps_forms.proofs.OneWord.{Fits}
-use Rattle.ps_forms.proofs.Taking.{Follows}
+use Rattle.ps_grammar.specs.Marks.{is_goal_name, is_name, is_term}
+use Rattle.ps_grammar.specs.Rules.{most_names, where_it_is}
+use Rattle.ps_grammar.specs.declared.marks.Mark.{Mark}
+use Rattle.ps_grammar.specs.declared.marks.Mark.TheVariants as mark
+use Rattle.ps_grammar.specs.declared.symbols.Symbol.{Symbol}
+use Rattle.ps_grammar.specs.declared.symbols.Symbol.TheVariants.{The, InAction, InGoal}
+use Rattle.ps_grammar.specs.declared.symbols.ActionPart.TheVariants.{Parameters}
+use Rattle.ps_grammar.specs.declared.symbols.GoalPart.TheVariants as goal
+use Rattle.ps_lists.specs.Conditions.{is_operator, is_relation}
+use Rattle.ps_lists.proofs.OneWord.{Fits}
+use Rattle.ps_lists.proofs.Taking.{Follows}
 
 module _ (st : List Symbol) (After : List Symbol → Type 0) where
   passed : (b : Bool) (new : List Symbol) → Follows After (option_and_then (λ n. Some (n ++ st)) (where_it_is b new)) → (b ≡ true) × After (new ++ st)

@@ -1,22 +1,22 @@
 -- The lists of a line whose words fit a form are a line of that form, and the words of a line of a form fit it.
 use Rattle.std.proofs.Common.{◌≡◌, ℕ, zero, suc, List, [], ◌∷◌, refl, arith}
-use Rattle.ps_shape.specs.Shape.{deepest}
-use Rattle.ps_shape.specs.declared.marks.Mark.TheVariants as mark
-use Rattle.ps_shape.specs.declared.symbols.Symbol.{Symbol}
-use Rattle.ps_shape.specs.declared.symbols.Symbol.TheVariants.{The, AnyName, InGoal}
-use Rattle.ps_shape.specs.declared.symbols.GoalPart.TheVariants as goal
-use Rattle.ps_forms.specs.Nested.{Nested, Nesteds, word, group, none, more}
-use Rattle.ps_forms.proofs.JudgedForms.{only_close}
-use Rattle.ps_forms.proofs.OneWord as one
-use Rattle.ps_forms.proofs.OneWord.{no_word}
-use Rattle.ps_forms.proofs.Taking.{Takes, TakesAll}
+use Rattle.ps_grammar.specs.Shape.{deepest}
+use Rattle.ps_grammar.specs.declared.marks.Mark.TheVariants as mark
+use Rattle.ps_grammar.specs.declared.symbols.Symbol.{Symbol}
+use Rattle.ps_grammar.specs.declared.symbols.Symbol.TheVariants.{The, AnyName, InGoal}
+use Rattle.ps_grammar.specs.declared.symbols.GoalPart.TheVariants as goal
+use Rattle.ps_lists.specs.Nested.{Nested, Nesteds, word, group, none, more}
+use Rattle.ps_lists.proofs.JudgedForms.{only_close}
+use Rattle.ps_lists.proofs.OneWord as one
+use Rattle.ps_lists.proofs.OneWord.{no_word}
+use Rattle.ps_lists.proofs.Taking.{Takes, TakesAll}
 use Rattle.ps_script.specs.Forms.{start_of}
 use Rattle.ps_script.specs.declared.forms.Form.{Form}
 use Rattle.ps_script.specs.declared.forms.Form.TheVariants.{SetInstance, SetPredicate, SetFunction, SetGoal, RemoveInstance, RemovePredicate, RemoveFunction, RemoveGoal, ModelPredicate, ModelAction, Domain, Plan, Quit, Tree, Run, RunAction}
 use Rattle.ps_grammar_laws.specs.LineForms.{GrammaticalLinesAreJudged, IsEnd, IsFact, IsGoal, IsLineForm, IsOne, IsSetting, JudgedLinesAreGrammatical, Names}
 use Rattle.ps_grammar_laws.specs.LineForms.IsSetting.{setting}
 use Rattle.ps_grammar_laws.proofs.GoalLists.{atom_of_taken, atom_taken, condition_of_taken, condition_taken}
-use Rattle.ps_forms.proofs.TakenLines.{TakesLine, judged_of_line, line_of_judged}
+use Rattle.ps_lists.proofs.TakenLines.{TakesLine, judged_of_line, line_of_judged}
 
 -- these lists are a line where what is wanted is taken to its end
 abbrev pub AreTaken : List Symbol → (Nesteds → Type 0) → Type 0

@@ -6,7 +6,7 @@ use Rattle.ps_members.specs.declared.forms.Form.{Form}
 use Rattle.ps_members.specs.declared.forms.Form.TheVariants.{Performer, Observer, Action, Args, Job, When, End, Work, Feedback, FinishOk, FinishFail, Edit}
 use Rattle.ps_grammar_laws.specs.MemberLines.{GrammaticalMemberLinesAreJudged, IsMemberLine, JudgedMemberLinesAreGrammatical}
 use Rattle.ps_grammar_laws.proofs.LineForms.{AreTaken, Take, goal_taken, goal_told, line_taken, line_told, names_only_taken, names_only_told}
-use Rattle.ps_forms.proofs.TakenLines.{judged_of_line, line_of_judged}
+use Rattle.ps_lists.proofs.TakenLines.{judged_of_line, line_of_judged}
 
 -- what is taken where a form's symbols are wanted is a line of the form
 member_line_told : (f : Form) → is_plain f ≡ true → AreTaken (start_of f) (IsMemberLine f)

@@ -1,13 +1,13 @@
 -- The grammar of a line of each form, over its nested lists, from its first word on.
 use Rattle.std.specs.Prelude.{◌≡◌, ℕ, zero, suc, true, List}
-use Rattle.ps_shape.specs.Marks.{is_name}
-use Rattle.ps_shape.specs.Shape.{Derives, IsShallowFrom, deepest}
-use Rattle.ps_shape.specs.declared.marks.Mark.TheVariants as mark
-use Rattle.ps_forms.specs.Conditions.{IsAtomOf, IsConditionOf, goals}
-use Rattle.ps_forms.specs.Lexemes.{marks}
-use Rattle.ps_forms.specs.Nested.{Nested, Nesteds, word, group, none, more}
-use Rattle.ps_forms.specs.Spelling.{SpellAll}
-use Rattle.ps_forms.specs.declared.lexemes.Lexeme.{Lexeme}
+use Rattle.ps_grammar.specs.Marks.{is_name}
+use Rattle.ps_grammar.specs.Shape.{Derives, IsShallowFrom, deepest}
+use Rattle.ps_grammar.specs.declared.marks.Mark.TheVariants as mark
+use Rattle.ps_lists.specs.Conditions.{IsAtomOf, IsConditionOf, goals}
+use Rattle.ps_lists.specs.Lexemes.{marks}
+use Rattle.ps_lists.specs.Nested.{Nested, Nesteds, word, group, none, more}
+use Rattle.ps_lists.specs.Spelling.{SpellAll}
+use Rattle.ps_lists.specs.declared.lexemes.Lexeme.{Lexeme}
 use Rattle.ps_script.specs.Forms.{start_of}
 use Rattle.ps_script.specs.declared.forms.Form.{Form}
 use Rattle.ps_script.specs.declared.forms.Form.TheVariants.{SetInstance, SetPredicate, SetFunction, SetGoal, RemoveInstance, RemovePredicate, RemoveFunction, RemoveGoal, ModelTypes, ModelPredicates, ModelFunctions, ModelActions, ModelPredicate, ModelAction, Domain, ProblemInstances, ProblemPredicates, ProblemFunctions, ProblemGoal, Plan, Quit, Tree, Run, RunAction}

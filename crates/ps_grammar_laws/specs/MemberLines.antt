@@ -1,10 +1,10 @@
 -- The grammar of a line of each form of a member's text, over its nested lists, from its first word on.
 use Rattle.std.specs.Prelude.{◌≡◌, true, List}
-use Rattle.ps_shape.specs.Shape.{Derives, IsShallowFrom}
-use Rattle.ps_forms.specs.Lexemes.{marks}
-use Rattle.ps_forms.specs.Nested.{Nesteds}
-use Rattle.ps_forms.specs.Spelling.{SpellAll}
-use Rattle.ps_forms.specs.declared.lexemes.Lexeme.{Lexeme}
+use Rattle.ps_grammar.specs.Shape.{Derives, IsShallowFrom}
+use Rattle.ps_lists.specs.Lexemes.{marks}
+use Rattle.ps_lists.specs.Nested.{Nesteds}
+use Rattle.ps_lists.specs.Spelling.{SpellAll}
+use Rattle.ps_lists.specs.declared.lexemes.Lexeme.{Lexeme}
 use Rattle.ps_members.specs.Forms.{start_of}
 use Rattle.ps_members.specs.Lines.{is_plain}
 use Rattle.ps_members.specs.declared.forms.Form.{Form}

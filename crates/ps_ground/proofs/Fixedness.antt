@@ -104,36 +104,36 @@ module _ (d : Domain) (k : Knowledge) (s : State) (args : List Name) where
   and_no false b e = refl
 
   -- conditions of which one doesn't hold
-  pub vain_at : (i : ℕ) (cs rest : List Cond) (c : Cond) → drop i cs ≡ c ∷ rest → is_true d (at k s) (put_cond args (cond_tree c)) ≡ false → all_true d (at k s) (map (put_cond args) (map cond_tree cs)) ≡ false
-  vain_at zero [] rest c e f = absurd (cc)
-  vain_at zero (x ∷ cs) rest c e f =
+  pub never_at : (i : ℕ) (cs rest : List Cond) (c : Cond) → drop i cs ≡ c ∷ rest → is_true d (at k s) (put_cond args (cond_tree c)) ≡ false → all_true d (at k s) (map (put_cond args) (map cond_tree cs)) ≡ false
+  never_at zero [] rest c e f = absurd (cc)
+  never_at zero (x ∷ cs) rest c e f =
       let same : x ≡ c = cc in
       ap (λ y. is_true d (at k s) (put_cond args (cond_tree y)) && all_true d (at k s) (map (put_cond args) (map cond_tree cs))) same ∙ rw f refl
-  vain_at (suc i) [] rest c e f = absurd (cc)
-  vain_at (suc i) (x ∷ cs) rest c e f = and_no (is_true d (at k s) (put_cond args (cond_tree x))) (all_true d (at k s) (map (put_cond args) (map cond_tree cs))) (vain_at i cs rest c e f)
+  never_at (suc i) [] rest c e f = absurd (cc)
+  never_at (suc i) (x ∷ cs) rest c e f = and_no (is_true d (at k s) (put_cond args (cond_tree x))) (all_true d (at k s) (map (put_cond args) (map cond_tree cs))) (never_at i cs rest c e f)
 
   -- and so don't they where the arguments have to fit as well
-  vain_list : (ps : List Param) (cs : List CondTree) → all_true d (at k s) (map (put_cond args) cs) ≡ false → all_true d (at k s) (put_list ps args cs) ≡ false
-  vain_list ps cs e = both_true d (at k s) (fitting ps args) (map (put_cond args) cs) ∙ and_no (all_true d (at k s) (fitting ps args)) (all_true d (at k s) (map (put_cond args) cs)) e
+  never_list : (ps : List Param) (cs : List CondTree) → all_true d (at k s) (map (put_cond args) cs) ≡ false → all_true d (at k s) (put_list ps args cs) ≡ false
+  never_list ps cs e = both_true d (at k s) (fitting ps args) (map (put_cond args) cs) ∙ and_no (all_true d (at k s) (fitting ps args)) (all_true d (at k s) (map (put_cond args) cs)) e
 
 -- ---- acts that lead nowhere
 
 module _ (d : Domain) (k : Knowledge) (facts : List Fact) (heads : List Name) (fixed : List Fact) (are : AreFixed heads fixed facts) (a : ActionDef) (act : Act) (atoms : AreAtoms facts (adds d k (grounded a act))) where
   -- conditions that hold in no state without the facts that never are known
-  abbrev pub IsVain : List CondTree → Type 0
-  IsVain cs = (s : State) → AreFixed heads fixed s.facts → all_true d (at k s) (map (put_cond act.args) cs) ≡ false
+  abbrev pub NeverHold : List CondTree → Type 0
+  NeverHold cs = (s : State) → AreFixed heads fixed s.facts → all_true d (at k s) (map (put_cond act.args) cs) ≡ false
 
-  in_states : (cs : List CondTree) → IsVain cs → (s : State) → IsOver facts s → all_true d (at k s) (put_list a.params act.args cs) ≡ false
-  in_states cs v s o = vain_list d k s act.args a.params cs (v s (λ f head fact. o f (are f head fact)))
+  in_states : (cs : List CondTree) → NeverHold cs → (s : State) → IsOver facts s → all_true d (at k s) (put_list a.params act.args cs) ≡ false
+  in_states cs v s o = never_list d k s act.args a.params cs (v s (λ f head fact. o f (are f head fact)))
 
-  pub no_start : IsVain a.conditions.at_start → (s : State) → IsOver facts s → stepped d k s (grounded a act) ≡ None
+  pub no_start : NeverHold a.conditions.at_start → (s : State) → IsOver facts s → stepped d k s (grounded a act) ≡ None
   no_start v s o =
       ap (λ b. option_and_then (ended d k (grounded a act)) (where_so b (changed d k s (grounded a act).effects.at_start))) (in_states a.conditions.at_start v s o)
 
-  pub no_over_all : IsVain a.conditions.over_all → (s : State) → IsOver facts s → stepped d k s (grounded a act) ≡ None
+  pub no_over_all : NeverHold a.conditions.over_all → (s : State) → IsOver facts s → stepped d k s (grounded a act) ≡ None
   no_over_all v s o = no_over d k facts (grounded a act) (in_states a.conditions.over_all v) (first_atoms d k facts (grounded a act) atoms) s o
 
-  pub no_at_end : IsVain a.conditions.at_end → (s : State) → IsOver facts s → stepped d k s (grounded a act) ≡ None
+  pub no_at_end : NeverHold a.conditions.at_end → (s : State) → IsOver facts s → stepped d k s (grounded a act) ≡ None
   no_at_end v s o = no_last d k facts (grounded a act) (in_states a.conditions.at_end v) (first_atoms d k facts (grounded a act) atoms) s o
 
 -- ---- the ground action of an act

@@ -22,7 +22,7 @@ use Rattle.ps_ground.specs.Fixed.{AreFixed, possible_facts}
 use Rattle.ps_ground.specs.Moves.{Node, grounds, move, moves}
 use Rattle.ps_ground.specs.Atoms.{AreAtoms, IsOver, adds}
 use Rattle.ps_ground.specs.States.{State, stepped}
-use Rattle.ps_ground.specs.Thinned.{IsIdle, IsThinned}
+use Rattle.ps_ground.specs.Thinned.{IsThinned, IsUseless}
 use Rattle.ps_ground.proofs.Preparing.{atoms_of_both}
 
 module _ (d : Domain) (k : Knowledge) (n : Node) where
@@ -101,9 +101,9 @@ more_added of ground f found a old new =
     ∙ none_both f (flat_map of (filter_map ground found)) (flat_map of (option_to_list (ground a))) _ (flat_map-append of (filter_map ground found) (option_to_list (ground a))) old new
 
 -- what leads nowhere where the facts that it adds are atoms leads to nothing
-pub idle_moved : (d : Domain) (k : Knowledge) (n : Node) (r : Result GroundAction GroundRefusal) (atoms : List Fact) → AreAtoms atoms (flat_map (adds d k) (option_to_list (result_ok r))) → ((g : GroundAction) → r ≡ Ok g → AreAtoms atoms (adds d k g) → stepped d k n.state g ≡ None) → moves d k (option_to_list (result_ok r)) n ≡ []
-idle_moved d k n (Err why) atoms a h = refl
-idle_moved d k n (Ok g) atoms a h =
+pub useless_moved : (d : Domain) (k : Knowledge) (n : Node) (r : Result GroundAction GroundRefusal) (atoms : List Fact) → AreAtoms atoms (flat_map (adds d k) (option_to_list (result_ok r))) → ((g : GroundAction) → r ≡ Ok g → AreAtoms atoms (adds d k g) → stepped d k n.state g ≡ None) → moves d k (option_to_list (result_ok r)) n ≡ []
+useless_moved d k n (Err why) atoms a h = refl
+useless_moved d k n (Ok g) atoms a h =
     none_moved d k n (Ok g) (λ g' e. ap (λ (x : GroundAction). stepped d k n.state x) (sym (same_ok g g' (Ok g) refl e)) ∙ h g refl (alone (adds d k) atoms g a))
 
 -- what a ground action adds may be known
@@ -122,8 +122,8 @@ module _ (d : Domain) (k : Knowledge) (heads : List Name) (fixed facts : List Fa
   abbrev ground_of : Act → Option GroundAction
   ground_of act = result_ok (ground_act d k.instances act)
 
-  idle_one : (act : Act) → IsIdle d heads fixed act → AreAtoms facts (flat_map (adds d k) (option_to_list (ground_of act))) → moves d k (option_to_list (ground_of act)) n ≡ []
-  idle_one act idle atoms = idle_moved d k n (ground_act d k.instances act) facts atoms (λ g e one. idle k g facts e are one n.state over)
+  useless_one : (act : Act) → IsUseless d heads fixed act → AreAtoms facts (flat_map (adds d k) (option_to_list (ground_of act))) → moves d k (option_to_list (ground_of act)) n ≡ []
+  useless_one act useless atoms = useless_moved d k n (ground_act d k.instances act) facts atoms (λ g e one. useless k g facts e are one n.state over)
 
   moves_left : (act : Act) (acts : List Act) (ms : List Node) → ms ≡ moves d k (grounds_of d k acts) n → moves d k (option_to_list (ground_of act)) n ≡ [] → ms ≡ moves d k (grounds_of d k (act ∷ acts)) n
   moves_left act acts ms e none = e ∙ ap (λ (l : List Node). l ++ moves d k (grounds_of d k acts) n) (sym none) ∙ moves_of_one d k n (ground_of act) (grounds_of d k acts)
@@ -136,16 +136,16 @@ module _ (d : Domain) (k : Knowledge) (heads : List Name) (fixed facts : List Fa
       ∙ moves_of_one d k n (ground_of act) (grounds_of d k acts)
 
   -- they lead to the same nodes
-  pub thinned_moves : (kept acts : List Act) → IsThinned (IsIdle d heads fixed) kept acts → AreAtoms facts (flat_map (adds d k) (grounds_of d k acts)) → moves d k (grounds_of d k kept) n ≡ moves d k (grounds_of d k acts) n
+  pub thinned_moves : (kept acts : List Act) → IsThinned (IsUseless d heads fixed) kept acts → AreAtoms facts (flat_map (adds d k) (grounds_of d k acts)) → moves d k (grounds_of d k kept) n ≡ moves d k (grounds_of d k acts) n
   thinned_moves kept [] e atoms = ap (λ (l : List Act). moves d k (grounds_of d k l) n) e
   thinned_moves [] (act ∷ acts) w atoms =
       let both = given_first {A = Act} (adds d k) ground_of (ground_of act) (grounds_of d k acts) facts atoms in
-      moves_left act acts [] (thinned_moves [] acts w.1 both.1) (idle_one act w.0 both.0)
+      moves_left act acts [] (thinned_moves [] acts w.1 both.1) (useless_one act w.0 both.0)
   thinned_moves (other ∷ kept) (act ∷ acts) w atoms =
       let both = given_first {A = Act} (adds d k) ground_of (ground_of act) (grounds_of d k acts) facts atoms in
       elim w [
         | inl h ↦ moves_kept act other acts kept h.0 (thinned_moves kept acts h.1 both.1)
-        | inr h ↦ moves_left act acts (moves d k (grounds_of d k (other ∷ kept)) n) (thinned_moves (other ∷ kept) acts h.1 both.1) (idle_one act h.0 both.0)
+        | inr h ↦ moves_left act acts (moves d k (grounds_of d k (other ∷ kept)) n) (thinned_moves (other ∷ kept) acts h.1 both.1) (useless_one act h.0 both.0)
       ]
 
 module _ (d : Domain) (k : Knowledge) (P : Act → Type 0) (facts : List Fact) where

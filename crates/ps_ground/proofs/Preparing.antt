@@ -143,8 +143,8 @@ nowhere_after (Some t) = refl
 
 module _ (d : Domain) (k : Knowledge) (atoms : List Fact) (g : GroundAction) where
   -- conditions that hold in no state over the atoms
-  abbrev pub AreVain : List CondTree → Type 0
-  AreVain cs = (s : State) → IsOver atoms s → all_true d (at k s) cs ≡ false
+  abbrev pub NeverHoldOver : List CondTree → Type 0
+  NeverHoldOver cs = (s : State) → IsOver atoms s → all_true d (at k s) cs ≡ false
 
   no_end : ((t : State) → IsOver atoms t → ended d k g t ≡ None) → MayAddAtoms d k atoms g.effects.at_start → (s : State) → IsOver atoms s → stepped d k s g ≡ None
   no_end h a s o =
@@ -152,11 +152,11 @@ module _ (d : Domain) (k : Knowledge) (atoms : List Fact) (g : GroundAction) whe
       ∙ nowhere_after (where_so (all_true d (at k s) g.conditions.at_start) (changed d k s g.effects.at_start))
 
   -- an over-all condition that fails after each start
-  pub no_over : AreVain g.conditions.over_all → MayAddAtoms d k atoms g.effects.at_start → (s : State) → IsOver atoms s → stepped d k s g ≡ None
+  pub no_over : NeverHoldOver g.conditions.over_all → MayAddAtoms d k atoms g.effects.at_start → (s : State) → IsOver atoms s → stepped d k s g ≡ None
   no_over v = no_end (λ t o. ap (λ b. where_so b (where_so (all_true d (at k t) g.conditions.at_end) (changed d k t g.effects.at_end))) (v t o))
 
   -- an end condition that does
-  pub no_last : AreVain g.conditions.at_end → MayAddAtoms d k atoms g.effects.at_start → (s : State) → IsOver atoms s → stepped d k s g ≡ None
+  pub no_last : NeverHoldOver g.conditions.at_end → MayAddAtoms d k atoms g.effects.at_start → (s : State) → IsOver atoms s → stepped d k s g ≡ None
   no_last v =
       no_end (λ t o. ap (λ b. where_so (all_true d (at k t) g.conditions.over_all) (where_so b (changed d k t g.effects.at_end))) (v t o) ∙ nowhere (all_true d (at k t) g.conditions.over_all))
 

@@ -4,7 +4,7 @@ use Rattle.std.proofs.lemmas.List.{append-nil, append_assoc, length_push}
 use Rattle.ps_world.specs.declared.names.Name.{Name}
 use Rattle.ps_world.specs.declared.domains.Domain.{Domain}
 use Rattle.ps_world.specs.declared.facts.Fact.{Fact}
-use Rattle.ps_ground.specs.Thinned.{GoesOn, IsIdle, IsIdleFrom, IsThinned}
+use Rattle.ps_ground.specs.Thinned.{GoesOn, IsThinned, IsUseless, IsUselessFrom}
 
 module _ {A : Type 0} (P : A → Type 0) where
   -- without one more item
@@ -91,6 +91,6 @@ thin_picked P Q h (n ∷ ns) tails lists t =
     thin_both P (map (λ args. n ∷ args) tails) (flat_map (λ n. map (λ args. n ∷ args) tails) ns) (map (λ args. n ∷ args) lists) (flat_map (λ n. map (λ args. n ∷ args) lists) ns) (thin_map P Q (λ args. n ∷ args) (h n) tails lists t) (thin_picked P Q h ns tails lists t)
 
 -- arguments that lead nowhere whatever those before them do so with one more before them
-pub idle_longer : (d : Domain) (heads : List Name) (fixed : List Fact) (name : Name) (m : ℕ) (n : Name) (args : List Name) → IsIdleFrom d heads fixed name (m + 1) args → IsIdleFrom d heads fixed name m (n ∷ args)
-idle_longer d heads fixed name m n args idle first e =
-    subst (λ (l : List Name). IsIdle d heads fixed (record { action = name; args = l })) (append_assoc first (n ∷ []) args) (idle (first ++ n ∷ []) (length_push first n ∙ ap (λ k. k + 1) e))
+pub useless_longer : (d : Domain) (heads : List Name) (fixed : List Fact) (name : Name) (m : ℕ) (n : Name) (args : List Name) → IsUselessFrom d heads fixed name (m + 1) args → IsUselessFrom d heads fixed name m (n ∷ args)
+useless_longer d heads fixed name m n args useless first e =
+    subst (λ (l : List Name). IsUseless d heads fixed (record { action = name; args = l })) (append_assoc first (n ∷ []) args) (useless (first ++ n ∷ []) (length_push first n ∙ ap (λ k. k + 1) e))

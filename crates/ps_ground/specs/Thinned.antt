@@ -12,12 +12,12 @@ use Rattle.ps_ground.specs.Atoms.{AreAtoms, IsOver, adds}
 use Rattle.ps_ground.specs.States.{State, stepped}
 
 -- an act whose ground action, if it has one, leads nowhere from any state over facts among which no others of these predicates are
-abbrev pub IsIdle : Domain → List Name → List Fact → Act → Type 0
-IsIdle d heads fixed act = (k : Knowledge) (g : GroundAction) (facts : List Fact) → ground_act d k.instances act ≡ Ok g → AreFixed heads fixed facts → AreAtoms facts (adds d k g) → (s : State) → IsOver facts s → stepped d k s g ≡ None
+abbrev pub IsUseless : Domain → List Name → List Fact → Act → Type 0
+IsUseless d heads fixed act = (k : Knowledge) (g : GroundAction) (facts : List Fact) → ground_act d k.instances act ≡ Ok g → AreFixed heads fixed facts → AreAtoms facts (adds d k g) → (s : State) → IsOver facts s → stepped d k s g ≡ None
 
 -- so is each act of an action with these last arguments, whatever the so many before them
-abbrev pub IsIdleFrom : Domain → List Name → List Fact → Name → ℕ → List Name → Type 0
-IsIdleFrom d heads fixed name n tail = (first : List Name) → length first ≡ n → IsIdle d heads fixed (record { action = name; args = first ++ tail })
+abbrev pub IsUselessFrom : Domain → List Name → List Fact → Name → ℕ → List Name → Type 0
+IsUselessFrom d heads fixed name n tail = (first : List Name) → length first ≡ n → IsUseless d heads fixed (record { action = name; args = first ++ tail })
 
 -- the first list is the second without some items, of each of which this is so
 abbrev pub IsThinned : {A : Type 0} → (A → Type 0) → List A → List A → Type 0

@@ -6,7 +6,7 @@ ghost use Rattle.ps_action.specs.declared.acts.Act.{Act as ActView};
 ghost use Rattle.ps_domain.specs.Listing.{choices_in};
 ghost use Rattle.ps_ground.specs.Acts.{act_with, acts_with};
 ghost use Rattle.ps_ground.specs.Fitting.{AreFirstInstances};
-ghost use Rattle.ps_ground.specs.Thinned.{GoesOn, IsIdle, IsIdleFrom, IsThinned};
+ghost use Rattle.ps_ground.specs.Thinned.{GoesOn, IsThinned, IsUseless, IsUselessFrom};
 
 use super::fixed::Fixed;
 use ps_action::Act;
@@ -175,10 +175,10 @@ impl<'a> Listing<'a> {
         kept: &mut Vec<Args>,
     ) -> Result<(), AllocError>
         ensures { OnOk result ((left : List (List NameView)) (whole : List (List NameView))
-            → GoesOn (IsIdleFrom self.now.expert.now self.now.fixed.now.heads.keys
+            → GoesOn (IsUselessFrom self.now.expert.now self.now.fixed.now.heads.keys
             self.now.fixed.now.facts self.now.action (length before.now))
             ((name ∷ tail.now) ∷ left) whole kept.old.items
-            → GoesOn (IsIdleFrom self.now.expert.now self.now.fixed.now.heads.keys
+            → GoesOn (IsUselessFrom self.now.expert.now self.now.fixed.now.heads.keys
             self.now.fixed.now.facts self.now.action (length before.now))
             left whole kept.new.items) }
     {
@@ -190,7 +190,7 @@ impl<'a> Listing<'a> {
             }
         }
         lay_out(args, before, name, tail)?;
-        if self.fixed.is_idle(self.expert, self.action, is_asked, before, args.as_slice()) {
+        if self.fixed.is_useless(self.expert, self.action, is_asked, before, args.as_slice()) {
             return Ok(());
         }
         let (_, list) = args.as_slice().split_at(before.len());
@@ -212,10 +212,10 @@ impl<'a> Listing<'a> {
         kept: &mut Vec<Args>,
     ) -> Result<(), AllocError>
         ensures { OnOk result ((left : List (List NameView)) (whole : List (List NameView))
-            → GoesOn (IsIdleFrom self.now.expert.now self.now.fixed.now.heads.keys
+            → GoesOn (IsUselessFrom self.now.expert.now self.now.fixed.now.heads.keys
             self.now.fixed.now.facts self.now.action (length before.now))
             (map (λ args. name ∷ args) tails.now ++ left) whole kept.old.items
-            → GoesOn (IsIdleFrom self.now.expert.now self.now.fixed.now.heads.keys
+            → GoesOn (IsUselessFrom self.now.expert.now self.now.fixed.now.heads.keys
             self.now.fixed.now.facts self.now.action (length before.now))
             left whole kept.new.items) }
     {
@@ -233,7 +233,7 @@ impl<'a> Listing<'a> {
         before: &[Name],
         choices: &[Seq<Name>],
     ) -> Result<Vec<Args>, AllocError>
-        ensures { IfOk result (λ kept. IsThinned (IsIdleFrom self.now.expert.now
+        ensures { IfOk result (λ kept. IsThinned (IsUselessFrom self.now.expert.now
             self.now.fixed.now.heads.keys self.now.fixed.now.facts self.now.action
             (length before.now)) kept.items (picks choices.now)) }
     {
@@ -290,9 +290,9 @@ fn push_counted(
 ) -> Result<(), AllocError>
     requires { count ≡ min ENOUGH (length (picks choices.now)) }
     ensures { OnOk result ((left : List ActView) (whole : List ActView)
-        → GoesOn (IsIdle expert.now fixed.now.heads.keys fixed.now.facts)
+        → GoesOn (IsUseless expert.now fixed.now.heads.keys fixed.now.facts)
         (map (act_with action.now) (picks choices.now) ++ left) whole all.old.items
-        → GoesOn (IsIdle expert.now fixed.now.heads.keys fixed.now.facts)
+        → GoesOn (IsUseless expert.now fixed.now.heads.keys fixed.now.facts)
         left whole all.new.items) }
 {
     // An earlier parameter's choices would be tried in vain.
@@ -323,9 +323,9 @@ fn push_all_of(
     requires { counted ≤ most_ground }
     ensures thinned { IfOk result (λ sum. IsSome sum
         → (left : List ActView) (whole : List ActView)
-        → GoesOn (IsIdle expert.now fixed.now.heads.keys fixed.now.facts)
+        → GoesOn (IsUseless expert.now fixed.now.heads.keys fixed.now.facts)
         (acts_with expert.now sorted.now action.now ++ left) whole all.old.items
-        → GoesOn (IsIdle expert.now fixed.now.heads.keys fixed.now.facts)
+        → GoesOn (IsUseless expert.now fixed.now.heads.keys fixed.now.facts)
         left whole all.new.items) }
     ensures count { IfOk result (λ sum. MatchOption sum
         (most_ground < counted + length (acts_with expert.now sorted.now action.now))
@@ -352,7 +352,7 @@ pub fn all_acts(
 ) -> Result<Option<Vec<Act>>, AllocError>
     ensures { IfOk result (λ acts. MatchOption acts
         (most_ground < length (all_ground expert.now instances.now)) (λ v.
-        (IsThinned (IsIdle expert.now fixed.now.heads.keys fixed.now.facts) v.items
+        (IsThinned (IsUseless expert.now fixed.now.heads.keys fixed.now.facts) v.items
         (map (λ g. g.act) (all_ground expert.now instances.now)))
         × (length (all_ground expert.now instances.now) ≤ most_ground))) }
 {

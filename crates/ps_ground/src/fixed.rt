@@ -16,7 +16,7 @@ ghost use Rattle.ps_action.specs.declared.acts.Act.{Act as ActView};
 ghost use Rattle.ps_ground.specs.Fixed.{AreFixed, all_heads_added, head_added, heads_added, heads_in, heads_in_part, is_from, possible_facts};
 ghost use Rattle.ps_ground.specs.Atoms.{AreAtoms, IsOver, adds};
 ghost use Rattle.ps_ground.specs.States.{State, at, stepped};
-ghost use Rattle.ps_ground.specs.Thinned.{IsIdleFrom};
+ghost use Rattle.ps_ground.specs.Thinned.{IsUselessFrom};
 
 use super::atoms::{Atoms, ground_in};
 use ps_domain::Expert;
@@ -184,7 +184,7 @@ fn is_first(number: usize, terms: &[Term]) -> bool
 
 /// Whether a condition holds in no state, since it says that a fact is known which never is, whatever the arguments before. Only a
 /// condition of which the argument after those is the first is looked at.
-fn is_vain(fixed: &Fixed, before: &[Name], args: &[Name], cond: &Cond) -> bool
+fn never_holds(fixed: &Fixed, before: &[Name], args: &[Name], cond: &Cond) -> bool
     ensures { result ≡ true → (tail : List NameView) → args.now ≡ before.now ++ tail
         → (first : List NameView) → length first ≡ length before.now
         → (d : DomainView) (k : KnowledgeView) (s : State)
@@ -202,8 +202,8 @@ fn is_vain(fixed: &Fixed, before: &[Name], args: &[Name], cond: &Cond) -> bool
     }
 }
 
-/// Whether one of these conditions holds in no state, as `is_vain` says it of each.
-fn has_vain(fixed: &Fixed, before: &[Name], args: &[Name], conds: &Conds) -> bool
+/// Whether one of these conditions holds in no state, as `never_holds` says it of each.
+fn has_never_holding(fixed: &Fixed, before: &[Name], args: &[Name], conds: &Conds) -> bool
     ensures { result ≡ true → (tail : List NameView) → args.now ≡ before.now ++ tail
         → (first : List NameView) → length first ≡ length before.now
         → (d : DomainView) (k : KnowledgeView) (s : State)
@@ -211,7 +211,7 @@ fn has_vain(fixed: &Fixed, before: &[Name], args: &[Name], conds: &Conds) -> boo
         → all_true d (at k s) (map (put_cond (first ++ tail)) conds.now) ≡ false }
 {
     for cond in conds.as_slice() {
-        if is_vain(fixed, before, args, cond) {
+        if never_holds(fixed, before, args, cond) {
             return true;
         }
     }
@@ -257,13 +257,13 @@ impl Fixed {
             → stepped d k s (grounded action.now act) ≡ None }
     {
         // What no action changes mostly has to hold over all.
-        if has_vain(self, before, args, &action.conditions.over_all) {
+        if has_never_holding(self, before, args, &action.conditions.over_all) {
             return true;
         }
-        if has_vain(self, before, args, &action.conditions.at_start) {
+        if has_never_holding(self, before, args, &action.conditions.at_start) {
             return true;
         }
-        has_vain(self, before, args, &action.conditions.at_end)
+        has_never_holding(self, before, args, &action.conditions.at_end)
     }
 
     /// Whether a condition says that a fact is known whose predicate is tied, and this variable is the first that it speaks of.
@@ -281,7 +281,7 @@ impl Fixed {
         conds.as_slice().iter().any(|cond| self.asks(number, cond))
     }
 
-    /// Whether `is_idle` may find any act of the action with this name, where so many arguments are before.
+    /// Whether `is_useless` may find any act of the action with this name, where so many arguments are before.
     pub fn has_asked(&self, expert: &Expert, name: Name, before: usize) -> bool {
         match expert.action(name) {
             Some(action) => {
@@ -297,7 +297,7 @@ impl Fixed {
     /// Whether each act of the action with this name leads nowhere from any state where its arguments end like these, whatever those
     /// before, since a condition of it says that a fact is known which never is, or since it has too many arguments. It may be false
     /// where they lead nowhere. Conditions are only looked at where they are asked.
-    pub fn is_idle(
+    pub fn is_useless(
         &self,
         expert: &Expert,
         name: Name,
@@ -305,8 +305,8 @@ impl Fixed {
         before: &[Name],
         args: &[Name],
     ) -> bool
-        ensures idle { result ≡ true → (tail : List NameView) → args.now ≡ before.now ++ tail
-            → IsIdleFrom expert.now self.now.heads.keys self.now.facts name
+        ensures useless { result ≡ true → (tail : List NameView) → args.now ≡ before.now ++ tail
+            → IsUselessFrom expert.now self.now.heads.keys self.now.facts name
             (length before.now) tail }
         ensures few { result ≡ false → length args.now ≤ MOST_ARGUMENTS }
     {

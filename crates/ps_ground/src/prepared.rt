@@ -146,7 +146,7 @@ pub enum Taken {
     /// They are in.
     Whole,
     /// They hold in no state over the atoms.
-    Vain,
+    NeverHolds,
     /// They, or the effects, don't speak of facts alone, and so have to be those of a ground action.
     Unready,
 }
@@ -159,7 +159,7 @@ impl Taken {
     {
         match self {
             Taken::Whole => true,
-            Taken::Vain => false,
+            Taken::NeverHolds => false,
             Taken::Unready => false,
         }
     }
@@ -177,7 +177,7 @@ fn take_other(
         → passes d k atoms test.new s
         ≡ (passes d k atoms test.old s
         && is_true d (at k s) (put_cond args.now (cond_tree cond.now)))) }
-    ensures vain { IfOk result (λ taken. taken ≡ Taken.Vain → ⊥) }
+    ensures never { IfOk result (λ taken. taken ≡ Taken.NeverHolds → ⊥) }
     ensures ready { IfOk result (λ taken. taken ≡ Taken.Unready → args.now ≡ [] → ⊥) }
 {
     if !args.is_empty() {
@@ -187,7 +187,7 @@ fn take_other(
     Ok(Taken::Whole)
 }
 
-/// Puts a condition with its arguments into a test. It is vain only where it says of a fact that is no atom that it is known.
+/// Puts a condition with its arguments into a test. It is `NeverHolds` only where it says of a fact that is no atom that it is known.
 fn take_in(
     alloc: Global,
     atoms: &Atoms,
@@ -201,7 +201,7 @@ fn take_in(
         → passes d k atoms.now test.new s
         ≡ (passes d k atoms.now test.old s
         && is_true d (at k s) (put_cond args.now (cond_tree cond.now)))) }
-    ensures vain { IfOk result (λ taken. taken ≡ Taken.Vain
+    ensures never { IfOk result (λ taken. taken ≡ Taken.NeverHolds
         → (d : DomainView) (k : KnowledgeView) (s : State) → IsOver atoms.now s
         → is_true d (at k s) (put_cond args.now (cond_tree cond.now)) ≡ false) }
     ensures ready { IfOk result (λ taken. taken ≡ Taken.Unready → args.now ≡ [] → ⊥) }
@@ -212,7 +212,7 @@ fn take_in(
                 test.wanted.push(place)?;
                 Ok(Taken::Whole)
             }
-            None => Ok(Taken::Vain),
+            None => Ok(Taken::NeverHolds),
         },
         _ => take_other(alloc, args, cond, test),
     }
@@ -232,7 +232,7 @@ fn take_all(
         → passes d k atoms.now test.new s
         ≡ (passes d k atoms.now test.old s
         && all_true d (at k s) (map (put_cond args.now) conds.now))) }
-    ensures vain { IfOk result (λ taken. taken ≡ Taken.Vain
+    ensures never { IfOk result (λ taken. taken ≡ Taken.NeverHolds
         → (d : DomainView) (k : KnowledgeView) (s : State) → IsOver atoms.now s
         → all_true d (at k s) (map (put_cond args.now) conds.now) ≡ false) }
     ensures ready { IfOk result (λ taken. taken ≡ Taken.Unready → args.now ≡ [] → ⊥) }
@@ -498,7 +498,7 @@ fn change_of(
     Ok(Some(stated_of(alloc, effects)?))
 }
 
-/// Prepares conditions and effects with their arguments into what is bare. It is vain only where they lead nowhere from any state over
+/// Prepares conditions and effects with their arguments into what is bare. It is `NeverHolds` only where they lead nowhere from any state over
 /// the atoms.
 fn fill(
     alloc: Global,
@@ -516,7 +516,7 @@ fn fill(
         → AreAtoms atoms.now (adds d k (parts_with args.now conditions.now effects.now))
         → (s : State) → IsOver atoms.now s → successor d k atoms.now s made.new
         ≡ stepped d k s (parts_with args.now conditions.now effects.now)) }
-    ensures vain { IfOk result (λ taken. taken ≡ Taken.Vain
+    ensures never { IfOk result (λ taken. taken ≡ Taken.NeverHolds
         → (d : DomainView) (k : KnowledgeView)
         → AreAtoms atoms.now (adds d k (parts_with args.now conditions.now effects.now))
         → (s : State) → IsOver atoms.now s
@@ -599,7 +599,7 @@ fn prepare_ground(
         &mut made,
     )? {
         Taken::Whole => Ok(Some(made)),
-        Taken::Vain => Ok(None),
+        Taken::NeverHolds => Ok(None),
         Taken::Unready => unreachable!(),
     }
 }
@@ -667,7 +667,7 @@ fn prepare(
         &mut made,
     )? {
         Taken::Whole => Ok(Some(made)),
-        Taken::Vain => Ok(None),
+        Taken::NeverHolds => Ok(None),
         Taken::Unready => prepare_made(alloc, expert, problem, atoms, instances, act),
     }
 }

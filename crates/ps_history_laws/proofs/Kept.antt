@@ -32,11 +32,11 @@ use Rattle.ps_machine.specs.declared.members.Member.{Member}
 use Rattle.ps_machine.specs.declared.members.Member.TheVariants as member
 use Rattle.ps_machine.specs.declared.members.Observer.{Observer}
 use Rattle.ps_machine.specs.declared.members.Performer.{Performer}
-use Rattle.ps_shape.specs.Marks.{is_goal_name}
-use Rattle.ps_shape.specs.declared.marks.Mark.TheVariants as mark
+use Rattle.ps_grammar.specs.Marks.{is_goal_name}
+use Rattle.ps_grammar.specs.declared.marks.Mark.TheVariants as mark
 use Rattle.ps_text.specs.Names.{Keeps}
 use Rattle.ps_text.specs.declared.lexing.Class.TheVariants as class
-use Rattle.ps_forms.specs.Lexemes.{mark_of}
+use Rattle.ps_lists.specs.Lexemes.{mark_of}
 use Rattle.ps_print.specs.CanonicalWords.{AreCondsOf, IsCondOf, IsExprOf, IsLiftedOf, IsParamOf, IsTermOf}
 use Rattle.ps_script_laws.specs.Sayable.{AreBindable, HasGoalHeads, HaveGoalHeads, IsEditOf, IsFactOf, IsGoalHead, IsGoalOf, IsQueryOf}
 use Rattle.ps_history_laws.specs.Inputs.{IsSayableAction, IsSayableDomain, IsSayableLine, IsSayableMember, IsSayableObserver, IsSayablePerformer, IsSayableUnit}

@@ -37,7 +37,7 @@ use Rattle.ps_action.specs.declared.refusals.GroundRefusal.TheVariants as ground
 use Rattle.ps_action.proofs.Facts.{same_name-is}
 use Rattle.ps_rules.specs.Auctions.{confirmed, first_offer, has_answered, has_begun, has_offered, is_for_active, is_for_cancelled, is_of_run, is_open, is_rejected, is_through, offers}
 use Rattle.ps_rules.specs.Known.{know}
-use Rattle.ps_rules.specs.Legal.{fits, is_accepted, is_as_long, is_cause, is_confirmed, is_edit, is_feedback, is_finish, is_pass, is_plan, is_query, is_work, line_edit, opens_with, pass_reason}
+use Rattle.ps_rules.specs.Legal.{is_accepted, is_as_long, is_cause, is_confirmed, is_edit, is_feedback, is_finish, is_pass, is_plan, is_query, is_work, line_edit, opens_with, pass_reason, row_allows}
 use Rattle.ps_rules.specs.Lines.{acts_of, answered, edit_refusal, next_line, refusal_of}
 use Rattle.ps_rules.specs.Members.{next_edit, next_seen, next_unit, performer_of}
 use Rattle.ps_rules.specs.Runs.{has_run}
@@ -114,7 +114,7 @@ module _ (names : Table) (i : Input) (sound : IsSound i) (sayable : IsSayableInp
   query-is q (Some (Good (command.Ask said))) h passed = subst (IsQueryOf names) (sym ((same_query-decides q said).0 passed)) h
   query-is q line h passed = absurd (cc)
 
-  plan-is : (k : Knowledge) (acts : List Act) → AreInstancesOf (length names) k.instances → is_plan i.domain i.budget k acts ≡ true → All (IsActOf (length names)) acts
+  plan-is : (k : Knowledge) (acts : List Act) → AreInstancesOf (length names) k.instances → is_plan i.domain k i.budget acts ≡ true → All (IsActOf (length names)) acts
   plan-is k acts named passed =
       plan-said (length names) i.domain sayable.domain k acts named (and_parts (is_ok (judged i.domain k acts)) (is_as_long acts (answered_by i.domain k i.budget)) passed).0
 
@@ -157,7 +157,7 @@ module _ (names : Table) (i : Input) (sound : IsSound i) (sayable : IsSayableInp
         (confirmed r es) (confirmed-named names r es said) passed
 
     -- an event that fits says what can be said
-    pub fitting-said : (e : Event) → fits i es e ≡ true → IsSaid names e
+    pub fitting-said : (e : Event) → row_allows i es e ≡ true → IsSaid names e
     fitting-said (event.Edit (by.Terminal n) edit) f =
         let parts = and_parts (n == answered es + 1) (is_edit edit (line_edit (next_line i es)) && is_ok (edited i.domain (know i es) edit)) f in
         let is = and_parts (is_edit edit (line_edit (next_line i es))) (is_ok (edited i.domain (know i es) edit)) parts.1 in
@@ -201,6 +201,6 @@ module _ (names : Table) (i : Input) (sound : IsSound i) (sayable : IsSayableInp
     fitting-said (event.Finish r p ok) f = worker-is r p (is_finish ok) refl f
     fitting-said (event.Stopped r p) f = confirmed-is r p (and_parts (is_confirmed r p es) (not (is_through r p es) && is_for_cancelled r es) f).0
     fitting-said (event.Replan acts) f =
-        let parts = and_parts (is_settled i es) (is_none (verdict i es) && is_plan i.domain i.budget (know i es) acts) f in
-        plan-is (know i es) acts named (and_parts (is_none (verdict i es)) (is_plan i.domain i.budget (know i es) acts) parts.1).1
+        let parts = and_parts (is_settled i es) (is_none (verdict i es) && is_plan i.domain (know i es) i.budget acts) f in
+        plan-is (know i es) acts named (and_parts (is_none (verdict i es)) (is_plan i.domain (know i es) i.budget acts) parts.1).1
     fitting-said e f = tt

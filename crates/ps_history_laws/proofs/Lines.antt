@@ -72,10 +72,10 @@ module _ (count : ℕ) where
   with_goal-named : (k : Knowledge) (why : Option Refusal) → IsNamed why → IsNamed (with_goal k why)
   with_goal-named k why h = elim (is_none k.goal) as (λ b. IsNamed (if b then Some refusal.NoGoal else why)) [ true ↦ tt | false ↦ h ]
 
-  goal-named : (d : Domain) (budget : ℕ) (k : Knowledge) → IsNamed (refusal_of_goal d budget k)
+  goal-named : (d : Domain) (budget : ℕ) (k : Knowledge) → IsNamed (refusal_of_goal d k budget)
   goal-named d budget k = with_goal-named k (unplanned (answered_by d k budget)) (unplanned-named (answered_by d k budget))
 
-  query-named : (d : Domain) (budget : ℕ) (k : Knowledge) (run : Bool) (q : Query) → IsNamed (refusal_of_query d budget k run q)
+  query-named : (d : Domain) (budget : ℕ) (k : Knowledge) (run : Bool) (q : Query) → IsNamed (refusal_of_query d k budget run q)
   query-named d budget k run (query.ModelPredicate n) = elim (is_none (predicate_of d n)) as (λ b. IsNamed (if b then Some refusal.NoPredicate else None)) [ true ↦ tt | false ↦ tt ]
   query-named d budget k run (query.ModelAction n) = elim (is_none (action_of d n)) as (λ b. IsNamed (if b then Some refusal.NoAction else None)) [ true ↦ tt | false ↦ tt ]
   query-named d budget k run query.Plan = goal-named d budget k
@@ -84,7 +84,7 @@ module _ (count : ℕ) where
 
 -- the refusal of a line that can be said has names of the table
 pub refused-line : (names : Table) (d : Domain) (budget : ℕ) (k : Knowledge) (run : Bool) (line : Line) → AreInstancesOf (length names) k.instances → IsSayableLine names line
-    → IsNamed (length names) (line_refusal d budget k run line)
+    → IsNamed (length names) (line_refusal d k budget run line)
 refused-line names d budget k run (Bad cause) named h = tt
 refused-line names d budget k run (Good (command.Edit edit)) named h = edit-named (length names) (edited d k edit) (edited-gives names d k edit h named)
 refused-line names d budget k run (Good (command.Ask q)) named h = query-named (length names) d budget k run q

@@ -9,7 +9,7 @@ use Rattle.ps_action.specs.declared.acts.PlanStep.{PlanStep}
 use Rattle.ps_machine.specs.Tables.{IsStepOf}
 use Rattle.ps_plan.specs.PlanText.{said_by}
 use Rattle.ps_plan.proofs.PlanNames.{planned-within}
-use Rattle.ps_forms.proofs.Judged.{judged_grammatical}
+use Rattle.ps_lists.proofs.Judged.{judged_grammatical}
 use Rattle.ps_print.specs.CanonicalWords.{IsDomainOf, IsParamOf}
 use Rattle.ps_text.specs.Names.{AreNames}
 use Rattle.ps_pddl.specs.Reading.{IsRead}

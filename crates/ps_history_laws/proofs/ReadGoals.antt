@@ -7,7 +7,7 @@ use Rattle.std.proofs.lemmas.Bool.Decides.{nat_tests}
 use Rattle.std.proofs.lemmas.List.{length-append, length-map, length-take, map-append, take_all}
 use Rattle.std.proofs.lemmas.List.Quantifiers.{position-Some}
 use denote.Enum.Bare.{same_true}
-use Rattle.ps_shape.specs.contracts.marks.Mark.{the_type}
+use Rattle.ps_grammar.specs.contracts.marks.Mark.{the_type}
 use Rattle.std.proofs.lemmas.List.Elements.{All-nil, All-cons, All-take}
 use Rattle.ps_world.specs.Names.{Table, same_name}
 use Rattle.ps_world.specs.declared.domains.Param.{Param}
@@ -25,12 +25,12 @@ use Rattle.ps_world.specs.declared.conditions.Rel.TheVariants.{Eq}
 use Rattle.ps_world.specs.declared.conditions.Cond.{Cond}
 use Rattle.ps_world.specs.declared.conditions.Cond.TheVariants as cond
 use Rattle.ps_text.proofs.Folds.{list_any-map}
-use Rattle.ps_shape.specs.Marks.{is, is_goal_name, is_name}
-use Rattle.ps_shape.specs.declared.marks.Mark.{Mark}
-use Rattle.ps_shape.specs.declared.marks.Mark.TheVariants as mark
-use Rattle.ps_forms.specs.Nested.{Nested, Nesteds, word, group, none, more}
-use Rattle.ps_forms.specs.Places.{head, items_at, rest, word_of}
-use Rattle.ps_forms.specs.declared.lexemes.Lexeme.{Lexeme}
+use Rattle.ps_grammar.specs.Marks.{is, is_goal_name, is_name}
+use Rattle.ps_grammar.specs.declared.marks.Mark.{Mark}
+use Rattle.ps_grammar.specs.declared.marks.Mark.TheVariants as mark
+use Rattle.ps_lists.specs.Nested.{Nested, Nesteds, word, group, none, more}
+use Rattle.ps_lists.specs.Places.{head, items_at, rest, word_of}
+use Rattle.ps_lists.specs.declared.lexemes.Lexeme.{Lexeme}
 use Rattle.ps_print.specs.CanonicalWords.{AreCondsOf, IsCondOf, IsExprOf, IsLiftedOf, IsNameOf, IsParamOf, IsTermOf}
 use Rattle.ps_pddl.specs.WellFormed.{AreApart}
 use Rattle.ps_pddl.proofs.Fits.{IsVariableName}
@@ -48,7 +48,7 @@ use Rattle.ps_script.specs.Goals.{args_of, at_place, bound, fact_of, first_condi
 use Rattle.ps_script.specs.Scopes.{below, binds, binds_word, loose, quantifies, stray, stray_form, strays}
 use Rattle.ps_script_laws.specs.Sayable.{AreBindable, HasGoalHeads, HaveGoalHeads, IsFactOf, IsGoalHead, IsShort, IsShortExpr}
 use Rattle.ps_script_laws.proofs.GoalScopes.{in_force}
-use Rattle.ps_sound.proofs.GoalTrees.{are_after_type, are_formed, are_two_formed, are_variables, begins_formed, binds_formed, is_form, is_formed, is_headed}
+use Rattle.ps_limit_laws.proofs.GoalTrees.{are_after_type, are_formed, are_two_formed, are_variables, begins_formed, binds_formed, is_form, is_formed, is_headed}
 
 goal-is_name : (m : Mark) → is_goal_name m ≡ true → is_name m ≡ true
 goal-is_name mark.And e = absurd (cc)

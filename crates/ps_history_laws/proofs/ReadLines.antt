@@ -6,13 +6,13 @@ use Rattle.ps_machine.specs.declared.inputs.Command.{Command}
 use Rattle.ps_machine.specs.declared.inputs.Line.TheVariants.{Good}
 use Rattle.ps_text.specs.Names.{AreNames}
 use Rattle.ps_text.specs.declared.lexing.Token.{Token}
-use Rattle.ps_shape.specs.Shape.{Derives, IsShallowFrom}
-use Rattle.ps_shape.specs.declared.marks.Mark.{Mark}
-use Rattle.ps_forms.specs.Lexemes.{lexemes_of, marks}
-use Rattle.ps_forms.specs.Nested.{Nesteds, none, more}
-use Rattle.ps_forms.specs.Places.{head, items_at, rest}
-use Rattle.ps_forms.specs.Spelling.{SpellAll}
-use Rattle.ps_forms.specs.declared.lexemes.Lexeme.{Lexeme}
+use Rattle.ps_grammar.specs.Shape.{Derives, IsShallowFrom}
+use Rattle.ps_grammar.specs.declared.marks.Mark.{Mark}
+use Rattle.ps_lists.specs.Lexemes.{lexemes_of, marks}
+use Rattle.ps_lists.specs.Nested.{Nesteds, none, more}
+use Rattle.ps_lists.specs.Places.{head, items_at, rest}
+use Rattle.ps_lists.specs.Spelling.{SpellAll}
+use Rattle.ps_lists.specs.declared.lexemes.Lexeme.{Lexeme}
 use Rattle.ps_pddl.specs.Reading.{HasWords}
 use Rattle.ps_pddl.proofs.ReadNames.{AreTold, first_below, lists_told, names_after}
 use Rattle.ps_script.specs.Commands.{after_two, command_of}
@@ -28,7 +28,7 @@ use Rattle.ps_script.specs.declared.forms.Form.TheVariants.{SetInstance, SetPred
 use Rattle.ps_script.specs.declared.reading.Read.{Read}
 use Rattle.ps_script.specs.declared.reading.Read.TheVariants as read
 use Rattle.ps_script_laws.specs.Sayable.{IsFactOf}
-use Rattle.ps_sound.proofs.SoundLines.{form_sound, goal_formed}
+use Rattle.ps_limit_laws.proofs.SoundLines.{form_sound, goal_formed}
 use Rattle.ps_history_laws.specs.Inputs.{IsSayableLine}
 use Rattle.ps_history_laws.specs.Laws.{LinesAreSayable}
 use Rattle.ps_history_laws.proofs.ReadGoals.{neither, fact_here, first_here, head_name, head_number, items_told, rest_told}

@@ -17,13 +17,13 @@ use Rattle.ps_text.specs.declared.lexing.Token.{Token}
 use Rattle.ps_text.proofs.Folds.{IsNameText-folded}
 use Rattle.ps_text.proofs.Kept.{kept_along, kept_interned}
 use Rattle.ps_text.proofs.Tables.{AreNames-interned}
-use Rattle.ps_shape.specs.Shape.{Derives, IsShallowFrom}
-use Rattle.ps_shape.specs.declared.marks.Mark.{Mark}
-use Rattle.ps_forms.specs.Lexemes.{lexemes_of, marks}
-use Rattle.ps_forms.specs.Nested.{Nesteds}
-use Rattle.ps_forms.specs.Places.{rest}
-use Rattle.ps_forms.specs.Spelling.{SpellAll}
-use Rattle.ps_forms.specs.declared.lexemes.Lexeme.{Lexeme}
+use Rattle.ps_grammar.specs.Shape.{Derives, IsShallowFrom}
+use Rattle.ps_grammar.specs.declared.marks.Mark.{Mark}
+use Rattle.ps_lists.specs.Lexemes.{lexemes_of, marks}
+use Rattle.ps_lists.specs.Nested.{Nesteds}
+use Rattle.ps_lists.specs.Places.{rest}
+use Rattle.ps_lists.specs.Spelling.{SpellAll}
+use Rattle.ps_lists.specs.declared.lexemes.Lexeme.{Lexeme}
 use Rattle.ps_pddl.specs.Reading.{HasWords}
 use Rattle.ps_pddl.proofs.ReadNames.{AreTold, first_below, lists_told, names_after, tables_kept}
 use Rattle.ps_script.specs.Files.{first_run, without_end}

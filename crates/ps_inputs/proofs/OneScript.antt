@@ -4,7 +4,7 @@ use Rattle.ps_world.specs.Names.{Table}
 use Rattle.ps_machine.specs.declared.inputs.Command.TheVariants.{RunPlan}
 use Rattle.ps_machine.specs.declared.inputs.Line.{Line}
 use Rattle.ps_machine.specs.declared.inputs.Line.TheVariants.{Good}
-use Rattle.ps_forms.proofs.Layers.{some_end}
+use Rattle.ps_lists.proofs.Layers.{some_end}
 use Rattle.ps_script.specs.declared.reading.Read.{Read}
 use Rattle.ps_script.specs.declared.reading.Read.TheVariants as read
 use Rattle.ps_script.proofs.OneAnswer.{lines_are_read_as_one}

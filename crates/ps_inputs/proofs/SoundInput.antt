@@ -17,10 +17,10 @@ use Rattle.ps_plan.specs.PlanText.{plan_fault, planned, said_by}
 use Rattle.ps_script.specs.Lines.{IsRead}
 use Rattle.ps_script.specs.declared.reading.Read.{Read}
 use Rattle.ps_script.specs.declared.reading.Read.TheVariants as read
-use Rattle.ps_sound.specs.Sound.{IsSoundMember}
-use Rattle.ps_sound.proofs.SoundLines.{lines_are_sound}
-use Rattle.ps_sound.proofs.ShortPlans.{plans_are_short}
-use Rattle.ps_sound.proofs.SoundMembers.{members_are_sound}
+use Rattle.ps_limit_laws.specs.Sound.{IsSoundMember}
+use Rattle.ps_limit_laws.proofs.SoundLines.{lines_are_sound}
+use Rattle.ps_limit_laws.proofs.ShortPlans.{plans_are_short}
+use Rattle.ps_limit_laws.proofs.SoundMembers.{members_are_sound}
 use Rattle.ps_inputs.specs.Flats.{Flattened}
 use Rattle.ps_inputs.specs.Flats.Flattened.{plain, with_plan, too_deep}
 use Rattle.ps_inputs.specs.Scripts.{Adds, IsScript, given_by, plan_in, unless_faulty}

@@ -11,10 +11,10 @@ use Rattle.ps_text.specs.declared.lexing.Class.{Class}
 use Rattle.ps_text.specs.declared.lexing.Class.TheVariants as class
 use Rattle.ps_text.specs.declared.lexing.Token.{Token}
 use Rattle.ps_pddl.specs.Steps.{Read}
-use Rattle.ps_forms.specs.Lexemes.{lexemes_of, table_after}
+use Rattle.ps_lists.specs.Lexemes.{lexemes_of, table_after}
 use Rattle.ps_pddl.specs.Reading.{HasWords, IsRead}
 use Rattle.ps_pddl.specs.Reading.IsRead.{without_class, without_shape, with_meaning}
-use Rattle.ps_forms.specs.declared.lexemes.Lexeme.{Lexeme}
+use Rattle.ps_lists.specs.declared.lexemes.Lexeme.{Lexeme}
 use Rattle.ps_pddl.proofs.ReadNames.{named_names}
 use Rattle.ps_inputs.specs.Input.{first_names}
 

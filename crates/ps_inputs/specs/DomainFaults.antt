@@ -2,8 +2,8 @@
 use Rattle.std.specs.Prelude.{ℕ, List, ◌++◌, codes}
 use Rattle.std.specs.Fmt.{decimal}
 use Rattle.ps_world.specs.Names.{Table, name_text}
-use Rattle.ps_shape.specs.declared.faults.Form.{Form}
-use Rattle.ps_shape.specs.declared.faults.Form.TheVariants as form
+use Rattle.ps_grammar.specs.declared.faults.Form.{Form}
+use Rattle.ps_grammar.specs.declared.faults.Form.TheVariants as form
 use Rattle.ps_pddl.specs.declared.refusals.Cap.{Cap}
 use Rattle.ps_pddl.specs.declared.refusals.Cap.TheVariants as cap
 use Rattle.ps_pddl.specs.declared.refusals.DomainRefusal.{DomainRefusal}

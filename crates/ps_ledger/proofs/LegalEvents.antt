@@ -23,7 +23,7 @@ use Rattle.ps_rules.specs.Auctions.{begins, begins_by, confirmed, first_offer, h
 use Rattle.ps_rules.specs.Known.{know}
 use Rattle.ps_rules.specs.Lines.{answered, answers_line, edit_refusal}
 use Rattle.ps_rules.specs.Members.{is_observed, next_seen, observed, observer_of, observers, performer_of, performers, seen_by, unit_of}
-use Rattle.ps_rules.specs.Legal.{fits, is_cause, is_confirmed, is_edit, is_finish, is_pass, pass_reason}
+use Rattle.ps_rules.specs.Legal.{is_cause, is_confirmed, is_edit, is_finish, is_pass, pass_reason, row_allows}
 use Rattle.ps_rules.specs.Laws.{all_confirmed, IsOnce, speaks_of}
 use Rattle.ps_rules.specs.History.{IsHistory}
 use Rattle.ps_rules.specs.History.IsHistory.{nothing, block}
@@ -109,7 +109,7 @@ pub or-left : (b : Bool) → (b || false) ≡ true → b ≡ true
 or-left true h = refl
 or-left false h = h
 
-offered-step : (i : Input) (es : List Entry) (e : Event) (r : ℕ) (p : Name) → (has_offered r p es ≡ true → is_some (performer_of i p) ≡ true) → fits i es e ≡ true
+offered-step : (i : Input) (es : List Entry) (e : Event) (r : ℕ) (p : Name) → (has_offered r p es ≡ true → is_some (performer_of i p) ≡ true) → row_allows i es e ≡ true
     → (has_offered r p es || is_offer r p e) ≡ true → is_some (performer_of i p) ≡ true
 offered-step i es (event.Offer s q) r p before f h =
     offer-case i (r == s) p q (has_offered r p es) before (some_passed (λ performer. not (has_answered s q es) && is_none (pass_reason performer s es)) (performer_of i q) f) h
@@ -128,7 +128,7 @@ first-case i false p q xs before now h = before h
 first-case i true p q [] before now h = ap (λ o. is_some (performer_of i (unwrap_or o q))) (sym h) ∙ now
 first-case i true p q (x ∷ xs) before now h = before h
 
-first-step : (i : Input) (es : List Entry) (e : Event) (r : ℕ) (p : Name) → (first_offer (offers r es) ≡ Some p → is_some (performer_of i p) ≡ true) → fits i es e ≡ true
+first-step : (i : Input) (es : List Entry) (e : Event) (r : ℕ) (p : Name) → (first_offer (offers r es) ≡ Some p → is_some (performer_of i p) ≡ true) → row_allows i es e ≡ true
     → first_offer (with_last (offers r es) (says_offer r e)) ≡ Some p → is_some (performer_of i p) ≡ true
 first-step i es (event.Offer s q) r p before f h =
     first-case i (r == s) p q (offers r es) before (some_passed (λ performer. not (has_answered s q es) && is_none (pass_reason performer s es)) (performer_of i q) f) h
@@ -162,7 +162,7 @@ engaged-there i es l p t same h = ap (nat_lt (place_in l.names.items p)) t.many 
 
 -- a legal event names performers that are there
 pub performers-there : (i : Input) (es : List Entry) (e : Event) (l : Performers) → IsHistory i es → length es < 18446744073709551615 → TellsPerformers es l
-    → l.names.items ≡ map (λ p. p.name) (performers i) → ((s : ℕ) (q : Name) → is_working s q es ≡ true → is_confirmed s q es ≡ true) → fits i es e ≡ true → speaks_of_performers l e ≡ true
+    → l.names.items ≡ map (λ p. p.name) (performers i) → ((s : ℕ) (q : Name) → is_working s q es ≡ true → is_confirmed s q es ≡ true) → row_allows i es e ≡ true → speaks_of_performers l e ≡ true
 performers-there i es (event.Offer s q) l h few t same works f =
     engaged-there i es l q t same (some_passed (λ performer. not (has_answered s q es) && is_none (pass_reason performer s es)) (performer_of i q) f)
 performers-there i es (event.Reject s q) l h few t same works f =
@@ -189,7 +189,7 @@ observer-there i es l o few t same test none h =
 
 -- a legal event names observers that are there
 pub observers-there : (i : Input) (es : List Entry) (e : Event) (l : Observers) → length es < 18446744073709551615 → TellsObservers es l
-    → l.names.items ≡ map (λ o. o.name) (observers i) → fits i es e ≡ true → speaks_of_observers l e ≡ true
+    → l.names.items ≡ map (λ o. o.name) (observers i) → row_allows i es e ≡ true → speaks_of_observers l e ≡ true
 observers-there i es (event.Edit (by.Observer o) edit) l few t same f =
     observer-there i es l o few t same (is_edit edit) refl (and_parts (is_edit edit (next_seen i o es)) (is_ok (edited i.domain (know i es) edit)) f).0
 observers-there i es (event.Refused (by.Observer o) why) l few t same f =
@@ -211,7 +211,7 @@ answer-there i es l names s q few t same there h =
 
 -- a legal event speaks of answers of performers that are there
 pub answers-there : (i : Input) (es : List Entry) (e : Event) (l : Answers) (names : List Name) → length (performers i) ≤ 64 → IsHistory i es → TellsRows es l
-    → names ≡ map (λ p. p.name) (performers i) → speaks_of (requests es) e ≡ true → fits i es e ≡ true → speaks_of_answers names l.rows.items e ≡ true
+    → names ≡ map (λ p. p.name) (performers i) → speaks_of (requests es) e ≡ true → row_allows i es e ≡ true → speaks_of_answers names l.rows.items e ≡ true
 answers-there i es (event.Offer s q) l names few h t same sp f =
     answer-there i es l names s q few t same sp (some_passed (λ performer. not (has_answered s q es) && is_none (pass_reason performer s es)) (performer_of i q) f)
 answers-there i es (event.Pass s q why) l names few h t same sp f =

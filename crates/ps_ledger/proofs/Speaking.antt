@@ -25,7 +25,7 @@ use Rattle.ps_rules.specs.Auctions.{confirmed, first_offer, is_for_active, is_fo
 use Rattle.ps_rules.specs.Known.{know}
 use Rattle.ps_rules.specs.Lines.{edit_refusal}
 use Rattle.ps_rules.specs.Members.{as_edit, job, next_edit, next_unit, performer_of, performers, unit_of}
-use Rattle.ps_rules.specs.Legal.{fits, is_act_active, is_cause, is_confirmed, is_edit, is_feedback, is_finish, is_place, is_plan, is_work, may_be_put_up}
+use Rattle.ps_rules.specs.Legal.{is_act_active, is_cause, is_confirmed, is_edit, is_feedback, is_finish, is_place, is_plan, is_work, may_be_put_up, row_allows}
 use Rattle.ps_rules.specs.Settled.{any_harmed, is_blocked, is_reached, is_ready, is_settled, is_startable, unreached, verdict}
 use Rattle.ps_rules.specs.Laws.{speaks_of}
 use Rattle.ps_rules.specs.Sound.{IsSound, IsSoundJob, IsSoundPerformer}
@@ -50,7 +50,7 @@ act-there : (es : List Entry) (l : Acts) (act : ℕ) → TellsActs es l → is_a
 act-there es l act t h = active-there l.states.items act (sym (ap is_active (t.states act)) ∙ h)
 
 -- a legal event speaks of acts that are there
-pub acts-there : (i : Input) (es : List Entry) (e : Event) (l : Acts) → TellsActs es l → fits i es e ≡ true → speaks_of_acts (length l.states.items) e ≡ true
+pub acts-there : (i : Input) (es : List Entry) (e : Event) (l : Acts) → TellsActs es l → row_allows i es e ≡ true → speaks_of_acts (length l.states.items) e ≡ true
 acts-there i es (event.Start act) l t f =
     ap (nat_lt act) (t.many ∙ ap length (sym t.acts)) ∙ (and_parts (is_place es act) (is_ready i es act && (is_startable i es act && not (any_harmed es))) f).0
 acts-there i es (event.Request r act) l t f =
@@ -83,9 +83,9 @@ fewer : (most n : ℕ) → most ≤ 255 → nat_le most n ≡ false → nat_lt n
 fewer most n le h = grind (arith, nat_tests, le, h)
 
 -- a legal event plans a run anew only where it may be
-pub run-there : (i : Input) (es : List Entry) (e : Event) (l : Run) → i.replans ≤ 255 → TellsRun es l → fits i es e ≡ true → speaks_of_run l e ≡ true
+pub run-there : (i : Input) (es : List Entry) (e : Event) (l : Run) → i.replans ≤ 255 → TellsRun es l → row_allows i es e ≡ true → speaks_of_run l e ≡ true
 run-there i es (event.Replan acts) l few t f =
-    let asked : is_none (verdict i es) ≡ true = (and_parts (is_none (verdict i es)) (is_plan i.domain i.budget (know i es) acts) (and_parts (is_settled i es) (is_none (verdict i es) && is_plan i.domain i.budget (know i es) acts) f).1).0 in
+    let asked : is_none (verdict i es) ≡ true = (and_parts (is_none (verdict i es)) (is_plan i.domain (know i es) i.budget acts) (and_parts (is_settled i es) (is_none (verdict i es) && is_plan i.domain (know i es) i.budget acts) f).1).0 in
     ap (λ n. nat_lt n 255) (sym t.anew) ∙ fewer i.replans (replans es) few (may-replan i es (kind es) (is_reached i es (kind es)) asked)
 run-there i es e l few t f = refl
 
@@ -155,7 +155,7 @@ job-there s q es l j w there h =
     (ap (λ o. option_map_or (same_name q) o false) (sym (w.confirms s)) ∙ h)
 
 -- a legal event speaks of work by those who were confirmed
-pub jobs-there : (i : Input) (es : List Entry) (e : Event) (l : Work) → IsSound i → TellsJobs es l → TellsWork es l → TellsUnits es l → speaks_of (requests es) e ≡ true → fits i es e ≡ true
+pub jobs-there : (i : Input) (es : List Entry) (e : Event) (l : Work) → IsSound i → TellsJobs es l → TellsWork es l → TellsUnits es l → speaks_of (requests es) e ≡ true → row_allows i es e ≡ true
     → speaks_of_jobs l.jobs.items e ≡ true
 jobs-there i es (event.Request r act) l sound j w u sp f = sym (ap (λ n. r == n) j.count) ∙ sp
 jobs-there i es (event.Confirm s q) l sound j w u sp f =

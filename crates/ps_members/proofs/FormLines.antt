@@ -1,8 +1,8 @@
 -- Lines of a form: their parentheses.
 use Rattle.std.proofs.Common.{◌≡◌, ℕ, true, List, Option, refl}
-use Rattle.ps_forms.specs.Lexemes.{marks}
-use Rattle.ps_forms.specs.Spelling.{is_balanced}
-use Rattle.ps_forms.specs.declared.lexemes.Lexeme.{Lexeme}
+use Rattle.ps_lists.specs.Lexemes.{marks}
+use Rattle.ps_lists.specs.Spelling.{is_balanced}
+use Rattle.ps_lists.specs.declared.lexemes.Lexeme.{Lexeme}
 use Rattle.ps_script.specs.Judged.{Fits, front}
 use Rattle.ps_script.proofs.Balance.{are_paired, open_before, start_closed, start_paired}
 use Rattle.ps_script.proofs.Fronts.{front_balance}

@@ -16,7 +16,7 @@ use Rattle.ps_text.specs.declared.lexing.LexRefusal.{LexRefusal}
 use Rattle.ps_text.specs.declared.lexing.LexRefusal.TheVariants as lexing
 use Rattle.ps_text.specs.declared.lexing.Token.{Token}
 use Rattle.ps_text.proofs.OneLexing.{tokens_are_one, faults_are_one, tokens_are_faultless}
-use Rattle.ps_forms.specs.Nested.{Nesteds}
+use Rattle.ps_lists.specs.Nested.{Nesteds}
 use Rattle.ps_script.specs.Judged.{place}
 use Rattle.ps_script.specs.Lines.{cause_of}
 use Rattle.ps_script.proofs.OneAnswer.{same_fault, same_lists, words_one}

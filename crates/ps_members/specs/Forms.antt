@@ -3,9 +3,9 @@ use Rattle.std.specs.Prelude.{ℕ, Bool, true, false, not, ◌&&◌, ◌||◌, �
 use Rattle.std.specs.Option.{option_and_then, option_map_or, option_or}
 use Rattle.ps_machine.specs.declared.members.Unit.{Unit as Task}
 use Rattle.ps_machine.specs.declared.members.Unit.TheVariants.{Finish}
-use Rattle.ps_shape.specs.declared.symbols.Symbol.{Symbol}
-use Rattle.ps_shape.specs.declared.symbols.Symbol.TheVariants.{AnyName, InGoal}
-use Rattle.ps_shape.specs.declared.symbols.GoalPart.TheVariants as goal
+use Rattle.ps_grammar.specs.declared.symbols.Symbol.{Symbol}
+use Rattle.ps_grammar.specs.declared.symbols.Symbol.TheVariants.{AnyName, InGoal}
+use Rattle.ps_grammar.specs.declared.symbols.GoalPart.TheVariants as goal
 use Rattle.ps_script.specs.Forms as script
 use Rattle.ps_script.specs.declared.forms.Form.{Form as ScriptForm}
 use Rattle.ps_script.specs.declared.forms.Form.TheVariants as edit

@@ -1,12 +1,12 @@
 //! The forms of a member script's lines.
 ghost use Rattle.std.specs.Prelude.{◌≡◌, Ok, Some, drop, true, IfOk, IfSome};
-ghost use Rattle.ps_shape.specs.Shape.{Derives, IsFirstFaultFrom, IsShallowFrom};
+ghost use Rattle.ps_grammar.specs.Shape.{Derives, IsFirstFaultFrom, IsShallowFrom};
 ghost use Rattle.ps_members.specs.Forms.{edit_form, form_at, form_of, is_action, is_allowed, is_args, is_change, is_close, is_edit, is_finished, is_item, is_job, is_title, is_unit, own_forms, start_of, begun};
 
 use super::places::Place;
+use ps_grammar::{GoalPart, Mark, Symbol, first_fault};
 use ps_machine::Unit;
 use ps_script::Form as ScriptForm;
-use ps_shape::{GoalPart, Mark, Symbol, first_fault};
 use ps_text::Words;
 use std::alloc::{AllocError, Global};
 

@@ -3,8 +3,8 @@ ghost use Rattle.std.specs.Prelude.{◌≡◌, IfOk, map, true};
 ghost use Rattle.ps_text.specs.Names.{Keeps};
 ghost use Rattle.ps_text.specs.Tokens.{AreTokens};
 ghost use Rattle.ps_text.specs.Words.{words};
-ghost use Rattle.ps_forms.specs.Nested.{nesteds};
-ghost use Rattle.ps_forms.specs.NestedViews.{nested};
+ghost use Rattle.ps_lists.specs.Nested.{nesteds};
+ghost use Rattle.ps_lists.specs.NestedViews.{nested};
 ghost use Rattle.ps_members.specs.Answers.{OnAnswer};
 ghost use Rattle.ps_members.specs.Forms.{form_at, is_edit, may_edit};
 ghost use Rattle.ps_members.specs.Lines.{IsFormed, IsSaid, Says, is_plain};
@@ -18,7 +18,7 @@ use super::feedback::feedback_of;
 use super::forms::{Form, form_at};
 use super::parts::worded;
 use super::places::{Place, Said};
-use ps_forms::{Tree, head, lexemes_of, rest};
+use ps_lists::{Tree, head, lexemes_of, rest};
 use ps_machine::{Command, LineCause, Unit};
 use ps_script::{
     Form as ScriptForm, cause_of, command_of, first_condition, judged, marks_of_words, place,

@@ -7,10 +7,10 @@ use Rattle.ps_text.specs.Names.{AreNames}
 use Rattle.ps_text.specs.Tokens.{class_of}
 use Rattle.ps_text.specs.Words.{words}
 use Rattle.ps_text.proofs.TextTokens.{texts_have_tokens}
-use Rattle.ps_forms.specs.Lexemes.{lexemes_of}
-use Rattle.ps_forms.specs.Nested.{Nesteds}
-use Rattle.ps_forms.specs.Spelling.{SpellAll}
-use Rattle.ps_forms.specs.declared.lexemes.Lexeme.{Lexeme}
+use Rattle.ps_lists.specs.Lexemes.{lexemes_of}
+use Rattle.ps_lists.specs.Nested.{Nesteds}
+use Rattle.ps_lists.specs.Spelling.{SpellAll}
+use Rattle.ps_lists.specs.declared.lexemes.Lexeme.{Lexeme}
 use Rattle.ps_print.specs.CanonicalWords.{domain_words, IsDomainOf}
 use Rattle.ps_print.proofs.CanonicalWords.{canonical_words_are}
 use Rattle.ps_pddl.specs.Reading.{HasWords}

@@ -7,21 +7,21 @@ use Rattle.ps_world.specs.declared.actions.Effect.TheVariants.{Add}
 use Rattle.ps_world.specs.declared.actions.Guarded.TheVariants.{Plain}
 use Rattle.ps_world.specs.declared.actions.Spread.{Spread}
 use Rattle.ps_world.specs.declared.actions.Spread.TheVariants.{Once}
-use Rattle.ps_shape.specs.declared.marks.Mark.{Mark}
-use Rattle.ps_shape.specs.declared.marks.Mark.TheVariants as mark
+use Rattle.ps_grammar.specs.declared.marks.Mark.{Mark}
+use Rattle.ps_grammar.specs.declared.marks.Mark.TheVariants as mark
 use Rattle.ps_world.specs.declared.domains.Param.{Param}
-use Rattle.ps_shape.specs.Marks.{is}
-use Rattle.ps_shape.specs.declared.marks.Mark.TheVariants.{And, Not, Forall}
+use Rattle.ps_grammar.specs.Marks.{is}
+use Rattle.ps_grammar.specs.declared.marks.Mark.TheVariants.{And, Not, Forall}
 use Rattle.ps_conditions.specs.Steps.{◌>>=◌}
 use Rattle.ps_pddl.specs.Effects.{added, addition, change_of, conditional, effect, flattened_form, is_addition, followed_by, for_each, plain_effect, timed_form}
 use Rattle.ps_pddl.specs.Steps.{Read}
 use Rattle.ps_pddl.specs.Terms.{fact}
-use Rattle.ps_forms.specs.Nested.{Nested, Nesteds, nesteds, word, group, none, more}
-use Rattle.ps_forms.specs.NestedViews.{nested}
-use Rattle.ps_forms.specs.Places.{word_of, items, head, rest}
-use Rattle.ps_forms.specs.declared.lexemes.Lexeme.{Lexeme}
+use Rattle.ps_lists.specs.Nested.{Nested, Nesteds, nesteds, word, group, none, more}
+use Rattle.ps_lists.specs.NestedViews.{nested}
+use Rattle.ps_lists.specs.Places.{word_of, items, head, rest}
+use Rattle.ps_lists.specs.declared.lexemes.Lexeme.{Lexeme}
 use Rattle.ps_world.specs.declared.actions.Effects.{Effects}
-use Rattle.ps_forms.specs.declared.trees.Tree.{Tree}
+use Rattle.ps_lists.specs.declared.trees.Tree.{Tree}
 
 pub with_one : (d : Domain) (ps : List Param) (l : Lexeme) (us : List Tree) → length us ≡ 1 → plain_effect d ps l (nesteds (map nested us)) ≡ added d ps l (nesteds (map nested us))
 with_one d ps l [] h = absurd (omega (arith, h))

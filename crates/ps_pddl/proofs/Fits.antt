@@ -26,9 +26,9 @@ use Rattle.ps_world.specs.declared.domains.Param.{Param}
 use Rattle.ps_world.specs.declared.domains.Decl.{Decl}
 use Rattle.ps_world.specs.declared.domains.Domain.{Domain}
 use Rattle.ps_text.specs.declared.lexing.Class.TheVariants as class
-use Rattle.ps_shape.specs.Marks.{is_predicate_name, is_fact_name}
-use Rattle.ps_shape.specs.declared.marks.Mark.TheVariants as mark
-use Rattle.ps_forms.specs.Lexemes.{mark_of}
+use Rattle.ps_grammar.specs.Marks.{is_predicate_name, is_fact_name}
+use Rattle.ps_grammar.specs.declared.marks.Mark.TheVariants as mark
+use Rattle.ps_lists.specs.Lexemes.{mark_of}
 use Rattle.ps_pddl.proofs.CanonicalForms.{name_mark}
 
 -- a variable may have this name: it isn't ?duration

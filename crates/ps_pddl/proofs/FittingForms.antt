@@ -24,22 +24,22 @@ use Rattle.ps_world.specs.declared.domains.Param.{Param}
 use Rattle.ps_world.specs.declared.domains.Decl.{Decl}
 use Rattle.ps_world.specs.declared.domains.Domain.{Domain}
 use Rattle.ps_text.specs.Names.{folded}
-use Rattle.ps_shape.specs.Marks.{is_name, is_change, is_fact_name, is_predicate_name}
-use Rattle.ps_shape.specs.Symbols.{has_when, none_seen}
-use Rattle.ps_shape.specs.declared.marks.Mark.TheVariants as mark
-use Rattle.ps_shape.specs.declared.symbols.Reach.{Reach}
-use Rattle.ps_shape.specs.declared.symbols.Reach.TheVariants as the
-use Rattle.ps_shape.specs.declared.symbols.Seen.{Seen}
-use Rattle.ps_shape.specs.Marks.{is_term}
-use Rattle.ps_forms.specs.Conditions.{is_operator, is_relation}
-use Rattle.ps_forms.specs.Conditions as written
-use Rattle.ps_forms.specs.Grammar.{AreTerms, IsAtom, IsValue, IsCondition, AreConditions, AreParts, IsEffect, IsOneEffect, AreEffectsOf, AreChanges, ArePredicates, AreFunctions, AreSections, IsText}
-use Rattle.ps_forms.specs.TypedLists.{IsTypedList, is_variable}
-use Rattle.ps_forms.specs.TypedLists as list_of_names
-use Rattle.ps_forms.specs.Grammar as grammar
-use Rattle.ps_forms.specs.Lexemes.{fixed_names}
-use Rattle.ps_forms.specs.Nested.{Nested, Nesteds, more}
-use Rattle.ps_forms.specs.declared.lexemes.Lexeme.{Lexeme}
+use Rattle.ps_grammar.specs.Marks.{is_name, is_change, is_fact_name, is_predicate_name}
+use Rattle.ps_grammar.specs.Symbols.{has_when, none_seen}
+use Rattle.ps_grammar.specs.declared.marks.Mark.TheVariants as mark
+use Rattle.ps_grammar.specs.declared.symbols.Reach.{Reach}
+use Rattle.ps_grammar.specs.declared.symbols.Reach.TheVariants as the
+use Rattle.ps_grammar.specs.declared.symbols.Seen.{Seen}
+use Rattle.ps_grammar.specs.Marks.{is_term}
+use Rattle.ps_lists.specs.Conditions.{is_operator, is_relation}
+use Rattle.ps_lists.specs.Conditions as written
+use Rattle.ps_lists.specs.Grammar.{AreTerms, IsAtom, IsValue, IsCondition, AreConditions, AreParts, IsEffect, IsOneEffect, AreEffectsOf, AreChanges, ArePredicates, AreFunctions, AreSections, IsText}
+use Rattle.ps_lists.specs.TypedLists.{IsTypedList, is_variable}
+use Rattle.ps_lists.specs.TypedLists as list_of_names
+use Rattle.ps_lists.specs.Grammar as grammar
+use Rattle.ps_lists.specs.Lexemes.{fixed_names}
+use Rattle.ps_lists.specs.Nested.{Nested, Nesteds, more}
+use Rattle.ps_lists.specs.declared.lexemes.Lexeme.{Lexeme}
 use Rattle.ps_pddl.proofs.CanonicalForms.{name_mark, op_mark, rel_mark, num_op_mark, joined, IsNamed, IsTermWord, AreTermForms, no_terms, more_terms, IsLiftedForm, lifted, IsExprForm, a_number, a_value, a_negation, an_operation, IsCondForm, all_form, any_form, not_form, imply_form, fact_form, same_form, comparison_form, some_form, each_form, AreCondForms, no_forms, more_forms, timed, AreForms, no_items, more_items, IsStartCond, IsOverCond, IsEndCond, AreConditionParts, condition_parts, IsEffectForm, an_addition, a_deletion, a_change, IsGuardedForm, plain_form, when_form, IsSpreadForm, once_form, spread_form, IsStartEffect, IsEndEffect, AreEffectParts, effect_parts, AreTypedForms, no_typed, more_typed, AreParamForms, no_params, more_params, IsDeclForm, decl_form, IsActionForm, action_form, IsSectionForm, no_section, section, AreSectionForms, sections, IsDomainForm, domain_form}
 use Rattle.ps_pddl.proofs.Fits.{FitsExpr, fits_number, fits_value, fits_negation, fits_operation, FitsCond, fits_all, fits_any, fits_not, fits_implied, fits_some, fits_each, fits_fact, fits_same, fits_comparison, FitConds, fit_none, fit_more, FitsEffect, fits_addition, fits_deletion, fits_change, FitsGuarded, fits_plain, fits_when, FitsSpread, fits_once, fits_for_each, FitsAction, FitsPredicate, FitsDomain}
 use Rattle.ps_pddl.proofs.NameMarks.{mark_in-all, name_mark-is_name}

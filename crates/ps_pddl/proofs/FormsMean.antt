@@ -4,11 +4,11 @@ use Rattle.ps_world.specs.Names.{Table}
 use Rattle.ps_world.specs.declared.actions.ActionDef.{ActionDef}
 use Rattle.ps_world.specs.declared.domains.Decl.{Decl}
 use Rattle.ps_world.specs.declared.domains.Domain.{Domain}
-use Rattle.ps_shape.specs.Marks.{is}
-use Rattle.ps_shape.specs.declared.marks.Mark.{Mark}
-use Rattle.ps_shape.specs.declared.marks.Mark.TheVariants as mark
-use Rattle.ps_forms.specs.Nested.{Nesteds, none}
-use Rattle.ps_forms.specs.Places.{section}
+use Rattle.ps_grammar.specs.Marks.{is}
+use Rattle.ps_grammar.specs.declared.marks.Mark.{Mark}
+use Rattle.ps_grammar.specs.declared.marks.Mark.TheVariants as mark
+use Rattle.ps_lists.specs.Nested.{Nesteds, none}
+use Rattle.ps_lists.specs.Places.{section}
 use Rattle.ps_pddl.specs.Meaning as meaning
 use Rattle.ps_pddl.specs.Meaning.{domain_of}
 use Rattle.ps_pddl.specs.WellFormed.{AreDeclared, IsWellFormed}

@@ -8,17 +8,17 @@ use Rattle.ps_world.specs.Names.{same_name}
 use Rattle.ps_world.specs.declared.names.Name.{Name}
 use Rattle.ps_world.specs.declared.domains.Param.{Param}
 use Rattle.ps_world.specs.declared.domains.Domain.{Domain}
-use Rattle.ps_shape.specs.Marks.{is}
-use Rattle.ps_shape.specs.declared.marks.Mark.TheVariants.{Minus}
-use Rattle.ps_forms.specs.Nested.{Nesteds, nesteds}
-use Rattle.ps_forms.specs.NestedViews.{nested}
-use Rattle.ps_forms.specs.Places.{word_of}
+use Rattle.ps_grammar.specs.Marks.{is}
+use Rattle.ps_grammar.specs.declared.marks.Mark.TheVariants.{Minus}
+use Rattle.ps_lists.specs.Nested.{Nesteds, nesteds}
+use Rattle.ps_lists.specs.NestedViews.{nested}
+use Rattle.ps_lists.specs.Places.{word_of}
 use Rattle.ps_pddl.specs.Lists.{fault_of_new, cap_of, most_of, counted, with_name, kind_ahead, listed, listed_type}
 use Rattle.ps_conditions.specs.Steps.{◌>>=◌}
 use Rattle.ps_conditions.proofs.Steps.{gives_first}
 use Rattle.ps_pddl.specs.declared.refusals.DomainRefusal.{DomainRefusal}
-use Rattle.ps_forms.specs.declared.lexemes.Lexeme.{Lexeme}
-use Rattle.ps_forms.specs.declared.trees.Tree.{Tree}
+use Rattle.ps_lists.specs.declared.lexemes.Lexeme.{Lexeme}
+use Rattle.ps_lists.specs.declared.trees.Tree.{Tree}
 use Rattle.ps_pddl.specs.declared.meaning.lists.Listing.{Listing}
 
 -- with nothing at fault the name follows those before

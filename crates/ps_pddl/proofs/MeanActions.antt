@@ -8,11 +8,11 @@ use Rattle.ps_world.specs.declared.domains.Param.{Param}
 use Rattle.ps_world.specs.declared.domains.Decl.{Decl}
 use Rattle.ps_world.specs.declared.domains.Domain.{Domain}
 use Rattle.ps_world.specs.declared.actions.ActionDef.{ActionDef}
-use Rattle.ps_shape.specs.Marks.{is, is_name}
-use Rattle.ps_shape.specs.declared.marks.Mark.TheVariants as mark
-use Rattle.ps_forms.specs.Nested.{Nested, Nesteds, word, group, none, more}
-use Rattle.ps_forms.specs.Places.{after, at, head, items, items_at, rest}
-use Rattle.ps_forms.specs.declared.lexemes.Lexeme.{Lexeme}
+use Rattle.ps_grammar.specs.Marks.{is, is_name}
+use Rattle.ps_grammar.specs.declared.marks.Mark.TheVariants as mark
+use Rattle.ps_lists.specs.Nested.{Nested, Nesteds, word, group, none, more}
+use Rattle.ps_lists.specs.Places.{after, at, head, items, items_at, rest}
+use Rattle.ps_lists.specs.declared.lexemes.Lexeme.{Lexeme}
 use Rattle.ps_pddl.specs.Conditions as part
 use Rattle.ps_pddl.specs.Effects as effect
 use Rattle.ps_pddl.specs.Lists.{listed}

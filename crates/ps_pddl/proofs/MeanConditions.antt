@@ -21,10 +21,10 @@ use Rattle.ps_world.specs.declared.conditions.Cond.{Cond}
 use Rattle.ps_world.specs.declared.conditions.Cond.TheVariants as cond
 use Rattle.ps_world.specs.declared.conditions.Rel.{Rel}
 use Rattle.ps_world.specs.declared.conditions.Rel.TheVariants.{Lt, Le, Eq, Ge, Gt}
-use Rattle.ps_shape.specs.Marks.{is, is_name, is_predicate_name}
-use Rattle.ps_shape.specs.declared.marks.Mark.TheVariants as mark
-use Rattle.ps_forms.specs.Nested.{Nested, Nesteds, none, more}
-use Rattle.ps_forms.specs.declared.lexemes.Lexeme.{Lexeme}
+use Rattle.ps_grammar.specs.Marks.{is, is_name, is_predicate_name}
+use Rattle.ps_grammar.specs.declared.marks.Mark.TheVariants as mark
+use Rattle.ps_lists.specs.Nested.{Nested, Nesteds, none, more}
+use Rattle.ps_lists.specs.declared.lexemes.Lexeme.{Lexeme}
 use Rattle.ps_pddl.specs.Conditions as part
 use Rattle.ps_conditions.specs.Conditions as meant
 use Rattle.ps_conditions.specs.Signs.{head_of, rel_of}

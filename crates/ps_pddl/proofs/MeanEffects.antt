@@ -13,11 +13,11 @@ use Rattle.ps_world.specs.declared.actions.Guarded.{Guarded}
 use Rattle.ps_world.specs.declared.actions.Spread.{Spread}
 use Rattle.ps_world.specs.declared.actions.NumOp.{NumOp}
 use Rattle.ps_world.specs.declared.actions.NumOp.TheVariants.{Assign, Increase, Decrease, ScaleUp, ScaleDown}
-use Rattle.ps_shape.specs.Marks.{is, is_predicate_name}
-use Rattle.ps_shape.specs.declared.marks.Mark.{Mark}
-use Rattle.ps_shape.specs.declared.marks.Mark.TheVariants as mark
-use Rattle.ps_forms.specs.Nested.{Nested, Nesteds, word, group, none, more}
-use Rattle.ps_forms.specs.declared.lexemes.Lexeme.{Lexeme}
+use Rattle.ps_grammar.specs.Marks.{is, is_predicate_name}
+use Rattle.ps_grammar.specs.declared.marks.Mark.{Mark}
+use Rattle.ps_grammar.specs.declared.marks.Mark.TheVariants as mark
+use Rattle.ps_lists.specs.Nested.{Nested, Nesteds, word, group, none, more}
+use Rattle.ps_lists.specs.declared.lexemes.Lexeme.{Lexeme}
 use Rattle.ps_conditions.specs.Conditions as meant
 use Rattle.ps_pddl.specs.Effects as effect
 use Rattle.ps_pddl.specs.Steps.{Read, reads}

@@ -3,13 +3,13 @@ use Rattle.std.proofs.Common.{◌≡◌, Bool, true, false, None, refl, ap}
 use Rattle.std.proofs.lemmas.Bool.{eqb-true, false_from_ne_true}
 use denote.Enum.Bare.{tag_one}
 use denote.Enum.Declared.{tag_of}
-use Rattle.ps_shape.specs.contracts.marks.Mark.{the_type}
-use Rattle.ps_shape.specs.Marks.{is, is_name, is_fact_name, is_predicate_name}
-use Rattle.ps_shape.specs.declared.marks.Mark.{Mark}
-use Rattle.ps_shape.specs.declared.marks.Mark.TheVariants as mark
+use Rattle.ps_grammar.specs.contracts.marks.Mark.{the_type}
+use Rattle.ps_grammar.specs.Marks.{is, is_name, is_fact_name, is_predicate_name}
+use Rattle.ps_grammar.specs.declared.marks.Mark.{Mark}
+use Rattle.ps_grammar.specs.declared.marks.Mark.TheVariants as mark
 use Rattle.ps_conditions.specs.Signs.{head_of, rel_of}
 use Rattle.ps_conditions.specs.declared.signs.Head.TheVariants.{Plain}
-use Rattle.ps_forms.specs.Conditions.{is_relation}
+use Rattle.ps_lists.specs.Conditions.{is_relation}
 use Rattle.ps_pddl.specs.Effects.{change_of}
 use Rattle.ps_conditions.specs.Signs.{operator_of}
 

@@ -23,12 +23,12 @@ use Rattle.ps_world.specs.declared.expressions.Expr.{Expr}
 use Rattle.ps_world.specs.declared.expressions.Expr.TheVariants.{Num, Fun, Neg, Bin}
 use Rattle.ps_world.specs.declared.expressions.Op.{Op}
 use Rattle.ps_world.specs.declared.expressions.Op.TheVariants as op
-use Rattle.ps_shape.specs.Marks.{is_name}
-use Rattle.ps_shape.specs.declared.marks.Mark.{Mark}
-use Rattle.ps_shape.specs.declared.marks.Mark.TheVariants as mark
-use Rattle.ps_forms.specs.Nested.{Nested, Nesteds, word, none, more}
-use Rattle.ps_forms.specs.Places.{count}
-use Rattle.ps_forms.specs.declared.lexemes.Lexeme.{Lexeme}
+use Rattle.ps_grammar.specs.Marks.{is_name}
+use Rattle.ps_grammar.specs.declared.marks.Mark.{Mark}
+use Rattle.ps_grammar.specs.declared.marks.Mark.TheVariants as mark
+use Rattle.ps_lists.specs.Nested.{Nested, Nesteds, word, none, more}
+use Rattle.ps_lists.specs.Places.{count}
+use Rattle.ps_lists.specs.declared.lexemes.Lexeme.{Lexeme}
 use Rattle.ps_pddl.specs.Terms.{argument, arguments, applied, fact, param_at, resolved, term_of, value_of}
 use Rattle.ps_conditions.specs.Signs.{operator_of}
 use Rattle.ps_conditions.specs.Values.{function_value, operation}

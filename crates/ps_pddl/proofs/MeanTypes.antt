@@ -8,7 +8,7 @@ use Rattle.ps_world.specs.Knowledge.{is_type}
 use Rattle.ps_world.specs.declared.names.Name.{Name}
 use Rattle.ps_world.specs.declared.domains.Param.{Param}
 use Rattle.ps_world.specs.declared.domains.Domain.{Domain}
-use Rattle.ps_forms.specs.Nested.{Nesteds}
+use Rattle.ps_lists.specs.Nested.{Nesteds}
 use Rattle.ps_pddl.specs.Lists.{kept, listed}
 use Rattle.ps_pddl.specs.Meaning.{bare}
 use Rattle.ps_pddl.specs.Types.{is_cyclic, leads_to, names_of, with_types}

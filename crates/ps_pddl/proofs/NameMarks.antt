@@ -6,10 +6,10 @@ use Rattle.ps_world.specs.Lines.{same_text}
 use Rattle.ps_world.specs.Names.{Table, name_text}
 use Rattle.ps_world.specs.declared.names.Name.{Name}
 use Rattle.ps_text.specs.Names.{folded}
-use Rattle.ps_shape.specs.Marks.{is_name}
-use Rattle.ps_shape.specs.declared.marks.Mark.{Mark}
-use Rattle.ps_shape.specs.declared.marks.Mark.TheVariants as mark
-use Rattle.ps_forms.specs.Lexemes.{fixed_names, mark_in}
+use Rattle.ps_grammar.specs.Marks.{is_name}
+use Rattle.ps_grammar.specs.declared.marks.Mark.{Mark}
+use Rattle.ps_grammar.specs.declared.marks.Mark.TheVariants as mark
+use Rattle.ps_lists.specs.Lexemes.{fixed_names, mark_in}
 use Rattle.ps_pddl.proofs.CanonicalForms.{name_mark}
 
 -- a mark from a table has what all marks of the table have

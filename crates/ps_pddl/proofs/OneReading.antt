@@ -5,18 +5,18 @@ use Rattle.ps_text.specs.Tokens.{IsFirstFault}
 use Rattle.ps_text.specs.declared.lexing.LexRefusal.{LexRefusal}
 use Rattle.ps_text.specs.declared.lexing.LexRefusal.TheVariants.{Bad, Number}
 use Rattle.ps_text.proofs.OneLexing.{tokens_are_one, faults_are_one, tokens_are_faultless}
-use Rattle.ps_shape.specs.Shape as shape
-use Rattle.ps_shape.proofs.OneFault.{faults_are_first, faults_are_real}
+use Rattle.ps_grammar.specs.Shape as shape
+use Rattle.ps_grammar.proofs.OneFault.{faults_are_first, faults_are_real}
 use Rattle.ps_pddl.specs.Laws.{ReadingsAreOne}
-use Rattle.ps_forms.specs.Lexemes.{lexemes_of}
+use Rattle.ps_lists.specs.Lexemes.{lexemes_of}
 use Rattle.ps_pddl.specs.Meaning.{domain_of}
-use Rattle.ps_forms.specs.Lexemes.{marks}
+use Rattle.ps_lists.specs.Lexemes.{marks}
 use Rattle.ps_pddl.specs.Reading.{HasWords, misshapen}
 use Rattle.ps_pddl.specs.Reading.IsRead.{without_class, without_shape, with_meaning}
-use Rattle.ps_forms.specs.Spelling.{SpellAll}
-use Rattle.ps_forms.specs.declared.lexemes.Lexeme.{Lexeme}
+use Rattle.ps_lists.specs.Spelling.{SpellAll}
+use Rattle.ps_lists.specs.declared.lexemes.Lexeme.{Lexeme}
 use Rattle.ps_pddl.specs.declared.refusals.DomainRefusal.TheVariants.{Lex}
-use Rattle.ps_forms.proofs.OneSpelling.{one_spelling}
+use Rattle.ps_lists.proofs.OneSpelling.{one_spelling}
 
 -- a word without a class, of either kind
 fault_here : (bytes : List ℕ) (at : ℕ) → IsFirstFault bytes at (Bad at) ⊎ IsFirstFault bytes at (Number at) → (f : LexRefusal) × IsFirstFault bytes at f

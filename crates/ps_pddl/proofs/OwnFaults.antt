@@ -19,17 +19,17 @@ use Rattle.ps_world.specs.declared.actions.Spread.{Spread}
 use Rattle.ps_world.specs.declared.actions.Spread.TheVariants.{Once, ForAll}
 use Rattle.ps_world.specs.declared.expressions.Expr.{Expr}
 use Rattle.ps_world.specs.declared.expressions.Expr.TheVariants.{Num}
-use Rattle.ps_shape.specs.Marks.{is}
-use Rattle.ps_shape.specs.declared.marks.Mark.{Mark}
-use Rattle.ps_shape.specs.declared.marks.Mark.TheVariants as mark
+use Rattle.ps_grammar.specs.Marks.{is}
+use Rattle.ps_grammar.specs.declared.marks.Mark.{Mark}
+use Rattle.ps_grammar.specs.declared.marks.Mark.TheVariants as mark
 use Rattle.ps_pddl.specs.Conditions as part
 use Rattle.ps_pddl.specs.Effects as effect
 use Rattle.ps_pddl.specs.Laws.{MeaningsHaveOwnFaults, is_of_meaning}
 use Rattle.ps_pddl.specs.Lists.{binding, cap_of, most_of, counted, kept, kind_ahead, listed, listed_type, with_name}
 use Rattle.ps_pddl.specs.Meaning as meaning
 use Rattle.ps_pddl.specs.Meaning.{domain_of}
-use Rattle.ps_forms.specs.Nested.{Nested, Nesteds, word, group, none, more}
-use Rattle.ps_forms.specs.Places.{items, items_at, at, head, rest, after, section, word_of, count}
+use Rattle.ps_lists.specs.Nested.{Nested, Nesteds, word, group, none, more}
+use Rattle.ps_lists.specs.Places.{items, items_at, at, head, rest, after, section, word_of, count}
 use Rattle.ps_conditions.specs.Conditions as meant
 use Rattle.ps_conditions.specs.Steps.{◌>>=◌}
 use Rattle.ps_pddl.specs.Steps.{Read, reads, unless}
@@ -37,7 +37,7 @@ use Rattle.ps_pddl.specs.Terms.{argument, arguments, applied, fact, lifted, reso
 use Rattle.ps_pddl.specs.Types.{acyclic, is_cyclic, names_of, with_types}
 use Rattle.ps_pddl.specs.Words.{condition, most_in_force, plain_value, scopes, second, term, value, words}
 use Rattle.ps_conditions.proofs.Refusals.{AreRefused, Refuses, condition_refuses, value_refuses}
-use Rattle.ps_forms.specs.declared.lexemes.Lexeme.{Lexeme}
+use Rattle.ps_lists.specs.declared.lexemes.Lexeme.{Lexeme}
 use Rattle.ps_world.specs.declared.actions.Effects.{Effects}
 use Rattle.ps_pddl.specs.declared.meaning.lists.Listing.{Listing}
 use Rattle.ps_pddl.specs.declared.meaning.lists.Listing.TheVariants.{Types, Constants, Params, Bound}

@@ -6,13 +6,13 @@ use Rattle.ps_world.specs.Knowledge.{parent_of}
 use Rattle.ps_world.specs.declared.names.Name.{Name}
 use Rattle.ps_world.specs.declared.domains.Param.{Param}
 use Rattle.ps_world.specs.declared.domains.Domain.{Domain}
-use Rattle.ps_shape.specs.Marks.{is}
-use Rattle.ps_shape.specs.declared.marks.Mark.TheVariants.{Minus}
-use Rattle.ps_forms.specs.Nested.{nesteds}
-use Rattle.ps_forms.specs.NestedViews.{nested}
-use Rattle.ps_forms.specs.Places.{word_of}
+use Rattle.ps_grammar.specs.Marks.{is}
+use Rattle.ps_grammar.specs.declared.marks.Mark.TheVariants.{Minus}
+use Rattle.ps_lists.specs.Nested.{nesteds}
+use Rattle.ps_lists.specs.NestedViews.{nested}
+use Rattle.ps_lists.specs.Places.{word_of}
 use Rattle.ps_pddl.specs.Types.{names_of, names_after_type, leads_to}
-use Rattle.ps_forms.specs.declared.trees.Tree.{Tree}
+use Rattle.ps_lists.specs.declared.trees.Tree.{Tree}
 use Rattle.ps_pddl.proofs.Listings.{left, first}
 
 -- the type after `-`, if anything stands there, is passed over

@@ -11,14 +11,14 @@ use Rattle.ps_world.specs.declared.domains.Domain.{Domain}
 use Rattle.ps_world.specs.declared.actions.ActionDef.{ActionDef}
 use Rattle.ps_world.specs.declared.actions.Spread.{Spread}
 use Rattle.ps_world.specs.declared.expressions.Expr.{Expr}
-use Rattle.ps_shape.specs.Marks.{is, is_name}
-use Rattle.ps_shape.specs.declared.marks.Mark.{Mark}
-use Rattle.ps_shape.specs.declared.marks.Mark.TheVariants as mark
-use Rattle.ps_forms.specs.Grammar.{IsActionBody, IsActionEnd, IsConditionForm, IsDuration, IsEffectForm, IsValue}
-use Rattle.ps_forms.specs.Grammar as grammar
-use Rattle.ps_forms.specs.Nested.{Nested, Nesteds, word, group, none, more}
-use Rattle.ps_forms.specs.Places as place
-use Rattle.ps_forms.specs.Places.{at, items_at, word_of}
+use Rattle.ps_grammar.specs.Marks.{is, is_name}
+use Rattle.ps_grammar.specs.declared.marks.Mark.{Mark}
+use Rattle.ps_grammar.specs.declared.marks.Mark.TheVariants as mark
+use Rattle.ps_lists.specs.Grammar.{IsActionBody, IsActionEnd, IsConditionForm, IsDuration, IsEffectForm, IsValue}
+use Rattle.ps_lists.specs.Grammar as grammar
+use Rattle.ps_lists.specs.Nested.{Nested, Nesteds, word, group, none, more}
+use Rattle.ps_lists.specs.Places as place
+use Rattle.ps_lists.specs.Places.{at, items_at, word_of}
 use Rattle.ps_print.specs.CanonicalWords.{IsActionOf, IsCondOf, IsSpreadOf}
 use Rattle.ps_pddl.specs.Lists.{listed}
 use Rattle.ps_pddl.specs.Meaning as meaning

@@ -14,15 +14,15 @@ use Rattle.ps_world.specs.declared.conditions.Cond.{Cond}
 use Rattle.ps_world.specs.declared.conditions.Cond.TheVariants as cond
 use Rattle.ps_world.specs.declared.conditions.Rel.{Rel}
 use Rattle.ps_world.specs.declared.conditions.Rel.TheVariants.{Lt, Le, Eq, Ge, Gt}
-use Rattle.ps_shape.specs.Marks.{is, is_fact_name}
-use Rattle.ps_shape.specs.declared.marks.Mark.{Mark}
-use Rattle.ps_shape.specs.declared.marks.Mark.TheVariants as mark
-use Rattle.ps_forms.specs.Conditions.{is_relation}
-use Rattle.ps_forms.specs.Conditions as written
-use Rattle.ps_forms.specs.Grammar.{IsValue, IsCondition, AreConditions, IsTimedCondition, IsPart, AreParts, IsConditionForm}
-use Rattle.ps_forms.specs.Grammar as grammar
-use Rattle.ps_forms.specs.Nested.{Nested, Nesteds, word, group, none, more}
-use Rattle.ps_forms.specs.declared.lexemes.Lexeme.{Lexeme}
+use Rattle.ps_grammar.specs.Marks.{is, is_fact_name}
+use Rattle.ps_grammar.specs.declared.marks.Mark.{Mark}
+use Rattle.ps_grammar.specs.declared.marks.Mark.TheVariants as mark
+use Rattle.ps_lists.specs.Conditions.{is_relation}
+use Rattle.ps_lists.specs.Conditions as written
+use Rattle.ps_lists.specs.Grammar.{IsValue, IsCondition, AreConditions, IsTimedCondition, IsPart, AreParts, IsConditionForm}
+use Rattle.ps_lists.specs.Grammar as grammar
+use Rattle.ps_lists.specs.Nested.{Nested, Nesteds, word, group, none, more}
+use Rattle.ps_lists.specs.declared.lexemes.Lexeme.{Lexeme}
 use Rattle.ps_print.specs.CanonicalWords.{AreCondsOf, IsCondOf, IsParamOf}
 use Rattle.ps_pddl.specs.Conditions as part
 use Rattle.ps_conditions.specs.Conditions as meant

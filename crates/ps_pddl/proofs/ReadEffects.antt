@@ -16,17 +16,17 @@ use Rattle.ps_world.specs.declared.actions.Guarded.TheVariants.{Plain, When}
 use Rattle.ps_world.specs.declared.actions.Spread.{Spread}
 use Rattle.ps_world.specs.declared.actions.Spread.TheVariants.{Once, ForAll}
 use Rattle.ps_world.specs.declared.actions.NumOp.{NumOp}
-use Rattle.ps_shape.specs.Marks.{is, is_change, is_predicate_name}
-use Rattle.ps_shape.specs.declared.marks.Mark.{Mark}
-use Rattle.ps_shape.specs.declared.marks.Mark.TheVariants as mark
-use Rattle.ps_shape.specs.declared.symbols.Reach.{Reach}
-use Rattle.ps_shape.specs.declared.symbols.Reach.TheVariants as the
-use Rattle.ps_forms.specs.Conditions as written
-use Rattle.ps_forms.specs.Grammar.{IsAtom, IsValue, IsCondition, IsEffect, IsOneEffect, AreEffectsOf, IsBody, IsTimedEffect, IsChange, AreChanges, IsEffectForm}
-use Rattle.ps_forms.specs.Grammar as grammar
-use Rattle.ps_forms.specs.TypedLists.{IsTypedList, is_variable}
-use Rattle.ps_forms.specs.Nested.{Nested, Nesteds, word, group, none, more}
-use Rattle.ps_forms.specs.declared.lexemes.Lexeme.{Lexeme}
+use Rattle.ps_grammar.specs.Marks.{is, is_change, is_predicate_name}
+use Rattle.ps_grammar.specs.declared.marks.Mark.{Mark}
+use Rattle.ps_grammar.specs.declared.marks.Mark.TheVariants as mark
+use Rattle.ps_grammar.specs.declared.symbols.Reach.{Reach}
+use Rattle.ps_grammar.specs.declared.symbols.Reach.TheVariants as the
+use Rattle.ps_lists.specs.Conditions as written
+use Rattle.ps_lists.specs.Grammar.{IsAtom, IsValue, IsCondition, IsEffect, IsOneEffect, AreEffectsOf, IsBody, IsTimedEffect, IsChange, AreChanges, IsEffectForm}
+use Rattle.ps_lists.specs.Grammar as grammar
+use Rattle.ps_lists.specs.TypedLists.{IsTypedList, is_variable}
+use Rattle.ps_lists.specs.Nested.{Nested, Nesteds, word, group, none, more}
+use Rattle.ps_lists.specs.declared.lexemes.Lexeme.{Lexeme}
 use Rattle.ps_print.specs.CanonicalWords.{IsEffectOf, IsGuardedOf, IsSpreadOf}
 use Rattle.ps_pddl.specs.Effects as effect
 use Rattle.ps_conditions.specs.Conditions as meant

@@ -8,20 +8,20 @@ use Rattle.ps_world.specs.declared.names.Name.{Name}
 use Rattle.ps_world.specs.declared.domains.Domain.{Domain}
 use Rattle.ps_world.specs.declared.actions.ActionDef.{ActionDef}
 use Rattle.ps_text.specs.Names.{AreNames}
-use Rattle.ps_shape.specs.Marks.{is, is_name}
-use Rattle.ps_shape.specs.contracts.marks.Mark.{the_type}
-use Rattle.ps_shape.specs.declared.marks.Mark.{Mark}
-use Rattle.ps_shape.specs.declared.marks.Mark.TheVariants as mark
-use Rattle.ps_shape.specs.Symbols.{none_seen}
-use Rattle.ps_shape.specs.declared.symbols.Seen.{Seen}
-use Rattle.ps_forms.specs.Grammar.{AreFunctions, ArePredicates, AreSections, IsActionBody, IsText}
-use Rattle.ps_forms.specs.TypedLists.{IsTypedList}
-use Rattle.ps_forms.specs.TypedLists.IsTypedList.{no_name}
-use Rattle.ps_forms.specs.Grammar as grammar
-use Rattle.ps_forms.specs.Nested.{Nested, Nesteds, word, group, none, more}
-use Rattle.ps_forms.specs.Places.{head, items, rest, section}
-use Rattle.ps_forms.specs.Spelling.{SpellAll}
-use Rattle.ps_forms.specs.declared.lexemes.Lexeme.{Lexeme}
+use Rattle.ps_grammar.specs.Marks.{is, is_name}
+use Rattle.ps_grammar.specs.contracts.marks.Mark.{the_type}
+use Rattle.ps_grammar.specs.declared.marks.Mark.{Mark}
+use Rattle.ps_grammar.specs.declared.marks.Mark.TheVariants as mark
+use Rattle.ps_grammar.specs.Symbols.{none_seen}
+use Rattle.ps_grammar.specs.declared.symbols.Seen.{Seen}
+use Rattle.ps_lists.specs.Grammar.{AreFunctions, ArePredicates, AreSections, IsActionBody, IsText}
+use Rattle.ps_lists.specs.TypedLists.{IsTypedList}
+use Rattle.ps_lists.specs.TypedLists.IsTypedList.{no_name}
+use Rattle.ps_lists.specs.Grammar as grammar
+use Rattle.ps_lists.specs.Nested.{Nested, Nesteds, word, group, none, more}
+use Rattle.ps_lists.specs.Places.{head, items, rest, section}
+use Rattle.ps_lists.specs.Spelling.{SpellAll}
+use Rattle.ps_lists.specs.declared.lexemes.Lexeme.{Lexeme}
 use Rattle.ps_print.specs.CanonicalWords.{IsActionOf, IsDeclOf, IsDomainOf, IsNameOf, IsParamOf}
 use Rattle.ps_pddl.specs.Lists.{listed}
 use Rattle.ps_pddl.specs.Meaning as meaning

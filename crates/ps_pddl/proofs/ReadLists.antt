@@ -9,16 +9,16 @@ use Rattle.ps_world.specs.declared.names.Name.{Name}
 use Rattle.ps_world.specs.declared.domains.Param.{Param}
 use Rattle.ps_world.specs.declared.domains.Decl.{Decl}
 use Rattle.ps_world.specs.declared.domains.Domain.{Domain}
-use Rattle.ps_shape.specs.Marks.{is, is_name, is_predicate_name}
-use Rattle.ps_shape.specs.declared.marks.Mark.{Mark}
-use Rattle.ps_shape.specs.declared.marks.Mark.TheVariants as mark
-use Rattle.ps_forms.specs.Grammar.{AreFunctions, ArePredicates, IsDecl}
-use Rattle.ps_forms.specs.TypedLists.{IsRun, IsTypedList, is_variable}
-use Rattle.ps_forms.specs.TypedLists as list_of_names
-use Rattle.ps_forms.specs.Grammar as grammar
-use Rattle.ps_forms.specs.Nested.{Nested, Nesteds, word, none, more}
-use Rattle.ps_forms.specs.Places.{head, word_of}
-use Rattle.ps_forms.specs.declared.lexemes.Lexeme.{Lexeme}
+use Rattle.ps_grammar.specs.Marks.{is, is_name, is_predicate_name}
+use Rattle.ps_grammar.specs.declared.marks.Mark.{Mark}
+use Rattle.ps_grammar.specs.declared.marks.Mark.TheVariants as mark
+use Rattle.ps_lists.specs.Grammar.{AreFunctions, ArePredicates, IsDecl}
+use Rattle.ps_lists.specs.TypedLists.{IsRun, IsTypedList, is_variable}
+use Rattle.ps_lists.specs.TypedLists as list_of_names
+use Rattle.ps_lists.specs.Grammar as grammar
+use Rattle.ps_lists.specs.Nested.{Nested, Nesteds, word, none, more}
+use Rattle.ps_lists.specs.Places.{head, word_of}
+use Rattle.ps_lists.specs.declared.lexemes.Lexeme.{Lexeme}
 use Rattle.ps_print.specs.CanonicalWords.{IsDeclOf, IsNameOf, IsParamOf}
 use Rattle.ps_pddl.specs.Lists.{binding, counts, kept, kind_ahead, listed, listed_type, with_name}
 use Rattle.ps_pddl.specs.Meaning as meaning

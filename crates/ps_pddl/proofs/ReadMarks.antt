@@ -1,10 +1,10 @@
 -- Tests of marks, and which way a test goes.
 use Rattle.std.proofs.Common.{◌≡◌, Bool, true, false, None, refl}
 use Rattle.std.specs.Bool.{if◌then◌else◌}
-use Rattle.ps_shape.specs.Marks.{is_change, is_fact_name, is_name, is_predicate_name}
-use Rattle.ps_shape.specs.declared.marks.Mark.{Mark}
-use Rattle.ps_shape.specs.declared.marks.Mark.TheVariants as mark
-use Rattle.ps_forms.specs.Conditions.{is_relation}
+use Rattle.ps_grammar.specs.Marks.{is_change, is_fact_name, is_name, is_predicate_name}
+use Rattle.ps_grammar.specs.declared.marks.Mark.{Mark}
+use Rattle.ps_grammar.specs.declared.marks.Mark.TheVariants as mark
+use Rattle.ps_lists.specs.Conditions.{is_relation}
 use Rattle.ps_conditions.specs.Signs.{rel_of}
 use Rattle.ps_pddl.specs.Effects.{change_of}
 use Rattle.ps_pddl.specs.Steps.{Read}

@@ -16,19 +16,19 @@ use Rattle.ps_text.specs.declared.lexing.Class.TheVariants as class
 use Rattle.ps_text.specs.declared.lexing.Token.{Token}
 use Rattle.ps_text.proofs.Folds.{folded-folded, IsNameText-folded}
 use Rattle.ps_text.proofs.Tables.{AreNames-interned, placed}
-use Rattle.ps_shape.specs.Marks.{is_name, is_term}
-use Rattle.ps_shape.specs.declared.marks.Mark.{Mark}
-use Rattle.ps_shape.specs.declared.marks.Mark.TheVariants as mark
+use Rattle.ps_grammar.specs.Marks.{is_name, is_term}
+use Rattle.ps_grammar.specs.declared.marks.Mark.{Mark}
+use Rattle.ps_grammar.specs.declared.marks.Mark.TheVariants as mark
 use Rattle.ps_text.specs.Names.{Keeps}
-use Rattle.ps_forms.specs.Lexemes.{fixed_names, keywords, lexemes_of, mark_in, mark_of, name_within, named, number_or_zero, numbered, signs, table_after, IsTokenOf}
-use Rattle.ps_forms.specs.Nested.{Nested, Nesteds, word, group, none, more}
-use Rattle.ps_forms.specs.Spelling.{Spells, SpellAll}
-use Rattle.ps_forms.specs.Spelling.Spells.{plain, between}
-use Rattle.ps_forms.specs.Spelling.SpellAll.{nothing, one_more}
-use Rattle.ps_forms.specs.declared.lexemes.Lexeme.{Lexeme}
+use Rattle.ps_lists.specs.Lexemes.{fixed_names, keywords, lexemes_of, mark_in, mark_of, name_within, named, number_or_zero, numbered, signs, table_after, IsTokenOf}
+use Rattle.ps_lists.specs.Nested.{Nested, Nesteds, word, group, none, more}
+use Rattle.ps_lists.specs.Spelling.{Spells, SpellAll}
+use Rattle.ps_lists.specs.Spelling.Spells.{plain, between}
+use Rattle.ps_lists.specs.Spelling.SpellAll.{nothing, one_more}
+use Rattle.ps_lists.specs.declared.lexemes.Lexeme.{Lexeme}
 use Rattle.ps_text.proofs.Kept.{kept_along}
-use Rattle.ps_forms.proofs.Kept.{kept_named}
-use Rattle.ps_forms.proofs.TokenNames.{are_tokens_of, is_marked-class, is_name-class, is_name-variable}
+use Rattle.ps_lists.proofs.Kept.{kept_named}
+use Rattle.ps_lists.proofs.TokenNames.{are_tokens_of, is_marked-class, is_name-class, is_name-variable}
 use Rattle.ps_pddl.specs.Reading.{HasWords}
 use Rattle.ps_pddl.proofs.CanonicalForms.{name_mark}
 use Rattle.ps_pddl.proofs.Fits.{IsVariableName}

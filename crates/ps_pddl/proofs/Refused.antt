@@ -7,17 +7,17 @@ use Rattle.ps_world.specs.declared.failures.Failure.{Failure}
 use Rattle.ps_world.specs.declared.failures.Failure.TheVariants.{Refused, OutOfMemory}
 use Rattle.ps_text.specs.Tokens.{AreTokens, RefusesText}
 use Rattle.ps_text.specs.declared.lexing.Token.{Token}
-use Rattle.ps_forms.specs.Lexemes.{lexemes_of}
+use Rattle.ps_lists.specs.Lexemes.{lexemes_of}
 use Rattle.ps_text.specs.declared.lexing.LexRefusal.{LexRefusal}
 use Rattle.ps_text.specs.declared.lexing.LexRefusal.TheVariants as lexing
-use Rattle.ps_shape.specs.Shape.{IsDomainShape, IsShallow}
+use Rattle.ps_grammar.specs.Shape.{IsDomainShape, IsShallow}
 use Rattle.ps_pddl.specs.Meaning.{domain_of}
-use Rattle.ps_forms.specs.Nested.{Nesteds}
-use Rattle.ps_forms.specs.Lexemes.{marks}
+use Rattle.ps_lists.specs.Nested.{Nesteds}
+use Rattle.ps_lists.specs.Lexemes.{marks}
 use Rattle.ps_pddl.specs.Reading.{HasWords, IsRead, ReadsDomain, RefusesClass, RefusesShape, unlexed}
 use Rattle.ps_pddl.specs.Reading.IsRead.{without_class, without_shape, with_meaning}
-use Rattle.ps_forms.specs.Spelling.{SpellAll}
-use Rattle.ps_forms.specs.declared.lexemes.Lexeme.{Lexeme}
+use Rattle.ps_lists.specs.Spelling.{SpellAll}
+use Rattle.ps_lists.specs.declared.lexemes.Lexeme.{Lexeme}
 use Rattle.ps_pddl.specs.declared.refusals.DomainRefusal.{DomainRefusal}
 
 -- a text of the right shape, whose nested lists are these

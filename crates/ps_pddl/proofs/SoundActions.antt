@@ -12,15 +12,15 @@ use Rattle.ps_world.specs.declared.domains.Decl.{Decl}
 use Rattle.ps_world.specs.declared.domains.Domain.{Domain}
 use Rattle.ps_world.specs.declared.actions.ActionDef.{ActionDef}
 use Rattle.ps_world.specs.declared.expressions.Expr.{Expr}
-use Rattle.ps_shape.specs.Marks.{is}
-use Rattle.ps_shape.specs.declared.marks.Mark.{Mark}
-use Rattle.ps_shape.specs.declared.marks.Mark.TheVariants as mark
+use Rattle.ps_grammar.specs.Marks.{is}
+use Rattle.ps_grammar.specs.declared.marks.Mark.{Mark}
+use Rattle.ps_grammar.specs.declared.marks.Mark.TheVariants as mark
 use Rattle.ps_pddl.specs.Laws.{DomainsAreWellFormed}
 use Rattle.ps_pddl.specs.Lists.{listed}
 use Rattle.ps_pddl.specs.Meaning as meaning
 use Rattle.ps_pddl.specs.Meaning.{domain_of}
-use Rattle.ps_forms.specs.Nested.{Nested, Nesteds, word, group, none, more}
-use Rattle.ps_forms.specs.Places.{after, at, head, items, items_at, rest, section, word_of}
+use Rattle.ps_lists.specs.Nested.{Nested, Nesteds, word, group, none, more}
+use Rattle.ps_lists.specs.Places.{after, at, head, items, items_at, rest, section, word_of}
 use Rattle.ps_conditions.specs.Steps.{◌>>=◌}
 use Rattle.ps_pddl.specs.Types.{with_types}
 use Rattle.ps_pddl.specs.WellFormed.{AreApart, AreCounted, AreDeclared, AreTyped, IsAction, IsCounted, IsWellFormed}

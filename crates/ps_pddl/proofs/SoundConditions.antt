@@ -13,12 +13,12 @@ use Rattle.ps_world.specs.declared.conditions.Cond.{Cond}
 use Rattle.ps_world.specs.declared.conditions.Cond.TheVariants as cond
 use Rattle.ps_world.specs.declared.conditions.Rel.{Rel}
 use Rattle.ps_world.specs.declared.conditions.Rel.TheVariants.{Lt, Le, Eq, Ge, Gt}
-use Rattle.ps_shape.specs.Marks.{is}
-use Rattle.ps_shape.specs.declared.marks.Mark.{Mark}
-use Rattle.ps_shape.specs.declared.marks.Mark.TheVariants as mark
+use Rattle.ps_grammar.specs.Marks.{is}
+use Rattle.ps_grammar.specs.declared.marks.Mark.{Mark}
+use Rattle.ps_grammar.specs.declared.marks.Mark.TheVariants as mark
 use Rattle.ps_pddl.specs.Conditions as part
-use Rattle.ps_forms.specs.Nested.{Nested, Nesteds, word, group, none, more}
-use Rattle.ps_forms.specs.Places.{items, word_of}
+use Rattle.ps_lists.specs.Nested.{Nested, Nesteds, word, group, none, more}
+use Rattle.ps_lists.specs.Places.{items, word_of}
 use Rattle.ps_conditions.specs.Conditions as meant
 use Rattle.ps_conditions.specs.Signs.{head_of, rel_of}
 use Rattle.ps_conditions.specs.Steps.{◌>>=◌}
@@ -27,7 +27,7 @@ use Rattle.ps_pddl.specs.Terms.{fact, resolved}
 use Rattle.ps_pddl.specs.Lists.{binding, kept, listed}
 use Rattle.ps_pddl.specs.Words.{bound, condition, most_in_force, scopes, second, term, value, words}
 use Rattle.ps_pddl.specs.WellFormed.{AreCounted, AreTyped, HasKind, IsCond, IsCounted, IsFactOf, IsTerm, declared_leaves}
-use Rattle.ps_forms.specs.declared.lexemes.Lexeme.{Lexeme}
+use Rattle.ps_lists.specs.declared.lexemes.Lexeme.{Lexeme}
 use Rattle.ps_world.specs.declared.actions.Conditions.{Conditions}
 use Rattle.ps_pddl.specs.declared.refusals.DomainRefusal.TheVariants.{Kind}
 use Rattle.ps_pddl.specs.declared.meaning.lists.Listing.TheVariants.{Bound}

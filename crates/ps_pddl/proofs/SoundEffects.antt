@@ -15,19 +15,19 @@ use Rattle.ps_world.specs.declared.actions.NumOp.{NumOp}
 use Rattle.ps_world.specs.declared.actions.Spread.{Spread}
 use Rattle.ps_world.specs.declared.actions.Spread.TheVariants.{Once, ForAll}
 use Rattle.ps_world.specs.declared.conditions.Cond.{Cond}
-use Rattle.ps_shape.specs.Marks.{is}
-use Rattle.ps_shape.specs.declared.marks.Mark.{Mark}
-use Rattle.ps_shape.specs.declared.marks.Mark.TheVariants as mark
+use Rattle.ps_grammar.specs.Marks.{is}
+use Rattle.ps_grammar.specs.declared.marks.Mark.{Mark}
+use Rattle.ps_grammar.specs.declared.marks.Mark.TheVariants as mark
 use Rattle.ps_pddl.specs.Effects as effect
-use Rattle.ps_forms.specs.Nested.{Nested, Nesteds, word, group, none, more}
-use Rattle.ps_forms.specs.Places.{head, items, rest, word_of}
+use Rattle.ps_lists.specs.Nested.{Nested, Nesteds, word, group, none, more}
+use Rattle.ps_lists.specs.Places.{head, items, rest, word_of}
 use Rattle.ps_conditions.specs.Conditions as meant
 use Rattle.ps_conditions.specs.Steps.{◌>>=◌}
 use Rattle.ps_pddl.specs.Steps.{Read, reads}
 use Rattle.ps_pddl.specs.Terms.{fact, value_of}
 use Rattle.ps_pddl.specs.Words.{scopes, value}
 use Rattle.ps_pddl.specs.WellFormed.{AreCounted, AreTyped, IsCounted, IsEffect, IsFactOf, IsGuarded, IsSpread, IsValueOf, declared_leaves}
-use Rattle.ps_forms.specs.declared.lexemes.Lexeme.{Lexeme}
+use Rattle.ps_lists.specs.declared.lexemes.Lexeme.{Lexeme}
 use Rattle.ps_world.specs.declared.actions.Effects.{Effects}
 use Rattle.ps_pddl.proofs.Sound.{Sound, Fits, then_sound, either_sound}
 use Rattle.ps_pddl.proofs.SoundConditions.{binding_sound, condition_sound}

@@ -11,14 +11,14 @@ use Rattle.ps_world.specs.Knowledge.{is_type}
 use Rattle.ps_world.specs.declared.names.Name.{Name}
 use Rattle.ps_world.specs.declared.domains.Param.{Param}
 use Rattle.ps_world.specs.declared.domains.Domain.{Domain}
-use Rattle.ps_shape.specs.Marks.{is}
-use Rattle.ps_shape.specs.declared.marks.Mark.TheVariants as mark
+use Rattle.ps_grammar.specs.Marks.{is}
+use Rattle.ps_grammar.specs.declared.marks.Mark.TheVariants as mark
 use Rattle.ps_pddl.specs.Lists.{cap_of, counted, counts, kept, kind_ahead, listed, listed_type, most_of, with_name}
-use Rattle.ps_forms.specs.Nested.{Nested, Nesteds, none, more}
-use Rattle.ps_forms.specs.Places.{head, word_of}
+use Rattle.ps_lists.specs.Nested.{Nested, Nesteds, none, more}
+use Rattle.ps_lists.specs.Places.{head, word_of}
 use Rattle.ps_conditions.specs.Steps.{◌>>=◌}
 use Rattle.ps_pddl.specs.WellFormed.{AreApart, AreTyped}
-use Rattle.ps_forms.specs.declared.lexemes.Lexeme.{Lexeme}
+use Rattle.ps_lists.specs.declared.lexemes.Lexeme.{Lexeme}
 use Rattle.ps_pddl.specs.declared.meaning.lists.Listing.{Listing}
 use Rattle.ps_pddl.specs.declared.meaning.lists.Listing.TheVariants.{Constants, Params}
 use Rattle.ps_pddl.specs.declared.refusals.DomainRefusal.TheVariants.{Limit, Twice, Unknown}

@@ -10,15 +10,15 @@ use Rattle.ps_text.specs.declared.decimals.NumRefusal.{NumRefusal}
 use Rattle.ps_text.specs.declared.decimals.NumRefusal.TheVariants.{NotNumber, TooFine, TooLarge}
 use Rattle.ps_text.specs.declared.lexing.Token.{Token}
 use Rattle.ps_pddl.specs.Laws.{ReadingsAreWellFormed}
-use Rattle.ps_forms.specs.Lexemes.{lexemes_of, number_or_zero, table_after}
-use Rattle.ps_forms.specs.Nested.{Nested, Nesteds}
+use Rattle.ps_lists.specs.Lexemes.{lexemes_of, number_or_zero, table_after}
+use Rattle.ps_lists.specs.Nested.{Nested, Nesteds}
 use Rattle.ps_pddl.specs.Reading.{HasWords}
 use Rattle.ps_pddl.specs.Reading.IsRead.{with_meaning}
-use Rattle.ps_forms.specs.Spelling.{Spells, SpellAll}
-use Rattle.ps_forms.specs.Spelling.Spells.{plain, between}
-use Rattle.ps_forms.specs.Spelling.SpellAll.{nothing, one_more}
+use Rattle.ps_lists.specs.Spelling.{Spells, SpellAll}
+use Rattle.ps_lists.specs.Spelling.Spells.{plain, between}
+use Rattle.ps_lists.specs.Spelling.SpellAll.{nothing, one_more}
 use Rattle.ps_pddl.specs.WellFormed.{AreCounted, IsCounted}
-use Rattle.ps_forms.specs.declared.lexemes.Lexeme.{Lexeme}
+use Rattle.ps_lists.specs.declared.lexemes.Lexeme.{Lexeme}
 use Rattle.ps_pddl.proofs.SoundActions.{domains_are_well_formed}
 
 -- ---- numbers

@@ -19,11 +19,11 @@ use Rattle.ps_world.specs.declared.actions.ActionDef.{ActionDef}
 use Rattle.ps_world.specs.declared.expressions.Expr.{Expr}
 use Rattle.ps_world.specs.declared.expressions.Expr.TheVariants.{Num, Fun, Neg, Bin}
 use Rattle.ps_world.specs.declared.expressions.Op.{Op}
-use Rattle.ps_shape.specs.Marks.{is}
-use Rattle.ps_shape.specs.declared.marks.Mark.{Mark}
-use Rattle.ps_shape.specs.declared.marks.Mark.TheVariants as mark
-use Rattle.ps_forms.specs.Nested.{Nested, Nesteds, word, group, none, more}
-use Rattle.ps_forms.specs.Places.{word_of, count}
+use Rattle.ps_grammar.specs.Marks.{is}
+use Rattle.ps_grammar.specs.declared.marks.Mark.{Mark}
+use Rattle.ps_grammar.specs.declared.marks.Mark.TheVariants as mark
+use Rattle.ps_lists.specs.Nested.{Nested, Nesteds, word, group, none, more}
+use Rattle.ps_lists.specs.Places.{word_of, count}
 use Rattle.ps_conditions.specs.Steps.{◌>>=◌}
 use Rattle.ps_pddl.specs.Steps.{Read, reads}
 use Rattle.ps_pddl.specs.Terms.{argument, arguments, applied, fact, lifted, param_at, resolved, term_of, value_of}
@@ -31,7 +31,7 @@ use Rattle.ps_conditions.specs.Signs.{operator_of}
 use Rattle.ps_conditions.specs.Values.{function_value, operated, operation}
 use Rattle.ps_pddl.specs.Words.{plain_value, value, words}
 use Rattle.ps_pddl.specs.WellFormed.{AreCounted, AreSuited, HasKind, IsApplied, IsCounted, IsExpr, IsFactOf, IsValueOf}
-use Rattle.ps_forms.specs.declared.lexemes.Lexeme.{Lexeme}
+use Rattle.ps_lists.specs.declared.lexemes.Lexeme.{Lexeme}
 use Rattle.ps_pddl.specs.declared.refusals.DomainRefusal.TheVariants.{Unknown, Arity, Kind}
 use Rattle.ps_pddl.proofs.Sound.{Sound, Fits, then_sound, also_sound, either_sound, made_fits, found_sound, whole, climbs_whole}
 

@@ -11,15 +11,15 @@ use Rattle.ps_world.specs.declared.domains.Param.{Param}
 use Rattle.ps_world.specs.declared.domains.Domain.{Domain}
 use Rattle.ps_world.proofs.Truths.{or_more}
 use Rattle.ps_domain.proofs.Listed.{later_passes}
-use Rattle.ps_shape.specs.Marks.{is}
-use Rattle.ps_shape.specs.declared.marks.Mark.TheVariants as mark
+use Rattle.ps_grammar.specs.Marks.{is}
+use Rattle.ps_grammar.specs.declared.marks.Mark.TheVariants as mark
 use Rattle.ps_pddl.specs.Lists.{counts, kept, kind_ahead, listed, listed_type, with_name}
-use Rattle.ps_forms.specs.Nested.{Nested, Nesteds, none, more}
-use Rattle.ps_forms.specs.Places.{word_of}
+use Rattle.ps_lists.specs.Nested.{Nested, Nesteds, none, more}
+use Rattle.ps_lists.specs.Places.{word_of}
 use Rattle.ps_conditions.specs.Steps.{◌>>=◌}
 use Rattle.ps_pddl.specs.Types.{acyclic, is_cyclic, names_after_type, names_of, with_types}
 use Rattle.ps_pddl.specs.WellFormed.{AreTyped}
-use Rattle.ps_forms.specs.declared.lexemes.Lexeme.{Lexeme}
+use Rattle.ps_lists.specs.declared.lexemes.Lexeme.{Lexeme}
 use Rattle.ps_pddl.specs.declared.meaning.lists.Listing.TheVariants.{Types}
 use Rattle.ps_pddl.specs.declared.refusals.DomainRefusal.TheVariants.{Unknown}
 use Rattle.ps_pddl.proofs.Sound.{Sound, then_sound, both_sound, either_sound}

@@ -14,11 +14,11 @@ use Rattle.ps_world.specs.declared.domains.Domain.{Domain}
 use Rattle.ps_text.specs.Names.{AreNames}
 use Rattle.ps_text.specs.Tokens.{class_of}
 use Rattle.ps_text.specs.declared.lexing.Class.TheVariants as class
-use Rattle.ps_shape.specs.declared.marks.Mark.{Mark}
-use Rattle.ps_shape.specs.declared.marks.Mark.TheVariants as mark
-use Rattle.ps_forms.specs.Lexemes.{mark_of}
-use Rattle.ps_forms.specs.Nested.{Nested, Nesteds, word, group, none, more}
-use Rattle.ps_forms.specs.declared.lexemes.Lexeme.{Lexeme}
+use Rattle.ps_grammar.specs.declared.marks.Mark.{Mark}
+use Rattle.ps_grammar.specs.declared.marks.Mark.TheVariants as mark
+use Rattle.ps_lists.specs.Lexemes.{mark_of}
+use Rattle.ps_lists.specs.Nested.{Nested, Nesteds, word, group, none, more}
+use Rattle.ps_lists.specs.declared.lexemes.Lexeme.{Lexeme}
 use Rattle.ps_print.specs.CanonicalWords.{grouped, typed_words, param_words, decl_words, expr_words, cond_words, spread_words, timed_words, conditions_words, effects_words, action_words, section_words, domain_words, IsParamOf, IsDeclOf, IsCondOf, IsSpreadOf, IsActionOf, IsDomainOf}
 use Rattle.ps_pddl.proofs.CanonicalForms.{IsNamed, IsExprForm, IsCondForm, IsTimed, AreForms, joined, AreConditionParts, IsSpreadForm, AreEffectParts, AreTypedForms, AreParamForms, IsDeclForm, IsActionForm, IsSectionForm, AreSectionForms, IsDomainForm}
 use Rattle.ps_pddl.proofs.CanonicalForms.IsTimed.{timed}

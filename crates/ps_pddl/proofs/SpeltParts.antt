@@ -32,10 +32,10 @@ use Rattle.ps_text.specs.Names.{folded, AreNames, IsNameText}
 use Rattle.ps_text.specs.Tokens.{class_of}
 use Rattle.ps_text.specs.declared.lexing.Class.TheVariants as class
 use Rattle.ps_text.proofs.Printed.{number_of-printed}
-use Rattle.ps_shape.specs.declared.marks.Mark.TheVariants as mark
-use Rattle.ps_forms.specs.Lexemes.{fixed_names, mark_of}
-use Rattle.ps_forms.specs.Nested.{Nested, Nesteds, word, group, none, more}
-use Rattle.ps_forms.specs.declared.lexemes.Lexeme.{Lexeme}
+use Rattle.ps_grammar.specs.declared.marks.Mark.TheVariants as mark
+use Rattle.ps_lists.specs.Lexemes.{fixed_names, mark_of}
+use Rattle.ps_lists.specs.Nested.{Nested, Nesteds, word, group, none, more}
+use Rattle.ps_lists.specs.declared.lexemes.Lexeme.{Lexeme}
 use Rattle.ps_print.specs.CanonicalWords.{param_words, term_words, lifted_words, expr_words, cond_words, conds_words, effect_words, guarded_words, spread_words, IsNameOf, IsParamOf, IsTermOf, IsLiftedOf, IsExprOf, IsCondOf, AreCondsOf, IsEffectOf, IsGuardedOf, IsSpreadOf}
 use Rattle.ps_pddl.proofs.CanonicalForms.{name_mark, IsNamed, IsVariable, param_name, IsTermWord, AreTermForms, IsLiftedForm, op_mark, IsExprForm, rel_mark, AreParamForms, IsCondForm, AreCondForms, num_op_mark, IsEffectForm, IsGuardedForm, plain_form, when_form, IsSpreadForm, once_form, spread_form, AreForms}
 use Rattle.ps_pddl.proofs.CanonicalForms.AreTermForms.{no_terms, more_terms}

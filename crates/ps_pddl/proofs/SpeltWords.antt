@@ -6,14 +6,14 @@ use Rattle.ps_world.specs.Names.{Table}
 use Rattle.ps_text.specs.Tokens.{class_of}
 use Rattle.ps_text.specs.declared.lexing.Class.{Class}
 use Rattle.ps_text.specs.declared.lexing.Class.TheVariants as class
-use Rattle.ps_shape.specs.declared.marks.Mark.{Mark}
-use Rattle.ps_shape.specs.declared.marks.Mark.TheVariants as mark
-use Rattle.ps_forms.specs.Lexemes.{mark_of}
-use Rattle.ps_forms.specs.Nested.{Nested, Nesteds, word, group, none, more}
-use Rattle.ps_forms.specs.Spelling.{Spells, SpellAll}
-use Rattle.ps_forms.specs.Spelling.Spells.{plain, between}
-use Rattle.ps_forms.specs.Spelling.SpellAll.{nothing, one_more}
-use Rattle.ps_forms.specs.declared.lexemes.Lexeme.{Lexeme}
+use Rattle.ps_grammar.specs.declared.marks.Mark.{Mark}
+use Rattle.ps_grammar.specs.declared.marks.Mark.TheVariants as mark
+use Rattle.ps_lists.specs.Lexemes.{mark_of}
+use Rattle.ps_lists.specs.Nested.{Nested, Nesteds, word, group, none, more}
+use Rattle.ps_lists.specs.Spelling.{Spells, SpellAll}
+use Rattle.ps_lists.specs.Spelling.Spells.{plain, between}
+use Rattle.ps_lists.specs.Spelling.SpellAll.{nothing, one_more}
+use Rattle.ps_lists.specs.declared.lexemes.Lexeme.{Lexeme}
 use Rattle.ps_print.specs.CanonicalWords.{grouped}
 use Rattle.ps_pddl.proofs.CanonicalForms.{joined, AreForms, no_items, more_items}
 use Rattle.ps_pddl.proofs.WordLexemes.{IsLexemeOf, AreLexemes}

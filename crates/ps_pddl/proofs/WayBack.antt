@@ -1,7 +1,7 @@
 -- The canonical text of a domain that was read is read as that domain.
 use Rattle.std.proofs.Common.{Ok}
-use Rattle.ps_forms.proofs.Grammatical.{grammatical_judged}
-use Rattle.ps_forms.proofs.Judged.{judged_grammatical}
+use Rattle.ps_lists.proofs.Grammatical.{grammatical_judged}
+use Rattle.ps_lists.proofs.Judged.{judged_grammatical}
 use Rattle.ps_pddl.specs.Laws.{CanonicalTextsAreRead}
 use Rattle.ps_pddl.specs.Reading.IsRead.{with_meaning}
 use Rattle.ps_pddl.specs.WellFormed.{IsWellFormed}

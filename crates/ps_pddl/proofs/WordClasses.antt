@@ -41,7 +41,7 @@ use Rattle.ps_text.specs.Tokens.{begins_digit, begins_number, class_of, is_marke
 use Rattle.ps_text.specs.declared.lexing.Class.{Class}
 use Rattle.ps_text.specs.declared.lexing.Class.TheVariants as class
 use Rattle.ps_text.proofs.Printed.{number_of-printed, no_minus, is_digit}
-use Rattle.ps_forms.proofs.ClassNumbers.{first_number, minus_class}
+use Rattle.ps_lists.proofs.ClassNumbers.{first_number, minus_class}
 use Rattle.ps_print.specs.CanonicalWords.{grouped, typed_words, param_words, decl_words, term_words, lifted_words, expr_words, bound_words, cond_words, conds_words, effect_words, guarded_words, spread_words, timed_words, at_start, over_all, at_end, conditions_words, effects_words, action_words, section_words, domain_words, IsNameOf, IsParamOf, IsDeclOf, IsTermOf, IsLiftedOf, IsExprOf, IsCondOf, AreCondsOf, IsEffectOf, IsGuardedOf, IsSpreadOf, IsActionOf, IsDomainOf}
 use Rattle.ps_pddl.proofs.CanonicalForms.{param_name}
 

@@ -16,10 +16,10 @@ use Rattle.ps_text.specs.declared.lexing.Token.{Token}
 use Rattle.ps_text.proofs.Folds.{IsNameText-folded}
 use Rattle.ps_text.proofs.Tables.{AreNames-interned, interned-there, place_of-interned, place_of-within}
 use Rattle.ps_text.specs.Names.{Keeps}
-use Rattle.ps_forms.specs.Lexemes.{lexeme_of, lexemes_of, mark_of, name_within, number_or_zero, numbered, table_after}
-use Rattle.ps_forms.specs.declared.lexemes.Lexeme.{Lexeme}
+use Rattle.ps_lists.specs.Lexemes.{lexeme_of, lexemes_of, mark_of, name_within, number_or_zero, numbered, table_after}
+use Rattle.ps_lists.specs.declared.lexemes.Lexeme.{Lexeme}
 use Rattle.ps_text.proofs.Kept.{kept_along}
-use Rattle.ps_forms.proofs.Kept.{kept_named}
+use Rattle.ps_lists.proofs.Kept.{kept_named}
 use Rattle.ps_pddl.proofs.ReadNames.{named_names}
 
 -- what a word is, wherever it stands: its mark, its number, and its name if that is one of these names

@@ -11,19 +11,19 @@ use Rattle.ps_world.specs.declared.actions.Guarded.{Guarded}
 use Rattle.ps_world.specs.declared.actions.Guarded.TheVariants.{Plain, When}
 use Rattle.ps_world.specs.declared.actions.Spread.{Spread}
 use Rattle.ps_world.specs.declared.actions.Spread.TheVariants.{Once, ForAll}
-use Rattle.ps_shape.specs.Marks.{is}
-use Rattle.ps_shape.specs.declared.marks.Mark.{Mark}
-use Rattle.ps_shape.specs.declared.marks.Mark.TheVariants as mark
-use Rattle.ps_shape.specs.declared.marks.Mark.TheVariants.{At, Start, And, Not, Forall, Assign, Increase, Decrease, ScaleUp, ScaleDown}
-use Rattle.ps_forms.specs.Nested.{Nested, Nesteds, word, group, none, more}
-use Rattle.ps_forms.specs.Places.{word_of, items, head, rest}
+use Rattle.ps_grammar.specs.Marks.{is}
+use Rattle.ps_grammar.specs.declared.marks.Mark.{Mark}
+use Rattle.ps_grammar.specs.declared.marks.Mark.TheVariants as mark
+use Rattle.ps_grammar.specs.declared.marks.Mark.TheVariants.{At, Start, And, Not, Forall, Assign, Increase, Decrease, ScaleUp, ScaleDown}
+use Rattle.ps_lists.specs.Nested.{Nested, Nesteds, word, group, none, more}
+use Rattle.ps_lists.specs.Places.{word_of, items, head, rest}
 use Rattle.ps_pddl.specs.Terms.{fact, value_of}
 use Rattle.ps_pddl.specs.Words.{scopes, value}
 use Rattle.ps_pddl.specs.Lists.{binding}
 use Rattle.ps_conditions.specs.Conditions as meant
 use Rattle.ps_conditions.specs.Steps.{◌>>=◌}
 use Rattle.ps_pddl.specs.Steps.{Read, reads}
-use Rattle.ps_forms.specs.declared.lexemes.Lexeme.{Lexeme}
+use Rattle.ps_lists.specs.declared.lexemes.Lexeme.{Lexeme}
 use Rattle.ps_world.specs.declared.actions.Effects.{Effects}
 
 -- how the head of an effect changes a number

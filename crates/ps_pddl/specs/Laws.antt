@@ -5,7 +5,7 @@ use Rattle.ps_world.specs.Names.{Table}
 use Rattle.ps_world.specs.declared.domains.Domain.{Domain}
 use Rattle.ps_text.specs.Names.{AreNames}
 use Rattle.ps_pddl.specs.Meaning.{domain_of}
-use Rattle.ps_forms.specs.Nested.{Nesteds}
+use Rattle.ps_lists.specs.Nested.{Nesteds}
 use Rattle.ps_pddl.specs.Reading.{IsRead}
 use Rattle.ps_pddl.specs.Steps.{Read}
 use Rattle.ps_pddl.specs.WellFormed.{AreCounted, IsWellFormed}

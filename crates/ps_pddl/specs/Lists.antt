@@ -6,15 +6,15 @@ use Rattle.ps_world.specs.Knowledge.{is_type}
 use Rattle.ps_world.specs.declared.names.Name.{Name}
 use Rattle.ps_world.specs.declared.domains.Param.{Param}
 use Rattle.ps_world.specs.declared.domains.Domain.{Domain}
-use Rattle.ps_shape.specs.Marks.{is}
-use Rattle.ps_shape.specs.declared.marks.Mark.TheVariants.{Minus}
-use Rattle.ps_forms.specs.Nested.{Nesteds, none, more}
-use Rattle.ps_forms.specs.Places.{word_of, head}
+use Rattle.ps_grammar.specs.Marks.{is}
+use Rattle.ps_grammar.specs.declared.marks.Mark.TheVariants.{Minus}
+use Rattle.ps_lists.specs.Nested.{Nesteds, none, more}
+use Rattle.ps_lists.specs.Places.{word_of, head}
 use Rattle.ps_pddl.specs.Forms.{forms}
 use Rattle.ps_conditions.specs.Steps.{◌>>=◌}
 use Rattle.ps_pddl.specs.Steps.{Read, unless}
-use Rattle.ps_forms.specs.declared.lexemes.Lexeme.{Lexeme}
-use Rattle.ps_forms.specs.declared.trees.Tree.{Tree}
+use Rattle.ps_lists.specs.declared.lexemes.Lexeme.{Lexeme}
+use Rattle.ps_lists.specs.declared.trees.Tree.{Tree}
 use Rattle.ps_pddl.specs.declared.refusals.Cap.{Cap}
 use Rattle.ps_pddl.specs.declared.refusals.Cap.TheVariants as cap
 use Rattle.ps_pddl.specs.declared.refusals.DomainRefusal.{DomainRefusal}

@@ -9,10 +9,10 @@ use Rattle.ps_world.specs.declared.domains.Domain.{Domain}
 use Rattle.ps_world.specs.declared.actions.ActionDef.{ActionDef}
 use Rattle.ps_world.specs.declared.expressions.Expr.{Expr}
 use Rattle.ps_world.specs.declared.expressions.Expr.TheVariants.{Num}
-use Rattle.ps_shape.specs.Marks.{is}
-use Rattle.ps_shape.specs.declared.marks.Mark.TheVariants as mark
-use Rattle.ps_forms.specs.Nested.{Nested, Nesteds, word, group, none, more}
-use Rattle.ps_forms.specs.Places.{items, items_at, at, head, rest, after, section}
+use Rattle.ps_grammar.specs.Marks.{is}
+use Rattle.ps_grammar.specs.declared.marks.Mark.TheVariants as mark
+use Rattle.ps_lists.specs.Nested.{Nested, Nesteds, word, group, none, more}
+use Rattle.ps_lists.specs.Places.{items, items_at, at, head, rest, after, section}
 use Rattle.ps_pddl.specs.Lists.{fault_of_new, listed}
 use Rattle.ps_pddl.specs.Types.{with_types}
 use Rattle.ps_pddl.specs.Words.{value}

@@ -9,16 +9,16 @@ use Rattle.ps_text.specs.Tokens.{AreTokens, IsFirstFault, RefusesText}
 use Rattle.ps_text.specs.declared.lexing.Token.{Token}
 use Rattle.ps_text.specs.declared.lexing.LexRefusal.{LexRefusal}
 use Rattle.ps_text.specs.declared.lexing.LexRefusal.TheVariants.{Bad, Number}
-use Rattle.ps_shape.specs.Shape.{IsDomainShape, IsShallow}
-use Rattle.ps_shape.specs.Shape as shape
-use Rattle.ps_shape.specs.declared.faults.ShapeFault.{ShapeFault}
-use Rattle.ps_shape.specs.declared.faults.ShapeFault.TheVariants as fault
-use Rattle.ps_forms.specs.Lexemes.{lexemes_of, marks}
-use Rattle.ps_forms.specs.Nested.{Nesteds}
-use Rattle.ps_forms.specs.Spelling.{SpellAll}
+use Rattle.ps_grammar.specs.Shape.{IsDomainShape, IsShallow}
+use Rattle.ps_grammar.specs.Shape as shape
+use Rattle.ps_grammar.specs.declared.faults.ShapeFault.{ShapeFault}
+use Rattle.ps_grammar.specs.declared.faults.ShapeFault.TheVariants as fault
+use Rattle.ps_lists.specs.Lexemes.{lexemes_of, marks}
+use Rattle.ps_lists.specs.Nested.{Nesteds}
+use Rattle.ps_lists.specs.Spelling.{SpellAll}
 use Rattle.ps_pddl.specs.Meaning.{domain_of}
 use Rattle.ps_pddl.specs.Steps.{Read}
-use Rattle.ps_forms.specs.declared.lexemes.Lexeme.{Lexeme}
+use Rattle.ps_lists.specs.declared.lexemes.Lexeme.{Lexeme}
 use Rattle.ps_pddl.specs.declared.refusals.Cap.TheVariants.{Depth}
 use Rattle.ps_pddl.specs.declared.refusals.DomainRefusal.{DomainRefusal}
 use Rattle.ps_pddl.specs.declared.refusals.DomainRefusal.TheVariants.{Lex, Unexpected, Unsupported, Limit}

@@ -22,8 +22,8 @@ use Rattle.ps_world.specs.declared.actions.ActionDef.{ActionDef}
 use Rattle.ps_world.specs.declared.domains.Param.{Param}
 use Rattle.ps_world.specs.declared.domains.Decl.{Decl}
 use Rattle.ps_world.specs.declared.domains.Domain.{Domain}
-use Rattle.ps_forms.specs.Nested as nested
-use Rattle.ps_forms.specs.Nested.{Nested, Nesteds, word, group}
+use Rattle.ps_lists.specs.Nested as nested
+use Rattle.ps_lists.specs.Nested.{Nested, Nesteds, word, group}
 use Rattle.ps_pddl.specs.Types.{is_cyclic}
 
 -- the number of each word is within the limits, as that of each word that was read

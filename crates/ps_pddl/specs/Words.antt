@@ -6,10 +6,10 @@ use Rattle.ps_world.specs.declared.schemas.Term.{Term}
 use Rattle.ps_world.specs.declared.expressions.Expr.{Expr}
 use Rattle.ps_world.specs.declared.expressions.Expr.TheVariants.{Num}
 use Rattle.ps_world.specs.declared.conditions.Cond.{Cond}
-use Rattle.ps_shape.specs.Marks.{is}
-use Rattle.ps_shape.specs.declared.marks.Mark.TheVariants.{Number}
-use Rattle.ps_forms.specs.Nested.{Nested, Nesteds, word, group}
-use Rattle.ps_forms.specs.declared.lexemes.Lexeme.{Lexeme}
+use Rattle.ps_grammar.specs.Marks.{is}
+use Rattle.ps_grammar.specs.declared.marks.Mark.TheVariants.{Number}
+use Rattle.ps_lists.specs.Nested.{Nested, Nesteds, word, group}
+use Rattle.ps_lists.specs.declared.lexemes.Lexeme.{Lexeme}
 use Rattle.ps_conditions.specs.Conditions as meant
 use Rattle.ps_conditions.specs.Steps.{◌>>=◌}
 use Rattle.ps_conditions.specs.Values as worth

@@ -10,7 +10,7 @@ pub use laws::{
     canonical_texts_are_read, domains_are_well_formed, meanings_have_own_faults, readings_are_one,
     readings_are_well_formed,
 };
+pub use ps_grammar::Form;
 pub use ps_print::{print_domain, push_action, push_condition, push_decl};
-pub use ps_shape::Form;
 pub use reading::read_domain;
 pub use refusals::{Cap, DomainRefusal};

@@ -1,5 +1,5 @@
 //! Why a text is no domain.
-use ps_shape::Form;
+use ps_grammar::Form;
 use ps_world::Name;
 
 /// What a domain has at most so many of.

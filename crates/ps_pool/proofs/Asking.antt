@@ -2,8 +2,8 @@
 use Rattle.std.proofs.Common.{◌≡◌, ℕ, List, length, arith, ap}
 use Rattle.ps_machine.specs.declared.inputs.Input.{Input}
 use Rattle.ps_machine.specs.declared.journal.Entry.{Entry}
-use Rattle.ps_asked.specs.Asked.{IsFirstToCount}
-use Rattle.ps_asked.proofs.Counted.{past_uncounted}
+use Rattle.ps_stale_plan_laws.specs.Asked.{IsFirstToCount}
+use Rattle.ps_stale_plan_laws.proofs.Counted.{past_uncounted}
 use Rattle.ps_board.specs.declared.ticks.Snapshot.{Snapshot}
 use Rattle.ps_pool.specs.Rounds.{IsWanted}
 use Rattle.ps_pool.proofs.TickerTurns.{wanted-is}

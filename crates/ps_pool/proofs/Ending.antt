@@ -5,7 +5,7 @@ use Rattle.ps_machine.specs.declared.inputs.Input.{Input}
 use Rattle.ps_machine.specs.declared.journal.Entry.{Entry}
 use Rattle.ps_rules.specs.Runs.{is_running}
 use Rattle.ps_rules.specs.Choices.{act_turn, actors, after_turn, ordered, Says, with_block}
-use Rattle.ps_orders.proofs.Moments.{le_or}
+use Rattle.ps_order_laws.proofs.Moments.{le_or}
 use Rattle.ps_pool.specs.Ordered.{OneEnd}
 
 one_or_less : (m n : ℕ) → m ≤ suc n → (m ≡ suc n) ⊎ (m ≤ n)

@@ -14,13 +14,13 @@ use Rattle.ps_machine.specs.declared.journal.Entry.{Entry}
 use Rattle.ps_rules.specs.Runs.{is_active, plan, says_state, state}
 use Rattle.ps_rules.specs.Settled.{is_settled, places, verdict}
 use Rattle.ps_rules.specs.Legal.{ending, is_legal, is_outcome}
-use Rattle.ps_rules.specs.History.{any_of, broken, cancels, forced, forced_after, is_fail, IsHistory, sound}
+use Rattle.ps_rules.specs.History.{any_of, broken, cancels, forced, forced_after, is_fail, IsHistory, unbroken}
 use Rattle.ps_rules.proofs.Going.{placed}
 use Rattle.ps_rules.proofs.Kept.{fits-legal}
 use Rattle.ps_rules.proofs.Pushed.{read-push}
 use Rattle.ps_rules.proofs.Between.{active-so, unforced}
-use Rattle.ps_ends.proofs.Lists.{all_in, in_range}
-use Rattle.ps_ends.proofs.Picking.{by_test}
+use Rattle.ps_progress_laws.proofs.Lists.{all_in, in_range}
+use Rattle.ps_progress_laws.proofs.Picking.{by_test}
 
 -- ---- what holds of each cancel with a hand holds of each forced one
 
@@ -35,8 +35,8 @@ module _ (P : Entry → Type 0) (hand : ℕ) (each : (why : CancelWhy) (act : �
 
   pub each-forced : (i : Input) (es : List Entry) (e : Event) → AllByRecursion P (forced_after i es hand e)
   each-forced i es e =
-      each-cancel cancel.OverAll (broken i es) (if is_fail e || any_of (broken i es) then map (cancels hand cancel.Stop) (sound i es) else [])
-      (each-stop (is_fail e || any_of (broken i es)) (sound i es))
+      each-cancel cancel.OverAll (broken i es) (if is_fail e || any_of (broken i es) then map (cancels hand cancel.Stop) (unbroken i es) else [])
+      (each-stop (is_fail e || any_of (broken i es)) (unbroken i es))
 
 -- ---- the end of a run forces none
 

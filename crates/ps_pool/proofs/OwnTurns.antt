@@ -24,7 +24,7 @@ use Rattle.ps_rules.specs.History.{forced}
 use Rattle.ps_rules.specs.Choices.{act_turn, Actor, actors, all_requests, answers, beginnings, confirms, edit_event, ends, leaves, open_requests, ordered, overs, performed, planned, puts_up, rejects, Says, starts, stops, ticked, turn, unit_event, wants_plan, with_block, work_of}
 use Rattle.ps_rules.specs.Choices.Actor.{performs, observes, ticks}
 use Rattle.ps_rules.proofs.Choosing.{own-outcome, unit-own}
-use Rattle.ps_ends.proofs.Picking.{by_test}
+use Rattle.ps_progress_laws.proofs.Picking.{by_test}
 use Rattle.ps_pool.specs.Courses.{GrowsInRun}
 use Rattle.ps_pool.proofs.Forcing.{each-forced}
 

@@ -11,8 +11,8 @@ use Rattle.ps_machine.specs.declared.journal.Entry.{Entry}
 use Rattle.ps_rules.specs.Auctions.{is_for_active, is_working}
 use Rattle.ps_rules.specs.Members.{next_unit}
 use Rattle.ps_rules.specs.Choices.{all_requests, performed, performer_turn, unit_event, work_of}
-use Rattle.ps_ends.specs.Working.{recorded, unit_due}
-use Rattle.ps_ends.proofs.Picking.{by_test}
+use Rattle.ps_progress_laws.specs.Working.{recorded, unit_due}
+use Rattle.ps_progress_laws.proofs.Picking.{by_test}
 use Rattle.ps_rules.proofs.Choosing.{worked-on}
 
 -- whose next unit is there, its act is active, and the unit is due

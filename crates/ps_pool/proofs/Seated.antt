@@ -10,8 +10,8 @@ use Rattle.ps_rules.specs.Runs.{has_run, is_running}
 use Rattle.ps_turn.specs.Books.{Book, hands, new_place, now_at, Place}
 use Rattle.ps_turn.specs.Hands.{GoesOnBy, IsBeginning}
 use Rattle.ps_pool.specs.Workers.{HasLeft, HasStayed, MayWork}
-use Rattle.ps_pool.specs.declared.spot.Stand.{Stand}
-use Rattle.ps_pool.specs.declared.spot.Stand.TheVariants as stand
+use Rattle.ps_pool.specs.declared.round_place.Stand.{Stand}
+use Rattle.ps_pool.specs.declared.round_place.Stand.TheVariants as stand
 use Rattle.ps_pool.proofs.Working.{nothing-by, ran-still}
 
 -- what begins with the beginning of a list begins so itself

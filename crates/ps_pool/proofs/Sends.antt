@@ -21,9 +21,9 @@ use Rattle.ps_tree.proofs.tree.Tree.TheSendSync as tree
 use Rattle.ps_monitor.specs.contracts.monitor.Monitor as Monitor
 use Rattle.ps_monitor.specs.contracts.watch.Watch as Watch
 use Rattle.ps_monitor.specs.contracts.watches.Watches as Watches
-use Rattle.ps_rows.specs.contracts.present.Present as Present
+use Rattle.ps_rows.specs.contracts.state.State as State
 use Rattle.ps_board.specs.contracts.board.Board as Board
-use Rattle.ps_board.specs.contracts.whole.Core as Core
+use Rattle.ps_board.specs.contracts.whole.Parts as Parts
 use Rattle.ps_turn.proofs.Sends.{entry_send, input_send}
 
 -- ---- what a board holds
@@ -55,11 +55,11 @@ watches_send = search (sendable, crosses, watch_send, users.the_send) depth 12
 monitor_send : IsSend Monitor.the_field.row
 monitor_send = search (sendable, crosses, watches_send) depth 12
 
-present_send : IsSend Present.the_field.row
-present_send = search (sendable, crosses, expert_send, problem_send, instance_send, ledger.the_field_send, arcs.the_send, tree.the_send) depth 20 fits 8000
+state_send : IsSend State.the_field.row
+state_send = search (sendable, crosses, expert_send, problem_send, instance_send, ledger.the_field_send, arcs.the_send, tree.the_send) depth 20 fits 8000
 
-core_send : IsSend Core.the_field.row
-core_send = search (sendable, crosses, input_send, entry_send, present_send, monitor_send) depth 20 fits 8000
+parts_send : IsSend Parts.the_field.row
+parts_send = search (sendable, crosses, input_send, entry_send, state_send, monitor_send) depth 20 fits 8000
 
 pub board_send : IsSend Board.the_row
-board_send = search (sendable, crosses, core_send) depth 20 fits 8000
+board_send = search (sendable, crosses, parts_send) depth 20 fits 8000

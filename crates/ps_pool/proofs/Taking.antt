@@ -11,7 +11,7 @@ use Rattle.ps_machine.specs.declared.journal.Entry.{Entry}
 use Rattle.ps_rules.specs.Runs.{is_running}
 use Rattle.ps_rules.specs.Members.{performers}
 use Rattle.ps_rules.specs.Choices.{performed, performer_turn, with_block, work_of}
-use Rattle.ps_ends.specs.Working.{recorded}
+use Rattle.ps_progress_laws.specs.Working.{recorded}
 use Rattle.ps_board.specs.Board.{grants_after, grants_without, handing, IsAtRest, IsOut, is_free, number_of, performing, performing_answer, recording, with_done}
 use Rattle.ps_board.specs.Grants.{grant_for, granted, granted_after, performer_names, turn_of}
 use Rattle.ps_board.specs.declared.board.Shown.{Shown}

@@ -11,7 +11,7 @@ use Rattle.ps_machine.specs.declared.journal.Entry.{Entry}
 use Rattle.ps_rules.specs.Runs.{has_run, is_running}
 use Rattle.ps_rules.specs.Known.{know}
 use Rattle.ps_rules.specs.Choices.{after_turn, planned, Says, ticked, ticker_turn, wants_plan, with_block}
-use Rattle.ps_ends.proofs.Picking.{by_test}
+use Rattle.ps_progress_laws.proofs.Picking.{by_test}
 use Rattle.ps_ledger.specs.Ends.{last_outcome, outcome_of}
 use Rattle.ps_board.specs.Board.{tick_answer, ticking, with_done}
 use Rattle.ps_board.specs.Ticks.{closed_answer, done_answer, snapshot_of, ticked_answer}

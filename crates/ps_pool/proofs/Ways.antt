@@ -10,15 +10,15 @@ use Rattle.ps_machine.specs.declared.journal.Event.TheVariants as event
 use Rattle.ps_machine.specs.declared.journal.Entry.{Entry}
 use Rattle.ps_rules.specs.Runs.{is_running, says_open}
 use Rattle.ps_rules.specs.Lines.{answers_line}
-use Rattle.ps_rules.specs.Legal.{fits, is_legal, same_flag}
+use Rattle.ps_rules.specs.Legal.{is_legal, row_allows, same_flag}
 use Rattle.ps_rules.specs.History.{forced, IsHistory}
 use Rattle.ps_rules.specs.History.IsHistory.{nothing, block}
 use Rattle.ps_rules.specs.Laws.{is_cancel}
 use Rattle.ps_rules.specs.Prefixes.{Leads}
 use Rattle.ps_rules.proofs.Prefixes.{history-leads, lead-next, lead-owed}
 use Rattle.ps_rules.proofs.Pushed.{read-push}
-use Rattle.ps_ends.proofs.Picking.{clash}
-use Rattle.ps_course.specs.Segments.{NoneIs}
+use Rattle.ps_progress_laws.proofs.Picking.{clash}
+use Rattle.ps_good_plan_laws.specs.Segments.{NoneIs}
 use Rattle.ps_pool.proofs.Forcing.{each-forced, over-forces-nothing}
 
 abbrev AreCancels : List Entry → Type 0
@@ -89,7 +89,7 @@ over-cancels e h c = true≢false (sym h)
 
 -- an event is legal where no run is open only if it answers a line
 closed-answers : (i : Input) (es : List Entry) (e : Event) → is_running es ≡ false → IsTrue (is_legal i es e) → answers_line e ≡ true
-closed-answers i es e closed legal = by_flag (answers_line e) (ap (λ b. same_flag (answers_line e) (not b)) (sym closed) ∙ (and_parts (same_flag (answers_line e) (not (is_running es))) (fits i es e) legal).0)
+closed-answers i es e closed legal = by_flag (answers_line e) (ap (λ b. same_flag (answers_line e) (not b)) (sym closed) ∙ (and_parts (same_flag (answers_line e) (not (is_running es))) (row_allows i es e) legal).0)
   where
     by_flag : (b : Bool) → same_flag b true ≡ true → b ≡ true
     by_flag true h = refl

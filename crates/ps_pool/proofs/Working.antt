@@ -17,8 +17,8 @@ use Rattle.ps_rules.specs.Laws.{is_cancel}
 use Rattle.ps_rules.specs.History.{forced, IsHistory}
 use Rattle.ps_rules.specs.Choices.{with_block}
 use Rattle.ps_rules.proofs.Prefixes.{lead-next, lead-owed}
-use Rattle.ps_ends.proofs.Picking.{by_test}
-use Rattle.ps_course.specs.Segments.{NoneIs}
+use Rattle.ps_progress_laws.proofs.Picking.{by_test}
+use Rattle.ps_good_plan_laws.specs.Segments.{NoneIs}
 use Rattle.ps_turn.specs.Hands.{GoesOnBy, GoesOnByHands}
 use Rattle.ps_pool.specs.Courses.{GrowsInRun}
 use Rattle.ps_pool.specs.Workers.{EndedBy, EndsWithOver, WorkedBy}

@@ -15,20 +15,20 @@ use Rattle.ps_rules.specs.History.{IsHistory}
 use Rattle.ps_rules.specs.Known.{know}
 use Rattle.ps_rules.specs.Members.{observers, performers}
 use Rattle.ps_rules.specs.Runs.{has_run, is_running}
-use Rattle.ps_asked.specs.Asked.{WasAsked}
+use Rattle.ps_stale_plan_laws.specs.Asked.{WasAsked}
 use Rattle.ps_board.specs.declared.board.Shown.{Shown}
 use Rattle.ps_board.specs.declared.ticks.Snapshot.{Snapshot}
 use Rattle.ps_turn.specs.Books.{Book, IsFree, Place}
 use Rattle.ps_turn.specs.Hands.{GoesOnBy, GoesOnByHands, IsBeginning}
 use Rattle.ps_pool.specs.Courses.{GrowsInRun}
 use Rattle.ps_pool.specs.Rounds.{IsWanted}
-use Rattle.ps_pool.specs.declared.spot.Aside.{Aside}
-use Rattle.ps_pool.specs.declared.spot.Aside.TheVariants as aside
+use Rattle.ps_pool.specs.declared.round_place.OutsideWork.{OutsideWork}
+use Rattle.ps_pool.specs.declared.round_place.OutsideWork.TheVariants as outside
 use Rattle.ps_pool.specs.declared.outline.Outline.{Outline}
-use Rattle.ps_pool.specs.declared.spot.Stand.{Stand}
-use Rattle.ps_pool.specs.declared.spot.Stand.TheVariants as stand
-use Rattle.ps_pool.specs.declared.spot.Step.{Step}
-use Rattle.ps_pool.specs.declared.spot.Step.TheVariants as step
+use Rattle.ps_pool.specs.declared.round_place.Stand.{Stand}
+use Rattle.ps_pool.specs.declared.round_place.Stand.TheVariants as stand
+use Rattle.ps_pool.specs.declared.round_place.Step.{Step}
+use Rattle.ps_pool.specs.declared.round_place.Step.TheVariants as step
 use Rattle.ps_pool.specs.declared.outline.Who.{Who}
 use Rattle.ps_pool.specs.declared.outline.Who.TheVariants as who
 
@@ -66,8 +66,8 @@ pub record IsOutline (i : Input) (o : Outline) : Type 0 where
   pub may_search : 1 ≤ o.budget
 
 -- after these entries this may be done aside: a snapshot was handed out then
-abbrev pub IsDue : Input → List Entry → Aside → Type 0
-IsDue i seen a = (s : Snapshot) → a ≡ aside.Search s → IsWanted i seen s
+abbrev pub IsDue : Input → List Entry → OutsideWork → Type 0
+IsDue i seen a = (s : Snapshot) → a ≡ outside.Search s → IsWanted i seen s
 
 -- The seat has the same hand, a worker may take the board with it still, and it has seen what it had seen and maybe more.
 pub record HasStayed (book : Book) (old new : Place) : Type 0 where
@@ -103,11 +103,11 @@ StandsAfter step.Left seen s = HasLeft seen s
 StandsAfter it seen s = s ≡ stand.Going
 
 -- a worker that has seen this much and stands so steps aside for this, and goes on then
-abbrev pub StepsFor : Input → List Entry → Stand → Aside → Type 0
+abbrev pub StepsFor : Input → List Entry → Stand → OutsideWork → Type 0
 StepsFor i seen s a = IsDue i seen a × (s ≡ stand.Going)
 
 -- a worker that has seen this much and stands so steps aside for this, or has left where there is nothing
-abbrev pub StepsAside : Input → Option Aside → List Entry → Stand → Type 0
+abbrev pub StepsAside : Input → Option OutsideWork → List Entry → Stand → Type 0
 StepsAside i (Some a) seen s = StepsFor i seen s a
 StepsAside i None seen s = HasLeft seen s
 

@@ -33,21 +33,21 @@ fn take_member<R: Wait, G: Gate>(
     }
 }
 
-/// Takes the turns of the members that are at home with the first of so many workers, or of the others.
+/// Takes the turns of the members that are at own_members with the first of so many workers, or of the others.
 fn take_members<R: Wait, G: Gate>(
     rt: &R,
     board: &mut Board,
     gate: &G,
     members: &[Who],
     workers: usize,
-    home: bool,
+    own_members: bool,
 ) -> Result<(), AllocError>
     requires there { All (IsThere board.old.input) members.now }
     requires some { 1 ≤ workers }
     ensures { GoesOnAlone board.old board.new }
 {
     for place in 0..members.len() {
-        if (place % workers == 0) == home {
+        if (place % workers == 0) == own_members {
             take_member(rt, board, gate, members[place])?;
         }
     }
@@ -70,7 +70,7 @@ fn take_tick<S: Solver>(board: &mut Board, solver: &S) -> Result<bool, AllocErro
     }
 }
 
-/// Takes the turns of a round, as `work` has them: of each member that is at home with the worker, of the ticker, and of
+/// Takes the turns of a round, as `work` has them: of each member that is at own_members with the worker, of the ticker, and of
 /// each other member. Answers whether the run was seen to be over or halted.
 fn take_round<R: Wait, S: Solver, G: Gate>(
     rt: &R,

@@ -1,6 +1,6 @@
 //! What one worker does with its seat.
 ghost use Rattle.std.specs.Prelude.{◌≡◌, ◌==◌, ◌+◌, ◌%◌, ◌≤◌, None, IfOk, IfSome, OnErr};
-ghost use Rattle.ps_pool.specs.declared.spot.Stand.TheVariants.{Failed, Going};
+ghost use Rattle.ps_pool.specs.declared.round_place.Stand.TheVariants.{Failed, Going};
 ghost use Rattle.ps_pool.specs.Rounds.{IsWanted};
 ghost use Rattle.ps_pool.specs.Workers.{HasLeft, HasStayed, IsCrew, IsDue, IsReady, IsThere, MayWork, StandsAfter, StepsAside, StepsFor};
 
@@ -8,8 +8,8 @@ use crate::gate::Gate;
 use crate::holds::{answer, halt, hand_in, take_tick, take_turn};
 use crate::lead::Lead;
 use crate::outline::Who;
+use crate::round_place::{OutsideWork, RoundPlace, Stand, Step, noted};
 use crate::searches::Searches;
-use crate::spot::{Aside, Spot, Stand, Step, noted};
 use ps_board::{Board, Snapshot, Ticked, Turn};
 use ps_domain::Expert;
 use ps_plan::Solver;
@@ -31,8 +31,8 @@ pub(crate) struct Crew<'a, S: Solver, G: Gate> {
 }
 
 impl<'a, S: Solver, G: Gate> Crew<'a, S, G> {
-    /// Whether the member at this place is at home with the worker of this hand.
-    fn is_home(&self, place: usize, hand: u8) -> bool
+    /// Whether the member at this place is an own member of the worker of this hand.
+    fn is_own_member(&self, place: usize, hand: u8) -> bool
         requires { 1 ≤ self.now.workers }
         ensures { result ≡ (place % self.now.workers + 1 == hand) }
     {
@@ -46,7 +46,7 @@ impl<'a, S: Solver, G: Gate> Crew<'a, S, G> {
         book: &TurnBook<Board>,
         seat: &mut Seat<Board>,
         who: Who,
-        due: &mut Option<Aside>,
+        due: &mut Option<OutsideWork>,
     ) -> Result<Step, AllocError>
         requires none { due.old ≡ None }
         requires seat { MayWork book.now seat.old }
@@ -58,7 +58,7 @@ impl<'a, S: Solver, G: Gate> Crew<'a, S, G> {
     {
         match take_turn(rt, book, seat, who)? {
             Turn::Work(grant) => {
-                *due = Some(Aside::Unit(grant));
+                *due = Some(OutsideWork::Unit(grant));
                 Ok(Step::Did)
             }
             Turn::Did => Ok(Step::Did),
@@ -72,30 +72,30 @@ impl<'a, S: Solver, G: Gate> Crew<'a, S, G> {
         rt: &R,
         book: &TurnBook<Board>,
         seat: &mut Seat<Board>,
-        spot: &mut Spot,
-        due: &mut Option<Aside>,
+        round_place: &mut RoundPlace,
+        due: &mut Option<OutsideWork>,
     ) -> Result<Step, AllocError>
         requires none { due.old ≡ None }
-        requires ready { IsReady book.now seat.old spot.old.stand }
-        ensures due { IfSome due.new (StepsFor book.now.input seat.new.seen spot.new.stand) }
-        ensures stand { IfOk result (λ step. StandsAfter step seat.new.seen spot.new.stand) }
+        requires ready { IsReady book.now seat.old round_place.old.stand }
+        ensures due { IfSome due.new (StepsFor book.now.input seat.new.seen round_place.new.stand) }
+        ensures stand { IfOk result (λ step. StandsAfter step seat.new.seen round_place.new.stand) }
         ensures err { OnErr result (due.new ≡ None) }
         ensures seat { HasStayed book.now seat.old seat.new }
     {
         match take_tick(rt, book, seat)? {
             Ticked::Over(_) => {
-                spot.stand = Stand::Over;
+                round_place.stand = Stand::Over;
                 Ok(Step::Left)
             }
             Ticked::Halted => {
-                spot.stand = Stand::Halted;
+                round_place.stand = Stand::Halted;
                 Ok(Step::Left)
             }
             Ticked::Did => Ok(Step::Did),
             Ticked::Nothing => Ok(Step::Nothing),
             Ticked::WantsPlan(snapshot) => {
                 if self.searches.begin(rt) {
-                    *due = Some(Aside::Search(snapshot));
+                    *due = Some(OutsideWork::Search(snapshot));
                     Ok(Step::Did)
                 } else {
                     Ok(Step::Nothing)
@@ -104,40 +104,40 @@ impl<'a, S: Solver, G: Gate> Crew<'a, S, G> {
         }
     }
 
-    /// Takes the next turn of a round, where there is one: of the member here, if it is at home with the worker or isn't,
+    /// Takes the next turn of a round, where there is one: of the member here, if it is the worker's own or isn't,
     /// as the part of the round has it, or else of the ticker.
     fn take_next<R: Wait>(
         &self,
         rt: &R,
         book: &TurnBook<Board>,
         seat: &mut Seat<Board>,
-        spot: &mut Spot,
-        due: &mut Option<Aside>,
+        round_place: &mut RoundPlace,
+        due: &mut Option<OutsideWork>,
     ) -> Result<Step, AllocError>
         requires none { due.old ≡ None }
-        requires ready { IsReady book.now seat.old spot.old.stand }
+        requires ready { IsReady book.now seat.old round_place.old.stand }
         requires crew { IsCrew book.now.input self.now.members.now self.now.expert.now
             self.now.budget self.now.workers }
-        ensures due { IfSome due.new (StepsFor book.now.input seat.new.seen spot.new.stand) }
-        ensures stand { IfOk result (λ step. StandsAfter step seat.new.seen spot.new.stand) }
+        ensures due { IfSome due.new (StepsFor book.now.input seat.new.seen round_place.new.stand) }
+        ensures stand { IfOk result (λ step. StandsAfter step seat.new.seen round_place.new.stand) }
         ensures err { OnErr result (due.new ≡ None) }
         ensures seat { HasStayed book.now seat.old seat.new }
     {
-        let place = spot.place;
+        let place = round_place.place;
         if place < self.members.len() {
-            spot.place = place + 1;
-            if self.is_home(place, seat.hand()) == spot.home {
+            round_place.place = place + 1;
+            if self.is_own_member(place, seat.hand()) == round_place.own_members {
                 self.do_member(rt, book, seat, self.members[place], due)
             } else {
                 Ok(Step::Nothing)
             }
-        } else if spot.home {
-            spot.home = false;
-            spot.place = 0;
-            self.tick(rt, book, seat, spot, due)
+        } else if round_place.own_members {
+            round_place.own_members = false;
+            round_place.place = 0;
+            self.tick(rt, book, seat, round_place, due)
         } else {
-            spot.home = true;
-            spot.place = 0;
+            round_place.own_members = true;
+            round_place.place = 0;
             Ok(Step::Ended)
         }
     }
@@ -149,20 +149,20 @@ impl<'a, S: Solver, G: Gate> Crew<'a, S, G> {
         rt: &R,
         book: &TurnBook<Board>,
         seat: &mut Seat<Board>,
-        spot: &mut Spot,
-        due: &mut Option<Aside>,
+        round_place: &mut RoundPlace,
+        due: &mut Option<OutsideWork>,
         idle: bool,
     ) -> Result<Step, AllocError>
         requires none { due.old ≡ None }
-        requires ready { IsReady book.now seat.old spot.old.stand }
+        requires ready { IsReady book.now seat.old round_place.old.stand }
         requires crew { IsCrew book.now.input self.now.members.now self.now.expert.now
             self.now.budget self.now.workers }
-        ensures due { IfSome due.new (StepsFor book.now.input seat.new.seen spot.new.stand) }
-        ensures stand { IfOk result (λ step. StandsAfter step seat.new.seen spot.new.stand) }
-        ensures failed { OnErr result (spot.new.stand ≡ Failed) }
+        ensures due { IfSome due.new (StepsFor book.now.input seat.new.seen round_place.new.stand) }
+        ensures stand { IfOk result (λ step. StandsAfter step seat.new.seen round_place.new.stand) }
+        ensures failed { OnErr result (round_place.new.stand ≡ Failed) }
         ensures seat { HasStayed book.now seat.old seat.new }
     {
-        match self.take_next(rt, book, seat, spot, due) {
+        match self.take_next(rt, book, seat, round_place, due) {
             Ok(step) => {
                 if let (Step::Ended, true) = (step, idle) {
                     self.lead.rest(rt);
@@ -170,7 +170,7 @@ impl<'a, S: Solver, G: Gate> Crew<'a, S, G> {
                 Ok(step)
             }
             Err(AllocError) => {
-                spot.stand = Stand::Failed;
+                round_place.stand = Stand::Failed;
                 Err(AllocError)
             }
         }
@@ -183,18 +183,18 @@ impl<'a, S: Solver, G: Gate> Crew<'a, S, G> {
         rt: &R,
         book: &TurnBook<Board>,
         seat: &mut Seat<Board>,
-        spot: &mut Spot,
-    ) -> Option<Aside>
-        requires ready { IsReady book.now seat.old spot.old.stand }
+        round_place: &mut RoundPlace,
+    ) -> Option<OutsideWork>
+        requires ready { IsReady book.now seat.old round_place.old.stand }
         requires crew { IsCrew book.now.input self.now.members.now self.now.expert.now
             self.now.budget self.now.workers }
-        ensures aside { StepsAside book.now.input result seat.new.seen spot.new.stand }
+        ensures aside { StepsAside book.now.input result seat.new.seen round_place.new.stand }
         ensures seat { HasStayed book.now seat.old seat.new }
     {
         let mut idle = false;
         let mut due = None;
         for _ in rt.forever() {
-            let step = self.do_step(rt, book, seat, spot, &mut due, idle);
+            let step = self.do_step(rt, book, seat, round_place, &mut due, idle);
             if due.is_some() {
                 return due;
             }
@@ -203,7 +203,7 @@ impl<'a, S: Solver, G: Gate> Crew<'a, S, G> {
                 Ok(Step::Did) => idle = false,
                 Ok(Step::Ended) => idle = true,
                 Ok(Step::Nothing) => {}
-                Err(AllocError) => halt(rt, book, seat, spot),
+                Err(AllocError) => halt(rt, book, seat, round_place),
             }
         }
         unreachable!()
@@ -215,16 +215,16 @@ impl<'a, S: Solver, G: Gate> Crew<'a, S, G> {
         rt: &R,
         book: &TurnBook<Board>,
         seat: &mut Seat<Board>,
-        spot: &mut Spot,
-    ) -> Option<Aside>
-        requires ready { IsReady book.now seat.old spot.old.stand }
+        round_place: &mut RoundPlace,
+    ) -> Option<OutsideWork>
+        requires ready { IsReady book.now seat.old round_place.old.stand }
         requires crew { IsCrew book.now.input self.now.members.now self.now.expert.now
             self.now.budget self.now.workers }
-        ensures aside { StepsAside book.now.input result seat.new.seen spot.new.stand }
+        ensures aside { StepsAside book.now.input result seat.new.seen round_place.new.stand }
         ensures seat { HasStayed book.now seat.old seat.new }
     {
         self.lead.take(rt);
-        let aside = self.do_rounds(rt, book, seat, spot);
+        let aside = self.do_rounds(rt, book, seat, round_place);
         if aside.is_some() {
             self.lead.step_aside(rt);
         } else {
@@ -239,7 +239,7 @@ impl<'a, S: Solver, G: Gate> Crew<'a, S, G> {
         rt: &R,
         book: &TurnBook<Board>,
         seat: &mut Seat<Board>,
-        aside: Aside,
+        aside: OutsideWork,
     ) -> Result<(), AllocError>
         requires seat { MayWork book.now seat.old }
         requires due { IsDue book.now.input seat.old.seen aside }
@@ -248,11 +248,11 @@ impl<'a, S: Solver, G: Gate> Crew<'a, S, G> {
         ensures { HasStayed book.now seat.old seat.new }
     {
         match aside {
-            Aside::Unit(grant) => {
+            OutsideWork::Unit(grant) => {
                 self.gate.unit(rt, &grant);
                 hand_in(rt, book, seat, grant)
             }
-            Aside::Search(snapshot) => {
+            OutsideWork::Search(snapshot) => {
                 let answered = self.answer_wanted(rt, book, seat, snapshot);
                 self.searches.end(rt);
                 answered
@@ -287,22 +287,22 @@ impl<'a, S: Solver, G: Gate> Crew<'a, S, G> {
         rt: &R,
         book: &TurnBook<Board>,
         seat: &mut Seat<Board>,
-        spot: &mut Spot,
-        aside: Aside,
-    ) -> Option<Aside>
-        requires ready { IsReady book.now seat.old spot.old.stand }
+        round_place: &mut RoundPlace,
+        aside: OutsideWork,
+    ) -> Option<OutsideWork>
+        requires ready { IsReady book.now seat.old round_place.old.stand }
         requires due { IsDue book.now.input seat.old.seen aside }
         requires crew { IsCrew book.now.input self.now.members.now self.now.expert.now
             self.now.budget self.now.workers }
-        ensures aside { StepsAside book.now.input result seat.new.seen spot.new.stand }
+        ensures aside { StepsAside book.now.input result seat.new.seen round_place.new.stand }
         ensures seat { HasStayed book.now seat.old seat.new }
     {
         let done = self.do_aside(rt, book, seat, aside);
-        if let Err(AllocError) = noted(spot, done) {
-            halt(rt, book, seat, spot);
+        if let Err(AllocError) = noted(round_place, done) {
+            halt(rt, book, seat, round_place);
         }
         self.lead.come_back(rt);
-        self.lead_on(rt, book, seat, spot)
+        self.lead_on(rt, book, seat, round_place)
     }
 
     /// Does what is to be done aside, if anything, and then rounds until there is such again, and so on until the run is
@@ -312,20 +312,20 @@ impl<'a, S: Solver, G: Gate> Crew<'a, S, G> {
         rt: &R,
         book: &TurnBook<Board>,
         seat: &mut Seat<Board>,
-        spot: &mut Spot,
-        aside: Option<Aside>,
+        round_place: &mut RoundPlace,
+        aside: Option<OutsideWork>,
     )
         requires seat { MayWork book.now seat.old }
-        requires aside { StepsAside book.now.input aside seat.old.seen spot.old.stand }
+        requires aside { StepsAside book.now.input aside seat.old.seen round_place.old.stand }
         requires crew { IsCrew book.now.input self.now.members.now self.now.expert.now
             self.now.budget self.now.workers }
-        ensures left { HasLeft seat.new.seen spot.new.stand }
+        ensures left { HasLeft seat.new.seen round_place.new.stand }
         ensures seat { HasStayed book.now seat.old seat.new }
     {
         let mut next = aside;
         for _ in rt.forever() {
             let Some(aside) = next else { return };
-            next = self.work_once(rt, book, seat, spot, aside);
+            next = self.work_once(rt, book, seat, round_place, aside);
         }
         unreachable!()
     }

@@ -6,13 +6,13 @@ ghost use Rattle.ps_rules.specs.Runs.{has_run, is_running};
 ghost use Rattle.ps_turn.specs.Hands.{GoesOnBy};
 ghost use Rattle.ps_board.specs.declared.ticks.Snapshot.{Snapshot as SnapshotView};
 ghost use Rattle.ps_board.specs.declared.ticks.Ticked.TheVariants.{Over as IsOver, WantsPlan as Wanted};
-ghost use Rattle.ps_pool.specs.declared.spot.Stand.TheVariants.{Failed, Going};
+ghost use Rattle.ps_pool.specs.declared.round_place.Stand.TheVariants.{Failed, Going};
 ghost use Rattle.ps_pool.specs.Rounds.{IsWanted};
 ghost use Rattle.ps_pool.specs.Workers.{HasStayed, IsOutline, IsThere, MayWork, WasWanted};
 
 use crate::ordered::tick_with_room;
 use crate::outline::{Outline, Who, outline_of};
-use crate::spot::{Spot, Stand};
+use crate::round_place::{RoundPlace, Stand};
 use ps_action::Answer;
 use ps_board::{Board, Grant, Snapshot, Ticked, Turn};
 use ps_turn::{Seat, TurnBook};
@@ -167,14 +167,19 @@ pub(crate) fn look<R: Wait>(
 }
 
 /// Takes the turn to halt the run, if one is open: nothing else leads on where memory ran out.
-pub(crate) fn halt<R: Wait>(rt: &R, book: &TurnBook<Board>, seat: &mut Seat<Board>, spot: &mut Spot)
+pub(crate) fn halt<R: Wait>(
+    rt: &R,
+    book: &TurnBook<Board>,
+    seat: &mut Seat<Board>,
+    round_place: &mut RoundPlace,
+)
     requires seat { MayWork book.now seat.old }
-    requires failed { spot.old.stand ≡ Failed }
+    requires failed { round_place.old.stand ≡ Failed }
     ensures seat { HasStayed book.now seat.old seat.new }
-    ensures going { spot.new.stand ≡ Going }
+    ensures going { round_place.new.stand ≡ Going }
 {
     let mut board = book.take(rt, seat);
     board.halt();
     book.give(seat, board);
-    spot.stand = Stand::Going;
+    round_place.stand = Stand::Going;
 }

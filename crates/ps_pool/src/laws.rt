@@ -1,6 +1,6 @@
 //! Laws of runs. A call does nothing: its contract is the law.
-ghost use Rattle.ps_course.specs.Beginnings.{GoInOrder};
-ghost use Rattle.ps_course.specs.Segments.{GoWell};
+ghost use Rattle.ps_good_plan_laws.specs.Beginnings.{GoInOrder};
+ghost use Rattle.ps_good_plan_laws.specs.Segments.{GoWell};
 ghost use Rattle.ps_pool.specs.Ordered.{OneEnd};
 
 use ps_board::Board;

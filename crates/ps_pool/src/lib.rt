@@ -10,8 +10,8 @@ mod laws;
 mod lead;
 mod ordered;
 mod outline;
+mod round_place;
 mod searches;
-mod spot;
 mod workers;
 
 pub use gate::{Gate, NoGate};

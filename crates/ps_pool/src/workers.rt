@@ -16,8 +16,8 @@ use crate::holds::look;
 use crate::lead::Lead;
 use crate::ordered::RunStop;
 use crate::outline::{Outline, is_for_one};
+use crate::round_place::{OutsideWork, RoundPlace};
 use crate::searches::Searches;
-use crate::spot::{Aside, Spot};
 use ps_board::Board;
 use ps_domain::Expert;
 use ps_plan::Solver;
@@ -45,9 +45,9 @@ fn work_all<R: Threads + Wait + Sync, S: Solver + Sync, G: Gate + Sync>(
     let Some((seat, rest)) = seats.split_first_mut() else {
         return false;
     };
-    let mut spot = Spot::first();
-    work_first(rt, crew, book, seat, &mut spot, rest);
-    spot.is_over()
+    let mut round_place = RoundPlace::first();
+    work_first(rt, crew, book, seat, &mut round_place, rest);
+    round_place.is_over()
 }
 
 /// A worker begins. Once it steps aside, those of the other seats are started in the same way.
@@ -57,23 +57,23 @@ fn work_first<R: Threads + Wait + Sync, S: Solver + Sync, G: Gate + Sync>(
     crew: &Crew<'_, S, G>,
     book: &TurnBook<Board>,
     seat: &mut Seat<Board>,
-    spot: &mut Spot,
+    round_place: &mut RoundPlace,
     rest: &mut [Seat<Board>],
 )
-    requires ready { IsReady book.now seat.old spot.old.stand }
+    requires ready { IsReady book.now seat.old round_place.old.stand }
     requires rest { All (MayWork book.now) rest.old }
     requires crew { IsCrew book.now.input crew.now.members.now crew.now.expert.now crew.now.budget
         crew.now.workers }
-    ensures left { HasLeft seat.new.seen spot.new.stand }
+    ensures left { HasLeft seat.new.seen round_place.new.stand }
     ensures seat { HasStayed book.now seat.old seat.new }
     ensures rest { (i : ℕ) (d : _) → i < length rest.old
         → HasStayed book.now (slice_index_or rest.old i d) (slice_index_or rest.new i d) }
 {
-    let aside = crew.lead_on(rt, book, seat, spot);
+    let aside = crew.lead_on(rt, book, seat, round_place);
     if rest.is_empty() || aside.is_none() {
-        crew.work_on(rt, book, seat, spot, aside);
+        crew.work_on(rt, book, seat, round_place, aside);
     } else {
-        work_beside(rt, crew, book, seat, spot, aside, rest);
+        work_beside(rt, crew, book, seat, round_place, aside, rest);
     }
 }
 
@@ -84,16 +84,16 @@ fn work_beside<R: Threads + Wait + Sync, S: Solver + Sync, G: Gate + Sync>(
     crew: &Crew<'_, S, G>,
     book: &TurnBook<Board>,
     seat: &mut Seat<Board>,
-    spot: &mut Spot,
-    mut aside: Option<Aside>,
+    round_place: &mut RoundPlace,
+    mut aside: Option<OutsideWork>,
     rest: &mut [Seat<Board>],
 )
     requires seat { MayWork book.now seat.old }
-    requires aside { StepsAside book.now.input aside seat.old.seen spot.old.stand }
+    requires aside { StepsAside book.now.input aside seat.old.seen round_place.old.stand }
     requires rest { All (MayWork book.now) rest.old }
     requires crew { IsCrew book.now.input crew.now.members.now crew.now.expert.now crew.now.budget
         crew.now.workers }
-    ensures left { HasLeft seat.new.seen spot.new.stand }
+    ensures left { HasLeft seat.new.seen round_place.new.stand }
     ensures seat { HasStayed book.now seat.old seat.new }
     ensures rest { (i : ℕ) (d : _) → i < length rest.old
         → HasStayed book.now (slice_index_or rest.old i d) (slice_index_or rest.new i d) }
@@ -107,10 +107,10 @@ fn work_beside<R: Threads + Wait + Sync, S: Solver + Sync, G: Gate + Sync>(
         work_all(rt, crew, book, rest);
     };
     let mut one = ||
-        requires { MayWork book.now seat.now × StepsAside book.now.input aside seat.now.seen spot.now.stand
+        requires { MayWork book.now seat.now × StepsAside book.now.input aside seat.now.seen round_place.now.stand
             × IsCrew book.now.input crew.now.members.now crew.now.expert.now crew.now.budget crew.now.workers }
-        ensures { HasLeft seat.exit.now.seen spot.exit.now.stand × HasStayed book.entry.now seat.entry.now seat.exit.now }
-    { crew.work_on(rt, book, seat, spot, aside.take()) };
+        ensures { HasLeft seat.exit.now.seen round_place.exit.now.stand × HasStayed book.entry.now seat.entry.now seat.exit.now }
+    { crew.work_on(rt, book, seat, round_place, aside.take()) };
     thread::join_mut(rt, &mut others, &mut one);
 }
 
@@ -136,8 +136,8 @@ fn look_first<R: Wait>(
 /// Has a worker at each of these seats, all of a book of a board, go on with the run that was opened until it is over.
 /// The first begins alone, in this thread, and each other one is started, in a thread of its own if there are threads,
 /// when the one before it first steps aside. They take the board in turns, for one call in each, and nothing else is
-/// done to it. Each worker repeats rounds: a turn of each member that is at home with it, one of the ticker, and one of
-/// each other member, in the order of the members. The member at place `m`, counted from 0, is at home with the worker
+/// done to it. Each worker repeats rounds: a turn of each own member, one of the ticker, and one of
+/// each other member, in the order of the members. The member at place `m`, counted from 0, is at own_members with the worker
 /// of the hand `m % seats + 1`. Units of work are done between turns, and so is solving: one worker at a time does
 /// rounds, and while it steps aside to do a unit or to solve, another goes on. Two at most solve at the same time, and
 /// where nothing is to be done before one of those aside hands something in, the others sleep. Afterwards each seat is

@@ -6,10 +6,10 @@ use Rattle.ps_text.specs.Tokens.{AreTokens, RefusesText}
 use Rattle.ps_text.specs.declared.lexing.LexRefusal.{LexRefusal}
 use Rattle.ps_text.specs.declared.lexing.LexRefusal.TheVariants.{Bad, Number}
 use Rattle.ps_text.specs.declared.lexing.Token.{Token}
-use Rattle.ps_shape.specs.Shape.{IsDomainShape, IsShallow}
-use Rattle.ps_forms.specs.Lexemes.{lexemes_of, marks}
-use Rattle.ps_forms.specs.declared.lexemes.Lexeme.{Lexeme}
-use Rattle.ps_forms.proofs.Balance.{balanced_shape}
+use Rattle.ps_grammar.specs.Shape.{IsDomainShape, IsShallow}
+use Rattle.ps_lists.specs.Lexemes.{lexemes_of, marks}
+use Rattle.ps_lists.specs.declared.lexemes.Lexeme.{Lexeme}
+use Rattle.ps_lists.proofs.Balance.{balanced_shape}
 use Rattle.ps_pddl.specs.Meaning.{domain_of}
 use Rattle.ps_pddl.specs.Reading.{HasWords, IsRead, misshapen}
 use Rattle.ps_pddl.specs.Reading.IsRead.{with_meaning, without_class, without_shape}

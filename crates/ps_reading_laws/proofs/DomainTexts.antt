@@ -2,8 +2,8 @@
 use Rattle.std.proofs.Common.{◌≡◌, Ok, subst}
 use Rattle.ps_world.specs.DomainTexts.{domain_text}
 use Rattle.ps_world.specs.declared.domains.Domain.{Domain}
-use Rattle.ps_forms.proofs.Grammatical.{grammatical_judged}
-use Rattle.ps_forms.proofs.Judged.{judged_grammatical}
+use Rattle.ps_lists.proofs.Grammatical.{grammatical_judged}
+use Rattle.ps_lists.proofs.Judged.{judged_grammatical}
 use Rattle.ps_pddl.specs.Reading.{IsRead}
 use Rattle.ps_pddl.specs.Reading.IsRead.{with_meaning}
 use Rattle.ps_pddl.specs.Steps.{Read}

@@ -2,26 +2,26 @@
 use Rattle.std.proofs.Common.{◌≡◌, ℕ, suc, ◌+◌, ◌≤◌, ◌≢◌, ◌==◌, Bool, true, false, not, ◌&&◌, ◌||◌, if◌then◌else◌, List, [], ◌∷◌, ◌++◌, length, Option, None, Some, refl, sym, ◌∙◌, ap, subst, inl, inr, arith, append_assoc}
 use Rattle.std.specs.List.{list_all, list_any}
 use Rattle.std.proofs.lemmas.Bool.{and_from, and_parts, or_cases, or_left, or_right, eqb-true, eqb-false, not-true}
-use Rattle.ps_shape.specs.Marks.{is, is_change, is_predicate_name, is_term}
-use Rattle.ps_shape.specs.Rules.{one_effect_rule, step, where_it_is}
-use Rattle.ps_shape.specs.Fronts.{IsFront}
-use Rattle.ps_shape.specs.Shape.{IsDomainShape, next_wanted, text_start, wanted}
-use Rattle.ps_shape.specs.Symbols.{has_forall, has_when, level, weight}
-use Rattle.ps_shape.specs.declared.marks.Mark.{Mark}
-use Rattle.ps_shape.specs.declared.marks.Mark.TheVariants.{Open, Close, ConditionKey, EffectKey, At, Over, Start, End, All, And, Not, Forall, When}
-use Rattle.ps_shape.specs.declared.symbols.Symbol.{Symbol}
-use Rattle.ps_shape.specs.declared.symbols.Symbol.TheVariants.{The, AnyName, InList, InAction, InCondition, InEffect, InValue}
-use Rattle.ps_shape.specs.declared.symbols.ListPart.TheVariants as list
-use Rattle.ps_shape.specs.declared.symbols.ActionPart.TheVariants as action
-use Rattle.ps_shape.specs.declared.symbols.ConditionPart.TheVariants as condition
-use Rattle.ps_shape.specs.declared.symbols.EffectPart.TheVariants as effect
-use Rattle.ps_shape.specs.declared.symbols.Reach.{Reach}
-use Rattle.ps_shape.specs.declared.symbols.Reach.TheVariants.{Spread, Guarded, Plain}
-use Rattle.ps_shape.specs.declared.symbols.ValuePart.TheVariants as value
-use Rattle.ps_shape.proofs.Levels.{level_more}
-use Rattle.ps_forms.proofs.Balance.{each_mark}
+use Rattle.ps_grammar.specs.Marks.{is, is_change, is_predicate_name, is_term}
+use Rattle.ps_grammar.specs.Rules.{one_effect_rule, step, where_it_is}
+use Rattle.ps_grammar.specs.Fronts.{IsFront}
+use Rattle.ps_grammar.specs.Shape.{IsDomainShape, next_wanted, text_start, wanted}
+use Rattle.ps_grammar.specs.Symbols.{has_forall, has_when, level, weight}
+use Rattle.ps_grammar.specs.declared.marks.Mark.{Mark}
+use Rattle.ps_grammar.specs.declared.marks.Mark.TheVariants.{Open, Close, ConditionKey, EffectKey, At, Over, Start, End, All, And, Not, Forall, When}
+use Rattle.ps_grammar.specs.declared.symbols.Symbol.{Symbol}
+use Rattle.ps_grammar.specs.declared.symbols.Symbol.TheVariants.{The, AnyName, InList, InAction, InCondition, InEffect, InValue}
+use Rattle.ps_grammar.specs.declared.symbols.ListPart.TheVariants as list
+use Rattle.ps_grammar.specs.declared.symbols.ActionPart.TheVariants as action
+use Rattle.ps_grammar.specs.declared.symbols.ConditionPart.TheVariants as condition
+use Rattle.ps_grammar.specs.declared.symbols.EffectPart.TheVariants as effect
+use Rattle.ps_grammar.specs.declared.symbols.Reach.{Reach}
+use Rattle.ps_grammar.specs.declared.symbols.Reach.TheVariants.{Spread, Guarded, Plain}
+use Rattle.ps_grammar.specs.declared.symbols.ValuePart.TheVariants as value
+use Rattle.ps_grammar.proofs.Levels.{level_more}
+use Rattle.ps_lists.proofs.Balance.{each_mark}
 use Rattle.ps_reading_laws.specs.Levels.{OpenForm, closed, count_alone, forms_by, forms_from, is_alone, is_other, open_forms, opened_by, wants_condition, with_mark}
-use Rattle.ps_shape.proofs.SameMarks.{mark_is}
+use Rattle.ps_grammar.proofs.SameMarks.{mark_is}
 use Rattle.ps_reading_laws.proofs.LevelSymbols.{is_none, moves, none_of, opens_so}
 use Rattle.ps_reading_laws.proofs.OpenForms.{Kind, are_safe, around_all, free_all, is_listed, is_safe, kind_of, listed_safe, not_alone, plain_around, plain_wants, safe_close, safe_first, safe_keyed, safe_mark, safe_none, want_alone}
 use Rattle.ps_reading_laws.proofs.OpenForms.Kind.{closing, opening, standing}

@@ -3,16 +3,16 @@ use Rattle.std.proofs.Common.{◌≡◌, ◌⊎◌, ℕ, zero, suc, ◌+◌, ◌
 use Rattle.std.proofs.lemmas.Bool.{cases_Bool, cases_lt}
 use Rattle.std.proofs.lemmas.Option.{slice_get-get_or}
 use Rattle.ps_world.specs.declared.failures.Failure.TheVariants.{Refused}
-use Rattle.ps_shape.specs.Forms.{opened_at, told_at}
-use Rattle.ps_shape.specs.Shape.{Derives, IsDomainShape, IsFirstFaultFrom, IsShallow, IsShallowFrom, Refuses, deepest, next_wanted, opens_level, text_start}
-use Rattle.ps_shape.specs.Steps.{Fails, IsOver, Passes, Stops, form_of}
-use Rattle.ps_shape.specs.Symbols.{level}
-use Rattle.ps_shape.specs.declared.faults.ShapeFault.{ShapeFault}
-use Rattle.ps_shape.specs.declared.faults.ShapeFault.TheVariants.{Unsupported, Depth, Unexpected}
-use Rattle.ps_shape.specs.declared.marks.Mark.{Mark}
-use Rattle.ps_shape.specs.declared.marks.Mark.TheVariants.{Close}
-use Rattle.ps_shape.specs.declared.symbols.Symbol.{Symbol}
-use Rattle.ps_shape.proofs.FirstFaults.{Reached, first_fault_end, first_fault_here, reached_more, reached_start, refused, unfinished, whole}
+use Rattle.ps_grammar.specs.Forms.{opened_at, told_at}
+use Rattle.ps_grammar.specs.Shape.{Derives, IsDomainShape, IsFirstFaultFrom, IsShallow, IsShallowFrom, Refuses, deepest, next_wanted, opens_level, text_start}
+use Rattle.ps_grammar.specs.Steps.{Fails, IsOver, Passes, Stops, form_of}
+use Rattle.ps_grammar.specs.Symbols.{level}
+use Rattle.ps_grammar.specs.declared.faults.ShapeFault.{ShapeFault}
+use Rattle.ps_grammar.specs.declared.faults.ShapeFault.TheVariants.{Unsupported, Depth, Unexpected}
+use Rattle.ps_grammar.specs.declared.marks.Mark.{Mark}
+use Rattle.ps_grammar.specs.declared.marks.Mark.TheVariants.{Close}
+use Rattle.ps_grammar.specs.declared.symbols.Symbol.{Symbol}
+use Rattle.ps_grammar.proofs.FirstFaults.{Reached, first_fault_end, first_fault_here, reached_more, reached_start, refused, unfinished, whole}
 use Rattle.ps_reading_laws.proofs.Cases.{found}
 
 -- ---- one mark

@@ -2,21 +2,21 @@
 use Rattle.std.proofs.Common.{◌≡◌, ℕ, zero, suc, ◌+◌, ◌==◌, Bool, true, false, ◌&&◌, List, [], ◌∷◌, ◌++◌, Option, None, Some, refl, sym, subst, arith}
 use Rattle.std.specs.List.{list_all}
 use Rattle.std.proofs.lemmas.Bool.{and_parts, eqb-true}
-use Rattle.ps_shape.specs.Marks.{is}
-use Rattle.ps_shape.specs.Rules.{action_rule, goal_rule, list_rule, step, where_it_is}
-use Rattle.ps_shape.specs.Symbols.{level, weight}
-use Rattle.ps_shape.specs.declared.marks.Mark.{Mark}
-use Rattle.ps_shape.specs.declared.marks.Mark.TheVariants.{Open, Close}
-use Rattle.ps_shape.specs.declared.symbols.Symbol.{Symbol}
-use Rattle.ps_shape.specs.declared.symbols.Symbol.TheVariants.{The, AnyName, InList, InAction, InGoal}
-use Rattle.ps_shape.specs.declared.symbols.ListPart.{ListPart}
-use Rattle.ps_shape.specs.declared.symbols.ListPart.TheVariants as list
-use Rattle.ps_shape.specs.declared.symbols.ActionPart.TheVariants as action
-use Rattle.ps_shape.specs.declared.symbols.GoalPart.{GoalPart}
-use Rattle.ps_shape.specs.declared.symbols.GoalPart.TheVariants as goal
-use Rattle.ps_forms.proofs.Balance.{each_mark, every_mark}
+use Rattle.ps_grammar.specs.Marks.{is}
+use Rattle.ps_grammar.specs.Rules.{action_rule, goal_rule, list_rule, step, where_it_is}
+use Rattle.ps_grammar.specs.Symbols.{level, weight}
+use Rattle.ps_grammar.specs.declared.marks.Mark.{Mark}
+use Rattle.ps_grammar.specs.declared.marks.Mark.TheVariants.{Open, Close}
+use Rattle.ps_grammar.specs.declared.symbols.Symbol.{Symbol}
+use Rattle.ps_grammar.specs.declared.symbols.Symbol.TheVariants.{The, AnyName, InList, InAction, InGoal}
+use Rattle.ps_grammar.specs.declared.symbols.ListPart.{ListPart}
+use Rattle.ps_grammar.specs.declared.symbols.ListPart.TheVariants as list
+use Rattle.ps_grammar.specs.declared.symbols.ActionPart.TheVariants as action
+use Rattle.ps_grammar.specs.declared.symbols.GoalPart.{GoalPart}
+use Rattle.ps_grammar.specs.declared.symbols.GoalPart.TheVariants as goal
+use Rattle.ps_lists.proofs.Balance.{each_mark, every_mark}
 use Rattle.ps_reading_laws.specs.Levels.{opened_by}
-use Rattle.ps_shape.proofs.SameMarks.{mark_is}
+use Rattle.ps_grammar.proofs.SameMarks.{mark_is}
 
 -- the level after a mark, where it was so before
 abbrev pub moves : Mark → ℕ → ℕ → Bool

@@ -2,16 +2,16 @@
 use Rattle.std.proofs.Common.{◌≡◌, ℕ, ◌+◌, ◌-◌, ◌≤◌, Bool, true, false, ◌&&◌, if◌then◌else◌, List, [], ◌∷◌, ◌++◌, length, Option, None, Some, slice_get, take, refl, sym, ◌∙◌, ap, subst, arith, length-append}
 use Rattle.std.specs.List.{list_all}
 use Rattle.std.proofs.lemmas.Bool.{and_parts, or_left, or_right, or_parts}
-use Rattle.ps_shape.specs.Forms.{opened_at, opens}
-use Rattle.ps_shape.specs.Marks.{is}
-use Rattle.ps_shape.specs.Shape.{deepest, opens_level, wanted}
-use Rattle.ps_shape.specs.Symbols.{level, weight}
-use Rattle.ps_shape.specs.declared.marks.Mark.{Mark}
-use Rattle.ps_shape.specs.declared.marks.Mark.TheVariants.{Open, Close, At, Forall, When}
-use Rattle.ps_shape.specs.declared.symbols.Symbol.{Symbol}
-use Rattle.ps_shape.specs.declared.symbols.Symbol.TheVariants.{InEffect}
-use Rattle.ps_shape.specs.declared.symbols.EffectPart.TheVariants as effect
-use Rattle.ps_shape.proofs.Levels.{level_more}
+use Rattle.ps_grammar.specs.Forms.{opened_at, opens}
+use Rattle.ps_grammar.specs.Marks.{is}
+use Rattle.ps_grammar.specs.Shape.{deepest, opens_level, wanted}
+use Rattle.ps_grammar.specs.Symbols.{level, weight}
+use Rattle.ps_grammar.specs.declared.marks.Mark.{Mark}
+use Rattle.ps_grammar.specs.declared.marks.Mark.TheVariants.{Open, Close, At, Forall, When}
+use Rattle.ps_grammar.specs.declared.symbols.Symbol.{Symbol}
+use Rattle.ps_grammar.specs.declared.symbols.Symbol.TheVariants.{InEffect}
+use Rattle.ps_grammar.specs.declared.symbols.EffectPart.TheVariants as effect
+use Rattle.ps_grammar.proofs.Levels.{level_more}
 use Rattle.ps_reading_laws.specs.Laws.{DepthsAreParentheses, DepthsAreToldThere, LevelsAreParentheses}
 use Rattle.ps_reading_laws.specs.Levels.{OpenForm, count_alone, is_alone, is_body_begun, is_other, levels_after, open_forms, opens_in, want_body, want_timed, with_mark}
 use Rattle.ps_reading_laws.proofs.OpenForms.{are_safe, begun_not_alone, count_all, free_all, is_safe, length_forms, length_marked, listed_not_alone, not_alone, want_alone}

@@ -2,16 +2,16 @@
 use Rattle.std.proofs.Common.{◌≡◌, ◌⊎◌, ℕ, ◌≤◌, Bool, true, false, ◌&&◌, List, [], ◌∷◌, ◌++◌, Option, None, Some, slice_get, take, refl, sym, ◌∙◌, ap, subst, inl, inr, arith}
 use Rattle.std.specs.List.{list_all}
 use Rattle.std.proofs.lemmas.Bool.{and_parts}
-use Rattle.ps_shape.specs.Marks.{is}
-use Rattle.ps_shape.specs.Rules.{step}
-use Rattle.ps_shape.specs.Shape.{deepest, next_wanted, opens_level, wanted_from}
-use Rattle.ps_shape.specs.Symbols.{level, weight}
-use Rattle.ps_shape.specs.declared.marks.Mark.{Mark}
-use Rattle.ps_shape.specs.declared.marks.Mark.TheVariants.{Open}
-use Rattle.ps_shape.specs.declared.symbols.Symbol.{Symbol}
-use Rattle.ps_shape.specs.declared.symbols.Symbol.TheVariants.{The, AnyName, InEffect}
-use Rattle.ps_shape.proofs.Levels.{level_more}
-use Rattle.ps_forms.proofs.Balance.{each_mark}
+use Rattle.ps_grammar.specs.Marks.{is}
+use Rattle.ps_grammar.specs.Rules.{step}
+use Rattle.ps_grammar.specs.Shape.{deepest, next_wanted, opens_level, wanted_from}
+use Rattle.ps_grammar.specs.Symbols.{level, weight}
+use Rattle.ps_grammar.specs.declared.marks.Mark.{Mark}
+use Rattle.ps_grammar.specs.declared.marks.Mark.TheVariants.{Open}
+use Rattle.ps_grammar.specs.declared.symbols.Symbol.{Symbol}
+use Rattle.ps_grammar.specs.declared.symbols.Symbol.TheVariants.{The, AnyName, InEffect}
+use Rattle.ps_grammar.proofs.Levels.{level_more}
+use Rattle.ps_lists.proofs.Balance.{each_mark}
 use Rattle.ps_script.specs.Forms as script
 use Rattle.ps_script.specs.declared.forms.Form.{Form as ScriptForm}
 use Rattle.ps_script.specs.declared.forms.Form.TheVariants.{SetFunction}
@@ -21,7 +21,7 @@ use Rattle.ps_members.specs.declared.forms.Form.{Form as MemberForm}
 use Rattle.ps_members.specs.declared.forms.Form.TheVariants.{Edit}
 use Rattle.ps_reading_laws.specs.Laws.{LineDepthsAreParentheses, MemberDepthsAreParentheses}
 use Rattle.ps_reading_laws.specs.Levels.{CountsParentheses, open_after, opened, opened_by}
-use Rattle.ps_shape.proofs.SameMarks.{mark_is}
+use Rattle.ps_grammar.proofs.SameMarks.{mark_is}
 use Rattle.ps_reading_laws.proofs.LevelSymbols.{inner_fits, inner_more, inner_step, is_inner, is_none, moves, none_of, opens_so}
 use Rattle.ps_reading_laws.proofs.TextSymbols.{is_body_head, opens_elsewhere}
 use Rattle.ps_reading_laws.proofs.Ways.{Leads, first_leads, front_leads}

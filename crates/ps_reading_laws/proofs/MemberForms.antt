@@ -7,8 +7,8 @@ use Rattle.ps_world.specs.declared.edits.Edit.{Edit as Change}
 use Rattle.ps_world.specs.declared.edits.Edit.TheVariants as change
 use Rattle.ps_machine.specs.declared.inputs.Command.TheVariants as command
 use Rattle.ps_machine.specs.declared.members.Unit.TheVariants as unit
-use Rattle.ps_forms.specs.Nested.{Nesteds}
-use Rattle.ps_forms.specs.Places.{head, items_at, rest}
+use Rattle.ps_lists.specs.Nested.{Nesteds}
+use Rattle.ps_lists.specs.Places.{head, items_at, rest}
 use Rattle.ps_script.specs.Commands.{after_two, command_of, fourth_name, stated}
 use Rattle.ps_script.specs.Forms as script
 use Rattle.ps_script.specs.Goals.{fact_of, first_condition}

@@ -10,9 +10,9 @@ use Rattle.ps_text.specs.ScriptLines.{script_lines}
 use Rattle.ps_text.specs.Tokens.{AreTokens}
 use Rattle.ps_text.specs.Words.{words}
 use Rattle.ps_text.specs.declared.lexing.Token.{Token}
-use Rattle.ps_forms.specs.Lexemes.{lexemes_of}
-use Rattle.ps_forms.specs.Nested.{Nesteds}
-use Rattle.ps_forms.specs.declared.lexemes.Lexeme.{Lexeme}
+use Rattle.ps_lists.specs.Lexemes.{lexemes_of}
+use Rattle.ps_lists.specs.Nested.{Nesteds}
+use Rattle.ps_lists.specs.declared.lexemes.Lexeme.{Lexeme}
 use Rattle.ps_script.specs.Judged.{IsJudged, place}
 use Rattle.ps_script.specs.Lines.{cause_of, is_nothing}
 use Rattle.ps_members.specs.Args.{first_other, pattern_of}

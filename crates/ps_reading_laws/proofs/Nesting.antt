@@ -2,15 +2,15 @@
 use Rattle.std.proofs.Common.{◌≡◌, ◌⊎◌, ℕ, zero, suc, ◌+◌, ◌<◌, ◌≤◌, true, List, [], ◌∷◌, ◌++◌, length, slice_index_or, refl, ap, subst, inl, inr, arith}
 use Rattle.std.proofs.lemmas.Bool.{cases_lt}
 use Rattle.std.proofs.lemmas.List.{get_or_default}
-use Rattle.ps_shape.specs.declared.marks.Mark.TheVariants.{Open, Close}
-use Rattle.ps_forms.specs.Lexemes.{marks}
-use Rattle.ps_forms.specs.Nested.{Nesteds, word, group, none, followed}
-use Rattle.ps_forms.specs.Places.{no_word}
-use Rattle.ps_forms.specs.Spelling.{SpellAll, is_balanced}
-use Rattle.ps_forms.specs.Spelling.SpellAll.{nothing}
-use Rattle.ps_forms.specs.declared.lexemes.Lexeme.{Lexeme}
-use Rattle.ps_forms.proofs.Stacks.Stacked.{innermost}
-use Rattle.ps_forms.proofs.Unfinished.{IsUnfinished, finished, next_close, next_open, next_word, some_open}
+use Rattle.ps_grammar.specs.declared.marks.Mark.TheVariants.{Open, Close}
+use Rattle.ps_lists.specs.Lexemes.{marks}
+use Rattle.ps_lists.specs.Nested.{Nesteds, word, group, none, followed}
+use Rattle.ps_lists.specs.Places.{no_word}
+use Rattle.ps_lists.specs.Spelling.{SpellAll, is_balanced}
+use Rattle.ps_lists.specs.Spelling.SpellAll.{nothing}
+use Rattle.ps_lists.specs.declared.lexemes.Lexeme.{Lexeme}
+use Rattle.ps_lists.proofs.Stacks.Stacked.{innermost}
+use Rattle.ps_lists.proofs.Unfinished.{IsUnfinished, finished, next_close, next_open, next_word, some_open}
 use Rattle.ps_reading_laws.proofs.Cases.{this_or_other}
 
 -- a list is empty, or has a last item

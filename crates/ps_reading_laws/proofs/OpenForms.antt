@@ -2,9 +2,9 @@
 use Rattle.std.proofs.Common.{◌≡◌, ◌⊎◌, ℕ, ◌-◌, Bool, true, false, not, ◌&&◌, ◌||◌, List, [], ◌∷◌, ◌++◌, length, refl, sym, ◌∙◌, ap, inl, inr, arith}
 use Rattle.std.specs.List.{list_any}
 use Rattle.std.proofs.lemmas.Bool.{true≢false, and_from, and_parts, cases_Bool, not-true, or_from, or_parts, or_right}
-use Rattle.ps_shape.specs.Marks.{is}
-use Rattle.ps_shape.specs.declared.marks.Mark.{Mark}
-use Rattle.ps_shape.specs.declared.marks.Mark.TheVariants.{Open, Close, ConditionKey, EffectKey, And, Forall, When}
+use Rattle.ps_grammar.specs.Marks.{is}
+use Rattle.ps_grammar.specs.declared.marks.Mark.{Mark}
+use Rattle.ps_grammar.specs.declared.marks.Mark.TheVariants.{Open, Close, ConditionKey, EffectKey, And, Forall, When}
 use Rattle.ps_reading_laws.specs.Levels.{OpenForm, begins, closed, count_alone, forms_by, forms_from, is_alone, is_other, is_time, open_forms, opened, opened_by, want_body, want_timed, wants_body, wants_condition, wants_timed, with_mark}
 use Rattle.ps_reading_laws.proofs.TextSymbols.{is_split, is_timed_key}
 

@@ -1,29 +1,29 @@
 -- What one mark makes of a symbol of a domain's text where no form stands alone.
 use Rattle.std.proofs.Common.{◌≡◌, ◌==◌, Bool, true, false, not, ◌&&◌, ◌||◌, if◌then◌else◌, List, [], ◌∷◌, Option, None, Some, refl, sym, subst}
 use Rattle.std.specs.List.{list_all}
-use Rattle.ps_shape.specs.Forms.{opens}
-use Rattle.ps_shape.specs.Marks.{is}
-use Rattle.ps_shape.specs.Rules.{action_rule, condition_rule, effect_rule, list_rule, once, section_rule, step, text_rule, value_rule, where_it_is}
-use Rattle.ps_shape.specs.Symbols.{level, weight}
-use Rattle.ps_shape.specs.declared.marks.Mark.{Mark}
-use Rattle.ps_shape.specs.declared.marks.Mark.TheVariants.{Open, Close, Duration, Requirements, Types, Constants, Predicates, Functions, ConditionKey, EffectKey, Define, All, Forall, When}
-use Rattle.ps_shape.specs.declared.symbols.Seen.{Seen}
-use Rattle.ps_shape.specs.declared.symbols.Symbol.{Symbol}
-use Rattle.ps_shape.specs.declared.symbols.Symbol.TheVariants.{The, AnyName, InText, InList, InAction, InCondition, InEffect, InValue}
-use Rattle.ps_shape.specs.declared.symbols.TextPart.{TextPart}
-use Rattle.ps_shape.specs.declared.symbols.TextPart.TheVariants as text
-use Rattle.ps_shape.specs.declared.symbols.ListPart.{ListPart}
-use Rattle.ps_shape.specs.declared.symbols.ListPart.TheVariants as list
-use Rattle.ps_shape.specs.declared.symbols.ActionPart.{ActionPart}
-use Rattle.ps_shape.specs.declared.symbols.ActionPart.TheVariants as action
-use Rattle.ps_shape.specs.declared.symbols.ConditionPart.{ConditionPart}
-use Rattle.ps_shape.specs.declared.symbols.ConditionPart.TheVariants as condition
-use Rattle.ps_shape.specs.declared.symbols.EffectPart.{EffectPart}
-use Rattle.ps_shape.specs.declared.symbols.EffectPart.TheVariants as effect
-use Rattle.ps_shape.specs.declared.symbols.ValuePart.{ValuePart}
-use Rattle.ps_shape.specs.declared.symbols.ValuePart.TheVariants as value
-use Rattle.ps_forms.proofs.Balance.{each_mark, every_mark}
-use Rattle.ps_shape.proofs.SameMarks.{mark_is}
+use Rattle.ps_grammar.specs.Forms.{opens}
+use Rattle.ps_grammar.specs.Marks.{is}
+use Rattle.ps_grammar.specs.Rules.{action_rule, condition_rule, effect_rule, list_rule, once, section_rule, step, text_rule, value_rule, where_it_is}
+use Rattle.ps_grammar.specs.Symbols.{level, weight}
+use Rattle.ps_grammar.specs.declared.marks.Mark.{Mark}
+use Rattle.ps_grammar.specs.declared.marks.Mark.TheVariants.{Open, Close, Duration, Requirements, Types, Constants, Predicates, Functions, ConditionKey, EffectKey, Define, All, Forall, When}
+use Rattle.ps_grammar.specs.declared.symbols.Seen.{Seen}
+use Rattle.ps_grammar.specs.declared.symbols.Symbol.{Symbol}
+use Rattle.ps_grammar.specs.declared.symbols.Symbol.TheVariants.{The, AnyName, InText, InList, InAction, InCondition, InEffect, InValue}
+use Rattle.ps_grammar.specs.declared.symbols.TextPart.{TextPart}
+use Rattle.ps_grammar.specs.declared.symbols.TextPart.TheVariants as text
+use Rattle.ps_grammar.specs.declared.symbols.ListPart.{ListPart}
+use Rattle.ps_grammar.specs.declared.symbols.ListPart.TheVariants as list
+use Rattle.ps_grammar.specs.declared.symbols.ActionPart.{ActionPart}
+use Rattle.ps_grammar.specs.declared.symbols.ActionPart.TheVariants as action
+use Rattle.ps_grammar.specs.declared.symbols.ConditionPart.{ConditionPart}
+use Rattle.ps_grammar.specs.declared.symbols.ConditionPart.TheVariants as condition
+use Rattle.ps_grammar.specs.declared.symbols.EffectPart.{EffectPart}
+use Rattle.ps_grammar.specs.declared.symbols.EffectPart.TheVariants as effect
+use Rattle.ps_grammar.specs.declared.symbols.ValuePart.{ValuePart}
+use Rattle.ps_grammar.specs.declared.symbols.ValuePart.TheVariants as value
+use Rattle.ps_lists.proofs.Balance.{each_mark, every_mark}
+use Rattle.ps_grammar.proofs.SameMarks.{mark_is}
 use Rattle.ps_reading_laws.proofs.LevelSymbols.{is_none, moves}
 
 -- ---- kinds of symbols

@@ -1,12 +1,12 @@
 -- What is wanted after marks, one mark after another.
 use Rattle.std.proofs.Common.{◌≡◌, List, [], ◌∷◌, ◌++◌, Option, None, Some, unwrap_or, sym, ◌∙◌, ap, subst, inl, inr}
 use Rattle.std.specs.Option.{option_and_then}
-use Rattle.ps_shape.specs.Fronts.{IsFront}
-use Rattle.ps_shape.specs.Rules.{step}
-use Rattle.ps_shape.specs.Shape.{Derives, next_wanted, run, wanted_from}
-use Rattle.ps_shape.specs.declared.marks.Mark.{Mark}
-use Rattle.ps_shape.specs.declared.symbols.Symbol.{Symbol}
-use Rattle.ps_shape.proofs.Runs.{run_of_front}
+use Rattle.ps_grammar.specs.Fronts.{IsFront}
+use Rattle.ps_grammar.specs.Rules.{step}
+use Rattle.ps_grammar.specs.Shape.{Derives, next_wanted, run, wanted_from}
+use Rattle.ps_grammar.specs.declared.marks.Mark.{Mark}
+use Rattle.ps_grammar.specs.declared.symbols.Symbol.{Symbol}
+use Rattle.ps_grammar.proofs.Runs.{run_of_front}
 use Rattle.ps_reading_laws.proofs.Cases.{found}
 
 -- from what is wanted first, these marks lead to what is wanted last

@@ -1,11 +1,11 @@
 -- The words of a line are judged to be something.
 use Rattle.std.proofs.Common.{◌≡◌, ℕ, List, [], true, Option, None, Some, Result, Ok, Err, take, unwrap_or, refl, inl, inr}
 use Rattle.ps_text.specs.declared.lexing.Token.{Token}
-use Rattle.ps_shape.specs.declared.symbols.Symbol.{Symbol}
-use Rattle.ps_forms.specs.Lexemes.{marks}
-use Rattle.ps_forms.specs.Nested.{Nesteds}
-use Rattle.ps_forms.specs.Spelling.{is_balanced}
-use Rattle.ps_forms.specs.declared.lexemes.Lexeme.{Lexeme}
+use Rattle.ps_grammar.specs.declared.symbols.Symbol.{Symbol}
+use Rattle.ps_lists.specs.Lexemes.{marks}
+use Rattle.ps_lists.specs.Nested.{Nesteds}
+use Rattle.ps_lists.specs.Spelling.{is_balanced}
+use Rattle.ps_lists.specs.declared.lexemes.Lexeme.{Lexeme}
 use Rattle.ps_script.specs.Judged.{Fits, IsJudged, closed, front, in_scope, place}
 use Rattle.ps_script.specs.Scopes.{strays}
 use Rattle.ps_script.proofs.Judgements.{misfit_judged, scoped_answer}

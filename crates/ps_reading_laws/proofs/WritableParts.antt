@@ -22,7 +22,7 @@ use Rattle.ps_world.specs.declared.actions.Spread.TheVariants.{Once, ForAll}
 use Rattle.ps_world.specs.declared.domains.Param.{Param}
 use Rattle.ps_world.specs.declared.domains.Domain.{Domain}
 use Rattle.ps_rules.specs.Sound.{cond_opens, conds_open, expr_opens}
-use Rattle.ps_shape.specs.Shape.{deepest}
+use Rattle.ps_grammar.specs.Shape.{deepest}
 use Rattle.ps_print.specs.CanonicalWords.{AreCondsOf, IsCondOf, IsGuardedOf, IsNameOf, IsParamOf, IsSpreadOf}
 use Rattle.ps_pddl.specs.WellFormed.{IsEffect, IsGuarded, IsSpread}
 use Rattle.ps_pddl.proofs.Fits.{FitParams, FitsCond, FitConds, FitsEffect, FitsExpr, FitsGuarded, FitsSpread, IsVariableName}

@@ -5,11 +5,11 @@ use Rattle.ps_world.specs.Names.{Table}
 use Rattle.ps_world.specs.declared.domains.Domain.{Domain}
 use Rattle.ps_machine.specs.declared.members.Member.{Member}
 use Rattle.ps_text.specs.Names.{AreNames}
-use Rattle.ps_shape.specs.Forms.{opened_at}
-use Rattle.ps_shape.specs.Fronts.{IsFront}
-use Rattle.ps_shape.specs.Shape.{IsDomainShape, IsTooDeep, deepest, wanted}
-use Rattle.ps_shape.specs.Symbols.{level}
-use Rattle.ps_shape.specs.declared.marks.Mark.{Mark}
+use Rattle.ps_grammar.specs.Forms.{opened_at}
+use Rattle.ps_grammar.specs.Fronts.{IsFront}
+use Rattle.ps_grammar.specs.Shape.{IsDomainShape, IsTooDeep, deepest, wanted}
+use Rattle.ps_grammar.specs.Symbols.{level}
+use Rattle.ps_grammar.specs.declared.marks.Mark.{Mark}
 use Rattle.ps_script.specs.Lines as script
 use Rattle.ps_script.specs.Forms as script_form
 use Rattle.ps_script.specs.declared.forms.Form.{Form as ScriptForm}

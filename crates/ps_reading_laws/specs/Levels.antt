@@ -1,12 +1,12 @@
 -- Which parentheses stand open after marks, and which of them count for two levels.
 use Rattle.std.specs.Prelude.{◌≡◌, ◌≤◌, ◌+◌, ◌-◌, ◌↔◌, ℕ, suc, Bool, true, false, not, ◌&&◌, ◌||◌, if◌then◌else◌, List, [], ◌∷◌, Option, None, Some, slice_get, take}
 use Rattle.std.specs.List.{list_any}
-use Rattle.ps_shape.specs.Fronts.{IsFront}
-use Rattle.ps_shape.specs.Marks.{is}
-use Rattle.ps_shape.specs.Shape.{Derives, IsTooDeepFrom, deepest}
-use Rattle.ps_shape.specs.declared.marks.Mark.{Mark}
-use Rattle.ps_shape.specs.declared.marks.Mark.TheVariants.{Open, Close, ConditionKey, EffectKey, At, Over, And, Forall, When}
-use Rattle.ps_shape.specs.declared.symbols.Symbol.{Symbol}
+use Rattle.ps_grammar.specs.Fronts.{IsFront}
+use Rattle.ps_grammar.specs.Marks.{is}
+use Rattle.ps_grammar.specs.Shape.{Derives, IsTooDeepFrom, deepest}
+use Rattle.ps_grammar.specs.declared.marks.Mark.{Mark}
+use Rattle.ps_grammar.specs.declared.marks.Mark.TheVariants.{Open, Close, ConditionKey, EffectKey, At, Over, And, Forall, When}
+use Rattle.ps_grammar.specs.declared.symbols.Symbol.{Symbol}
 
 -- ---- how many parentheses stand open
 

@@ -1,9 +1,9 @@
 -- Samples that are computed: how many levels count in texts that end within forms that stand alone.
 use Rattle.std.specs.Prelude.{◌≡◌, ℕ, List, [], ◌∷◌, ◌++◌}
-use Rattle.ps_shape.specs.Shape.{wanted}
-use Rattle.ps_shape.specs.Symbols.{level}
-use Rattle.ps_shape.specs.declared.marks.Mark.{Mark}
-use Rattle.ps_shape.specs.declared.marks.Mark.TheVariants.{Open, Close, Equal, Duration, Variable, DurativeAction, Parameters, DurationKey, ConditionKey, EffectKey, Number, Define, Domain, At, Start, End, And, Not, Forall, When, Name}
+use Rattle.ps_grammar.specs.Shape.{wanted}
+use Rattle.ps_grammar.specs.Symbols.{level}
+use Rattle.ps_grammar.specs.declared.marks.Mark.{Mark}
+use Rattle.ps_grammar.specs.declared.marks.Mark.TheVariants.{Open, Close, Equal, Duration, Variable, DurativeAction, Parameters, DurationKey, ConditionKey, EffectKey, Number, Define, Domain, At, Start, End, And, Not, Forall, When, Name}
 use Rattle.ps_reading_laws.specs.Levels.{levels_after, open_after}
 
 -- (define (domain d) (:durative-action a :parameters () :duration (= ?duration 1)

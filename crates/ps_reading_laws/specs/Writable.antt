@@ -18,9 +18,9 @@ use Rattle.ps_world.specs.declared.domains.Decl.{Decl}
 use Rattle.ps_world.specs.declared.domains.Domain.{Domain}
 use Rattle.ps_rules.specs.Sound.{cond_opens, expr_opens}
 use Rattle.ps_text.specs.declared.lexing.Class.TheVariants as class
-use Rattle.ps_shape.specs.Marks.{is_fact_name, is_predicate_name}
-use Rattle.ps_shape.specs.Shape.{deepest}
-use Rattle.ps_forms.specs.Lexemes.{mark_of}
+use Rattle.ps_grammar.specs.Marks.{is_fact_name, is_predicate_name}
+use Rattle.ps_grammar.specs.Shape.{deepest}
+use Rattle.ps_lists.specs.Lexemes.{mark_of}
 use Rattle.ps_print.specs.CanonicalWords.{IsDomainOf}
 
 -- ---- names

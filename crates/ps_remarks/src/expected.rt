@@ -1,8 +1,8 @@
 //! What may stand at a place of a text, by the grammar.
 use super::page::Page;
-use ps_forms::mark_of;
+use ps_grammar::{Mark, ShapeFault, judge};
+use ps_lists::mark_of;
 use ps_script::Form;
-use ps_shape::{Mark, ShapeFault, judge};
 use ps_text::{Token, tokens};
 use ps_world::Failure;
 use std::alloc::{AllocError, Global};

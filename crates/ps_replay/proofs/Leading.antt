@@ -13,8 +13,8 @@ use Rattle.ps_rules.specs.Prefixes.{good_length, IsPrefix, Leads}
 use Rattle.ps_rules.specs.Prefixes.Leads.{here, owed, next}
 use Rattle.ps_rules.proofs.Longest.{good_length_is_longest, is_due-is}
 use Rattle.ps_rules.proofs.Prefixes.{histories_lead, lead-next, lead-owed, leads-on}
-use Rattle.ps_replay.specs.Course.{due_then, may_come, Reaches}
-use Rattle.ps_replay.specs.declared.course.Course.{Course}
+use Rattle.ps_replay.specs.Judge.{due_then, may_come, Reaches}
+use Rattle.ps_replay.specs.declared.judge.Judge.{Judge}
 
 -- ---- one stretch after another
 
@@ -92,7 +92,7 @@ judged-all i es due at past within g =
     omega (arith, g, none, past, within)
 
 -- what equal entries have come to
-pub reached-as : (i : Input) (c : Course) (t u : List Entry) → t ≡ u → Reaches i t c → Reaches i u c
+pub reached-as : (i : Input) (c : Judge) (t u : List Entry) → t ≡ u → Reaches i t c → Reaches i u c
 reached-as i c t u e r = subst (λ x. Reaches i x c) e r
 
 -- what holds of all entries of the journal holds of the first of them that are so many

@@ -1,4 +1,4 @@
-pub mod Courses
+pub mod Judges
 pub mod Leading
 pub mod PlanQueries
 pub mod Quiet

@@ -16,11 +16,11 @@ use Rattle.ps_rules.specs.Lines.{next_line, refusal_of_goal}
 use Rattle.ps_rules.specs.Runs.{is_running}
 use Rattle.ps_rules.specs.Same.{same_query}
 use Rattle.ps_rules.proofs.SameThings.{same_query-decides}
-use Rattle.ps_rows.specs.Present.{Stands}
+use Rattle.ps_rows.specs.State.{Stands}
 use Rattle.ps_rows.specs.Table.{after_edit, Awaits, MayBegin}
-use Rattle.ps_rows.specs.declared.present.Present.{Present}
+use Rattle.ps_rows.specs.declared.state.State.{State}
 use Rattle.ps_rows.proofs.Awaiting.{awaits}
-use Rattle.ps_replay.specs.Course.{is_cancel_in, may_ask_plan, TellsPlan}
+use Rattle.ps_replay.specs.Judge.{is_cancel_in, may_ask_plan, TellsPlan}
 use Rattle.ps_rules.specs.Choices.{Says}
 use Rattle.ps_action.specs.declared.acts.Act.{Act}
 use Rattle.ps_action.specs.declared.answers.Answer.TheVariants.{Plan}
@@ -39,10 +39,10 @@ other-so q other = by-test (same_query query.Plan q) refl where
 
 -- a line that asks for a plan is accepted where one is made for the goal
 accepted-so : (i : Input) (es : List Entry) (line : Option Line)
-    → (is_query query.Plan line && is_accepted i es line) ≡ (is_query query.Plan line && is_none (refusal_of_goal i.domain i.budget (know i es)))
+    → (is_query query.Plan line && is_accepted i es line) ≡ (is_query query.Plan line && is_none (refusal_of_goal i.domain (know i es) i.budget))
 accepted-so i es (Some (Good (command.Ask q))) = by-test (same_query query.Plan q) refl where
   by-test : (b : Bool) → same_query query.Plan q ≡ b
-      → (b && is_accepted i es (Some (Good (command.Ask q)))) ≡ (b && is_none (refusal_of_goal i.domain i.budget (know i es)))
+      → (b && is_accepted i es (Some (Good (command.Ask q)))) ≡ (b && is_none (refusal_of_goal i.domain (know i es) i.budget))
   by-test true e = ap (λ x. is_accepted i es (Some (Good (command.Ask x)))) (sym ((same_query-decides query.Plan q).0 e))
   by-test false e = refl
 accepted-so i es line = refl
@@ -58,9 +58,9 @@ flags false false true false = refl
 flags false false false g = refl
 
 pub legal-so : (i : Input) (es : List Entry) (hand : ℕ) (e : Event) → e ≡ event.Ask query.Plan
-    → (may_ask_plan i es hand && is_none (refusal_of_goal i.domain i.budget (know i es))) ≡ (is_legal i es e && has_hand e hand)
+    → (may_ask_plan i es hand && is_none (refusal_of_goal i.domain (know i es) i.budget)) ≡ (is_legal i es e && has_hand e hand)
 legal-so i es hand e is =
-    let g : Bool = is_none (refusal_of_goal i.domain i.budget (know i es)) in
+    let g : Bool = is_none (refusal_of_goal i.domain (know i es) i.budget) in
     let line : Option Line = next_line i es in
     let asks : Bool = is_query query.Plan line in
     sym (flags (hand == 0) (is_running es) asks g)
@@ -68,31 +68,31 @@ legal-so i es hand e is =
     ∙ ap (λ x. is_legal i es x && has_hand x hand) (sym is)
 
 -- where a plan is made for the goal, by what is known
-pub made-so : (i : Input) (es : List Entry) (p : Present) → Stands i es p
-    → is_none (refusal_of_goal p.expert i.budget p.problem) ≡ is_none (refusal_of_goal i.domain i.budget (know i es))
+pub made-so : (i : Input) (es : List Entry) (p : State) → Stands i es p
+    → is_none (refusal_of_goal p.expert p.problem i.budget) ≡ is_none (refusal_of_goal i.domain (know i es) i.budget)
 made-so i es p s =
-    ap (λ d. is_none (refusal_of_goal d i.budget p.problem)) s.domain ∙ ap (λ k. is_none (refusal_of_goal i.domain i.budget k)) s.known
+    ap (λ d. is_none (refusal_of_goal d p.problem i.budget)) s.domain ∙ ap (λ k. is_none (refusal_of_goal i.domain k i.budget)) s.known
 
-pub legal-there : (i : Input) (es : List Entry) (hand : ℕ) (e : Event) (p : Present) → e ≡ event.Ask query.Plan → Stands i es p → may_ask_plan i es hand ≡ true
-    → is_none (refusal_of_goal p.expert i.budget p.problem) ≡ true → is_legal i es e ≡ true
+pub legal-there : (i : Input) (es : List Entry) (hand : ℕ) (e : Event) (p : State) → e ≡ event.Ask query.Plan → Stands i es p → may_ask_plan i es hand ≡ true
+    → is_none (refusal_of_goal p.expert p.problem i.budget) ≡ true → is_legal i es e ≡ true
 legal-there i es hand e p is s may made =
     (and_parts (is_legal i es e) (has_hand e hand)
     (sym (legal-so i es hand e is)
-    ∙ and_from (may_ask_plan i es hand) (is_none (refusal_of_goal i.domain i.budget (know i es))) may (sym (made-so i es p s) ∙ made))).0
+    ∙ and_from (may_ask_plan i es hand) (is_none (refusal_of_goal i.domain (know i es) i.budget)) may (sym (made-so i es p s) ∙ made))).0
 
 -- ---- what it changes
 
-pub awaits-query : (i : Input) (es : List Entry) (e : Event) (p : Present) → e ≡ event.Ask query.Plan → Stands i es p → Awaits i es e p
+pub awaits-query : (i : Input) (es : List Entry) (e : Event) (p : State) → e ≡ event.Ask query.Plan → Stands i es p → Awaits i es e p
 awaits-query i es e p is s =
     awaits i es e p p s (record { expert = refl; due = refl; ledger = refl; grounds = refl; arcs = refl; tree = refl })
     (ap (after_edit p.expert p.problem) (sym is))
 
-pub begins-nothing : (e : Event) (p : Present) → e ≡ event.Ask query.Plan → MayBegin e p
+pub begins-nothing : (e : Event) (p : State) → e ≡ event.Ask query.Plan → MayBegin e p
 begins-nothing e p is = subst (λ x. MayBegin x p) (sym is) tt
 
 -- ---- what is told
 
-pub tells-plan : (says : Says) (i : Input) (es : List Entry) (e : Event) (p : Present) (acts : List Act) → e ≡ event.Ask query.Plan → Stands i es p
+pub tells-plan : (says : Says) (i : Input) (es : List Entry) (e : Event) (p : State) (acts : List Act) → e ≡ event.Ask query.Plan → Stands i es p
     → says p.expert p.problem i.budget ≡ Plan acts → TellsPlan says i es e acts
 tells-plan says i es e p acts is s told =
     subst (λ x. TellsPlan says i es x acts) (sym is)

@@ -13,10 +13,10 @@ use Rattle.ps_rules.specs.Runs.{is_active, plan, says_plan, says_state, state}
 use Rattle.ps_rules.specs.Known.{know}
 use Rattle.ps_rules.specs.Settled.{may_go_on}
 use Rattle.ps_rules.specs.Laws.{is_change}
-use Rattle.ps_rules.specs.History.{any_of, broken, cancels, forced, IsHistory, is_fail, sound}
+use Rattle.ps_rules.specs.History.{any_of, broken, cancels, forced, IsHistory, is_fail, unbroken}
 use Rattle.ps_rules.proofs.Going.{active_acts_may_go_on}
 use Rattle.ps_rules.proofs.Pushed.{know-push, known_after-other, read-push}
-use Rattle.ps_replay.specs.Course.{is_quiet}
+use Rattle.ps_replay.specs.Judge.{is_quiet}
 
 quiet-plan : (e : Event) → is_quiet e ≡ true → says_plan e ≡ None
 quiet-plan (event.Run for acts) h = absurd (cc)
@@ -65,5 +65,5 @@ none-broken i es x h q =
 
 pub quiet-forces : (i : Input) (es : List Entry) (x : Entry) → IsHistory i es → is_quiet x.what ≡ true → forced i es x ≡ []
 quiet-forces i es x h q =
-    ap (λ xs. map (cancels x.hand cancel.OverAll) xs ++ (if is_fail x.what || any_of xs then map (cancels x.hand cancel.Stop) (sound i (es ++ x ∷ [])) else [])) (none-broken i es x h q)
-    ∙ ap (λ b. if b || false then map (cancels x.hand cancel.Stop) (sound i (es ++ x ∷ [])) else []) (quiet-fail x.what q)
+    ap (λ xs. map (cancels x.hand cancel.OverAll) xs ++ (if is_fail x.what || any_of xs then map (cancels x.hand cancel.Stop) (unbroken i (es ++ x ∷ [])) else [])) (none-broken i es x h q)
+    ∙ ap (λ b. if b || false then map (cancels x.hand cancel.Stop) (unbroken i (es ++ x ∷ [])) else []) (quiet-fail x.what q)

@@ -1,9 +1,9 @@
 //! Replay: whether the entries of a journal are a whole history of an input.
 #![tactic(auto)]
 
-mod course;
+mod judge;
 mod queries;
 mod verdict;
 
-pub use course::Course;
+pub use judge::Judge;
 pub use verdict::{Verdict, replay};

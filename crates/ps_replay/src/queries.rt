@@ -10,13 +10,13 @@ ghost use Rattle.ps_rules.specs.Legal.{has_hand, is_legal, is_query};
 ghost use Rattle.ps_rules.specs.Lines.{refusal_of_goal};
 ghost use Rattle.ps_rules.specs.Same.{same_query};
 ghost use Rattle.ps_rules.specs.Sound.{IsSound};
-ghost use Rattle.ps_rows.specs.Present.{SaysFor, Stands};
-ghost use Rattle.ps_replay.specs.Course.{may_ask_plan, TellsPlan};
+ghost use Rattle.ps_rows.specs.State.{SaysFor, Stands};
+ghost use Rattle.ps_replay.specs.Judge.{may_ask_plan, TellsPlan};
 
 use ps_action::{Act, Answer};
 use ps_machine::{Command, Entry, Event, Input, Line, Query};
 use ps_plan::Solver;
-use ps_rows::Present;
+use ps_rows::State;
 use ps_world::Seq;
 use std::alloc::{AllocError, Global};
 
@@ -50,11 +50,11 @@ fn is_plan_query(line: Option<&Line>) -> bool
 }
 
 /// Whether the query for a plan may come next by this hand, where no cancel is due, if there is a plan.
-fn may_ask_plan(present: &Present, input: &Input, hand: u8) -> bool
-    ensures { SaysFor input.now present.now result (λ es. may_ask_plan input.now es hand) }
+fn may_ask_plan(state: &State, input: &Input, hand: u8) -> bool
+    ensures { SaysFor input.now state.now result (λ es. may_ask_plan input.now es hand) }
 {
-    let running = present.ledger.run.is_running();
-    let asked = is_plan_query(present.next_line(input));
+    let running = state.ledger.run.is_running();
+    let asked = is_plan_query(state.next_line(input));
     hand == 0 && (!running && asked)
 }
 
@@ -62,19 +62,19 @@ fn may_ask_plan(present: &Present, input: &Input, hand: u8) -> bool
 fn plan_for_goal<S: Solver>(
     alloc: Global,
     solver: &S,
-    present: &Present,
+    state: &State,
     budget: u32,
 ) -> Result<Option<Seq<Act>>, AllocError>
     requires { 1 ≤ budget }
     ensures there { IfOk result (λ o. is_some o
-        ≡ is_none (refusal_of_goal present.now.expert budget present.now.problem)) }
+        ≡ is_none (refusal_of_goal state.now.expert state.now.problem budget)) }
     ensures plan { IfOk result (λ o. IfSome o (λ acts.
-        S.says solver.now present.now.expert present.now.problem budget ≡ Planned acts)) }
+        S.says solver.now state.now.expert state.now.problem budget ≡ Planned acts)) }
 {
-    if present.problem.goal().is_none() {
+    if state.problem.goal().is_none() {
         return Ok(None);
     }
-    match solver.solve(alloc, &present.expert, &present.problem, budget)? {
+    match solver.solve(alloc, &state.expert, &state.problem, budget)? {
         Answer::Plan(acts) => Ok(Some(acts)),
         _ => Ok(None),
     }
@@ -87,27 +87,27 @@ pub fn judge_plan_query<S: Solver>(
     input: &Input,
     before: &[Entry],
     entry: &Entry,
-    present: &mut Present,
+    state: &mut State,
 ) -> Result<Option<Seq<Act>>, AllocError>
     requires asks { entry.now.what ≡ Ask Plan }
     requires sound { IsSound input.now }
     requires few { length before.now < 18446744073709551615 }
     requires history { IsHistory input.now before.now }
-    requires stands { Stands input.now before.now present.now }
+    requires stands { Stands input.now before.now state.now }
     ensures legal { IfOk result (λ o. is_some o ≡ (is_legal input.now before.now entry.now.what
         && has_hand entry.now.what entry.now.hand)) }
     ensures stands { IfOk result (λ o. IsSome o
-        → Stands input.now (before.now ++ entry.now ∷ []) present.new) }
+        → Stands input.now (before.now ++ entry.now ∷ []) state.new) }
     ensures told { IfOk result (λ o. IfSome o
         (TellsPlan (S.says solver.now) input.now before.now entry.now.what)) }
 {
-    if !may_ask_plan(present, input, entry.hand) {
+    if !may_ask_plan(state, input, entry.hand) {
         return Ok(None);
     }
-    match plan_for_goal(alloc, solver, present, input.budget)? {
+    match plan_for_goal(alloc, solver, state, input.budget)? {
         Some(acts) => {
-            present.make_room(&entry.what)?;
-            present.take(alloc, &entry.what)?;
+            state.make_room(&entry.what)?;
+            state.take(alloc, &entry.what)?;
             Ok(Some(acts))
         }
         None => Ok(None),

@@ -1,10 +1,10 @@
 //! Whether the entries of a journal are a whole history of an input.
 ghost use Rattle.ps_rules.specs.Sound.{IsSound};
 ghost use Rattle.std.specs.Prelude.{◌≡◌, ◌≤◌, ◌<◌, [], length, slice_index_or, take};
-ghost use Rattle.ps_replay.specs.Course.{Reaches};
+ghost use Rattle.ps_replay.specs.Judge.{Reaches};
 ghost use Rattle.ps_replay.specs.Replay.{Replays};
 
-use super::course::Course;
+use super::judge::Judge;
 use ps_machine::{Entry, Input};
 use ps_plan::Solver;
 use std::alloc::{AllocError, Global};
@@ -30,8 +30,8 @@ pub fn replay<S: Solver>(
     requires { IsSound input.now }
     ensures { Replays input.now entries.now result }
 {
-    let mut course = Course::new(alloc, input)?;
-    judge_all(alloc, input, entries, solver, &mut course)
+    let mut judge = Judge::new(alloc, input)?;
+    judge_all(alloc, input, entries, solver, &mut judge)
 }
 
 /// The first so many entries.
@@ -50,27 +50,27 @@ fn entry_at(entries: &[Entry], place: usize) -> &Entry
     &entries[place]
 }
 
-/// Judges the entries of a journal, whose course is before the first of them.
+/// Judges the entries of a journal, whose judge is before the first of them.
 fn judge_all<S: Solver>(
     alloc: Global,
     input: &Input,
     entries: &[Entry],
     solver: &S,
-    course: &mut Course,
+    judge: &mut Judge,
 ) -> Result<Verdict, AllocError>
     requires sound { IsSound input.now }
-    requires reaches { Reaches input.now [] course.now }
+    requires reaches { Reaches input.now [] judge.now }
     ensures { Replays input.now entries.now result }
 {
     for at in 0..entries.len() {
         let before = first(entries, at);
         let entry = entry_at(entries, at);
-        let comes = course.step(alloc, solver, input, before, entry)?;
+        let comes = judge.step(alloc, solver, input, before, entry)?;
         if !comes {
             return Ok(Verdict::Illegal { at });
         }
     }
-    if course.is_whole() {
+    if judge.is_whole() {
         Ok(Verdict::Legal)
     } else {
         Ok(Verdict::Illegal { at: entries.len() })

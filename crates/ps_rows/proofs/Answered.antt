@@ -49,10 +49,10 @@ and-so true b e = sym e
 and-so false b e = refl
 
 -- acts that are more or fewer are no plan; of as many it is judged
-pub other-plan : (d : Domain) (k : Knowledge) (budget : ℕ) (acts : List Act) (a : Answer) → Fits d k budget a → is_as_long acts a ≡ false → false ≡ is_plan d budget k acts
+pub other-plan : (d : Domain) (k : Knowledge) (budget : ℕ) (acts : List Act) (a : Answer) → Fits d k budget a → is_as_long acts a ≡ false → false ≡ is_plan d k budget acts
 other-plan d k budget acts a f e = and-not (is_ok (judged d k acts)) (is_as_long acts (answer d k budget)) (sym (fits-long d k budget acts a f) ∙ e)
 
-pub same-plan : (d : Domain) (k : Knowledge) (budget : ℕ) (acts : List Act) (a : Answer) → Fits d k budget a → is_as_long acts a ≡ true → is_ok (judged d k acts) ≡ is_plan d budget k acts
+pub same-plan : (d : Domain) (k : Knowledge) (budget : ℕ) (acts : List Act) (a : Answer) → Fits d k budget a → is_as_long acts a ≡ true → is_ok (judged d k acts) ≡ is_plan d k budget acts
 same-plan d k budget acts a f e = and-so (is_ok (judged d k acts)) (is_as_long acts (answer d k budget)) (sym (fits-long d k budget acts a f) ∙ e)
 
 goal-less : (d : Domain) (k : Knowledge) (acts : List Act) (goal : Option Cond) → is_none goal ≡ true → is_ok (judged_by d k goal acts) ≡ false
@@ -60,7 +60,7 @@ goal-less d k acts None e = refl
 goal-less d k acts (Some goal) e = absurd (cc)
 
 -- nothing is a plan where there is no goal
-pub no-plan : (d : Domain) (k : Knowledge) (budget : ℕ) (acts : List Act) → is_none k.goal ≡ true → false ≡ is_plan d budget k acts
+pub no-plan : (d : Domain) (k : Knowledge) (budget : ℕ) (acts : List Act) → is_none k.goal ≡ true → false ≡ is_plan d k budget acts
 no-plan d k budget acts e = rw (goal-less d k acts k.goal e) refl
 
 pub some-goal : (goal : Option Cond) → is_none goal ≡ false → IsSome goal
@@ -105,14 +105,14 @@ fits-given_up d k budget TooMany f = ap given_up (sym f)
 
 -- ---- how a run ends
 
-pub ending-some : (d : Domain) (budget : ℕ) (k : Knowledge) (v : Option Outcome) → is_some v ≡ true → v ≡ ending_of d budget k v
+pub ending-some : (d : Domain) (budget : ℕ) (k : Knowledge) (v : Option Outcome) → is_some v ≡ true → v ≡ ending_of d k budget v
 ending-some d budget k None e = absurd (cc)
 ending-some d budget k (Some how) e = refl
 
-pub ending-goal-less : (d : Domain) (budget : ℕ) (k : Knowledge) (v : Option Outcome) → is_some v ≡ false → is_none k.goal ≡ true → HasGoal v k → None ≡ ending_of d budget k v
+pub ending-goal-less : (d : Domain) (budget : ℕ) (k : Knowledge) (v : Option Outcome) → is_some v ≡ false → is_none k.goal ≡ true → HasGoal v k → None ≡ ending_of d k budget v
 ending-goal-less d budget k None e n h = absurd (none-is k.goal n h)
 ending-goal-less d budget k (Some how) e n h = absurd (cc)
 
-pub ending-answered : (d : Domain) (budget : ℕ) (k : Knowledge) (v : Option Outcome) (a : Answer) → is_some v ≡ false → Fits d k budget a → given_up a ≡ ending_of d budget k v
+pub ending-answered : (d : Domain) (budget : ℕ) (k : Knowledge) (v : Option Outcome) (a : Answer) → is_some v ≡ false → Fits d k budget a → given_up a ≡ ending_of d k budget v
 ending-answered d budget k None a e f = fits-given_up d k budget a f
 ending-answered d budget k (Some how) a e f = absurd (cc)

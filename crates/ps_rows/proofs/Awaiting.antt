@@ -23,18 +23,18 @@ use Rattle.ps_ledger.specs.Kept.{Takes, TakesCancel}
 use Rattle.ps_ledger.specs.Ledger.{HasSameMembers, TellsAll}
 use Rattle.ps_ledger.specs.Legal.{HasMembersOf}
 use Rattle.ps_ledger.specs.declared.ledger.Ledger.{Ledger}
-use Rattle.ps_rows.specs.Present.{Stands}
+use Rattle.ps_rows.specs.State.{Stands}
 use Rattle.ps_rows.specs.Table.{after_edit, Awaits, HasSameRest, IsAhead, KeepsAwaiting, MayBegin}
 use Rattle.ps_rows.specs.Taking.{acts_next, GoesOn, grounds_next, known_next}
-use Rattle.ps_rows.specs.declared.present.Present.{Present}
+use Rattle.ps_rows.specs.declared.state.State.{State}
 
 -- as many states of acts are kept as the tree has acts that wait for others
-pub states-as-waits : (i : Input) (es : List Entry) (p : Present) → Stands i es p → length p.ledger.acts.states.items ≡ length p.tree.waits
+pub states-as-waits : (i : Input) (es : List Entry) (p : State) → Stands i es p → length p.ledger.acts.states.items ≡ length p.tree.waits
 states-as-waits i es p s =
     s.told.acts.many ∙ sym (ap length s.told.acts.acts) ∙ sym s.acts ∙ sym (ap length s.tree ∙ length-map-range_with_len (waits_for p.arcs.pairs) 0 p.arcs.acts)
 
 -- an event that was judged is awaited
-pub awaits : (i : Input) (es : List Entry) (e : Event) (old new : Present) → Stands i es old → HasSameRest old new → new.problem ≡ after_edit old.expert old.problem e → Awaits i es e new
+pub awaits : (i : Input) (es : List Entry) (e : Event) (old new : State) → Stands i es old → HasSameRest old new → new.problem ≡ after_edit old.expert old.problem e → Awaits i es e new
 awaits i es e old new s r m = record {
   domain = r.expert ∙ s.domain;
   due = r.due ∙ s.due;
@@ -68,13 +68,13 @@ acts-then acts (event.Run for new) = refl
 acts-then acts (event.Replan new) = refl
 acts-then acts e = refl
 
-few-then : (acts : List Act) (e : Event) (p : Present) → MayBegin e p → length acts ≤ 256 → length (unwrap_or (says_plan e) acts) ≤ 256
+few-then : (acts : List Act) (e : Event) (p : State) → MayBegin e p → length acts ≤ 256 → length (unwrap_or (says_plan e) acts) ≤ 256
 few-then acts (event.Run for new) p may few = may.few
 few-then acts (event.Replan new) p may few = may.few
 few-then acts e p may few = few
 
 -- what awaited an event is ahead of the ledger where all else has gone on
-pub goes-ahead : (i : Input) (es : List Entry) (what : Event) (old mid : Present) → Awaits i es what old → MayBegin what old → GoesOn what old mid → IsAhead i es what mid
+pub goes-ahead : (i : Input) (es : List Entry) (what : Event) (old mid : State) → Awaits i es what old → MayBegin what old → GoesOn what old mid → IsAhead i es what mid
 goes-ahead i es what old mid a may g =
     let d : old.expert ≡ i.domain = a.domain in
     record {
@@ -95,7 +95,7 @@ goes-ahead i es what old mid a may g =
     }
 
 -- what is ahead of the ledger stands where the ledger has taken the event
-pub catches-up : (i : Input) (es : List Entry) (e : Entry) (what : Event) (mid : Present) (l : Ledger) → e.what ≡ what → IsAhead i es what mid
+pub catches-up : (i : Input) (es : List Entry) (e : Entry) (what : Event) (mid : State) (l : Ledger) → e.what ≡ what → IsAhead i es what mid
     → Takes TellsAll what mid.ledger l → HasSameMembers mid.ledger l → Stands i (es ++ e ∷ []) (record mid { ledger = l })
 catches-up i es e what mid l is a t m =
     let pushed : plan (es ++ e ∷ []) ≡ unwrap_or (says_plan what) (plan es) = plan-push es e ∙ ap (λ f. unwrap_or (says_plan f) (plan es)) is in
@@ -113,17 +113,17 @@ catches-up i es e what mid l is a t m =
     }
 
 -- what stands after an event that was awaited
-pub takes : (i : Input) (es : List Entry) (e : Entry) (what : Event) (old mid : Present) (l : Ledger) → e.what ≡ what → Awaits i es what old → MayBegin what old → GoesOn what old mid
+pub takes : (i : Input) (es : List Entry) (e : Entry) (what : Event) (old mid : State) (l : Ledger) → e.what ≡ what → Awaits i es what old → MayBegin what old → GoesOn what old mid
     → Takes TellsAll what mid.ledger l → HasSameMembers mid.ledger l → Stands i (es ++ e ∷ []) (record mid { ledger = l })
 takes i es e what old mid l is a may g t m = catches-up i es e what mid l is (goes-ahead i es what old mid a may g) t m
 
 -- nothing has gone on by an event that changes nothing but the ledger, or by an edit that has been made
-pub stays : (e : Event) (p : Present) → known_next p.expert p.grounds.items p.problem e ≡ p.problem → grounds_next p.expert p.grounds.items e ≡ p.grounds.items
+pub stays : (e : Event) (p : State) → known_next p.expert p.grounds.items p.problem e ≡ p.problem → grounds_next p.expert p.grounds.items e ≡ p.grounds.items
     → acts_next p.arcs.acts e ≡ p.arcs.acts → GoesOn e p p
 stays e p known gs acts = record { base = record { expert = refl; due = refl; ledger = refl }; known = sym known; grounds = sym gs; acts = sym acts; arcs = λ h. h; tree = λ h. h }
 
 -- an edit that has been made is ahead
-pub edit-ahead : (i : Input) (es : List Entry) (by : By) (edit : Edit) (old new : Present) → Stands i es old → HasSameRest old new
+pub edit-ahead : (i : Input) (es : List Entry) (by : By) (edit : Edit) (old new : State) → Stands i es old → HasSameRest old new
     → new.problem ≡ kept old.problem (edited old.expert old.problem edit) → IsAhead i es (event.Edit by edit) new
 edit-ahead i es by edit old new s r made =
     goes-ahead i es (event.Edit by edit) new new (awaits i es (event.Edit by edit) old new s r made) tt (stays (event.Edit by edit) new refl refl refl)
@@ -133,14 +133,14 @@ unedited d k (event.Edit by edit) h = absurd (h by edit refl)
 unedited d k e h = refl
 
 -- any other event goes on from what stands
-pub others-ahead : (i : Input) (es : List Entry) (e : Event) (old new : Present) → ((by : By) (edit : Edit) → e ≡ event.Edit by edit → ⊥) → Stands i es old → MayBegin e old → GoesOn e old new
+pub others-ahead : (i : Input) (es : List Entry) (e : Event) (old new : State) → ((by : By) (edit : Edit) → e ≡ event.Edit by edit → ⊥) → Stands i es old → MayBegin e old → GoesOn e old new
     → IsAhead i es e new
 others-ahead i es e old new other s may g =
     goes-ahead i es e old new
     (awaits i es e old old s (record { expert = refl; due = refl; ledger = refl; grounds = refl; arcs = refl; tree = refl }) (sym (unedited old.expert old.problem e other))) may g
 
 -- what keeps awaiting goes on standing
-pub keeps-standing : (i : Input) (es : List Entry) (old new : Present) → KeepsAwaiting old new → Stands i es old → Stands i es new
+pub keeps-standing : (i : Input) (es : List Entry) (old new : State) → KeepsAwaiting old new → Stands i es old → Stands i es new
 keeps-standing i es old new keeps s =
     let a = keeps i es event.Quit (awaits i es event.Quit old old s (record { expert = refl; due = refl; ledger = refl; grounds = refl; arcs = refl; tree = refl }) refl) in
     record {
@@ -157,7 +157,7 @@ keeps-standing i es old new keeps s =
     }
 
 -- what stands after the cancel of an act
-pub takes-cancel : (i : Input) (es : List Entry) (hand act : ℕ) (why : CancelWhy) (old : Present) (l : Ledger) → Stands i es old
+pub takes-cancel : (i : Input) (es : List Entry) (hand act : ℕ) (why : CancelWhy) (old : State) (l : Ledger) → Stands i es old
     → TakesCancel TellsAll act old.ledger l → HasSameMembers old.ledger l → Stands i (es ++ cancels hand why act ∷ []) (record old { ledger = l })
 takes-cancel i es hand act why old l s t m =
     let c : Entry = cancels hand why act in

@@ -13,15 +13,15 @@ use Rattle.ps_machine.specs.declared.journal.Entry.{Entry}
 use Rattle.ps_machine.specs.declared.journal.Event.TheVariants as event
 use Rattle.ps_machine.specs.declared.journal.Refusal.{Refusal}
 use Rattle.ps_rules.specs.Known.{kept, know}
-use Rattle.ps_rules.specs.Legal.{fits, is_edit, line_edit}
+use Rattle.ps_rules.specs.Legal.{is_edit, line_edit, row_allows}
 use Rattle.ps_rules.specs.Lines.{answered, edit_refusal, next_line}
 use Rattle.ps_rows.specs.Lines.{Refuses}
-use Rattle.ps_rows.specs.Present.{Stands}
+use Rattle.ps_rows.specs.State.{Stands}
 use Rattle.ps_rows.specs.Table.{is_asked, refusal_of_edit}
-use Rattle.ps_rows.specs.declared.present.Present.{Present}
+use Rattle.ps_rows.specs.declared.state.State.{State}
 
 -- what is known in the domain is what the entries say
-pub edit-as : {A : Type 0} (f : Domain → Knowledge → A) (i : Input) (es : List Entry) (p : Present) → Stands i es p → f p.expert p.problem ≡ f i.domain (know i es)
+pub edit-as : {A : Type 0} (f : Domain → Knowledge → A) (i : Input) (es : List Entry) (p : State) → Stands i es p → f p.expert p.problem ≡ f i.domain (know i es)
 edit-as f i es p s = ap (λ d. f d p.problem) s.domain ∙ ap (f i.domain) s.known
 
 and-not : (a b : Bool) → a ≡ false → false ≡ (a && b)
@@ -30,15 +30,15 @@ and-not a b e = rw e refl
 and-so : (a b : Bool) → a ≡ true → b ≡ (a && b)
 and-so a b e = rw e refl
 
-fits-edit : (i : Input) (es : List Entry) (by : By) (edit : Edit) → (is_asked i es by edit && is_ok (edited i.domain (know i es) edit)) ≡ fits i es (event.Edit by edit)
+fits-edit : (i : Input) (es : List Entry) (by : By) (edit : Edit) → (is_asked i es by edit && is_ok (edited i.domain (know i es) edit)) ≡ row_allows i es (event.Edit by edit)
 fits-edit i es (Terminal n) edit = and_assoc (n == answered es + 1) (is_edit edit (line_edit (next_line i es))) (is_ok (edited i.domain (know i es) edit))
 fits-edit i es (Performer r p) edit = refl
 fits-edit i es (Observer o) edit = refl
 
 -- an edit that isn't asked for doesn't fit
-pub edit-not-asked : (i : Input) (es : List Entry) (by : By) (edit : Edit) → is_asked i es by edit ≡ false → false ≡ fits i es (event.Edit by edit)
+pub edit-not-asked : (i : Input) (es : List Entry) (by : By) (edit : Edit) → is_asked i es by edit ≡ false → false ≡ row_allows i es (event.Edit by edit)
 edit-not-asked i es by edit e = and-not (is_asked i es by edit) (is_ok (edited i.domain (know i es) edit)) e ∙ fits-edit i es by edit
 
 -- one that is fits where it is accepted
-pub edit-asked : (i : Input) (es : List Entry) (by : By) (edit : Edit) → is_asked i es by edit ≡ true → is_ok (edited i.domain (know i es) edit) ≡ fits i es (event.Edit by edit)
+pub edit-asked : (i : Input) (es : List Entry) (by : By) (edit : Edit) → is_asked i es by edit ≡ true → is_ok (edited i.domain (know i es) edit) ≡ row_allows i es (event.Edit by edit)
 edit-asked i es by edit e = and-so (is_asked i es by edit) (is_ok (edited i.domain (know i es) edit)) e ∙ fits-edit i es by edit

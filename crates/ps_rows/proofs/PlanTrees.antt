@@ -11,10 +11,10 @@ use Rattle.ps_arcs.proofs.Listed.{arcs_are_listed}
 use Rattle.ps_rules.specs.Journal.{tree_of}
 use Rattle.ps_rules.specs.Known.{grounds}
 use Rattle.ps_rules.specs.Runs.{plan, state}
-use Rattle.ps_rows.specs.Present.{Stands}
-use Rattle.ps_rows.specs.declared.present.Present.{Present}
+use Rattle.ps_rows.specs.State.{Stands}
+use Rattle.ps_rows.specs.declared.state.State.{State}
 
-module _ (i : Input) (es : List Entry) (p : Present) (s : Stands i es p) where
+module _ (i : Input) (es : List Entry) (p : State) (s : Stands i es p) where
   -- what each act waits for
   waits-are : waits_of p.arcs ≡ (tree_of i es).waits
   waits-are =

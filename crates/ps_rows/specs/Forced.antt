@@ -4,11 +4,11 @@ use Rattle.ps_machine.specs.declared.inputs.Input.{Input}
 use Rattle.ps_machine.specs.declared.journal.CancelWhy.{CancelWhy}
 use Rattle.ps_machine.specs.declared.journal.CancelWhy.TheVariants.{Stop}
 use Rattle.ps_machine.specs.declared.journal.Entry.{Entry}
-use Rattle.ps_rules.specs.History.{cancels, sound}
+use Rattle.ps_rules.specs.History.{cancels, unbroken}
 use Rattle.ps_rules.specs.Runs.{is_active, state}
 use Rattle.ps_rules.specs.Settled.{may_go_on}
-use Rattle.ps_rows.specs.Present.{Stands}
-use Rattle.ps_rows.specs.declared.present.Present.{Present}
+use Rattle.ps_rows.specs.State.{Stands}
+use Rattle.ps_rows.specs.declared.state.State.{State}
 
 -- whether an act is active and its over-all condition is false, and whether it is active and that holds
 abbrev pub is_broken : Input → List Entry → ℕ → Bool
@@ -27,5 +27,5 @@ has_some [] = false
 has_some (e ∷ es) = true
 
 -- the cancels of the active acts whose over-all condition holds are put at the end
-abbrev pub Adds : Present → ℕ → List Entry → List Entry → Type 0
-Adds p hand old new = (i : Input) (es : List Entry) → Stands i es p → new ≡ old ++ map (cancels hand Stop) (sound i es)
+abbrev pub Adds : State → ℕ → List Entry → List Entry → Type 0
+Adds p hand old new = (i : Input) (es : List Entry) → Stands i es p → new ≡ old ++ map (cancels hand Stop) (unbroken i es)

@@ -3,7 +3,7 @@ pub mod Forced
 pub mod Lines
 pub mod Names
 pub mod Plans
-pub mod Present
 pub mod Same
+pub mod State
 pub mod Table
 pub mod Taking

@@ -7,9 +7,9 @@ use Rattle.ps_machine.specs.declared.journal.Outcome.{Outcome}
 use Rattle.ps_rules.specs.Settled.{given_up}
 
 -- how a settled run with this verdict ends, or, where there is none, by the answer that is due; nothing where that is a plan
-abbrev pub ending_of : Domain → ℕ → Knowledge → Option Outcome → Option Outcome
-ending_of d budget k (Some how) = Some how
-ending_of d budget k None = given_up (answer d k budget)
+abbrev pub ending_of : Domain → Knowledge → ℕ → Option Outcome → Option Outcome
+ending_of d k budget (Some how) = Some how
+ending_of d k budget None = given_up (answer d k budget)
 
 -- there is a goal, where there is no verdict
 abbrev pub HasGoal : Option Outcome → Knowledge → Type 0

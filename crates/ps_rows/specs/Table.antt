@@ -28,8 +28,8 @@ use Rattle.ps_ledger.specs.Ledger.{TellsAll}
 use Rattle.ps_ledger.specs.Legal.{HasMembersOf}
 use Rattle.ps_rules.specs.History.{cancels}
 use Rattle.ps_machine.specs.declared.journal.CancelWhy.{CancelWhy}
-use Rattle.ps_rows.specs.Present.{Stands}
-use Rattle.ps_rows.specs.declared.present.Present.{Present}
+use Rattle.ps_rows.specs.State.{Stands}
+use Rattle.ps_rows.specs.declared.state.State.{State}
 
 -- whether this edit is the one that this terminal, performer or observer makes next
 abbrev pub is_asked : Input → List Entry → By → Edit → Bool
@@ -55,7 +55,7 @@ after_edit d k (event.Edit by edit) = kept k (edited d k edit)
 after_edit d k e = k
 
 -- What is kept is what these entries tell, but for this event, which comes after them: if it is an edit it has been made.
-pub record Awaits (i : Input) (es : List Entry) (e : Event) (p : Present) : Type 0 where
+pub record Awaits (i : Input) (es : List Entry) (e : Event) (p : State) : Type 0 where
   pub domain : p.expert ≡ i.domain
   pub due : p.due ≡ length (due_lines i.lines)
   pub known : p.problem ≡ after_edit i.domain (know i es) e
@@ -68,7 +68,7 @@ pub record Awaits (i : Input) (es : List Entry) (e : Event) (p : Present) : Type
   pub tree : p.tree.waits ≡ waits_of p.arcs
 
 -- What is kept is what these entries and this event after them tell, but for the ledger, which tells of these entries alone.
-pub record IsAhead (i : Input) (es : List Entry) (e : Event) (p : Present) : Type 0 where
+pub record IsAhead (i : Input) (es : List Entry) (e : Event) (p : State) : Type 0 where
   pub domain : p.expert ≡ i.domain
   pub due : p.due ≡ length (due_lines i.lines)
   pub known : p.problem ≡ known_after i.domain (plan es) (know i es) e
@@ -81,7 +81,7 @@ pub record IsAhead (i : Input) (es : List Entry) (e : Event) (p : Present) : Typ
   pub tree : p.tree.waits ≡ waits_of p.arcs
 
 -- All is as it was, but for what is known.
-pub record HasSameRest (old new : Present) : Type 0 where
+pub record HasSameRest (old new : State) : Type 0 where
   pub expert : new.expert ≡ old.expert
   pub due : new.due ≡ old.due
   pub ledger : new.ledger ≡ old.ledger
@@ -90,7 +90,7 @@ pub record HasSameRest (old new : Present) : Type 0 where
   pub tree : new.tree ≡ old.tree
 
 -- All is as it was, but for the tree of the plan.
-pub record HasSameButTree (old new : Present) : Type 0 where
+pub record HasSameButTree (old new : State) : Type 0 where
   pub expert : new.expert ≡ old.expert
   pub due : new.due ≡ old.due
   pub known : new.problem ≡ old.problem
@@ -104,29 +104,29 @@ pub record MayBePlan (d : Domain) (k : Knowledge) (acts : List Act) : Type 0 whe
   pub grounded : All (λ act. IsOk (ground_act d k.instances act)) acts
 
 -- an event that makes a plan makes it of acts that can be grounded
-abbrev pub MayBegin : Event → Present → Type 0
+abbrev pub MayBegin : Event → State → Type 0
 MayBegin (event.Run for acts) p = MayBePlan p.expert p.problem acts
 MayBegin (event.Replan acts) p = MayBePlan p.expert p.problem acts
 MayBegin e p = Unit {0}
 
 -- what awaits an event still does
-abbrev pub KeepsAwaiting : Present → Present → Type 0
+abbrev pub KeepsAwaiting : State → State → Type 0
 KeepsAwaiting old new = (i : Input) (es : List Entry) (e : Event) → Awaits i es e old → Awaits i es e new
 
 -- what stands still does
-abbrev pub KeepsStanding : Present → Present → Type 0
+abbrev pub KeepsStanding : State → State → Type 0
 KeepsStanding old new = (i : Input) (es : List Entry) → Stands i es old → Stands i es new
 
 -- what stood before an event is ahead of the ledger by that event
-abbrev pub Advances : Event → Present → Present → Type 0
+abbrev pub Advances : Event → State → State → Type 0
 Advances event old new = (i : Input) (es : List Entry) → Stands i es old → IsAhead i es event new
 
 -- what awaited an event stands after it
-abbrev pub TakesEvent : Event → Present → Present → Type 0
+abbrev pub TakesEvent : Event → State → State → Type 0
 TakesEvent event old new =
     (i : Input) (es : List Entry) (e : Entry) → e.what ≡ event → Awaits i es event old → Stands i (es ++ e ∷ []) new
 
 -- what stands still does after the cancel of an act
-abbrev pub TakesCancelOf : ℕ → Present → Present → Type 0
+abbrev pub TakesCancelOf : ℕ → State → State → Type 0
 TakesCancelOf act old new =
     (i : Input) (es : List Entry) (hand : ℕ) (why : CancelWhy) → Stands i es old → Stands i (es ++ cancels hand why act ∷ []) new

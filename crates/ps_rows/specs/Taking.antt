@@ -10,7 +10,7 @@ use Rattle.ps_machine.specs.declared.journal.Event.TheVariants as event
 use Rattle.ps_rules.specs.Known.{changed, grounds, kept}
 use Rattle.ps_world.specs.declared.domains.Domain.{Domain}
 use Rattle.ps_world.specs.declared.known.Knowledge.{Knowledge}
-use Rattle.ps_rows.specs.declared.present.Present.{Present}
+use Rattle.ps_rows.specs.declared.state.State.{State}
 
 -- a list in the ground action at this place
 abbrev pub part_of : {A : Type 0} → (GroundAction → List A) → List GroundAction → ℕ → List A
@@ -44,13 +44,13 @@ leaves_known (event.End act) = false
 leaves_known e = true
 
 -- All is as it was, but for what is known and the ground actions with their arcs and the tree over them.
-pub record HasSameBase (old new : Present) : Type 0 where
+pub record HasSameBase (old new : State) : Type 0 where
   pub expert : new.expert ≡ old.expert
   pub due : new.due ≡ old.due
   pub ledger : new.ledger ≡ old.ledger
 
 -- What is known, and the ground actions with their arcs and the tree over them, are those after an event.
-pub record GoesOn (e : Event) (old new : Present) : Type 0 where
+pub record GoesOn (e : Event) (old new : State) : Type 0 where
   pub base : HasSameBase old new
   pub known : new.problem ≡ known_next old.expert old.grounds.items old.problem e
   pub grounds : new.grounds.items ≡ grounds_next old.expert old.grounds.items e

@@ -1,17 +1,17 @@
 //! The acts of the plan: which may start, go on and end.
 ghost use Rattle.std.specs.Prelude.{◌≡◌};
 ghost use Rattle.ps_machine.specs.declared.journal.Event.TheVariants.{End, Fail, Start};
-ghost use Rattle.ps_rules.specs.Legal.{fits, is_finished};
+ghost use Rattle.ps_rules.specs.Legal.{is_finished, row_allows};
 ghost use Rattle.ps_rules.specs.Settled.{ends_well, is_startable, may_end, may_go_on, may_start, starts_well};
 ghost use Rattle.ps_rows.specs.Acts.{nobody_serves};
-ghost use Rattle.ps_rows.specs.Present.{Says};
+ghost use Rattle.ps_rows.specs.State.{Says};
 
-use super::present::Present;
+use super::state::State;
 use super::work::same_flag;
 use ps_eval::{defined, holds_all};
 use ps_machine::FailWhy;
 
-impl Present {
+impl State {
     /// Whether the start condition of an act holds.
     pub fn may_start(&self, act: u32) -> bool
         ensures { Says self.now result (λ i es. may_start i es act) }
@@ -79,7 +79,7 @@ impl Present {
 
     /// Whether an act may start.
     pub fn may_begin_act(&self, act: u32) -> bool
-        ensures { Says self.now result (λ i es. fits i es (Start act)) }
+        ensures { Says self.now result (λ i es. row_allows i es (Start act)) }
     {
         let there = (act as usize) < self.ledger.acts.count();
         let ready = self.is_ready(act);
@@ -103,7 +103,7 @@ impl Present {
 
     /// Whether an act may end.
     pub fn may_end_act(&self, act: u32) -> bool
-        ensures { Says self.now result (λ i es. fits i es (End act)) }
+        ensures { Says self.now result (λ i es. row_allows i es (End act)) }
     {
         let active = self.ledger.acts.is_active(act);
         let finished = self.is_finished(true, act);
@@ -129,7 +129,7 @@ impl Present {
 
     /// Whether an act may fail for this reason.
     pub fn may_fail(&self, act: u32, why: FailWhy) -> bool
-        ensures { Says self.now result (λ i es. fits i es (Fail act why)) }
+        ensures { Says self.now result (λ i es. row_allows i es (Fail act why)) }
     {
         let active = self.ledger.acts.is_active(act);
         match why {

@@ -3,12 +3,12 @@ ghost use Rattle.std.specs.Prelude.{◌≡◌, List};
 ghost use Rattle.ps_machine.specs.declared.journal.Event.TheVariants.{Request, Offer, Pass, Confirm, Reject, Unserved};
 ghost use Rattle.ps_machine.specs.declared.journal.Entry.{Entry};
 ghost use Rattle.ps_ledger.specs.Ledger.{TellsAll};
-ghost use Rattle.ps_rules.specs.Legal.{fits, is_pass, is_passed, is_wanted, may_be_put_up, pass_reason, same_pass, was_busy};
+ghost use Rattle.ps_rules.specs.Legal.{is_pass, is_passed, is_wanted, may_be_put_up, pass_reason, row_allows, same_pass, was_busy};
 ghost use Rattle.ps_rows.specs.Names.{all_passed, any_busy, can_serve, is_at_hand};
-ghost use Rattle.ps_rows.specs.Present.{Says, SaysFor};
+ghost use Rattle.ps_rows.specs.State.{Says, SaysFor};
 
 use super::members::performer_of;
-use super::present::Present;
+use super::state::State;
 use ps_ledger::Ledger;
 use ps_machine::{Input, Member, PassWhy, Performer};
 use ps_world::Name;
@@ -59,7 +59,7 @@ fn any_busy(ledger: &Ledger, r: u64) -> bool
     false
 }
 
-impl Present {
+impl State {
     /// Why a performer would pass a request; nothing where it would offer.
     pub fn pass_reason(&self, performer: &Performer, r: u64) -> Option<PassWhy>
         ensures { Says self.now result (λ i es. pass_reason performer.now r es) }
@@ -131,7 +131,7 @@ impl Present {
 
     /// Whether a performer may be asked for an act, by the request with this number.
     pub fn may_request(&self, input: &Input, r: u64, act: u32) -> bool
-        ensures { SaysFor input.now self.now result (λ es. fits input.now es (Request r act)) }
+        ensures { SaysFor input.now self.now result (λ es. row_allows input.now es (Request r act)) }
     {
         let count = self.ledger.requests.count();
         let active = self.ledger.acts.is_active(act);
@@ -142,7 +142,7 @@ impl Present {
 
     /// Whether a performer may offer on a request.
     pub fn may_offer(&self, input: &Input, r: u64, by: Name) -> bool
-        ensures { SaysFor input.now self.now result (λ es. fits input.now es (Offer r by)) }
+        ensures { SaysFor input.now self.now result (λ es. row_allows input.now es (Offer r by)) }
     {
         match performer_of(input, by) {
             Some(performer) => {
@@ -156,7 +156,7 @@ impl Present {
 
     /// Whether a performer may pass a request for this reason.
     pub fn may_pass(&self, input: &Input, r: u64, by: Name, why: PassWhy) -> bool
-        ensures { SaysFor input.now self.now result (λ es. fits input.now es (Pass r by why)) }
+        ensures { SaysFor input.now self.now result (λ es. row_allows input.now es (Pass r by why)) }
     {
         match performer_of(input, by) {
             Some(performer) => {
@@ -172,7 +172,7 @@ impl Present {
 
     /// Whether a performer may be confirmed on a request.
     pub fn may_confirm(&self, r: u64, by: Name) -> bool
-        ensures { Says self.now result (λ i es. fits i es (Confirm r by)) }
+        ensures { Says self.now result (λ i es. row_allows i es (Confirm r by)) }
     {
         let open = self.ledger.is_open(r);
         let first = match self.ledger.requests.first_offer(r) {
@@ -184,7 +184,7 @@ impl Present {
 
     /// Whether a performer may be rejected on a request.
     pub fn may_reject(&self, r: u64, by: Name) -> bool
-        ensures { Says self.now result (λ i es. fits i es (Reject r by)) }
+        ensures { Says self.now result (λ i es. row_allows i es (Reject r by)) }
     {
         let offered = self.ledger.has_offered(r, by);
         let rejected = self.ledger.is_rejected(r, by);
@@ -196,7 +196,7 @@ impl Present {
 
     /// Whether a request may be left unserved.
     pub fn may_leave(&self, r: u64) -> bool
-        ensures { Says self.now result (λ i es. fits i es (Unserved r)) }
+        ensures { Says self.now result (λ i es. row_allows i es (Unserved r)) }
     {
         let passed = self.is_passed(r);
         let busy = self.was_busy(r);

@@ -3,9 +3,9 @@ ghost use Rattle.std.specs.Prelude.{◌≡◌, ◌++◌, ◌||◌, IfOk, OnOk, m
 ghost use Rattle.ps_machine.specs.declared.journal.CancelWhy.TheVariants.{OverAll as OverAllWhy};
 ghost use Rattle.ps_rules.specs.History.{broken, cancels, forced_after, is_fail};
 ghost use Rattle.ps_rows.specs.Forced.{Adds, cancels_if, has_some, is_broken, is_sound};
-ghost use Rattle.ps_rows.specs.Present.{Says};
+ghost use Rattle.ps_rows.specs.State.{Says};
 
-use super::present::Present;
+use super::state::State;
 use ps_machine::{CancelWhy, Entry, Event};
 use std::alloc::{AllocError, Global};
 
@@ -48,7 +48,7 @@ fn stops(event: &Event, all: &[Entry]) -> bool
     fails || some
 }
 
-impl Present {
+impl State {
     /// Whether an act is active and its over-all condition is false.
     fn is_broken(&self, act: u32) -> bool
         ensures { Says self.now result (λ i es. is_broken i es act) }

@@ -8,9 +8,9 @@ mod forced;
 mod lines;
 mod members;
 mod plans;
-mod present;
 mod same;
 mod settled;
+mod state;
 mod table;
 mod taking;
 mod trees;
@@ -23,6 +23,6 @@ pub use members::{matches, performer_of};
 pub use plans::{
     can_ground, ending, ground_refusal, is_good, is_plan, lacks_goal, plan_refusal, refusal_of_goal,
 };
-pub use present::Present;
 pub use same::same_unit;
+pub use state::State;
 pub use table::{answers_line, has_hand};

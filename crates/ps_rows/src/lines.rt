@@ -5,10 +5,10 @@ ghost use Rattle.ps_world.specs.Knowledge.{edited};
 ghost use Rattle.ps_rules.specs.Sound.{IsSound, IsSoundLine};
 ghost use Rattle.ps_rules.specs.Lines.{acts_of, due_lines, line_refusal, next_line, refusal_of_query, refusal_of_steps};
 ghost use Rattle.ps_rows.specs.Lines.{Refuses};
-ghost use Rattle.ps_rows.specs.Present.{SaysFor};
+ghost use Rattle.ps_rows.specs.State.{SaysFor};
 
 use super::plans::{ground_refusal, lacks_goal, plan_refusal, refusal_of_goal};
-use super::present::Present;
+use super::state::State;
 use ps_action::{Act, PlanStep, PlanTextRefusal};
 use ps_domain::Expert;
 use ps_machine::{Command, Input, Line, Query, Refusal};
@@ -36,7 +36,7 @@ fn line_at(input: &Input, place: u64) -> Option<&Line>
     input.lines.as_slice().get(place as usize)
 }
 
-impl Present {
+impl State {
     /// The line that is answered next.
     pub fn next_line<'a>(&self, input: &'a Input) -> Option<&'a Line>
         ensures line { SaysFor input.now self.now (option_copied result) (next_line input.now) }
@@ -126,7 +126,7 @@ pub fn refusal_of_query<S: Solver>(
 ) -> Result<Option<Refusal>, AllocError>
     requires { 1 ≤ budget }
     ensures { IfOk result
-        (λ why. why ≡ refusal_of_query expert.now budget problem.now run query) }
+        (λ why. why ≡ refusal_of_query expert.now problem.now budget run query) }
 {
     match query {
         Query::ModelPredicate(name) => Ok(if expert.predicate(name).is_none() {
@@ -158,7 +158,7 @@ pub fn line_refusal<S: Solver>(
     requires budget { 1 ≤ budget }
     requires sound { IsSoundLine line.now }
     ensures why { IfOk result
-        (λ why. why ≡ line_refusal expert.now budget problem.old run line.now) }
+        (λ why. why ≡ line_refusal expert.now problem.old budget run line.now) }
     ensures kept { IfOk result (λ why. IsSome why → problem.new ≡ problem.old) }
 {
     match line {

@@ -4,9 +4,9 @@ ghost use Rattle.std.specs.List.{list_all, zip};
 ghost use Rattle.std.specs.Option.{option_copied};
 ghost use Rattle.ps_rules.specs.Legal.{matches_act};
 ghost use Rattle.ps_rules.specs.Members.{edit_where, job, matches, matches_request, may_stand, next_edit, next_seen, next_unit, observer_of, performer_of, seen_by, unit_of};
-ghost use Rattle.ps_rows.specs.Present.{Says, SaysFor};
+ghost use Rattle.ps_rows.specs.State.{Says, SaysFor};
 
-use super::present::Present;
+use super::state::State;
 use ps_action::Act;
 use ps_eval::holds;
 use ps_machine::{Input, Member, Observer, Performer, Unit};
@@ -95,7 +95,7 @@ fn item_at(observer: &Observer, done: u64) -> Option<&(Option<Cond>, Edit)>
     observer.units.as_slice().get(done as usize)
 }
 
-impl Present {
+impl State {
     /// Whether a performer does the act at this place of the plan.
     pub fn matches_act(&self, performer: &Performer, act: u32) -> bool
         ensures { Says self.now result (λ i es. matches_act performer.now act es) }

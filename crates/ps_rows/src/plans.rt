@@ -115,7 +115,7 @@ pub fn is_plan<S: Solver>(
     acts: &[Act],
 ) -> Result<bool, AllocError>
     requires { 1 ≤ budget }
-    ensures plan { IfOk result (λ b. b ≡ is_plan expert.now budget problem.now acts.now) }
+    ensures plan { IfOk result (λ b. b ≡ is_plan expert.now problem.now budget acts.now) }
     ensures may { IfOk result (λ b. IsTrue b → MayBePlan expert.now problem.now acts.now) }
 {
     if lacks_goal(problem) {
@@ -135,7 +135,7 @@ fn is_plan_like(
     answer: &Answer,
 ) -> Result<bool, AllocError>
     requires { Fits expert.now problem.now budget answer.now }
-    ensures plan { IfOk result (λ b. b ≡ is_plan expert.now budget problem.now acts.now) }
+    ensures plan { IfOk result (λ b. b ≡ is_plan expert.now problem.now budget acts.now) }
     ensures may { IfOk result (λ b. IsTrue b → MayBePlan expert.now problem.now acts.now) }
 {
     if !is_as_long(acts, answer) {
@@ -154,7 +154,7 @@ pub fn refusal_of_goal<S: Solver>(
     budget: u32,
 ) -> Result<Option<Refusal>, AllocError>
     requires { 1 ≤ budget }
-    ensures { IfOk result (λ why. why ≡ refusal_of_goal expert.now budget problem.now) }
+    ensures { IfOk result (λ why. why ≡ refusal_of_goal expert.now problem.now budget) }
 {
     if lacks_goal(problem) {
         return Ok(Some(Refusal::NoGoal));
@@ -174,7 +174,7 @@ pub fn ending<S: Solver>(
 ) -> Result<Option<Outcome>, AllocError>
     requires budget { 1 ≤ budget }
     ensures { IfOk result (λ how. HasGoal verdict problem.now
-        → how ≡ ending_of expert.now budget problem.now verdict) }
+        → how ≡ ending_of expert.now problem.now budget verdict) }
 {
     if verdict.is_some() {
         return Ok(verdict);

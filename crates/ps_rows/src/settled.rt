@@ -10,9 +10,9 @@ ghost use Rattle.ps_rules.specs.Settled.{any_harmed, is_blocked, is_met, is_reac
 ghost use Rattle.ps_ledger.specs.Ledger.{TellsAll};
 ghost use Rattle.ps_rows.specs.Acts.{any_ready, is_free, is_stuck, lets_go, none_sees, none_startable, sees_nothing};
 ghost use Rattle.ps_rows.specs.Names.{all_free, none_engaged};
-ghost use Rattle.ps_rows.specs.Present.{Says, SaysFor};
+ghost use Rattle.ps_rows.specs.State.{Says, SaysFor};
 
-use super::present::Present;
+use super::state::State;
 use ps_action::ActState;
 use ps_eval::holds;
 use ps_ledger::Ledger;
@@ -85,7 +85,7 @@ fn none_engaged(ledger: &Ledger) -> bool
     true
 }
 
-impl Present {
+impl State {
     /// How many acts the plan has.
     pub fn count(&self) -> u32
         ensures few { result ≤ 256 }

@@ -4,16 +4,16 @@ ghost use Rattle.ps_world.specs.Knowledge.{edited};
 ghost use Rattle.ps_machine.specs.declared.journal.Event.TheVariants.{Ask, Edit as Edited, Over, Quit, Refused, Replan, Run};
 ghost use Rattle.std.specs.Option.{option_copied};
 ghost use Rattle.ps_ledger.specs.Lines.{is_by_terminal};
-ghost use Rattle.ps_rules.specs.Legal.{fits, has_hand, is_legal, line_edit};
+ghost use Rattle.ps_rules.specs.Legal.{has_hand, is_legal, line_edit, row_allows};
 ghost use Rattle.ps_rules.specs.Lines.{answered, answers_line, next_line, refusal_of};
 ghost use Rattle.ps_rules.specs.Sound.{IsSound};
-ghost use Rattle.ps_rows.specs.Present.{Says, SaysFor};
+ghost use Rattle.ps_rows.specs.State.{Says, SaysFor};
 ghost use Rattle.ps_rows.specs.Table.{after_edit, follows, HasSameRest, is_asked, is_one, MayBegin, MayBePlan, refusal_of_edit};
 
 use super::lines::{accepts, line_refusal, make_edit, refusal_of_query};
 use super::plans::{can_ground, ending, is_good, is_plan};
-use super::present::Present;
 use super::same::{are_acts_of, is_cause, is_edit, is_only_act, is_outcome, same_query};
+use super::state::State;
 use ps_action::{Act, PlanStep};
 use ps_machine::{By, Command, Event, Input, Line, Outcome, Query, Refusal, RunKind};
 use ps_plan::Solver;
@@ -54,7 +54,7 @@ pub fn has_hand(event: &Event, hand: u8) -> bool
     }
 }
 
-impl Present {
+impl State {
     /// Whether the line with this number is answered next.
     fn is_next(&self, n: u32) -> bool
         ensures { Says self.now result (λ i es. n == answered es + 1) }
@@ -93,7 +93,7 @@ impl Present {
     /// Whether an accepted edit may come next. Then it has been made.
     fn may_edit(&mut self, input: &Input, by: By, edit: &Edit) -> Result<bool, AllocError>
         ensures fits { IfOk result (λ b. SaysFor input.now self.old b
-            (λ es. fits input.now es (Edited by edit.now))) }
+            (λ es. row_allows input.now es (Edited by edit.now))) }
         ensures made { IfOk result (λ b. IsTrue b
             → edited self.old.expert self.old.problem edit.now ≡ Ok self.new.problem) }
         ensures rest { HasSameRest self.old self.new }
@@ -164,7 +164,7 @@ impl Present {
     ) -> Result<bool, AllocError>
         requires { IsSound input.now }
         ensures fits { IfOk result (λ b. SaysFor input.now self.old b
-            (λ es. fits input.now es (Refused by why))) }
+            (λ es. row_allows input.now es (Refused by why))) }
         ensures kept { IfOk result (λ b. IsTrue b → self.new.problem ≡ self.old.problem) }
         ensures rest { HasSameRest self.old self.new }
     {
@@ -198,7 +198,7 @@ impl Present {
     ) -> Result<bool, AllocError>
         requires { IsSound input.now }
         ensures { IfOk result (λ b. SaysFor input.now self.now b
-            (λ es. fits input.now es (Ask query))) }
+            (λ es. row_allows input.now es (Ask query))) }
     {
         let run = self.ledger.run.has_run();
         match self.next_line(input) {
@@ -255,7 +255,7 @@ impl Present {
     ) -> Result<bool, AllocError>
         requires { IsSound input.now }
         ensures fits { IfOk result (λ b. SaysFor input.now self.now b
-            (λ es. fits input.now es (Run kind acts.now))) }
+            (λ es. row_allows input.now es (Run kind acts.now))) }
         ensures may { IfOk result
             (λ b. IsTrue b → MayBePlan self.now.expert self.now.problem acts.now) }
     {
@@ -285,7 +285,7 @@ impl Present {
 
     /// Whether the session may be ended next.
     fn may_quit(&self, input: &Input) -> bool
-        ensures { SaysFor input.now self.now result (λ es. fits input.now es Quit) }
+        ensures { SaysFor input.now self.now result (λ es. row_allows input.now es Quit) }
     {
         match self.next_line(input) {
             Some(Line::Good(Command::Quit)) => true,
@@ -303,7 +303,7 @@ impl Present {
     ) -> Result<bool, AllocError>
         requires { IsSound input.now }
         ensures fits { IfOk result (λ b. SaysFor input.now self.now b
-            (λ es. fits input.now es (Replan acts.now))) }
+            (λ es. row_allows input.now es (Replan acts.now))) }
         ensures may { IfOk result
             (λ b. IsTrue b → MayBePlan self.now.expert self.now.problem acts.now) }
     {
@@ -330,7 +330,7 @@ impl Present {
     ) -> Result<bool, AllocError>
         requires { IsSound input.now }
         ensures { IfOk result (λ b. SaysFor input.now self.now b
-            (λ es. fits input.now es (Over how))) }
+            (λ es. row_allows input.now es (Over how))) }
     {
         let settled = self.is_settled(input);
         let verdict = self.verdict(input);
@@ -356,7 +356,7 @@ impl Present {
     ) -> Result<bool, AllocError>
         requires { IsSound input.now }
         ensures fits { IfOk result (λ b. SaysFor input.now self.old b
-            (λ es. fits input.now es event.now)) }
+            (λ es. row_allows input.now es event.now)) }
         ensures made { IfOk result (λ b. IsTrue b
             → self.new.problem ≡ after_edit self.old.expert self.old.problem event.now) }
         ensures may { IfOk result (λ b. IsTrue b → MayBegin event.now self.new) }

@@ -9,12 +9,12 @@ ghost use Rattle.ps_rules.specs.Members.{as_observer, as_performer, observers, p
 ghost use Rattle.ps_ledger.specs.Acts.{IsCancelled};
 ghost use Rattle.ps_ledger.specs.Legal.{HasMembersOf};
 ghost use Rattle.ps_ledger.specs.Ledger.{HasRoom, HasSpare, KeepsSpare, Speaks, TellsAll};
-ghost use Rattle.ps_rows.specs.Present.{Stands};
+ghost use Rattle.ps_rows.specs.State.{Stands};
 ghost use Rattle.ps_rows.specs.Table.{Advances, KeepsAwaiting, MayBegin, MayBePlan, TakesCancelOf, TakesEvent};
 ghost use Rattle.ps_rows.specs.Taking.{GoesOn, HasSameBase, leaves_known, part_of};
 
 use super::lines::count_due;
-use super::present::Present;
+use super::state::State;
 use ps_action::{Act, Arcs, GroundAction, Known};
 use ps_arcs::arcs_of;
 use ps_domain::Expert;
@@ -122,7 +122,7 @@ fn grounds_of(
     Ok(all)
 }
 
-impl Present {
+impl State {
     /// Makes room for an event.
     pub fn make_room(&mut self, event: &Event) -> Result<(), AllocError>
         ensures ok { OnOk result (HasRoom event.now self.new.ledger) }
@@ -295,17 +295,17 @@ fn first_tree(alloc: Global) -> Result<(Arcs, Tree), AllocError>
     Ok((arcs, tree))
 }
 
-impl Present {
+impl State {
     /// What is kept before the first entry.
     // Each step that may fail comes where little is owned, since its failure lets go of all that is.
-    pub fn new(alloc: Global, input: &Input) -> Result<Present, AllocError>
+    pub fn new(alloc: Global, input: &Input) -> Result<State, AllocError>
         ensures { IfOk result (Stands input.now []) }
     {
         let expert = Expert::new(alloc, input.domain.copy(alloc)?)?;
         let problem = Problem::new(alloc, &expert)?;
         let ledger = first_ledger(alloc, input)?;
         let (arcs, tree) = first_tree(alloc)?;
-        Ok(Present {
+        Ok(State {
             expert,
             due: count_due(input.lines.as_slice()),
             problem,

@@ -2,9 +2,9 @@
 ghost use Rattle.std.specs.Prelude.{◌≡◌, length};
 ghost use Rattle.ps_rows.specs.Table.{HasSameButTree, KeepsStanding};
 
-use super::present::Present;
+use super::state::State;
 
-impl Present {
+impl State {
     /// Lets the tree take over the states of the acts. It takes no memory.
     pub fn tick_tree(&mut self)
         requires { length self.now.ledger.acts.states.items ≡ length self.now.tree.waits }

@@ -16,7 +16,7 @@ use Rattle.ps_rules.specs.Auctions.{is_engaged}
 use Rattle.ps_rules.specs.Lines.{answers_line}
 use Rattle.ps_rules.specs.Members.{performers}
 use Rattle.ps_rules.specs.Settled.{any_harmed, is_blocked, is_settled, may_go_on, places, verdict}
-use Rattle.ps_rules.specs.Legal.{ending, fits, is_legal, is_outcome, same_flag}
+use Rattle.ps_rules.specs.Legal.{ending, is_legal, is_outcome, row_allows, same_flag}
 use Rattle.ps_rules.specs.History.{forced}
 use Rattle.ps_rules.specs.History.IsHistory.{nothing, block}
 use Rattle.ps_rules.specs.Laws.{LinesForceNothing, NoneIsActiveBetweenRuns}
@@ -80,7 +80,7 @@ quiet-step i act es (event.Edit (by.Terminal n) edit) p h legal closed active = 
 quiet-step i act es (event.Refused (by.Terminal n) why) p h legal closed active = not_active (state act es) (h closed) active
 quiet-step i act es (event.Ask q) p h legal closed active = not_active (state act es) (h closed) active
 quiet-step i act es event.Quit p h legal closed active = not_active (state act es) (h closed) active
-quiet-step i act es e p h legal closed active = shut (is_running es) (fits i es e) closed legal
+quiet-step i act es e p h legal closed active = shut (is_running es) (row_allows i es e) closed legal
 
 pub none_is_active_between_runs : NoneIsActiveBetweenRuns
 none_is_active_between_runs i _ nothing closed act = refl
@@ -126,7 +126,7 @@ closed-so false live fit o h = absurd (true≢false (sym o))
 
 pub lines_force_nothing : LinesForceNothing
 lines_force_nothing i es e h legal own =
-    let closed = closed-so (answers_line e.what) (is_running es) (fits i es e.what) own legal in
+    let closed = closed-so (answers_line e.what) (is_running es) (row_allows i es e.what) own legal in
     unforced i es e (λ act.
     ap is_active (read-push (λ s f. unwrap_or (says_state act f) s) Waiting es e)
     ∙ line-step i act es e.what own (none_is_active_between_runs i es h closed act))

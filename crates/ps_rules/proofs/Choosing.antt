@@ -36,8 +36,8 @@ use Rattle.ps_rules.specs.Known.{know}
 use Rattle.ps_rules.specs.Lines.{answers_line, edit_refusal}
 use Rattle.ps_rules.specs.Members.{as_edit, next_edit, next_seen, next_unit}
 use Rattle.ps_rules.specs.Settled.{given_up, is_settled, verdict}
-use Rattle.ps_rules.specs.Legal.{ending, fits, is_as_long, is_cause, is_edit, is_feedback, is_finish, is_legal, is_outcome, is_plan, is_work, same_flag}
-use Rattle.ps_rules.specs.Choices.{Actor, Says, act_turn, edit_event, head_of, outcome_of, performed, performer_turn, planned, ticked, ticker_turn, turn, unit_event, unit_on, wants_plan, work_of}
+use Rattle.ps_rules.specs.Legal.{ending, is_as_long, is_cause, is_edit, is_feedback, is_finish, is_legal, is_outcome, is_plan, is_work, row_allows, same_flag}
+use Rattle.ps_rules.specs.Choices.{Actor, Says, act_turn, edit_event, head_of, edit_outcome, performed, performer_turn, planned, ticked, ticker_turn, turn, unit_event, unit_on, wants_plan, work_of}
 use Rattle.ps_rules.specs.Choices.Actor.{performs, observes, ticks}
 use Rattle.ps_rules.specs.Laws.{IsSolver, TurnsAreLegal}
 use Rattle.ps_rules.proofs.SameThings.{same_cause-decides, same_edit-itself, same_outcome-decides}
@@ -62,23 +62,23 @@ same_flag-itself false = refl
 -- ---- what fits is legal
 
 -- in an open run, where it answers no line
-pub legal-live : (i : Input) (es : List Entry) (e : Event) → is_running es ≡ true → answers_line e ≡ false → fits i es e ≡ true → IsTrue (is_legal i es e)
+pub legal-live : (i : Input) (es : List Entry) (e : Event) → is_running es ≡ true → answers_line e ≡ false → row_allows i es e ≡ true → IsTrue (is_legal i es e)
 legal-live i es e live own fit = rw (live, own, fit) refl
 
 -- between runs, where it answers a line
-pub legal-between : (i : Input) (es : List Entry) (e : Event) → is_running es ≡ false → answers_line e ≡ true → fits i es e ≡ true → IsTrue (is_legal i es e)
+pub legal-between : (i : Input) (es : List Entry) (e : Event) → is_running es ≡ false → answers_line e ≡ true → row_allows i es e ≡ true → IsTrue (is_legal i es e)
 legal-between i es e closed own fit = rw (closed, own, fit) refl
 
 -- ---- units
 
 pub own-outcome : (whose : By) (edit : Edit) (why : Option Refusal) → answers_line (event.Edit whose edit) ≡ false → ((w : Refusal) → answers_line (event.Refused whose w) ≡ false)
-    → answers_line (outcome_of whose edit why) ≡ false
+    → answers_line (edit_outcome whose edit why) ≡ false
 own-outcome whose edit None one other = one
 own-outcome whose edit (Some w) one other = other w
 
 -- a performer's next edit, accepted or refused
 pub performer-edit : (i : Input) (es : List Entry) (r : ℕ) (p : Name) (edit : Edit) → next_edit i r p es ≡ Some edit
-    → (o : Result Knowledge EditRefusal) → edited i.domain (know i es) edit ≡ o → fits i es (outcome_of (by.Performer r p) edit (edit_refusal o)) ≡ true
+    → (o : Result Knowledge EditRefusal) → edited i.domain (know i es) edit ≡ o → row_allows i es (edit_outcome (by.Performer r p) edit (edit_refusal o)) ≡ true
 performer-edit i es r p edit next (Ok new) given =
     and_from (is_edit edit (next_edit i r p es)) (is_ok (edited i.domain (know i es) edit)) (ap (is_edit edit) next ∙ same_edit-itself edit) (ap is_ok given)
 performer-edit i es r p edit next (Err why) given =
@@ -88,7 +88,7 @@ performer-edit i es r p edit next (Err why) given =
 
 -- an observer's next edit, accepted or refused
 pub observer-edit : (i : Input) (es : List Entry) (o : Name) (edit : Edit) → next_seen i o es ≡ Some edit
-    → (r : Result Knowledge EditRefusal) → edited i.domain (know i es) edit ≡ r → fits i es (outcome_of (by.Observer o) edit (edit_refusal r)) ≡ true
+    → (r : Result Knowledge EditRefusal) → edited i.domain (know i es) edit ≡ r → row_allows i es (edit_outcome (by.Observer o) edit (edit_refusal r)) ≡ true
 observer-edit i es o edit next (Ok new) given =
     and_from (is_edit edit (next_seen i o es)) (is_ok (edited i.domain (know i es) edit)) (ap (is_edit edit) next ∙ same_edit-itself edit) (ap is_ok given)
 observer-edit i es o edit next (Err why) given =
@@ -97,7 +97,7 @@ observer-edit i es o edit next (Err why) given =
     ∙ (same_cause-decides (refusal.Edit why) (refusal.Edit why)).1 refl
 
 -- what records the next unit fits
-pub unit-fits : (i : Input) (es : List Entry) (r : ℕ) (p : Name) (u : Task) → next_unit i r p es ≡ Some u → fits i es (unit_event i es r p u) ≡ true
+pub unit-fits : (i : Input) (es : List Entry) (r : ℕ) (p : Name) (u : Task) → next_unit i r p es ≡ Some u → row_allows i es (unit_event i es r p u) ≡ true
 unit-fits i es r p unit.Work next = ap is_work next
 unit-fits i es r p (unit.Feedback percent text) next =
     ap (is_feedback percent text) next
@@ -159,7 +159,7 @@ long-so acts (answer.Spent depth) h = absurd h
 long-so acts answer.TooMany h = absurd h
 
 -- a solver's plan is a good one, as short as that of the answer that is due
-pub plan-so : (d : Domain) (k : Knowledge) (budget : ℕ) (acts : List Act) → Fits d k budget (answer.Plan acts) → is_plan d budget k acts ≡ true
+pub plan-so : (d : Domain) (k : Knowledge) (budget : ℕ) (acts : List Act) → Fits d k budget (answer.Plan acts) → is_plan d k budget acts ≡ true
 plan-so d k budget acts h =
     and_from (is_ok (judged d k acts)) (is_as_long acts (answered_by d k budget)) h.0.goes_well (long-so acts (answered_by d k budget) h.1)
 
@@ -179,8 +179,8 @@ planned-legal : (i : Input) (es : List Entry) (e : Event) (a : Answer) → Fits 
 planned-legal i es e (answer.Plan acts) h wants made =
     let live = and_parts (is_running es) (is_settled i es && is_none (verdict i es)) wants in
     let settled = and_parts (is_settled i es) (is_none (verdict i es)) live.1 in
-    let fit = and_from (is_settled i es) (is_none (verdict i es) && is_plan i.domain i.budget (know i es) acts) settled.0
-    (and_from (is_none (verdict i es)) (is_plan i.domain i.budget (know i es) acts) settled.1 (plan-so i.domain (know i es) i.budget acts h)) in
+    let fit = and_from (is_settled i es) (is_none (verdict i es) && is_plan i.domain (know i es) i.budget acts) settled.0
+    (and_from (is_none (verdict i es)) (is_plan i.domain (know i es) i.budget acts) settled.1 (plan-so i.domain (know i es) i.budget acts h)) in
     subst (λ x. IsTrue (is_legal i es x)) (some_same (event.Replan acts) e made) (legal-live i es (event.Replan acts) live.0 refl fit)
 planned-legal i es e answer.NoPlan h wants made =
     subst (λ x. IsTrue (is_legal i es x)) (some_same (event.Over outcome.NoPlan) e made) (ended-so i es answer.NoPlan outcome.NoPlan refl h wants)

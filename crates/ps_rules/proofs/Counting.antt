@@ -14,7 +14,7 @@ use Rattle.ps_rules.specs.Reading.{all_said, only_if, times_since, with_last}
 use Rattle.ps_rules.specs.Runs.{is_waiting, says_state, state}
 use Rattle.ps_rules.specs.Auctions.{is_request, request_of, requests}
 use Rattle.ps_rules.specs.Settled.{any_harmed, is_ready, is_startable}
-use Rattle.ps_rules.specs.Legal.{fits, is_legal, is_act_active, is_place, may_be_put_up}
+use Rattle.ps_rules.specs.Legal.{row_allows, is_legal, is_act_active, is_place, may_be_put_up}
 use Rattle.ps_rules.specs.Laws.{ActsStartOnce, is_cancel, is_start, makes_plan, RequestsCountUp, says_number}
 use Rattle.ps_rules.specs.History.IsHistory.{nothing, block}
 use Rattle.ps_rules.proofs.Pushed.{read-block, read-push}
@@ -23,7 +23,7 @@ use Rattle.ps_rules.proofs.Kept.{fits-legal}
 
 -- ---- requests
 
-counted-step : (i : Input) (es : List Entry) (e : Event) → all_said says_number es ≡ range_with_len 0 (requests es) → fits i es e ≡ true
+counted-step : (i : Input) (es : List Entry) (e : Event) → all_said says_number es ≡ range_with_len 0 (requests es) → row_allows i es e ≡ true
     → with_last (all_said says_number es) (says_number e) ≡ range_with_len 0 (if is_request e then requests es + 1 else requests es)
 counted-step i es (event.Request r act) h f =
     let same : r ≡ requests es = eqb-true r (requests es) (and_parts (r == requests es) (is_act_active es act && may_be_put_up i es act (request_of act es)) f).0 in

@@ -6,10 +6,10 @@ use Rattle.ps_machine.specs.declared.journal.FailWhy.{FailWhy}
 use Rattle.ps_machine.specs.declared.journal.FailWhy.TheVariants as fail
 use Rattle.ps_machine.specs.declared.journal.Event.TheVariants as event
 use Rattle.ps_machine.specs.declared.journal.Entry.{Entry}
-use Rattle.ps_rules.specs.Legal.{fits, is_act_active}
+use Rattle.ps_rules.specs.Legal.{is_act_active, row_allows}
 
 -- a failure is of an active act
-pub fail_active : (i : Input) (es : List Entry) (act : ℕ) (why : FailWhy) → fits i es (event.Fail act why) ≡ true → is_act_active es act ≡ true
+pub fail_active : (i : Input) (es : List Entry) (act : ℕ) (why : FailWhy) → row_allows i es (event.Fail act why) ≡ true → is_act_active es act ≡ true
 fail_active i es act fail.NoPerformer f = (and_parts (is_act_active es act) _ f).0
 fail_active i es act fail.Script f = (and_parts (is_act_active es act) _ f).0
 fail_active i es act fail.AtEnd f = (and_parts (is_act_active es act) _ f).0

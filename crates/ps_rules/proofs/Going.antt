@@ -19,9 +19,9 @@ use Rattle.ps_rules.specs.Reading.{latest, only_if}
 use Rattle.ps_rules.specs.Runs.{is_active, plan, says_plan, says_state, state}
 use Rattle.ps_rules.specs.Known.{both_after, know}
 use Rattle.ps_rules.specs.Settled.{places, is_ready, is_startable, any_harmed, may_go_on, may_start, starts_well}
-use Rattle.ps_rules.specs.Legal.{fits, is_legal, is_place}
+use Rattle.ps_rules.specs.Legal.{is_legal, is_place, row_allows}
 use Rattle.ps_rules.specs.Laws.{ActiveActsMayGoOn, EachIsLegal, EntriesAreLegal, is_cancel, StartsAreSound}
-use Rattle.ps_rules.specs.History.{any_of, broken, cancels, forced, forced_after, is_fail, IsHistory, sound}
+use Rattle.ps_rules.specs.History.{any_of, broken, cancels, forced, forced_after, is_fail, IsHistory, unbroken}
 use Rattle.ps_rules.specs.History.IsHistory.{nothing, block}
 use Rattle.ps_rules.proofs.Pushed.{read-block, read-forced, read-push}
 use Rattle.ps_rules.proofs.Kept.{fits-legal}
@@ -54,9 +54,9 @@ still-stops act hand false acts s h = h
 still-forced : (i : Input) (act hand : ℕ) (es : List Entry) (e : Event) (s : ActState) → latest (says_state act) s (forced_after i es hand e) ≡ Active → (s ≡ Active) × (among act (broken i es) ≡ false)
 still-forced i act hand es e s h =
     let b : Bool = is_fail e || any_of (broken i es) in
-    let stops : List Entry = if b then map (cancels hand cancel.Stop) (sound i es) else [] in
+    let stops : List Entry = if b then map (cancels hand cancel.Stop) (unbroken i es) else [] in
     let split = fold-append (λ a f. unwrap_or (says_state act f.what) a) s (map (cancels hand cancel.OverAll) (broken i es)) stops in
-    still-active act hand cancel.OverAll (broken i es) s (still-stops act hand b (sound i es) (latest (says_state act) s (map (cancels hand cancel.OverAll) (broken i es))) (sym split ∙ h))
+    still-active act hand cancel.OverAll (broken i es) s (still-stops act hand b (unbroken i es) (latest (says_state act) s (map (cancels hand cancel.OverAll) (broken i es))) (sym split ∙ h))
 
 -- ---- broken acts
 
@@ -90,7 +90,7 @@ other false p s end none old h = old h
 pub not_active : (s : ActState) → is_active s ≡ false → s ≡ Active → ⊥
 not_active s h e = true≢false (sym (ap is_active e) ∙ h)
 
-placed-step : (i : Input) (act : ℕ) (es : List Entry) (e : Event) → IsPlaced act es → fits i es e ≡ true
+placed-step : (i : Input) (act : ℕ) (es : List Entry) (e : Event) → IsPlaced act es → row_allows i es e ≡ true
     → unwrap_or (says_state act e) (state act es) ≡ Active → nat_lt act (length (unwrap_or (says_plan e) (plan es))) ≡ true
 placed-step i act es (event.Run for new) h f now = absurd (not_active Waiting refl now)
 placed-step i act es (event.Replan new) h f now = absurd (not_active Waiting refl now)
@@ -164,9 +164,9 @@ stops-stand i before hand false acts = tt
 forced-stand : (i : Input) (before es : List Entry) (hand : ℕ) (e : Event) → EachIsLegal i before (forced_after i es hand e)
 forced-stand i before es hand e =
     let b : Bool = is_fail e || any_of (broken i es) in
-    joined i before (map (cancels hand cancel.OverAll) (broken i es)) (if b then map (cancels hand cancel.Stop) (sound i es) else [])
+    joined i before (map (cancels hand cancel.OverAll) (broken i es)) (if b then map (cancels hand cancel.Stop) (unbroken i es) else [])
     (cancels-stand i before hand cancel.OverAll (broken i es))
-    (stops-stand i (before ++ map (cancels hand cancel.OverAll) (broken i es)) hand b (sound i es))
+    (stops-stand i (before ++ map (cancels hand cancel.OverAll) (broken i es)) hand b (unbroken i es))
 
 pub entries_are_legal : EntriesAreLegal
 entries_are_legal i _ nothing = tt

@@ -30,7 +30,7 @@ use Rattle.ps_rules.specs.Runs.{is_running}
 use Rattle.ps_rules.specs.Known.{know}
 use Rattle.ps_rules.specs.Lines.{acts_of, answered, answers_line, due_lines, edit_refusal, ground_refusal, next_line, plan_refusal, refusal_of, unplanned, with_goal}
 use Rattle.ps_rules.specs.Same.{same_acts}
-use Rattle.ps_rules.specs.Legal.{fits, has_hand, is_accepted, is_cause, is_edit, is_legal, is_query, is_quit, line_edit, opens_with, same_flag}
+use Rattle.ps_rules.specs.Legal.{has_hand, is_accepted, is_cause, is_edit, is_legal, is_query, is_quit, line_edit, opens_with, row_allows, same_flag}
 use Rattle.ps_rules.specs.History.{IsHistory}
 use Rattle.ps_rules.specs.History.IsHistory.{nothing, block}
 use Rattle.ps_rules.specs.Choices.{Actor, Says, actors, after_line, answer_event, ordered, run_by, turn, with_block, with_line}
@@ -62,7 +62,7 @@ turn-stands says i n es actor solver h (Some e) made =
     let legal = turns_are_legal says i es actor e solver made in
     let live = (turn-live says i es actor e made).0 in
     let own : answers_line e ≡ false =
-    unanswering (answers_line e) (is_running es) live (and_parts (same_flag (answers_line e) (not (is_running es))) (fits i es e) legal).0 in
+    unanswering (answers_line e) (is_running es) live (and_parts (same_flag (answers_line e) (not (is_running es))) (row_allows i es e) legal).0 in
     let hand : IsTrue (has_hand e 1) = ap (λ b. if b then 1 == 0 else (nat_le 1 1 && nat_le 1 16)) own in
     (block es (record { hand = 1; what = e }) h.0 legal hand, answered-block i 1 es e ∙ ap (λ b. if b then answered es + 1 else answered es) own ∙ h.1)
 
@@ -114,7 +114,7 @@ answered-goal : (says : Says) (i : Input) (es : List Entry) → is_running es �
     → unplanned (answered_by i.domain (know i es) i.budget) ≡ None → (a : Answer) → says i.domain (know i es) i.budget ≡ a → Fits i.domain (know i es) i.budget a
     → IsAnswered says i es (Good command.Run) None
 answered-goal says i es closed next due (answer.Plan acts) said h =
-    let fit : fits i es (event.Run run.Goal acts) ≡ true = ap (opens_with i es run.Goal acts) next ∙ plan-so i.domain (know i es) i.budget acts h in record {
+    let fit : row_allows i es (event.Run run.Goal acts) ≡ true = ap (opens_with i es run.Goal acts) next ∙ plan-so i.domain (know i es) i.budget acts h in record {
       event = event.Run run.Goal acts;
       made = ap run_by said;
       legal = legal-between i es (event.Run run.Goal acts) closed refl fit;
@@ -149,7 +149,7 @@ answered-line says i es (Good command.Run) solver closed next None given =
 answered-line says i es (Good (command.RunAction act)) solver closed next None given =
     let e = event.Run run.Action (act ∷ []) in
     let o = ground_act i.domain (know i es).instances act in
-    let fit : fits i es e ≡ true =
+    let fit : row_allows i es e ≡ true =
     ap (opens_with i es run.Action (act ∷ [])) next
     ∙ and_from (same_acts (act ∷ []) (act ∷ [])) (is_ok o) ((same_acts-decides (act ∷ []) (act ∷ [])).1 refl) (accepted-act o given) in
     record { event = e; made = refl; legal = legal-between i es e closed refl fit; own = refl }
@@ -157,7 +157,7 @@ answered-line says i es (Good (command.RunPlan (Ok steps))) solver closed next N
     let acts = acts_of steps in
     let e = event.Run run.Plan acts in
     let o = judged i.domain (know i es) acts in
-    let fit : fits i es e ≡ true =
+    let fit : row_allows i es e ≡ true =
     ap (opens_with i es run.Plan acts) next
     ∙ and_from (same_acts acts acts) (is_ok o) ((same_acts-decides acts acts).1 refl) (accepted-plan o (goal-so (know i es) (plan_refusal o) given)) in
     record { event = e; made = refl; legal = legal-between i es e closed refl fit; own = refl }

@@ -20,14 +20,14 @@ use Rattle.ps_rules.specs.Laws.{all_confirmed, says_confirmed, IsOnce, FirstOffe
 use Rattle.ps_rules.specs.Known.{know}
 use Rattle.ps_rules.specs.Lines.{answers_line, edit_refusal}
 use Rattle.ps_rules.specs.Members.{as_edit, next_edit, next_unit, performer_of, unit_of}
-use Rattle.ps_rules.specs.Legal.{fits, is_cause, is_confirmed, is_edit, is_feedback, is_finish, is_legal, is_work, same_flag}
+use Rattle.ps_rules.specs.Legal.{is_cause, is_confirmed, is_edit, is_feedback, is_finish, is_legal, is_work, row_allows, same_flag}
 use Rattle.ps_rules.specs.History.{forced, IsHistory}
 use Rattle.ps_rules.specs.History.IsHistory.{nothing, block}
 use Rattle.ps_rules.proofs.Pushed.{read-block}
 
 -- a legal event fits
-pub fits-legal : (i : Input) (es : List Entry) (e : Event) → IsTrue (is_legal i es e) → fits i es e ≡ true
-fits-legal i es e h = (and_parts (same_flag (answers_line e) (not (is_running es))) (fits i es e) h).1
+pub fits-legal : (i : Input) (es : List Entry) (e : Event) → IsTrue (is_legal i es e) → row_allows i es e ≡ true
+fits-legal i es e h = (and_parts (same_flag (answers_line e) (not (is_running es))) (row_allows i es e) h).1
 
 -- ---- the first offer wins
 
@@ -70,7 +70,7 @@ offer-step : (b : Bool) (p : Name) (now : Option Name) (cs os : List Name) → I
 offer-step true p now cs os h = once-offer now cs os (p ∷ []) h
 offer-step false p now cs os h = h
 
-once-step : (i : Input) (r : ℕ) (es : List Entry) (e : Event) → Once r es → fits i es e ≡ true → OnceAfter r es e
+once-step : (i : Input) (r : ℕ) (es : List Entry) (e : Event) → Once r es → row_allows i es e ≡ true → OnceAfter r es e
 once-step i r es (event.Confirm s p) h f =
     let parts = and_parts (is_open s es) (option_map_or (same_name p) (first_offer (offers s es)) false) f in
     let fine = and_parts (is_none (confirmed s es)) (not (is_unserved s es)) ((and_parts (is_for_active s es) (is_none (confirmed s es) && not (is_unserved s es)) parts.0).1) in
@@ -148,7 +148,7 @@ unit-step r s p i es h test none passed same =
     let works : is_working s p es ≡ true = works-where test none (is_working s p es) (is_for_active s es) (option_and_then (λ performer. unit_of performer s p es) (performer_of i p)) passed in
     h.0 p (ap (λ t. is_working t p es) (eqb-true r s same) ∙ works)
 
-working-step : (i : Input) (r : ℕ) (es : List Entry) (e : Event) → WorkingAt r es → fits i es e ≡ true → WorkingAfter r es e
+working-step : (i : Input) (r : ℕ) (es : List Entry) (e : Event) → WorkingAt r es → row_allows i es e ≡ true → WorkingAfter r es e
 working-step i r es (event.Confirm s q) h f =
     let parts = and_parts (is_open s es) (option_map_or (same_name q) (first_offer (offers s es)) false) f in
     let fine = and_parts (is_none (confirmed s es)) (not (is_unserved s es)) ((and_parts (is_for_active s es) (is_none (confirmed s es) && not (is_unserved s es)) parts.0).1) in

@@ -10,7 +10,7 @@ use Rattle.ps_machine.specs.declared.journal.Event.{Event}
 use Rattle.ps_machine.specs.declared.journal.Event.TheVariants as event
 use Rattle.ps_machine.specs.declared.journal.Entry.{Entry}
 use Rattle.ps_rules.specs.Legal.{has_hand, is_legal}
-use Rattle.ps_rules.specs.History.{any_of, broken, cancels, forced, is_fail, sound}
+use Rattle.ps_rules.specs.History.{any_of, broken, cancels, forced, is_fail, unbroken}
 use Rattle.ps_rules.specs.Laws.{is_cancel}
 use Rattle.ps_rules.specs.Prefixes.{GoodLengthIsLongest, Leads, good_length, is_due, same_cancel, same_why}
 use Rattle.ps_rules.specs.Prefixes.Leads.{here, owed, next}
@@ -70,8 +70,8 @@ forced-are : (i : Input) (es : List Entry) (e : Entry) → AreCancels (forced i 
 forced-are i es e =
     let after : List Entry = es ++ e ∷ [] in
     let b : Bool = is_fail e.what || any_of (broken i after) in
-    appended-are (map (cancels e.hand cancel.OverAll) (broken i after)) (if b then map (cancels e.hand cancel.Stop) (sound i after) else [])
-    (cancels-are e.hand cancel.OverAll (broken i after)) (stops-are e.hand b (sound i after))
+    appended-are (map (cancels e.hand cancel.OverAll) (broken i after)) (if b then map (cancels e.hand cancel.Stop) (unbroken i after) else [])
+    (cancels-are e.hand cancel.OverAll (broken i after)) (stops-are e.hand b (unbroken i after))
 
 -- ---- the longest prefix
 

@@ -27,7 +27,7 @@ use Rattle.ps_rules.proofs.Pushed.{read-block}
 use Rattle.std.proofs.Math.Bool.{or-false}
 use Rattle.ps_rules.proofs.Kept.{fits-legal, works-where}
 use Rattle.ps_rules.specs.Laws.{LegalEventsSpeak, speaks_of}
-use Rattle.ps_rules.specs.Legal.{fits, is_act_active, is_cause, is_confirmed, is_edit, is_feedback, is_finish, is_pass, is_passed, is_work, may_be_put_up, pass_reason, was_busy}
+use Rattle.ps_rules.specs.Legal.{is_act_active, is_cause, is_confirmed, is_edit, is_feedback, is_finish, is_pass, is_passed, is_work, may_be_put_up, pass_reason, row_allows, was_busy}
 
 -- what is told of a request that isn't there
 pub record IsUntold (es : List Entry) (r : ℕ) : Type 0 where
@@ -75,7 +75,7 @@ module _ (es : List Entry) (r : ℕ) (u : IsUntold es r) where
   no-unit i p test none h =
       true≢false (sym (works-where test none (is_working r p es) (is_for_active r es) (option_and_then (λ performer. unit_of performer r p es) (performer_of i p)) h) ∙ u.working p)
 
-speaks-step : (i : Input) (es : List Entry) (e : Event) → AreUntold es → fits i es e ≡ true → speaks_of (requests es) e ≡ true
+speaks-step : (i : Input) (es : List Entry) (e : Event) → AreUntold es → row_allows i es e ≡ true → speaks_of (requests es) e ≡ true
 speaks-step i es (event.Request r act) h f = (and_parts (r == requests es) (is_act_active es act && may_be_put_up i es act (request_of act es)) f).0
 speaks-step i es (event.Edit (by.Performer r p) edit) h f =
     told-below es r h (λ u. no-unit es r u i p (λ t. is_edit edit (option_and_then as_edit t)) refl (and_parts (is_edit edit (next_edit i r p es)) (is_ok (edited i.domain (know i es) edit)) f).0)

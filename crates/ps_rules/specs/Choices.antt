@@ -88,13 +88,13 @@ wants_plan i es = is_running es && (is_settled i es && is_none (verdict i es))
 -- ---- members
 
 -- an edit, or its refusal where there is one
-abbrev pub outcome_of : By → Edit → Option Refusal → Event
-outcome_of whose edit None = event.Edit whose edit
-outcome_of whose edit (Some why) = event.Refused whose why
+abbrev pub edit_outcome : By → Edit → Option Refusal → Event
+edit_outcome whose edit None = event.Edit whose edit
+edit_outcome whose edit (Some why) = event.Refused whose why
 
 -- what records an edit: it is accepted or refused
 abbrev pub edit_event : Input → List Entry → By → Edit → Event
-edit_event i es whose edit = outcome_of whose edit (edit_refusal (edited i.domain (know i es) edit))
+edit_event i es whose edit = edit_outcome whose edit (edit_refusal (edited i.domain (know i es) edit))
 
 -- what records a unit
 abbrev pub unit_event : Input → List Entry → ℕ → Name → Task → Event

@@ -21,8 +21,8 @@ abbrev pub broken : Input → List Entry → List ℕ
 broken i es = filter (λ act. is_active (state act es) && not (may_go_on i es act)) (places es)
 
 -- the active acts whose over-all condition holds
-abbrev pub sound : Input → List Entry → List ℕ
-sound i es = filter (λ act. is_active (state act es) && may_go_on i es act) (places es)
+abbrev pub unbroken : Input → List Entry → List ℕ
+unbroken i es = filter (λ act. is_active (state act es) && may_go_on i es act) (places es)
 
 -- whether an event is a failure, which stops all active acts
 abbrev pub is_fail : Event → Bool
@@ -43,7 +43,7 @@ cancels hand why act = record { hand = hand; what = event.Cancel act why }
 abbrev pub forced_after : Input → List Entry → ℕ → Event → List Entry
 forced_after i es hand e =
     map (cancels hand cancel.OverAll) (broken i es)
-    ++ (if is_fail e || any_of (broken i es) then map (cancels hand cancel.Stop) (sound i es) else [])
+    ++ (if is_fail e || any_of (broken i es) then map (cancels hand cancel.Stop) (unbroken i es) else [])
 
 -- the cancels that an entry forces after these entries
 abbrev pub forced : Input → List Entry → Entry → List Entry

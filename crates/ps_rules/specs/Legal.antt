@@ -103,14 +103,14 @@ is_as_long acts (answer.Plan least) = length acts == length least
 is_as_long acts a = false
 
 -- whether these acts are a good plan as short as that of the answer that is due
-abbrev pub is_plan : Domain → ℕ → Knowledge → List Act → Bool
-is_plan d budget k acts = is_ok (judged d k acts) && is_as_long acts (answered_by d k budget)
+abbrev pub is_plan : Domain → Knowledge → ℕ → List Act → Bool
+is_plan d k budget acts = is_ok (judged d k acts) && is_as_long acts (answered_by d k budget)
 
 -- whether a run of this kind may be opened with these acts, where this is the next line: `run`, and the acts are a good plan as short
 -- as that of the answer that is due; `run plan`, and they are its file's acts and a good plan; `run action`, and they are its one act,
 -- which can be grounded
 abbrev pub opens_with : Input → List Entry → RunKind → List Act → Option Line → Bool
-opens_with i es run.Goal acts (Some (Good command.Run)) = is_plan i.domain i.budget (know i es) acts
+opens_with i es run.Goal acts (Some (Good command.Run)) = is_plan i.domain (know i es) i.budget acts
 opens_with i es run.Plan acts (Some (Good (command.RunPlan (Ok steps)))) =
     same_acts acts (acts_of steps) && is_ok (judged i.domain (know i es) acts)
 opens_with i es run.Action acts (Some (Good (command.RunAction act))) =
@@ -183,81 +183,81 @@ ending i es None = given_up (answered_by i.domain (know i es) i.budget)
 -- ---- the table
 
 -- whether an event may come after these entries but for whether a run is open: the table of events, one equation a row
-abbrev pub fits : Input → List Entry → Event → Bool
+abbrev pub row_allows : Input → List Entry → Event → Bool
 -- edit terminal N EDIT: line N is the next line and is this edit, and what is known accepts it
-fits i es (event.Edit (by.Terminal n) edit) =
+row_allows i es (event.Edit (by.Terminal n) edit) =
     (n == answered es + 1) && (is_edit edit (line_edit (next_line i es)) && is_ok (edited i.domain (know i es) edit))
 -- edit performer R P EDIT: this edit is the next unit of P on R, and is accepted
-fits i es (event.Edit (by.Performer r p) edit) =
+row_allows i es (event.Edit (by.Performer r p) edit) =
     is_edit edit (next_edit i r p es) && is_ok (edited i.domain (know i es) edit)
 -- edit observer O EDIT: this is the next unit of O, its condition holds, and it is accepted
-fits i es (event.Edit (by.Observer o) edit) =
+row_allows i es (event.Edit (by.Observer o) edit) =
     is_edit edit (next_seen i o es) && is_ok (edited i.domain (know i es) edit)
 -- refused terminal N CAUSE: line N is the next line, and CAUSE is its refusal
-fits i es (event.Refused (by.Terminal n) why) =
+row_allows i es (event.Refused (by.Terminal n) why) =
     (n == answered es + 1) && is_cause why (option_and_then (refusal_of i es) (next_line i es))
 -- refused performer R P CAUSE, refused observer O CAUSE: as the edit, and CAUSE is its refusal
-fits i es (event.Refused (by.Performer r p) why) =
+row_allows i es (event.Refused (by.Performer r p) why) =
     is_cause why (option_and_then (λ edit. edit_refusal (edited i.domain (know i es) edit)) (next_edit i r p es))
-fits i es (event.Refused (by.Observer o) why) =
+row_allows i es (event.Refused (by.Observer o) why) =
     is_cause why (option_and_then (λ edit. edit_refusal (edited i.domain (know i es) edit)) (next_seen i o es))
 -- ask QUERY: it is the next line, and isn't refused
-fits i es (event.Ask q) = is_query q (next_line i es) && is_accepted i es (next_line i es)
+row_allows i es (event.Ask q) = is_query q (next_line i es) && is_accepted i es (next_line i es)
 -- run KIND ACT*: the next line is of this kind, and the acts are those that it calls for
-fits i es (event.Run for acts) = opens_with i es for acts (next_line i es)
+row_allows i es (event.Run for acts) = opens_with i es for acts (next_line i es)
 -- quit: it is the next line
-fits i es event.Quit = is_quit (next_line i es)
+row_allows i es event.Quit = is_quit (next_line i es)
 -- start I: I is ready and startable, and no act of the plan failed or was cancelled
-fits i es (event.Start act) = is_place es act && (is_ready i es act && (is_startable i es act && not (any_harmed es)))
+row_allows i es (event.Start act) = is_place es act && (is_ready i es act && (is_startable i es act && not (any_harmed es)))
 -- request R I: R is the number of requests so far, I is active, and a performer may be asked for it
-fits i es (event.Request r act) = (r == requests es) && (is_act_active es act && may_be_put_up i es act (request_of act es))
+row_allows i es (event.Request r act) = (r == requests es) && (is_act_active es act && may_be_put_up i es act (request_of act es))
 -- offer R P: P hasn't answered R, R is open, P does its act and isn't engaged
-fits i es (event.Offer r p) =
+row_allows i es (event.Offer r p) =
     option_map_or (λ performer. not (has_answered r p es) && is_none (pass_reason performer r es)) (performer_of i p) false
 -- pass R P WHY: R is of this run, P hasn't answered it, and WHY is its reason
-fits i es (event.Pass r p why) =
+row_allows i es (event.Pass r p why) =
     option_map_or (λ performer. is_of_run r es && (not (has_answered r p es) && is_pass why (pass_reason performer r es)))
     (performer_of i p) false
 -- confirm R P: R is open, and P's is the first offer on it
-fits i es (event.Confirm r p) = is_open r es && option_map_or (same_name p) (first_offer (offers r es)) false
+row_allows i es (event.Confirm r p) = is_open r es && option_map_or (same_name p) (first_offer (offers r es)) false
 -- reject R P: P offered, was neither confirmed nor rejected, and another was confirmed or the act is cancelled
-fits i es (event.Reject r p) =
+row_allows i es (event.Reject r p) =
     has_offered r p es
     && (not (is_rejected r p es) && (not (is_confirmed r p es) && (is_some (confirmed r es) || is_for_cancelled r es)))
 -- begin R P: P was confirmed on R and hasn't begun it, and its act is active
-fits i es (event.Begin r p) = is_confirmed r p es && (not (has_begun r p es) && is_for_active r es)
+row_allows i es (event.Begin r p) = is_confirmed r p es && (not (has_begun r p es) && is_for_active r es)
 -- unitwork R P, feedback R P N TEXT, finish R P ok or fail: this is the next unit of P on R
-fits i es (event.UnitWork r p) = is_work (next_unit i r p es)
-fits i es (event.Feedback r p percent text) = is_feedback percent text (next_unit i r p es)
-fits i es (event.Finish r p ok) = is_finish ok (next_unit i r p es)
+row_allows i es (event.UnitWork r p) = is_work (next_unit i r p es)
+row_allows i es (event.Feedback r p percent text) = is_feedback percent text (next_unit i r p es)
+row_allows i es (event.Finish r p ok) = is_finish ok (next_unit i r p es)
 -- unserved R: R is open, every performer passed it, and one of them was busy
-fits i es (event.Unserved r) = is_passed i r es && was_busy i r es
+row_allows i es (event.Unserved r) = is_passed i r es && was_busy i r es
 -- end I: I is active, its performer finished well, its over-all and end conditions hold and its end effects are defined
-fits i es (event.End act) =
+row_allows i es (event.End act) =
     is_act_active es act && (is_finished true es act && (may_go_on i es act && (may_end i es act && ends_well i es act)))
 -- fail I noperformer: I is active, and every performer passed its open request, none of them busy
-fits i es (event.Fail act fail.NoPerformer) =
+row_allows i es (event.Fail act fail.NoPerformer) =
     is_act_active es act && option_map_or (λ r. is_passed i r es && not (was_busy i r es)) (request_of act es) false
 -- fail I script: I is active, and its performer finished badly
-fits i es (event.Fail act fail.Script) = is_act_active es act && is_finished false es act
+row_allows i es (event.Fail act fail.Script) = is_act_active es act && is_finished false es act
 -- fail I atend: it finished well, and the end condition is false
-fits i es (event.Fail act fail.AtEnd) = is_act_active es act && (is_finished true es act && not (may_end i es act))
+row_allows i es (event.Fail act fail.AtEnd) = is_act_active es act && (is_finished true es act && not (may_end i es act))
 -- fail I effect: it finished well, the end condition holds, and the end effects aren't defined
-fits i es (event.Fail act fail.Effect) =
+row_allows i es (event.Fail act fail.Effect) =
     is_act_active es act && (is_finished true es act && (may_end i es act && not (ends_well i es act)))
 -- cancel I WHY: only as a forced cancel
-fits i es (event.Cancel act why) = false
+row_allows i es (event.Cancel act why) = false
 -- stopped R P: P was confirmed on R and has neither finished nor stopped there, and the act is cancelled
-fits i es (event.Stopped r p) = is_confirmed r p es && (not (is_through r p es) && is_for_cancelled r es)
+row_allows i es (event.Stopped r p) = is_confirmed r p es && (not (is_through r p es) && is_for_cancelled r es)
 -- replan ACT*: the run is settled, the solver is asked, and the acts are a good plan as short as that of the answer that is due
-fits i es (event.Replan acts) =
-    is_settled i es && (is_none (verdict i es) && is_plan i.domain i.budget (know i es) acts)
+row_allows i es (event.Replan acts) =
+    is_settled i es && (is_none (verdict i es) && is_plan i.domain (know i es) i.budget acts)
 -- over WHY: the run is settled and ends so
-fits i es (event.Over how) = is_settled i es && is_outcome how (ending i es (verdict i es))
+row_allows i es (event.Over how) = is_settled i es && is_outcome how (ending i es (verdict i es))
 
 -- whether an event may come after these entries: it fits, and no run is open where it answers a line, and one is open where it doesn't
 abbrev pub is_legal : Input → List Entry → Event → Bool
-is_legal i es e = same_flag (answers_line e) (not (is_running es)) && fits i es e
+is_legal i es e = same_flag (answers_line e) (not (is_running es)) && row_allows i es e
 
 -- whether an event may have this hand: the terminal's is 0 and answers a line, every other is from 1 to 16
 abbrev pub has_hand : Event → ℕ → Bool

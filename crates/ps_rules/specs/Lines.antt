@@ -85,8 +85,8 @@ abbrev pub with_goal : Knowledge → Option Refusal → Option Refusal
 with_goal k why = if is_none k.goal then Some refusal.NoGoal else why
 
 -- why no plan is made for the goal, if none is: there is no goal, or the answer that is due is no plan
-abbrev pub refusal_of_goal : Domain → ℕ → Knowledge → Option Refusal
-refusal_of_goal d budget k = with_goal k (unplanned (answered_by d k budget))
+abbrev pub refusal_of_goal : Domain → Knowledge → ℕ → Option Refusal
+refusal_of_goal d k budget = with_goal k (unplanned (answered_by d k budget))
 
 -- the acts of a plan's steps
 abbrev pub acts_of : List PlanStep → List Act
@@ -98,23 +98,23 @@ refusal_of_steps d k (Err why) = with_goal k (Some (refusal.PlanText why))
 refusal_of_steps d k (Ok steps) = with_goal k (plan_refusal (judged d k (acts_of steps)))
 
 -- why a query is refused, if it is: what it asks for isn't declared, there is no plan, or no run was opened yet
-abbrev pub refusal_of_query : Domain → ℕ → Knowledge → Bool → Query → Option Refusal
-refusal_of_query d budget k run (query.ModelPredicate n) = if is_none (predicate_of d n) then Some refusal.NoPredicate else None
-refusal_of_query d budget k run (query.ModelAction n) = if is_none (action_of d n) then Some refusal.NoAction else None
-refusal_of_query d budget k run query.Plan = refusal_of_goal d budget k
-refusal_of_query d budget k run query.Tree = if run then None else Some refusal.NoRun
-refusal_of_query d budget k run q = None
+abbrev pub refusal_of_query : Domain → Knowledge → ℕ → Bool → Query → Option Refusal
+refusal_of_query d k budget run (query.ModelPredicate n) = if is_none (predicate_of d n) then Some refusal.NoPredicate else None
+refusal_of_query d k budget run (query.ModelAction n) = if is_none (action_of d n) then Some refusal.NoAction else None
+refusal_of_query d k budget run query.Plan = refusal_of_goal d k budget
+refusal_of_query d k budget run query.Tree = if run then None else Some refusal.NoRun
+refusal_of_query d k budget run q = None
 
 -- why a line is refused, if it is, where this is known, and where a run was opened before or none was
-abbrev pub line_refusal : Domain → ℕ → Knowledge → Bool → Line → Option Refusal
-line_refusal d budget k run (Bad cause) = Some (refusal.Line cause)
-line_refusal d budget k run (Good (command.Edit edit)) = edit_refusal (edited d k edit)
-line_refusal d budget k run (Good (command.Ask q)) = refusal_of_query d budget k run q
-line_refusal d budget k run (Good command.Run) = refusal_of_goal d budget k
-line_refusal d budget k run (Good (command.RunAction act)) = ground_refusal (ground_act d k.instances act)
-line_refusal d budget k run (Good (command.RunPlan steps)) = refusal_of_steps d k steps
-line_refusal d budget k run (Good command.Quit) = None
+abbrev pub line_refusal : Domain → Knowledge → ℕ → Bool → Line → Option Refusal
+line_refusal d k budget run (Bad cause) = Some (refusal.Line cause)
+line_refusal d k budget run (Good (command.Edit edit)) = edit_refusal (edited d k edit)
+line_refusal d k budget run (Good (command.Ask q)) = refusal_of_query d k budget run q
+line_refusal d k budget run (Good command.Run) = refusal_of_goal d k budget
+line_refusal d k budget run (Good (command.RunAction act)) = ground_refusal (ground_act d k.instances act)
+line_refusal d k budget run (Good (command.RunPlan steps)) = refusal_of_steps d k steps
+line_refusal d k budget run (Good command.Quit) = None
 
 -- why a line is refused after these entries, if it is
 abbrev pub refusal_of : Input → List Entry → Line → Option Refusal
-refusal_of i es line = line_refusal i.domain i.budget (know i es) (has_run es) line
+refusal_of i es line = line_refusal i.domain (know i es) i.budget (has_run es) line

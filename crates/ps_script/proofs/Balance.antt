@@ -4,23 +4,23 @@ use Rattle.std.specs.List.{list_all}
 use Rattle.std.proofs.lemmas.Bool.{and_parts}
 use Rattle.std.proofs.lemmas.Bool.Decides.{nat_tests}
 use denote.Enum.Bare.{same_true}
-use Rattle.ps_shape.specs.contracts.marks.Mark.{the_type}
-use Rattle.ps_shape.specs.Marks.{is}
-use Rattle.ps_shape.specs.Rules.{where_it_is, action_rule, goal_rule, list_rule, step}
-use Rattle.ps_shape.specs.Shape.{Derives}
-use Rattle.ps_shape.specs.Shape.Derives.{nothing, by_rule}
-use Rattle.ps_shape.specs.Symbols.{level, weight}
-use Rattle.ps_shape.specs.declared.marks.Mark.{Mark}
-use Rattle.ps_shape.specs.declared.marks.Mark.TheVariants.{Open, Close}
-use Rattle.ps_shape.specs.declared.symbols.Symbol.{Symbol}
-use Rattle.ps_shape.specs.declared.symbols.Symbol.TheVariants.{The, AnyName, InAction, InGoal, InList}
-use Rattle.ps_shape.specs.declared.symbols.ActionPart.TheVariants as action
-use Rattle.ps_shape.specs.declared.symbols.ListPart.{ListPart}
-use Rattle.ps_shape.specs.declared.symbols.ListPart.TheVariants as list
-use Rattle.ps_shape.specs.declared.symbols.GoalPart.{GoalPart}
-use Rattle.ps_shape.specs.declared.symbols.GoalPart.TheVariants as goal
-use Rattle.ps_forms.specs.Spelling.{is_balanced}
-use Rattle.ps_forms.proofs.Balance.{each_mark, every_mark, after_mark}
+use Rattle.ps_grammar.specs.contracts.marks.Mark.{the_type}
+use Rattle.ps_grammar.specs.Marks.{is}
+use Rattle.ps_grammar.specs.Rules.{where_it_is, action_rule, goal_rule, list_rule, step}
+use Rattle.ps_grammar.specs.Shape.{Derives}
+use Rattle.ps_grammar.specs.Shape.Derives.{nothing, by_rule}
+use Rattle.ps_grammar.specs.Symbols.{level, weight}
+use Rattle.ps_grammar.specs.declared.marks.Mark.{Mark}
+use Rattle.ps_grammar.specs.declared.marks.Mark.TheVariants.{Open, Close}
+use Rattle.ps_grammar.specs.declared.symbols.Symbol.{Symbol}
+use Rattle.ps_grammar.specs.declared.symbols.Symbol.TheVariants.{The, AnyName, InAction, InGoal, InList}
+use Rattle.ps_grammar.specs.declared.symbols.ActionPart.TheVariants as action
+use Rattle.ps_grammar.specs.declared.symbols.ListPart.{ListPart}
+use Rattle.ps_grammar.specs.declared.symbols.ListPart.TheVariants as list
+use Rattle.ps_grammar.specs.declared.symbols.GoalPart.{GoalPart}
+use Rattle.ps_grammar.specs.declared.symbols.GoalPart.TheVariants as goal
+use Rattle.ps_lists.specs.Spelling.{is_balanced}
+use Rattle.ps_lists.proofs.Balance.{each_mark, every_mark, after_mark}
 use Rattle.ps_script.specs.Forms.{start_of}
 use Rattle.ps_script.specs.declared.forms.Form.{Form}
 use Rattle.ps_script.specs.declared.forms.Form.TheVariants.{SetInstance}

@@ -1,17 +1,17 @@
 -- A line that says a fact in plain names fits.
 use Rattle.std.proofs.Common.{◌≡◌, append-nil, subst, sym, ◌≤◌, ◌<◌, ◌-◌, nat_lt, ℕ, zero, suc, true, ◌&&◌, ◌||◌, List, [], ◌∷◌, ◌++◌, None, Some, refl, inl, inr, arith}
 use Rattle.std.proofs.lemmas.Bool.{and_parts, cases_Bool}
-use Rattle.ps_shape.specs.Marks.{is}
-use Rattle.ps_shape.specs.Symbols.{level}
-use Rattle.ps_shape.specs.Rules.{most_names, step}
-use Rattle.ps_shape.specs.Shape.{IsShallowFrom, next_wanted}
-use Rattle.ps_shape.specs.Shape.Derives.{nothing, by_rule}
-use Rattle.ps_shape.specs.declared.marks.Mark.{Mark}
-use Rattle.ps_shape.specs.declared.marks.Mark.TheVariants.{Open, Close, At, Equal, Name, Number}
-use Rattle.ps_shape.specs.declared.symbols.Symbol.{Symbol}
-use Rattle.ps_shape.specs.declared.symbols.Symbol.TheVariants.{The, AnyName, InGoal}
-use Rattle.ps_shape.specs.declared.symbols.GoalPart.TheVariants as goal
-use Rattle.ps_shape.proofs.SameMarks.{mark_is}
+use Rattle.ps_grammar.specs.Marks.{is}
+use Rattle.ps_grammar.specs.Symbols.{level}
+use Rattle.ps_grammar.specs.Rules.{most_names, step}
+use Rattle.ps_grammar.specs.Shape.{IsShallowFrom, next_wanted}
+use Rattle.ps_grammar.specs.Shape.Derives.{nothing, by_rule}
+use Rattle.ps_grammar.specs.declared.marks.Mark.{Mark}
+use Rattle.ps_grammar.specs.declared.marks.Mark.TheVariants.{Open, Close, At, Equal, Name, Number}
+use Rattle.ps_grammar.specs.declared.symbols.Symbol.{Symbol}
+use Rattle.ps_grammar.specs.declared.symbols.Symbol.TheVariants.{The, AnyName, InGoal}
+use Rattle.ps_grammar.specs.declared.symbols.GoalPart.TheVariants as goal
+use Rattle.ps_grammar.proofs.SameMarks.{mark_is}
 use Rattle.ps_script.specs.FactLines.{are_names, is_fact, is_last, says_fact}
 use Rattle.ps_script.specs.Judged.{Fits}
 

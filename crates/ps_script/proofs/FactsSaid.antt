@@ -7,22 +7,22 @@ use Rattle.ps_world.specs.declared.edits.Edit.TheVariants as edit
 use Rattle.ps_world.specs.declared.facts.Fact.{Fact}
 use Rattle.ps_machine.specs.declared.inputs.Command.{Command}
 use Rattle.ps_machine.specs.declared.inputs.Command.TheVariants.{Edit}
-use Rattle.ps_shape.specs.Marks.{is}
-use Rattle.ps_shape.specs.Symbols.{level}
-use Rattle.ps_shape.specs.Rules.{most_names}
-use Rattle.ps_shape.specs.Shape.Derives.{nothing as derives_nothing}
-use Rattle.ps_shape.specs.declared.marks.Mark.{Mark}
-use Rattle.ps_shape.specs.declared.marks.Mark.TheVariants.{Open, Close, At, Equal, Name, Number, Variable}
-use Rattle.ps_shape.specs.declared.symbols.Symbol.{Symbol}
-use Rattle.ps_shape.specs.declared.symbols.Symbol.TheVariants.{AnyName, InGoal}
-use Rattle.ps_shape.specs.declared.symbols.GoalPart.TheVariants as goal
-use Rattle.ps_shape.proofs.SameMarks.{mark_is}
-use Rattle.ps_forms.specs.Lexemes.{marks}
-use Rattle.ps_forms.specs.Nested.{Nesteds, word, group, none, more}
-use Rattle.ps_forms.specs.Spelling.{Spells, SpellAll}
-use Rattle.ps_forms.specs.Spelling.Spells.{plain, between}
-use Rattle.ps_forms.specs.Spelling.SpellAll.{nothing, one_more}
-use Rattle.ps_forms.specs.declared.lexemes.Lexeme.{Lexeme}
+use Rattle.ps_grammar.specs.Marks.{is}
+use Rattle.ps_grammar.specs.Symbols.{level}
+use Rattle.ps_grammar.specs.Rules.{most_names}
+use Rattle.ps_grammar.specs.Shape.Derives.{nothing as derives_nothing}
+use Rattle.ps_grammar.specs.declared.marks.Mark.{Mark}
+use Rattle.ps_grammar.specs.declared.marks.Mark.TheVariants.{Open, Close, At, Equal, Name, Number, Variable}
+use Rattle.ps_grammar.specs.declared.symbols.Symbol.{Symbol}
+use Rattle.ps_grammar.specs.declared.symbols.Symbol.TheVariants.{AnyName, InGoal}
+use Rattle.ps_grammar.specs.declared.symbols.GoalPart.TheVariants as goal
+use Rattle.ps_grammar.proofs.SameMarks.{mark_is}
+use Rattle.ps_lists.specs.Lexemes.{marks}
+use Rattle.ps_lists.specs.Nested.{Nesteds, word, group, none, more}
+use Rattle.ps_lists.specs.Spelling.{Spells, SpellAll}
+use Rattle.ps_lists.specs.Spelling.Spells.{plain, between}
+use Rattle.ps_lists.specs.Spelling.SpellAll.{nothing, one_more}
+use Rattle.ps_lists.specs.declared.lexemes.Lexeme.{Lexeme}
 use Rattle.ps_script.specs.Commands.{command_of, stated}
 use Rattle.ps_script.specs.FactLines.{EndsValue, Means, SaysFact, are_names, are_plain, args_said, begins_value, fact_said, is_fact, is_last}
 use Rattle.ps_script.specs.Forms.{start_of}

@@ -1,13 +1,13 @@
 -- Words whose lists may not be closed yet: they are balanced once these are closed.
 use Rattle.std.proofs.Common.{◌≡◌, ℕ, zero, suc, ◌-◌, true, List, [], ◌∷◌, ◌++◌, Option, None, Some, IfSome, replicate, take, refl, sym, ◌∙◌, ap, subst, arith}
 use Rattle.std.proofs.lemmas.List.{map-append, take-map}
-use Rattle.ps_shape.specs.Shape.{Derives, IsFirstFaultFrom, IsShallowFrom}
-use Rattle.ps_shape.specs.declared.marks.Mark.{Mark}
-use Rattle.ps_shape.specs.declared.marks.Mark.TheVariants.{Open, Close}
-use Rattle.ps_shape.specs.declared.symbols.Symbol.{Symbol}
-use Rattle.ps_forms.specs.Lexemes.{marks}
-use Rattle.ps_forms.specs.Spelling.{is_balanced}
-use Rattle.ps_forms.specs.declared.lexemes.Lexeme.{Lexeme}
+use Rattle.ps_grammar.specs.Shape.{Derives, IsFirstFaultFrom, IsShallowFrom}
+use Rattle.ps_grammar.specs.declared.marks.Mark.{Mark}
+use Rattle.ps_grammar.specs.declared.marks.Mark.TheVariants.{Open, Close}
+use Rattle.ps_grammar.specs.declared.symbols.Symbol.{Symbol}
+use Rattle.ps_lists.specs.Lexemes.{marks}
+use Rattle.ps_lists.specs.Spelling.{is_balanced}
+use Rattle.ps_lists.specs.declared.lexemes.Lexeme.{Lexeme}
 use Rattle.ps_script.specs.Judged.{Fits, closed, front, open_after, shut}
 use Rattle.ps_script.proofs.Balance.{are_paired, balanced, open_before}
 

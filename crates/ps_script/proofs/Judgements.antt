@@ -1,14 +1,14 @@
 -- What the words of a line are judged to be is one thing.
 use Rattle.std.proofs.Common.{◌≡◌, ℕ, List, [], Option, None, Some, IfOk, Result, Ok, Err, take, unwrap_or, refl, sym, ap, subst}
 use Rattle.ps_text.specs.declared.lexing.Token.{Token}
-use Rattle.ps_shape.specs.Shape.{Derives, IsShallowFrom}
-use Rattle.ps_shape.specs.declared.symbols.Symbol.{Symbol}
-use Rattle.ps_shape.proofs.OneFault.{first_faults_are_one, first_faults_are_real}
-use Rattle.ps_forms.specs.Lexemes.{marks}
-use Rattle.ps_forms.specs.Nested.{Nesteds}
-use Rattle.ps_forms.specs.Spelling.{SpellAll}
-use Rattle.ps_forms.specs.declared.lexemes.Lexeme.{Lexeme}
-use Rattle.ps_forms.proofs.OneSpelling.{one_spelling}
+use Rattle.ps_grammar.specs.Shape.{Derives, IsShallowFrom}
+use Rattle.ps_grammar.specs.declared.symbols.Symbol.{Symbol}
+use Rattle.ps_grammar.proofs.OneFault.{first_faults_are_one, first_faults_are_real}
+use Rattle.ps_lists.specs.Lexemes.{marks}
+use Rattle.ps_lists.specs.Nested.{Nesteds}
+use Rattle.ps_lists.specs.Spelling.{SpellAll}
+use Rattle.ps_lists.specs.declared.lexemes.Lexeme.{Lexeme}
+use Rattle.ps_lists.proofs.OneSpelling.{one_spelling}
 use Rattle.ps_script.specs.Judged.{Fits, IsJudged, closed, in_scope, place}
 use Rattle.ps_script.specs.Judged.IsJudged.{fitting, stray, misfit}
 use Rattle.ps_script.specs.Scopes.{strays}

@@ -5,10 +5,10 @@ use Rattle.std.specs.declared.convert.Infallible.{Infallible}
 use Rattle.ps_world.specs.declared.domains.Param.{Param}
 use Rattle.ps_world.specs.declared.names.Name.{Name}
 use Rattle.ps_world.specs.declared.schemas.Term.{Term}
-use Rattle.ps_forms.specs.Nested.{Nested, nesteds}
-use Rattle.ps_forms.specs.NestedViews.{nested}
-use Rattle.ps_forms.specs.Places.{word_of}
-use Rattle.ps_forms.specs.declared.trees.Tree.{Tree}
+use Rattle.ps_lists.specs.Nested.{Nested, nesteds}
+use Rattle.ps_lists.specs.NestedViews.{nested}
+use Rattle.ps_lists.specs.Places.{word_of}
+use Rattle.ps_lists.specs.declared.trees.Tree.{Tree}
 use Rattle.ps_conditions.specs.Conditions as meant
 use Rattle.ps_conditions.specs.Steps.{refusable}
 use Rattle.ps_conditions.specs.Words.{unrefused_scopes}

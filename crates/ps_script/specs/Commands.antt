@@ -6,8 +6,8 @@ use Rattle.ps_action.specs.declared.acts.Act.{Act}
 use Rattle.ps_machine.specs.declared.inputs.Query.TheVariants as query
 use Rattle.ps_machine.specs.declared.inputs.Command.{Command}
 use Rattle.ps_machine.specs.declared.inputs.Command.TheVariants.{Edit, Ask, Run, RunAction, Quit}
-use Rattle.ps_forms.specs.Nested.{Nesteds}
-use Rattle.ps_forms.specs.Places.{head, rest, items_at}
+use Rattle.ps_lists.specs.Nested.{Nesteds}
+use Rattle.ps_lists.specs.Places.{head, rest, items_at}
 use Rattle.ps_script.specs.Goals.{fact_of, first_condition}
 use Rattle.ps_script.specs.declared.forms.Form.{Form}
 use Rattle.ps_script.specs.declared.forms.Form.TheVariants as form

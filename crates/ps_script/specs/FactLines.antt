@@ -5,14 +5,14 @@ use Rattle.ps_world.specs.Names.{object}
 use Rattle.ps_world.specs.declared.facts.Fact.{Fact}
 use Rattle.ps_world.specs.declared.names.Name.{Name as NameNumber}
 use Rattle.ps_machine.specs.declared.inputs.Command.{Command}
-use Rattle.ps_shape.specs.Marks.{is}
-use Rattle.ps_shape.specs.Rules.{most_names}
-use Rattle.ps_shape.specs.declared.marks.Mark.{Mark}
-use Rattle.ps_shape.specs.declared.marks.Mark.TheVariants.{Open, Close, At, Equal, Name, Number}
-use Rattle.ps_forms.specs.Lexemes.{marks}
-use Rattle.ps_forms.specs.Nested.{Nesteds}
-use Rattle.ps_forms.specs.Spelling.{SpellAll}
-use Rattle.ps_forms.specs.declared.lexemes.Lexeme.{Lexeme}
+use Rattle.ps_grammar.specs.Marks.{is}
+use Rattle.ps_grammar.specs.Rules.{most_names}
+use Rattle.ps_grammar.specs.declared.marks.Mark.{Mark}
+use Rattle.ps_grammar.specs.declared.marks.Mark.TheVariants.{Open, Close, At, Equal, Name, Number}
+use Rattle.ps_lists.specs.Lexemes.{marks}
+use Rattle.ps_lists.specs.Nested.{Nesteds}
+use Rattle.ps_lists.specs.Spelling.{SpellAll}
+use Rattle.ps_lists.specs.declared.lexemes.Lexeme.{Lexeme}
 use Rattle.ps_script.specs.Commands.{command_of}
 use Rattle.ps_script.specs.Forms.{start_of}
 use Rattle.ps_script.specs.Judged.{Fits}

@@ -11,11 +11,11 @@ use Rattle.ps_world.specs.declared.schemas.Term.TheVariants.{Const, Var}
 use Rattle.ps_world.specs.declared.expressions.Expr.TheVariants.{Num}
 use Rattle.ps_world.specs.declared.conditions.Cond.{Cond}
 use Rattle.ps_world.specs.declared.conditions.Cond.TheVariants.{And}
-use Rattle.ps_shape.specs.Marks.{is}
-use Rattle.ps_shape.specs.declared.marks.Mark.TheVariants.{Minus, Variable}
-use Rattle.ps_forms.specs.Nested.{Nested, Nesteds, none, more}
-use Rattle.ps_forms.specs.Places.{head, rest, word_of}
-use Rattle.ps_forms.specs.declared.lexemes.Lexeme.{Lexeme}
+use Rattle.ps_grammar.specs.Marks.{is}
+use Rattle.ps_grammar.specs.declared.marks.Mark.TheVariants.{Minus, Variable}
+use Rattle.ps_lists.specs.Nested.{Nested, Nesteds, none, more}
+use Rattle.ps_lists.specs.Places.{head, rest, word_of}
+use Rattle.ps_lists.specs.declared.lexemes.Lexeme.{Lexeme}
 use Rattle.ps_conditions.specs.Conditions as meant
 use Rattle.ps_conditions.specs.Steps.{certain}
 use Rattle.ps_conditions.specs.Words.{Scopes, Words}

@@ -1,13 +1,13 @@
 //! The command that a line of a form is.
 ghost use Rattle.std.specs.Prelude.{◌≡◌, IfOk, map};
-ghost use Rattle.ps_forms.specs.Nested.{nesteds};
-ghost use Rattle.ps_forms.specs.NestedViews.{nested};
+ghost use Rattle.ps_lists.specs.Nested.{nesteds};
+ghost use Rattle.ps_lists.specs.NestedViews.{nested};
 ghost use Rattle.ps_script.specs.Commands.{acted, after_two, command_of, fourth_name, stated, valued};
 
 use super::forms::Form;
 use super::goals::{fact_of, first_condition};
 use ps_action::Act;
-use ps_forms::{Tree, head, items_at, rest};
+use ps_lists::{Tree, head, items_at, rest};
 use ps_machine::{Command, Query};
 use ps_world::{Edit, Fact, Name};
 use std::alloc::{AllocError, Global};

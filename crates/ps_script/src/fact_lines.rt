@@ -1,15 +1,15 @@
 //! Lines that say a fact or an instance in plain names. Most lines do; that such a line fits, and what it says, is seen from its words,
 //! without a list of what is wanted and without nested lists.
 ghost use Rattle.std.specs.Prelude.{◌≡◌, IfSome};
-ghost use Rattle.ps_forms.specs.Lexemes.{marks};
+ghost use Rattle.ps_lists.specs.Lexemes.{marks};
 ghost use Rattle.ps_script.specs.FactLines.{EndsValue, Means, SaysFact, are_names, are_plain, args_said, begins_value, fact_said, is_fact, says_fact};
 ghost use Rattle.ps_script.specs.declared.forms.Form.TheVariants as form;
 
 use super::forms::Form;
 use ps_action::Act;
-use ps_forms::Lexeme;
+use ps_grammar::{MOST_NAMES, Mark};
+use ps_lists::Lexeme;
 use ps_machine::Command;
-use ps_shape::{MOST_NAMES, Mark};
 use ps_world::{Args, Edit, Fact, MOST_ARGUMENTS, Name, Num};
 
 /// How many words a line that gives a function a value has at least.

@@ -1,13 +1,13 @@
 //! The forms of a line.
 ghost use Rattle.std.specs.Prelude.{◌≡◌, ◌∷◌, [], Ok, Some, codes, IfOk, IfSome, IsTrue};
 ghost use Rattle.ps_text.specs.Words.{word_at};
-ghost use Rattle.ps_shape.specs.Shape.{Derives, IsFirstFaultFrom, IsShallowFrom};
-ghost use Rattle.ps_shape.specs.declared.symbols.Symbol.TheVariants.{AnyName, InGoal};
-ghost use Rattle.ps_shape.specs.declared.symbols.GoalPart.TheVariants as goal;
+ghost use Rattle.ps_grammar.specs.Shape.{Derives, IsFirstFaultFrom, IsShallowFrom};
+ghost use Rattle.ps_grammar.specs.declared.symbols.Symbol.TheVariants.{AnyName, InGoal};
+ghost use Rattle.ps_grammar.specs.declared.symbols.GoalPart.TheVariants as goal;
 ghost use Rattle.ps_script.specs.Forms.{form_of, start_of};
 
 use super::files::reads_as;
-use ps_shape::{GoalPart, Mark, Symbol, first_fault};
+use ps_grammar::{GoalPart, Mark, Symbol, first_fault};
 use ps_text::Words;
 use std::alloc::{AllocError, Global};
 

@@ -1,12 +1,12 @@
 //! The condition and the fact that nested lists of names are.
 ghost use Rattle.std.specs.Prelude.{◌≡◌, IfOk, map};
-ghost use Rattle.ps_forms.specs.Nested.{nesteds};
-ghost use Rattle.ps_forms.specs.NestedViews.{nested};
+ghost use Rattle.ps_lists.specs.Nested.{nesteds};
+ghost use Rattle.ps_lists.specs.NestedViews.{nested};
 ghost use Rattle.ps_script.specs.Goals.{condition, fact_of, first_condition};
 
 use super::names::{LineNames, args_of};
 use ps_conditions::condition as read_condition;
-use ps_forms::{Tree, head, rest};
+use ps_lists::{Tree, head, rest};
 use ps_world::{Cond, Conds, Fact, Failure};
 use std::alloc::{AllocError, Global};
 

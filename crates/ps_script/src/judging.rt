@@ -1,15 +1,15 @@
 //! What the words of a line are: nested lists that fit, or the place of the first fault.
 ghost use Rattle.std.specs.Prelude.{◌≡◌, [], true, IfOk, List, take, unwrap_or};
-ghost use Rattle.ps_shape.specs.declared.symbols.Symbol.{Symbol};
-ghost use Rattle.ps_forms.specs.Lexemes.{marks};
-ghost use Rattle.ps_forms.specs.Nested.{Nesteds};
-ghost use Rattle.ps_forms.specs.Spelling.{SpellAll, is_balanced};
+ghost use Rattle.ps_grammar.specs.declared.symbols.Symbol.{Symbol};
+ghost use Rattle.ps_lists.specs.Lexemes.{marks};
+ghost use Rattle.ps_lists.specs.Nested.{Nesteds};
+ghost use Rattle.ps_lists.specs.Spelling.{SpellAll, is_balanced};
 ghost use Rattle.ps_script.specs.Judged.{Fits, IsJudged, closed, front, in_scope, open_after, place, shut};
 ghost use Rattle.ps_script.specs.Scopes.{strays};
 
 use super::scopes::{InForce, strays};
-use ps_forms::{Lexeme, Trees, trees_of};
-use ps_shape::Mark;
+use ps_grammar::Mark;
+use ps_lists::{Lexeme, Trees, trees_of};
 use ps_text::Token;
 use ps_world::{Name, Num};
 use std::alloc::{AllocError, Global};

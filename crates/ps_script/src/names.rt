@@ -2,13 +2,13 @@
 ghost use Rattle.std.specs.Prelude.{◌≡◌, ◌≤◌, ◌++◌, drop, length, map, position, take, IfOk};
 ghost use Rattle.ps_world.specs.Names.{same_name};
 ghost use Rattle.ps_conditions.specs.declared.scopes.TheConstants.{MOST_IN_FORCE};
-ghost use Rattle.ps_forms.specs.Nested.{nesteds};
-ghost use Rattle.ps_forms.specs.NestedViews.{nested};
+ghost use Rattle.ps_lists.specs.Nested.{nesteds};
+ghost use Rattle.ps_lists.specs.NestedViews.{nested};
 ghost use Rattle.ps_script.specs.Goals.{args_of, bound, kind_ahead, lifted, line_scopes, term, typed};
 
 use ps_conditions::Scope;
-use ps_forms::{Lexeme, Tree, head, word_of};
-use ps_shape::Mark;
+use ps_grammar::Mark;
+use ps_lists::{Lexeme, Tree, head, word_of};
 use ps_world::{Args, Expr, Failure, Lifted, MOST_ARGUMENTS, Name, Param, Params, Term, Terms};
 use std::alloc::{AllocError, Global};
 use std::convert::Infallible;

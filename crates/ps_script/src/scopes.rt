@@ -3,12 +3,12 @@ ghost use Rattle.std.specs.Prelude.{◌≡◌, ◌++◌, ◌∷◌, [], if◌the
 ghost use Rattle.std.specs.List.{list_any};
 ghost use Rattle.std.specs.Option.{option_map};
 ghost use Rattle.ps_world.specs.Names.{same_name};
-ghost use Rattle.ps_forms.specs.Nested.{nesteds};
-ghost use Rattle.ps_forms.specs.NestedViews.{nested};
+ghost use Rattle.ps_lists.specs.Nested.{nesteds};
+ghost use Rattle.ps_lists.specs.NestedViews.{nested};
 ghost use Rattle.ps_script.specs.Scopes.{binds, binds_word, loose, named, names_of, quantifies, stray, stray_form, strays};
 
-use ps_forms::{Lexeme, Tree, head, items_at, rest, word_of};
-use ps_shape::Mark;
+use ps_grammar::Mark;
+use ps_lists::{Lexeme, Tree, head, items_at, rest, word_of};
 use ps_world::Name;
 
 /// The variables that quantifiers bind in force at one place, of which there are two at most.

@@ -13,24 +13,24 @@ use Rattle.ps_world.specs.declared.conditions.Rel.{Rel}
 use Rattle.ps_world.specs.declared.conditions.Rel.TheVariants as rel
 use Rattle.ps_rules.specs.Sound.{cond_opens, conds_open, expr_opens}
 use Rattle.ps_text.specs.Names.{folded}
-use Rattle.ps_shape.specs.Marks.{is_goal_name, is_name, is_term}
-use Rattle.ps_shape.specs.Rules.{where_it_is}
-use Rattle.ps_shape.specs.Symbols.{level}
-use Rattle.ps_shape.specs.declared.marks.Mark.{Mark}
-use Rattle.ps_shape.specs.declared.marks.Mark.TheVariants as mark
-use Rattle.ps_shape.specs.declared.symbols.Symbol.{Symbol}
-use Rattle.ps_shape.specs.declared.symbols.Symbol.TheVariants.{The, InGoal}
-use Rattle.ps_shape.specs.declared.symbols.GoalPart.TheVariants as goal
-use Rattle.ps_forms.specs.Lexemes.{fixed_names}
-use Rattle.ps_forms.specs.Nested.{Nested, Nesteds, word, group, none, more}
-use Rattle.ps_forms.specs.TypedLists.{IsTypedList, is_variable}
-use Rattle.ps_forms.specs.TypedLists.IsTypedList.{no_name, first_name}
-use Rattle.ps_forms.specs.TypedLists.IsRun.{type_name}
-use Rattle.ps_forms.specs.declared.lexemes.Lexeme.{Lexeme}
-use Rattle.ps_forms.proofs.OneWord as one
-use Rattle.ps_forms.proofs.OneWord.{Fits, no_word}
-use Rattle.ps_forms.proofs.Taking.{Follows, Takes, TakesAll}
-use Rattle.ps_forms.proofs.VariableLists.{bound_taken}
+use Rattle.ps_grammar.specs.Marks.{is_goal_name, is_name, is_term}
+use Rattle.ps_grammar.specs.Rules.{where_it_is}
+use Rattle.ps_grammar.specs.Symbols.{level}
+use Rattle.ps_grammar.specs.declared.marks.Mark.{Mark}
+use Rattle.ps_grammar.specs.declared.marks.Mark.TheVariants as mark
+use Rattle.ps_grammar.specs.declared.symbols.Symbol.{Symbol}
+use Rattle.ps_grammar.specs.declared.symbols.Symbol.TheVariants.{The, InGoal}
+use Rattle.ps_grammar.specs.declared.symbols.GoalPart.TheVariants as goal
+use Rattle.ps_lists.specs.Lexemes.{fixed_names}
+use Rattle.ps_lists.specs.Nested.{Nested, Nesteds, word, group, none, more}
+use Rattle.ps_lists.specs.TypedLists.{IsTypedList, is_variable}
+use Rattle.ps_lists.specs.TypedLists.IsTypedList.{no_name, first_name}
+use Rattle.ps_lists.specs.TypedLists.IsRun.{type_name}
+use Rattle.ps_lists.specs.declared.lexemes.Lexeme.{Lexeme}
+use Rattle.ps_lists.proofs.OneWord as one
+use Rattle.ps_lists.proofs.OneWord.{Fits, no_word}
+use Rattle.ps_lists.proofs.Taking.{Follows, Takes, TakesAll}
+use Rattle.ps_lists.proofs.VariableLists.{bound_taken}
 use Rattle.ps_pddl.proofs.CanonicalForms.{IsTermWord, AreTermForms, IsLiftedForm, op_mark, IsExprForm, rel_mark, IsCondForm, AreCondForms, AreParamForms}
 use Rattle.ps_pddl.proofs.CanonicalForms.AreParamForms.{no_params, more_params}
 use Rattle.ps_pddl.proofs.CanonicalForms.AreTermForms.{no_terms, more_terms}

@@ -18,11 +18,11 @@ use Rattle.ps_world.specs.declared.expressions.Op.TheVariants as op
 use Rattle.ps_world.specs.declared.conditions.Rel.{Rel}
 use Rattle.ps_world.specs.declared.conditions.Rel.TheVariants as rel
 use Rattle.ps_text.proofs.Folds.{list_any-map}
-use Rattle.ps_shape.specs.Marks.{is, is_name}
-use Rattle.ps_shape.specs.declared.marks.Mark.TheVariants as mark
-use Rattle.ps_forms.specs.Nested.{Nested, Nesteds, group, none}
-use Rattle.ps_forms.specs.Places.{items_at}
-use Rattle.ps_forms.specs.declared.lexemes.Lexeme.{Lexeme}
+use Rattle.ps_grammar.specs.Marks.{is, is_name}
+use Rattle.ps_grammar.specs.declared.marks.Mark.TheVariants as mark
+use Rattle.ps_lists.specs.Nested.{Nested, Nesteds, group, none}
+use Rattle.ps_lists.specs.Places.{items_at}
+use Rattle.ps_lists.specs.declared.lexemes.Lexeme.{Lexeme}
 use Rattle.ps_print.specs.CanonicalWords.{AreCondsOf, IsCondOf, IsExprOf, IsLiftedOf, IsTermOf}
 use Rattle.ps_script.specs.Scopes.{below, binds, loose, quantifies, stray, strays}
 use Rattle.ps_pddl.specs.WellFormed.{AreApart}

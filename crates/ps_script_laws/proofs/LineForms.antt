@@ -9,13 +9,13 @@ use Rattle.ps_world.specs.declared.names.Name.{Name}
 use Rattle.ps_text.specs.Names.{AreNames}
 use Rattle.ps_text.specs.Tokens.{class_of}
 use Rattle.ps_text.specs.declared.lexing.Class.TheVariants as class
-use Rattle.ps_shape.specs.Marks.{is_name}
-use Rattle.ps_shape.specs.declared.symbols.Symbol.{Symbol}
-use Rattle.ps_shape.specs.declared.symbols.Symbol.TheVariants.{AnyName}
-use Rattle.ps_forms.specs.Lexemes.{mark_of}
-use Rattle.ps_forms.specs.Nested.{Nested, Nesteds, word, group, none, more}
-use Rattle.ps_forms.specs.Places.{rest}
-use Rattle.ps_forms.proofs.OneWord as one
+use Rattle.ps_grammar.specs.Marks.{is_name}
+use Rattle.ps_grammar.specs.declared.symbols.Symbol.{Symbol}
+use Rattle.ps_grammar.specs.declared.symbols.Symbol.TheVariants.{AnyName}
+use Rattle.ps_lists.specs.Lexemes.{mark_of}
+use Rattle.ps_lists.specs.Nested.{Nested, Nesteds, word, group, none, more}
+use Rattle.ps_lists.specs.Places.{rest}
+use Rattle.ps_lists.proofs.OneWord as one
 use Rattle.ps_print.specs.CanonicalWords.{cond_words, IsCondOf, IsNameOf, IsParamOf}
 use Rattle.ps_pddl.proofs.CanonicalForms.{IsNamed, IsCondForm}
 use Rattle.ps_pddl.proofs.Fits.{BindsFree, BindFree, IsVariableName}
@@ -23,7 +23,7 @@ use Rattle.ps_pddl.proofs.NameMarks.{name_mark-is_name}
 use Rattle.ps_pddl.proofs.MeanTerms.{named-is_name}
 use Rattle.ps_pddl.proofs.SpeltParts.{name_first, spelt_cond}
 use Rattle.ps_pddl.proofs.SpeltWords.{AllSpelt, all_last, is_plain, nothing_spelt, one_last, word_first}
-use Rattle.ps_forms.proofs.TakenLines.{TakesLine}
+use Rattle.ps_lists.proofs.TakenLines.{TakesLine}
 use Rattle.ps_script.specs.Scopes.{stray, strays}
 use Rattle.ps_script_laws.specs.Sayable.{HasGoalHeads, HaveGoalHeads}
 use Rattle.ps_script_laws.proofs.GoalScopes.{name_stays}

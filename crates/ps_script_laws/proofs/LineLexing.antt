@@ -11,10 +11,10 @@ use Rattle.ps_text.specs.declared.lexing.Class.{Class}
 use Rattle.ps_text.specs.declared.lexing.Class.TheVariants as class
 use Rattle.ps_text.specs.declared.lexing.Token.{Token}
 use Rattle.ps_text.proofs.Kept.{kept_along}
-use Rattle.ps_forms.specs.Lexemes.{lexemes_of, name_within, named, table_after}
-use Rattle.ps_forms.specs.declared.lexemes.Lexeme.{Lexeme}
-use Rattle.ps_forms.proofs.Kept.{kept_named}
-use Rattle.ps_forms.proofs.TokenNames.{is_name-class, is_name-variable}
+use Rattle.ps_lists.specs.Lexemes.{lexemes_of, name_within, named, table_after}
+use Rattle.ps_lists.specs.declared.lexemes.Lexeme.{Lexeme}
+use Rattle.ps_lists.proofs.Kept.{kept_named}
+use Rattle.ps_lists.proofs.TokenNames.{is_name-class, is_name-variable}
 use Rattle.ps_pddl.proofs.WordLexemes.{IsLexemeOf, AreLexemes, AreNames-name}
 use Rattle.ps_pddl.proofs.WordLexemes.AreLexemes.{no_words, more_words}
 use Rattle.ps_script_laws.specs.Laws.{WordNamesAreKept}

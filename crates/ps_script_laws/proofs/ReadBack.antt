@@ -23,16 +23,16 @@ use Rattle.ps_text.specs.Tokens.{class_of}
 use Rattle.ps_text.specs.Words.{words}
 use Rattle.ps_text.specs.declared.lexing.Class.TheVariants as class
 use Rattle.ps_text.proofs.TextTokens.{texts_have_tokens}
-use Rattle.ps_shape.specs.Marks.{is_name}
-use Rattle.ps_shape.specs.declared.marks.Mark.TheVariants as mark
-use Rattle.ps_shape.specs.declared.symbols.GoalPart.TheVariants as goal
-use Rattle.ps_shape.specs.declared.symbols.Symbol.{Symbol}
-use Rattle.ps_shape.specs.declared.symbols.Symbol.TheVariants.{The, AnyName, InGoal}
-use Rattle.ps_forms.specs.Lexemes.{lexemes_of, mark_of}
-use Rattle.ps_forms.specs.Nested.{Nested, Nesteds, word, group, none, more}
-use Rattle.ps_forms.specs.Places.{head, items, items_at, rest}
-use Rattle.ps_forms.proofs.OneWord as one
-use Rattle.ps_forms.proofs.Taking.{IsDone, Takes, TakesAll}
+use Rattle.ps_grammar.specs.Marks.{is_name}
+use Rattle.ps_grammar.specs.declared.marks.Mark.TheVariants as mark
+use Rattle.ps_grammar.specs.declared.symbols.GoalPart.TheVariants as goal
+use Rattle.ps_grammar.specs.declared.symbols.Symbol.{Symbol}
+use Rattle.ps_grammar.specs.declared.symbols.Symbol.TheVariants.{The, AnyName, InGoal}
+use Rattle.ps_lists.specs.Lexemes.{lexemes_of, mark_of}
+use Rattle.ps_lists.specs.Nested.{Nested, Nesteds, word, group, none, more}
+use Rattle.ps_lists.specs.Places.{head, items, items_at, rest}
+use Rattle.ps_lists.proofs.OneWord as one
+use Rattle.ps_lists.proofs.Taking.{IsDone, Takes, TakesAll}
 use Rattle.ps_print.specs.CanonicalWords.{cond_words, IsCondOf, IsLiftedOf, IsNameOf, IsTermOf}
 use Rattle.ps_print.proofs.Writing.{Whole, later_blank, whole_writes, writes_later}
 use Rattle.ps_script.specs.Commands.{command_of, valued}
@@ -59,7 +59,7 @@ use Rattle.ps_script_laws.proofs.GoalMeanings.{fact-means, goal-means, lifted_fa
 use Rattle.ps_script_laws.proofs.GoalScopes.{cond_stays, expr_stays, lifted_stays}
 use Rattle.ps_script_laws.proofs.LineForms.{AreNamed, Fixed, IsOneCond, cond_spelt, fixed_first, fixed_rest, fixed_stays, fixed_taken, heads_free, named_stays, named_taken, one_cond_stays, no_names_spelt, one_name_spelt, two_names_spelt}
 use Rattle.ps_script_laws.proofs.LineLexing.{after_text, lexemes_kept}
-use Rattle.ps_forms.proofs.TakenLines.{TakesLine, judged_of_line}
+use Rattle.ps_lists.proofs.TakenLines.{TakesLine, judged_of_line}
 use Rattle.ps_script_laws.proofs.LineWords.{classed_cond, classed_name, condition, fact-text, name, words-written}
 
 -- ---- fixed words

@@ -17,9 +17,9 @@ use Rattle.ps_machine.specs.declared.inputs.Query.{Query}
 use Rattle.ps_machine.specs.declared.inputs.Query.TheVariants.{ModelPredicate, ModelAction}
 use Rattle.ps_rules.specs.Sound.{cond_opens}
 use Rattle.ps_text.specs.declared.lexing.Class.TheVariants as class
-use Rattle.ps_shape.specs.Marks.{is_goal_name}
-use Rattle.ps_shape.specs.declared.marks.Mark.TheVariants as mark
-use Rattle.ps_forms.specs.Lexemes.{mark_of}
+use Rattle.ps_grammar.specs.Marks.{is_goal_name}
+use Rattle.ps_grammar.specs.declared.marks.Mark.TheVariants as mark
+use Rattle.ps_lists.specs.Lexemes.{mark_of}
 use Rattle.ps_print.specs.CanonicalWords.{IsCondOf, IsNameOf}
 use Rattle.ps_pddl.specs.WellFormed.{AreApart}
 

@@ -3,7 +3,7 @@ use Rattle.std.specs.Prelude.{ℕ, Option, List, [], ◌∷◌}
 use Rattle.std.specs.Option.{option_and_then}
 use Rattle.ps_world.specs.Names.{Table}
 use Rattle.ps_text.specs.Tokens.{class_of}
-use Rattle.ps_forms.specs.Lexemes.{name_within, named}
+use Rattle.ps_lists.specs.Lexemes.{name_within, named}
 
 -- the name in a word: a name itself, or a variable without its `?`
 abbrev pub word_name : List ℕ → Option (List ℕ)

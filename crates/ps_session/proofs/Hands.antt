@@ -8,7 +8,7 @@ use Rattle.ps_machine.specs.declared.journal.CancelWhy.TheVariants as cancel
 use Rattle.ps_machine.specs.declared.journal.Event.{Event}
 use Rattle.ps_machine.specs.declared.journal.Entry.{Entry}
 use Rattle.ps_rules.specs.Choices.{actors, ordered, Says, turn, with_block}
-use Rattle.ps_rules.specs.History.{any_of, broken, cancels, forced, is_fail, sound}
+use Rattle.ps_rules.specs.History.{any_of, broken, cancels, forced, is_fail, unbroken}
 
 module _ (most : ℕ) where
   abbrev IsBelow : Entry → Type 0
@@ -25,10 +25,10 @@ module _ (most : ℕ) where
   forced-below : (i : Input) (es : List Entry) (e : Entry) → e.hand ≤ most → All IsBelow (forced i es e)
   forced-below i es e l =
       let all = es ++ e ∷ [] in
-      let stops = map (cancels e.hand cancel.Stop) (sound i all) in
+      let stops = map (cancels e.hand cancel.Stop) (unbroken i all) in
       let b = is_fail e.what || any_of (broken i all) in
       All-append IsBelow (map (cancels e.hand cancel.OverAll) (broken i all)) (if b then stops else [])
-      (cancels-below e.hand cancel.OverAll (broken i all) l) (if-below b stops (cancels-below e.hand cancel.Stop (sound i all) l))
+      (cancels-below e.hand cancel.OverAll (broken i all) l) (if-below b stops (cancels-below e.hand cancel.Stop (unbroken i all) l))
 
   -- the block of an event has the event's hand
   pub block-below : (i : Input) (hand : ℕ) (es : List Entry) (e : Event) → hand ≤ most → All IsBelow es → All IsBelow (with_block i hand es e)

@@ -9,7 +9,7 @@ use Rattle.ps_rules.specs.Choices.{after_line, ordered, Says, with_line}
 use Rattle.ps_rules.specs.History.{IsHistory}
 use Rattle.ps_rules.specs.Lines.{due_lines, next_line}
 use Rattle.ps_rules.specs.Runs.{is_running}
-use Rattle.ps_orders.proofs.Moments.{le_or}
+use Rattle.ps_order_laws.proofs.Moments.{le_or}
 use Rattle.ps_pool.proofs.Ending.{closed-turns}
 use Rattle.ps_replies.specs.Plans.{GivesLeast}
 use Rattle.ps_session.specs.Laws.{OneJournal}

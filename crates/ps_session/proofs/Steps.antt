@@ -18,14 +18,14 @@ use Rattle.ps_machine.specs.declared.journal.Entry.{Entry}
 use Rattle.ps_rules.specs.Choices.{after_line, answer_event, line_event, ordered, run_by, Says, with_block, with_line}
 use Rattle.ps_rules.specs.History.{forced, IsHistory}
 use Rattle.ps_rules.specs.Known.{know}
-use Rattle.ps_rules.specs.Legal.{fits, is_accepted, is_legal, is_query}
+use Rattle.ps_rules.specs.Legal.{is_accepted, is_legal, is_query, row_allows}
 use Rattle.ps_rules.specs.Lines.{answered, answers_line, next_line, refusal_of}
 use Rattle.ps_rules.specs.Reading.{read}
 use Rattle.ps_rules.specs.Runs.{is_running, opens, says_open}
 use Rattle.ps_rules.proofs.Between.{lines_force_nothing}
 use Rattle.ps_rules.proofs.Pushed.{read-block}
 use Rattle.ps_rules.proofs.SameThings.{same_query-decides}
-use Rattle.ps_course.specs.Segments.{NoneIs}
+use Rattle.ps_good_plan_laws.specs.Segments.{NoneIs}
 use Rattle.ps_pool.specs.Courses.{GrowsInRun}
 use Rattle.ps_pool.specs.Ordered.{EndsAs}
 use Rattle.ps_pool.specs.Workers.{EndedBy}
@@ -189,7 +189,7 @@ asked-query o other = other
 
 -- what fits where a line's event asks
 fits-ask : (says : Says) (i : Input) (es : List Entry) (q : Query) (line : Line) (why : Option Refusal) → refusal_of i es line ≡ why → next_line i es ≡ Some line
-    → answer_event says i es line why ≡ Some (event.Ask q) → fits i es (event.Ask q) ≡ true
+    → answer_event says i es line why ≡ Some (event.Ask q) → row_allows i es (event.Ask q) ≡ true
 fits-ask says i es q line (Some why) given next made = absurd (cc)
 fits-ask says i es q (Good (command.Edit edit)) None given next made = absurd (cc)
 fits-ask says i es q (Good (command.Ask said)) None given next made =
@@ -205,7 +205,7 @@ fits-ask says i es q (Bad cause) None given next made = absurd (cc)
 
 module _ (says : Says) (i : Input) (es : List Entry) (line : Line) (h : IsHistory i es) (closed : is_running es ≡ false) (next : next_line i es ≡ Some line) where
   legal-ask : (q : Query) → line_event says i es line ≡ Some (event.Ask q) → IsTrue (is_legal i es (event.Ask q))
-  legal-ask q made = and_from (not (is_running es)) (fits i es (event.Ask q)) (ap not closed) (fits-ask says i es q line (refusal_of i es line) refl next made)
+  legal-ask q made = and_from (not (is_running es)) (row_allows i es (event.Ask q)) (ap not closed) (fits-ask says i es q line (refusal_of i es line) refl next made)
 
   -- of the entries that answer a line none but the last asks
   block-asks : (e : Event) (b : Bool) → is_ask e ≡ b → line_event says i es line ≡ Some e

@@ -11,7 +11,7 @@ use Rattle.ps_machine.specs.declared.journal.Entry.{Entry}
 use Rattle.ps_rules.specs.Choices.{Says, with_block}
 use Rattle.ps_rules.specs.History.{forced}
 use Rattle.ps_rules.specs.Lines.{answers_line}
-use Rattle.ps_course.specs.Segments.{NoneIs}
+use Rattle.ps_good_plan_laws.specs.Segments.{NoneIs}
 use Rattle.ps_pool.specs.Courses.{GrowsInRun}
 use Rattle.ps_board.specs.Commands.{asks_plan}
 use Rattle.ps_session.specs.Lines.{EachAfter, IsToldBy}

@@ -1,8 +1,8 @@
 -- What follows for the journals of sessions.
 use Rattle.std.specs.Prelude.{◌≡◌, List}
 use Rattle.ps_rules.specs.History.{IsHistory}
-use Rattle.ps_course.specs.Beginnings.{GoInOrder}
-use Rattle.ps_course.specs.Segments.{GoWell}
+use Rattle.ps_good_plan_laws.specs.Beginnings.{GoInOrder}
+use Rattle.ps_good_plan_laws.specs.Segments.{GoWell}
 use Rattle.ps_machine.specs.declared.inputs.Input.{Input}
 use Rattle.ps_machine.specs.declared.journal.Entry.{Entry}
 use Rattle.ps_session.specs.Session.{IsJournal, TellSuccess}

@@ -1,6 +1,6 @@
 //! What judging words by the grammar answers: the first fault, counted in words.
 use super::tables::{assert_told, lexemes_in};
-use ps_shape::{GoalPart, Mark, Symbol, first_fault, judge};
+use ps_grammar::{GoalPart, Mark, Symbol, first_fault, judge};
 use std::alloc::{AllocError, Global};
 use std::test::Fail;
 

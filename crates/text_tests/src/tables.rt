@@ -1,5 +1,5 @@
 //! Tables: lines of a text, ` -> `, and what is told of it.
-use ps_forms::{Lexeme, lexemes_of};
+use ps_lists::{Lexeme, lexemes_of};
 use ps_text::{LexRefusal, Names, tokens};
 use ps_world::{Failure, Name};
 use std::alloc::{AllocError, Global};

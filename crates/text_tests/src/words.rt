@@ -1,6 +1,6 @@
 //! The words of texts: their places and classes; what they are to the grammar; and the places of lines.
 use super::tables::{assert_told, bytes_of, lexemes_in};
-use ps_forms::Lexeme;
+use ps_lists::Lexeme;
 use ps_text::{Token, Words, lines, tokens};
 use ps_world::Failure;
 use std::alloc::{AllocError, Global};

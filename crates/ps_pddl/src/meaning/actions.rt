@@ -3,8 +3,8 @@ ghost use Rattle.std.specs.Prelude.{◌≡◌, ◌≤◌, [], length};
 ghost use Rattle.std.specs.List.{list_any};
 ghost use Rattle.ps_world.specs.Failures.{Gives};
 ghost use Rattle.ps_world.specs.Names.{same_name};
-ghost use Rattle.ps_shape.specs.declared.marks.Mark.TheVariants.{DurativeAction};
-ghost use Rattle.ps_shape.specs.Marks.{is};
+ghost use Rattle.ps_grammar.specs.declared.marks.Mark.TheVariants.{DurativeAction};
+ghost use Rattle.ps_grammar.specs.Marks.{is};
 ghost use Rattle.ps_pddl.specs.Meaning.{action, action_body, actions, changes, condition_in, duration, duration_in, effect_in, parts};
 ghost use Rattle.ps_pddl.specs.Forms.{forms};
 
@@ -16,8 +16,8 @@ use super::scope::{ActionScope, MOST_PARAMS};
 use crate::refusals::{Cap, DomainRefusal};
 use ps_conditions::value;
 use ps_domain::Declared;
-use ps_forms::{Tree, after, at, head, items, items_at, rest};
-use ps_shape::Mark;
+use ps_grammar::Mark;
+use ps_lists::{Tree, after, at, head, items, items_at, rest};
 use ps_world::{ActionDef, Conditions, Effects, Expr, Failure, Name, Num, Param, Params, Seq};
 use std::alloc::Global;
 

@@ -1,6 +1,6 @@
 //! The parts of an action's effect, by the time at which they come.
 ghost use Rattle.ps_world.specs.Failures.{Gives};
-ghost use Rattle.ps_forms.specs.NestedViews.{nested};
+ghost use Rattle.ps_lists.specs.NestedViews.{nested};
 ghost use Rattle.ps_pddl.specs.Effects.{all_timed, at_time, timed, timed_form, timed_list, timed_part};
 ghost use Rattle.ps_pddl.specs.Forms.{forms};
 
@@ -8,8 +8,8 @@ use super::effects::effect;
 use super::scope::ActionScope;
 use crate::refusals::DomainRefusal;
 use ps_conditions::is_and;
-use ps_forms::{Lexeme, Tree, head, rest, word_of};
-use ps_shape::Mark;
+use ps_grammar::Mark;
+use ps_lists::{Lexeme, Tree, head, rest, word_of};
 use ps_world::{Effects, Failure};
 use std::alloc::Global;
 

@@ -9,7 +9,7 @@ ghost use Rattle.ps_pddl.specs.Forms.{forms};
 use super::lists::{Listing, fault_of_new, listed};
 use crate::refusals::{Cap, DomainRefusal};
 use ps_domain::Declared;
-use ps_forms::{Tree, head, rest};
+use ps_lists::{Tree, head, rest};
 use ps_world::{Decl, Failure, Name, Seq};
 use std::alloc::Global;
 

@@ -2,7 +2,7 @@
 ghost use Rattle.std.specs.Prelude.{◌≡◌, ◌≤◌, ◌++◌, length, [], IfOk};
 ghost use Rattle.ps_world.specs.Failures.{Gives};
 ghost use Rattle.ps_conditions.specs.declared.scopes.TheConstants.{MOST_IN_FORCE};
-ghost use Rattle.ps_forms.specs.NestedViews.{nested};
+ghost use Rattle.ps_lists.specs.NestedViews.{nested};
 ghost use Rattle.ps_pddl.specs.Effects.{addition, adds_fact, is_addition, added, bound_once, change_of, changed, conditional, deleted, deletion, effect, flat_one, for_each, guarded_one, plain_effect, spread_one};
 ghost use Rattle.ps_pddl.specs.Forms.{forms};
 
@@ -12,8 +12,8 @@ use super::scope::{ActionScope, Binder, InForce};
 use super::terms::{fact, value_of};
 use crate::refusals::DomainRefusal;
 use ps_conditions::{condition, is_not, value};
-use ps_forms::{Lexeme, Tree, count, head, items, rest};
-use ps_shape::Mark;
+use ps_grammar::Mark;
+use ps_lists::{Lexeme, Tree, count, head, items, rest};
 use ps_world::{Effect, Failure, Guarded, NumOp, Param, Params, Seq, Spread};
 use std::alloc::{AllocError, Global};
 

@@ -1,21 +1,21 @@
 //! Lists of effects, in which `and` is flattened.
 ghost use Rattle.std.specs.Prelude.{◌≡◌, IfOk};
 ghost use Rattle.ps_world.specs.Failures.{Gives};
-ghost use Rattle.ps_forms.specs.NestedViews.{nested};
+ghost use Rattle.ps_lists.specs.NestedViews.{nested};
 ghost use Rattle.ps_pddl.specs.Effects.{all_flattened, flattened, flattened_form, followed_by};
 ghost use Rattle.ps_pddl.specs.Forms.{forms};
 
 use crate::refusals::DomainRefusal;
 use ps_conditions::is_and;
-use ps_forms::{Lexeme, Tree, count, head, rest};
+use ps_lists::{Lexeme, Tree, count, head, rest};
 use ps_world::{Failure, Seq};
 use std::alloc::{AllocError, Global};
 
 /// A level of effects: what stands in its lists but an `and`. Contracts see it as `one` of it.
 pub trait Level {
     ghost use Rattle.std.specs.Prelude.{Option};
-    ghost use Rattle.ps_forms.specs.Nested.{Nesteds};
-    ghost use Rattle.ps_forms.specs.declared.lexemes.Lexeme.{Lexeme as LexemeView};
+    ghost use Rattle.ps_lists.specs.Nested.{Nesteds};
+    ghost use Rattle.ps_lists.specs.declared.lexemes.Lexeme.{Lexeme as LexemeView};
     ghost use Rattle.ps_pddl.specs.Steps.{Read};
 
     /// What its lists hold.

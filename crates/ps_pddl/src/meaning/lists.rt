@@ -11,8 +11,8 @@ ghost use Rattle.ps_pddl.specs.declared.refusals.DomainRefusal.TheVariants.{Unkn
 
 use crate::refusals::{Cap, DomainRefusal};
 use ps_domain::Declared;
-use ps_forms::{Lexeme, Tree, head, word_of};
-use ps_shape::Mark;
+use ps_grammar::Mark;
+use ps_lists::{Lexeme, Tree, head, word_of};
 use ps_world::{Failure, MOST_ARGUMENTS, MOST_INSTANCES, Name, Param, Params};
 use std::alloc::Global;
 

@@ -1,15 +1,15 @@
 //! The parts of an action's condition, by the time at which they have to hold.
 ghost use Rattle.ps_world.specs.Failures.{Gives};
-ghost use Rattle.ps_forms.specs.NestedViews.{nested};
+ghost use Rattle.ps_lists.specs.NestedViews.{nested};
 ghost use Rattle.ps_pddl.specs.Conditions.{all_timed, timed, timed_form, timed_list, timed_part};
-ghost use Rattle.ps_shape.specs.declared.marks.Mark.TheVariants.{At, Over};
+ghost use Rattle.ps_grammar.specs.declared.marks.Mark.TheVariants.{At, Over};
 ghost use Rattle.ps_pddl.specs.Forms.{forms};
 
 use super::scope::ActionScope;
 use crate::refusals::DomainRefusal;
 use ps_conditions::{add_condition, is_and};
-use ps_forms::{Lexeme, Tree, head, rest, word_of};
-use ps_shape::Mark;
+use ps_grammar::Mark;
+use ps_lists::{Lexeme, Tree, head, rest, word_of};
 use ps_world::{Conditions, Failure};
 use std::alloc::Global;
 

@@ -1,8 +1,8 @@
 //! How much room the parts of an action take, so that it is asked for once.
 ghost use Rattle.std.specs.Prelude.{◌≡◌, ◌≤◌, [], IfOk, length};
 
-use ps_forms::{Tree, head, items, rest};
-use ps_shape::Mark;
+use ps_grammar::Mark;
+use ps_lists::{Tree, head, items, rest};
 use ps_world::{Conditions, Conds, Effects, Seq};
 use std::alloc::{AllocError, Global};
 

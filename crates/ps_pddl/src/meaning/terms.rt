@@ -8,8 +8,8 @@ ghost use Rattle.ps_pddl.specs.declared.refusals.DomainRefusal.TheVariants.{Unkn
 
 use super::scope::InForce;
 use crate::refusals::DomainRefusal;
-use ps_forms::{Lexeme, Tree, count, word_of};
-use ps_shape::Mark;
+use ps_grammar::Mark;
+use ps_lists::{Lexeme, Tree, count, word_of};
 use ps_world::{Decl, Lifted, MOST_ARGUMENTS, Name, Param, Term, Terms};
 
 /// A term with its type.

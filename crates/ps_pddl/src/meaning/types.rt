@@ -9,8 +9,8 @@ ghost use Rattle.ps_pddl.specs.declared.meaning.lists.Listing.TheVariants.{Types
 use super::lists::{Listing, listed};
 use crate::refusals::DomainRefusal;
 use ps_domain::Declared;
-use ps_forms::{Tree, word_of};
-use ps_shape::Mark;
+use ps_grammar::Mark;
+use ps_lists::{Tree, word_of};
 use ps_world::{Failure, Name, Param, Seq};
 use std::alloc::{AllocError, Global};
 

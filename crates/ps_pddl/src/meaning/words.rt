@@ -2,8 +2,8 @@
 ghost use Rattle.std.specs.Prelude.{◌≡◌, ◌≤◌, ◌++◌, length, map, IfOk};
 ghost use Rattle.ps_world.specs.Failures.{Gives};
 ghost use Rattle.ps_conditions.specs.declared.scopes.TheConstants.{MOST_IN_FORCE};
-ghost use Rattle.ps_forms.specs.Nested.{nesteds};
-ghost use Rattle.ps_forms.specs.NestedViews.{nested};
+ghost use Rattle.ps_lists.specs.Nested.{nesteds};
+ghost use Rattle.ps_lists.specs.NestedViews.{nested};
 ghost use Rattle.ps_pddl.specs.Words.{bound, plain_value, scopes, second, term, words};
 
 use super::lists::binding;
@@ -11,7 +11,7 @@ use super::scope::{Binder, InForce};
 use super::terms::{fact, resolved, value_of};
 use crate::refusals::DomainRefusal;
 use ps_conditions::{Scope, is_number};
-use ps_forms::{Lexeme, Tree};
+use ps_lists::{Lexeme, Tree};
 use ps_world::{Expr, Failure, Lifted, Param, Params, Term};
 use std::alloc::Global;
 

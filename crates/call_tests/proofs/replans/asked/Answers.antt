@@ -1,6 +1,6 @@
 use Rattle.std.proofs.Common.{◌≡◌, take, ap, sym, ◌∙◌, subst}
 use Rattle.ps_rules.specs.Known.{know}
-use Rattle.ps_asked.specs.Asked.{WasAsked}
+use Rattle.ps_stale_plan_laws.specs.Asked.{WasAsked}
 use Rattle.ps_board.specs.Board.{with_done}
 use Rattle.ps_board.specs.declared.board.Shown.{Shown}
 use Rattle.ps_board.proofs.Asking.{wants-asked}

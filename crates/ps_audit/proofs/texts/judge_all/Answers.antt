@@ -2,7 +2,7 @@ use Rattle.std.proofs.Common.{◌≡◌, ◌+◌, ◌++◌, [], ◌∷◌, List,
 use Rattle.std.proofs.lemmas.List.{take_more}
 use Rattle.ps_machine.specs.declared.journal.Entry.{Entry}
 use Rattle.ps_rules.specs.Prefixes.{good_length}
-use Rattle.ps_replay.specs.Course.{still_due}
+use Rattle.ps_replay.specs.Judge.{still_due}
 use Rattle.ps_replay.proofs.Leading.{judged-bad, judged-on, reached-as}
 use Rattle.ps_audit.proofs.AddedTexts.{text-more}
 use Rattle.ps_audit.proofs.texts.judge_all.Goals as goal
@@ -11,7 +11,7 @@ pub returns-then-not-comes-clause-verdict : goal.returns-then-not-comes-clause-v
 returns-then-not-comes-clause-verdict g c =
     let at = c.loop-at.at in
     let e : Entry = c.index-entries-at.result in
-    judged-bad c.args.input.now c.args.entries.now (still_due c.loop-at.course) e at (omega arith) c.loop-at.invariant.counted (sym c.index-entries-at.is) (sym c.in_ok-comes.ensures.answer ∙ c.if-not-comes.true)
+    judged-bad c.args.input.now c.args.entries.now (still_due c.loop-at.judge) e at (omega arith) c.loop-at.invariant.counted (sym c.index-entries-at.is) (sym c.in_ok-comes.ensures.answer ∙ c.if-not-comes.true)
 
 pub loop-at-preserved : goal.loop-at-preserved
 loop-at-preserved g c =
@@ -19,7 +19,7 @@ loop-at-preserved g c =
     let es : List Entry = c.args.entries.now in
     let at = c.loop-at.at in
     let e : Entry = c.index-entries-at.result in
-    let due : List Entry = still_due c.loop-at.course in
+    let due : List Entry = still_due c.loop-at.judge in
     let on = judged-on i es due e at (omega arith) c.loop-at.invariant.counted (sym c.index-entries-at.is) (sym c.in_ok-comes.ensures.answer ∙ c.if-not-comes.false) in
     let went = c.in_ok-comes.ensures.comes c.if-not-comes.false in
     let more : take (at + 1) es ≡ take at es ++ e ∷ [] = take_more es at e (omega arith) ∙ ap (λ x. take at es ++ x ∷ []) (sym c.index-entries-at.is) in

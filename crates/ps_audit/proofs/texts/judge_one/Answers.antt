@@ -19,6 +19,6 @@ returns-clause-text g c = λ _.
     let e = c.args.entry.now in
     let went = c.in_ok-comes.ensures.comes c.if-not-comes.false in
     c.in_ok-push_entry.ensures i es
-    (subst (λ acts. RepliesTo i es e.what c.show_tree.new.present.expert c.show_tree.new.present.problem acts (Some c.show_tree.new.present.tree)) (sym c.as_slice.ensures)
+    (subst (λ acts. RepliesTo i es e.what c.show_tree.new.state.expert c.show_tree.new.state.problem acts (Some c.show_tree.new.state.tree)) (sym c.as_slice.ensures)
     (replies-after (g.S.Solver.says c.args.solver.now) i es e _ _ c.requires.solver (c.show_tree.ensures.stands i (es ++ e ∷ []) went.reaches.stands)
     (c.in_ok-comes.ensures.told c.if-not-comes.false) c.show_tree.ensures.states))

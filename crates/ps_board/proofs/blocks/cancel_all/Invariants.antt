@@ -7,7 +7,7 @@ use Rattle.ps_machine.specs.declared.inputs.Input.{Input}
 use Rattle.ps_ledger.specs.Ledger.{KeepsSpare, TellsAll}
 use Rattle.ps_ledger.specs.Legal.{HasMembersOf}
 use Rattle.ps_monitor.specs.Watched.{marked}
-use Rattle.ps_board.specs.Core.{IsWatching}
+use Rattle.ps_board.specs.Parts.{IsWatching}
 use Rattle.ps_board.proofs.blocks.cancel_all.Given as goal
 
 abbrev pub invariant-loop-act : goal.invariant-loop-act

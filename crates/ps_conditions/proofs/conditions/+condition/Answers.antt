@@ -1,8 +1,8 @@
 use Rattle.std.proofs.Common.{arith, map, sym}
 use Rattle.std.proofs.lemmas.Bool.Decides.{nat_tests}
-use Rattle.ps_forms.specs.Nested.{nesteds}
-use Rattle.ps_forms.specs.NestedViews.{nested}
-use Rattle.ps_forms.proofs.NestedLists.{item-rank, rest-rank}
+use Rattle.ps_lists.specs.Nested.{nesteds}
+use Rattle.ps_lists.specs.NestedViews.{nested}
+use Rattle.ps_lists.proofs.NestedLists.{item-rank, rest-rank}
 use Rattle.ps_conditions.proofs.ConditionForms.{few_implied, few_quantified, opened, two_implied, two_quantified}
 use Rattle.ps_conditions.proofs.Operations.{group-rank}
 use Rattle.ps_conditions.proofs.conditions.+condition.Goals as goal

@@ -1,7 +1,7 @@
 use Rattle.std.proofs.Common.{◌≡◌, ◌+◌, ◌*◌, max, [], drop, map}
 use Rattle.ps_world.specs.CondViews.{cond_tree}
-use Rattle.ps_forms.specs.Nested.{nesteds, rank, ranks}
-use Rattle.ps_forms.specs.NestedViews.{nested}
+use Rattle.ps_lists.specs.Nested.{nesteds, rank, ranks}
+use Rattle.ps_lists.specs.NestedViews.{nested}
 use Rattle.ps_conditions.specs.Conditions.{conditions}
 use Rattle.ps_conditions.proofs.conditions.+condition.Given as goal
 

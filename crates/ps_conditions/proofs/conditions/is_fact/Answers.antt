@@ -1,5 +1,5 @@
 use Rattle.std.proofs.Common.{arith, sym}
-use Rattle.ps_forms.specs.NestedViews.{nested}
+use Rattle.ps_lists.specs.NestedViews.{nested}
 use Rattle.ps_conditions.proofs.ConditionForms.{a_fact}
 use Rattle.ps_conditions.proofs.conditions.is_fact.Goals as goal
 

@@ -1,6 +1,6 @@
 use Rattle.std.proofs.Common.{Ok, ap, arith, sym}
 use Rattle.std.proofs.lemmas.Result.{err_from_is_err_and}
-use Rattle.ps_forms.proofs.NestedLists.{second-rank, third-rank}
+use Rattle.ps_lists.proofs.NestedLists.{second-rank, third-rank}
 use Rattle.ps_conditions.proofs.Operations.{alone, with_one, with_two, group-rank}
 use Rattle.ps_conditions.proofs.Steps.{gives_first}
 use Rattle.ps_conditions.proofs.values.+value.Goals as goal

@@ -1,6 +1,6 @@
 use Rattle.std.proofs.Common.{◌+◌, ◌*◌, map}
-use Rattle.ps_forms.specs.Nested.{nesteds, rank, ranks}
-use Rattle.ps_forms.specs.NestedViews.{nested}
+use Rattle.ps_lists.specs.Nested.{nesteds, rank, ranks}
+use Rattle.ps_lists.specs.NestedViews.{nested}
 use Rattle.ps_conditions.proofs.values.+value.Given as goal
 
 abbrev pub decreases-value : goal.decreases-value

@@ -7,7 +7,7 @@ use Rattle.ps_action.specs.Grounding.{all_ground}
 use Rattle.ps_action.specs.declared.acts.Act.{Act}
 use Rattle.ps_action.specs.declared.acts.GroundAction.{GroundAction}
 use Rattle.ps_ground.specs.Acts.{acts_with}
-use Rattle.ps_ground.specs.Thinned.{IsIdle, IsThinned}
+use Rattle.ps_ground.specs.Thinned.{IsThinned, IsUseless}
 use Rattle.ps_ground.proofs.Listing.{acts_are}
 use Rattle.ps_ground.proofs.Thinning.{goes_same, gone_on}
 use Rattle.ps_ground.proofs.acts.all_acts.Goals as goal
@@ -17,7 +17,7 @@ loop-action-init c =
     let d = c.args.expert.now in
     let sorted = c.as_slice-sorted.result.now in
     let all = all_ground d c.args.instances.now in
-    let P : Act → Type 0 = IsIdle d c.args.fixed.now.heads.keys c.args.fixed.now.facts in
+    let P : Act → Type 0 = IsUseless d c.args.fixed.now.heads.keys c.args.fixed.now.facts in
     let here : c.as_slice-action-items.result.now ≡ d.actions = c.as_slice-action-items.ensures ∙ ap (λ (e : Domain). e.actions) c.domain.ensures in
     let whole : flat_map (acts_with d sorted) c.as_slice-action-items.result.now ≡ map (λ (g : GroundAction). g.act) all =
     ap (λ (l : List ActionDef). flat_map (acts_with d sorted) l) here ∙ acts_are d sorted c.args.instances.now (c.as_slice-sorted.ensures.value ∙ c.in_ok-sorted.ensures) in
@@ -32,7 +32,7 @@ pub loop-action-preserved : goal.loop-action-preserved
 loop-action-preserved c =
     let d = c.args.expert.now in
     let acts : ActionDef → List Act = acts_with d c.as_slice-sorted.result.now in
-    let P : Act → Type 0 = IsIdle d c.args.fixed.now.heads.keys c.args.fixed.now.facts in
+    let P : Act → Type 0 = IsUseless d c.args.fixed.now.heads.keys c.args.fixed.now.facts in
     let whole = map (λ (g : GroundAction). g.act) (all_ground d c.args.instances.now) in
     let items = c.as_slice-action-items.result.now in
     let i = c.loop-action.action-index in
@@ -64,7 +64,7 @@ pub returns : goal.returns
 returns c =
     let d = c.args.expert.now in
     let acts : ActionDef → List Act = acts_with d c.as_slice-sorted.result.now in
-    let P : Act → Type 0 = IsIdle d c.args.fixed.now.heads.keys c.args.fixed.now.facts in
+    let P : Act → Type 0 = IsUseless d c.args.fixed.now.heads.keys c.args.fixed.now.facts in
     let whole = map (λ (g : GroundAction). g.act) (all_ground d c.args.instances.now) in
     let items = c.as_slice-action-items.result.now in
     let i = c.loop-action.action-index in

@@ -6,20 +6,20 @@ use Rattle.ps_ground.specs.declared.prepared.Prepared.{Prepared}
 use Rattle.ps_ground.proofs.Preparing.{bare_passes, first_atoms, last_atoms, leads_alike, no_last, no_over}
 use Rattle.ps_ground.proofs.prepared.fill.Goals as goal
 
-pub returns-then-not-is_whole-clause-vain : goal.returns-then-not-is_whole-clause-vain
-returns-then-not-is_whole-clause-vain c =
+pub returns-then-not-is_whole-clause-never : goal.returns-then-not-is_whole-clause-never
+returns-then-not-is_whole-clause-never c =
     let g = parts_with c.args.args.now c.args.conditions.now c.args.effects.now in
-    λ no d k a s o. ap (λ b. option_and_then (ended d k g) (where_so b (changed d k s g.effects.at_start))) (c.in_ok-start.ensures.vain no d k s o)
+    λ no d k a s o. ap (λ b. option_and_then (ended d k g) (where_so b (changed d k s g.effects.at_start))) (c.in_ok-start.ensures.never no d k s o)
 
-pub returns-then-not-is_whole-2-clause-vain : goal.returns-then-not-is_whole-2-clause-vain
-returns-then-not-is_whole-2-clause-vain c =
+pub returns-then-not-is_whole-2-clause-never : goal.returns-then-not-is_whole-2-clause-never
+returns-then-not-is_whole-2-clause-never c =
     let g = parts_with c.args.args.now c.args.conditions.now c.args.effects.now in
-    λ no d k a s o. no_over d k c.args.atoms.now g (c.in_ok-over.ensures.vain no d k) (first_atoms d k c.args.atoms.now g a) s o
+    λ no d k a s o. no_over d k c.args.atoms.now g (c.in_ok-over.ensures.never no d k) (first_atoms d k c.args.atoms.now g a) s o
 
-pub returns-then-not-is_whole-3-clause-vain : goal.returns-then-not-is_whole-3-clause-vain
-returns-then-not-is_whole-3-clause-vain c =
+pub returns-then-not-is_whole-3-clause-never : goal.returns-then-not-is_whole-3-clause-never
+returns-then-not-is_whole-3-clause-never c =
     let g = parts_with c.args.args.now c.args.conditions.now c.args.effects.now in
-    λ no d k a s o. no_last d k c.args.atoms.now g (c.in_ok-end.ensures.vain no d k) (first_atoms d k c.args.atoms.now g a) s o
+    λ no d k a s o. no_last d k c.args.atoms.now g (c.in_ok-end.ensures.never no d k) (first_atoms d k c.args.atoms.now g a) s o
 
 pub returns-clause-same : goal.returns-clause-same
 returns-clause-same c =

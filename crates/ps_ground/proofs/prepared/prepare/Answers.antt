@@ -36,8 +36,8 @@ returns-in-Whole-clause-sound c =
     let is : action_of d act.action ≡ Some a = sym (rw c.in-Some.is at c.action.ensures) in
     c.in_ok-fill.ensures.sound c.in-Whole.is d k (fit_atoms d k a act c.args.atoms.now c.as_slice-args.result.now (fit_grounds d k act a is c.requires.fit) c.as_slice-args.ensures c.requires.atoms)
 
-pub returns-in-Vain-clause-same : goal.returns-in-Vain-clause-same
-returns-in-Vain-clause-same c =
+pub returns-in-NeverHolds-clause-same : goal.returns-in-NeverHolds-clause-same
+returns-in-NeverHolds-clause-same c =
     let d = c.args.expert.now in
     let k = c.args.problem.now in
     let act = c.args.act.now in
@@ -48,5 +48,5 @@ returns-in-Vain-clause-same c =
     nowhere_by d k c.args.atoms.now n (grounded a act)
     (sym (ap (λ (names : List Name). stepped d k n.state (parts_with names a.conditions a.effects)) c.as_slice-args.ensures
     ∙ fit_parts d k a act (fit_args d k act a is c.requires.fit) n.state)
-    ∙ c.in_ok-fill.ensures.vain c.in-Vain.is d k atoms n.state over)
+    ∙ c.in_ok-fill.ensures.never c.in-NeverHolds.is d k atoms n.state over)
     ∙ ap (λ (o : Option GroundAction). moves d k (option_to_list o) n) (sym (fit_grounds d k act a is c.requires.fit))

@@ -38,13 +38,13 @@ loop-act-preserved c =
             ∙ ap (λ (l : List Node). old ++ l) (made n over))
             ∙ c.loop-act.invariant.same n over
         | in_default w ↦
-            let idle = rw w.in_default.is at c.in_ok-one.ensures.same in
+            let useless = rw w.in_default.is at c.in_ok-one.ensures.same in
             λ n over.
             let old = successor_nodes d k atoms found n in
             gathered d k n ground acts i x old (successor_nodes d k atoms c.match-branch-3.all.items n) split
             (ap (λ (v : Vec Prepared Global). successor_nodes d k atoms v.items n) w.all-is
             ∙ sym (append-nil old)
-            ∙ ap (λ (l : List Node). old ++ l) (idle n over))
+            ∙ ap (λ (l : List Node). old ++ l) (useless n over))
             ∙ c.loop-act.invariant.same n over
       ];
       sound = elim c.match-branch-3.branch [

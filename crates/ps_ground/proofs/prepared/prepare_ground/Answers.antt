@@ -11,7 +11,7 @@ returns-in-Whole-clause-same c =
 pub returns-in-Whole-clause-sound : goal.returns-in-Whole-clause-sound
 returns-in-Whole-clause-sound c = λ d k a. c.in_ok-fill.ensures.sound c.in-Whole.is d k (no_adds d k c.args.action.now c.args.atoms.now a)
 
-pub returns-in-Vain-clause-same : goal.returns-in-Vain-clause-same
-returns-in-Vain-clause-same c =
+pub returns-in-NeverHolds-clause-same : goal.returns-in-NeverHolds-clause-same
+returns-in-NeverHolds-clause-same c =
     let g = c.args.action.now in
-    λ d k a n over. nowhere_by d k c.args.atoms.now n g (sym (no_parts d k n.state g) ∙ c.in_ok-fill.ensures.vain c.in-Vain.is d k (no_adds d k g c.args.atoms.now a) n.state over)
+    λ d k a n over. nowhere_by d k c.args.atoms.now n g (sym (no_parts d k n.state g) ∙ c.in_ok-fill.ensures.never c.in-NeverHolds.is d k (no_adds d k g c.args.atoms.now a) n.state over)

@@ -8,7 +8,7 @@ use Rattle.ps_action.specs.Grounding.{put_cond}
 use Rattle.ps_action.specs.Truth.{all_true}
 use Rattle.ps_ground.specs.States.{at}
 use Rattle.ps_ground.specs.Prepared.{passes}
-use Rattle.ps_ground.proofs.Fixedness.{vain_at}
+use Rattle.ps_ground.proofs.Fixedness.{never_at}
 use Rattle.ps_ground.proofs.Preparing.{tested_more}
 use Rattle.ps_ground.proofs.prepared.take_all.Goals as goal
 
@@ -28,9 +28,9 @@ returns-then-not-is_whole c =
     let split : drop i items ≡ x ∷ drop (i + 1) items = drop_more items i x (omega arith) ∙ ap (λ (y : Cond). y ∷ drop (i + 1) items) (sym c.cond-item.is) in
     record {
       taken = λ yes. absurd (c.is_whole.ensures.no c.if-not-is_whole.true yes);
-      vain = λ no d k s o.
+      never = λ no d k s o.
           ap (λ (l : List CondTree). all_true d (at k s) (map (put_cond c.args.args.now) l)) (sym c.as_slice-cond-items.ensures)
-          ∙ vain_at d k s c.args.args.now i items (drop (i + 1) items) x split (c.in_ok-taken.ensures.vain no d k s o);
+          ∙ never_at d k s c.args.args.now i items (drop (i + 1) items) x split (c.in_ok-taken.ensures.never no d k s o);
       ready = c.in_ok-taken.ensures.ready;
     }
 
@@ -44,6 +44,6 @@ returns c =
           sym (and_true (passes d k c.args.atoms.now c.loop-cond.test s))
           ∙ ap (λ (l : List Cond). passes d k c.args.atoms.now c.loop-cond.test s && all_true d (at k s) (map (put_cond c.args.args.now) (map cond_tree l))) (sym gone)
           ∙ c.loop-cond.invariant d k s;
-      vain = λ no. absurd (cc);
+      never = λ no. absurd (cc);
       ready = λ no. absurd (cc);
     }

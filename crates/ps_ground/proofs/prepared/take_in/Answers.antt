@@ -18,14 +18,14 @@ returns-in_ok-push-in-Some c =
       taken = λ yes d k s.
           taken_fact d k s args c.in-Holds.lifted c.args.atoms.now test test.others c.push.new.self.items c.in-Some.place c.in_ok-push-in-Some.ensures.ok refl (c.in-Some.ensures.place ∙ ap Some c.ground_in.ensures)
           ∙ (λ i. passes d k c.args.atoms.now test s && is_true d (at k s) (put_cond args (cond_tree (sym c.in-Holds.is i))));
-      vain = λ out. absurd (cc);
+      never = λ out. absurd (cc);
       ready = λ out. absurd (cc);
     }
 
 pub returns-in-None : goal.returns-in-None
 returns-in-None c = record {
   taken = λ out. absurd (cc);
-  vain = λ out d k s over.
+  never = λ out d k s over.
       (λ i. is_true d (at k s) (put_cond c.args.args.now (cond_tree (c.in-Holds.is i))))
       ∙ known_in d k s c.args.args.now c.in-Holds.lifted
       ∙ ap (λ (f : Fact). list_any (same_fact f) s.facts) (sym c.ground_in.ensures)

@@ -7,7 +7,7 @@ use Rattle.ps_action.specs.declared.acts.GroundAction.{GroundAction}
 use Rattle.ps_ground.specs.Atoms.{AreAtoms, adds}
 use Rattle.ps_ground.specs.Fitting.{grounds_of}
 use Rattle.ps_ground.specs.Moves.{moves}
-use Rattle.ps_ground.specs.Thinned.{IsIdle, IsThinned}
+use Rattle.ps_ground.specs.Thinned.{IsThinned, IsUseless}
 use Rattle.ps_ground.proofs.Chosen.{fit_left}
 use Rattle.ps_ground.proofs.KeptActs.{are_useful}
 use Rattle.ps_ground.proofs.useful.useful_by.Goals as goal
@@ -18,11 +18,11 @@ returns-then-stand_once c =
     let k = c.args.problem.now in
     let heads = c.args.fixed.now.heads.keys in
     let fixed = c.args.fixed.now.facts in
-    let idle : Act → Type 0 = IsIdle d heads fixed in
+    let useless : Act → Type 0 = IsUseless d heads fixed in
     let acts = c.in-Some.acts.items in
-    let P : List (Name × Name) → Type 0 = λ is. IsThinned idle acts (map (λ (g : GroundAction). g.act) (all_ground d is)) × (length (all_ground d is) ≤ most_ground) in
+    let P : List (Name × Name) → Type 0 = λ is. IsThinned useless acts (map (λ (g : GroundAction). g.act) (all_ground d is)) × (length (all_ground d is) ≤ most_ground) in
     let here = subst P c.requires.instances (rw c.in-Some.is at c.in_ok-acts.ensures) in
-    let fit = fit_left d k idle acts (possible_acts d k) here.0 (c.stand_once.ensures c.if-stand_once.true k (sym c.requires.instances)) in
+    let fit = fit_left d k useless acts (possible_acts d k) here.0 (c.stand_once.ensures c.if-stand_once.true k (sym c.requires.instances)) in
     are_useful d k heads fixed c.requires.fixed acts here.0 here.1 acts (omega arith) fit (λ f gone. gone) (λ n. refl)
 
 pub returns : goal.returns
@@ -31,9 +31,9 @@ returns c =
     let k = c.args.problem.now in
     let heads = c.args.fixed.now.heads.keys in
     let fixed = c.args.fixed.now.facts in
-    let idle : Act → Type 0 = IsIdle d heads fixed in
+    let useless : Act → Type 0 = IsUseless d heads fixed in
     let acts = c.in-Some.acts.items in
-    let P : List (Name × Name) → Type 0 = λ is. IsThinned idle acts (map (λ (g : GroundAction). g.act) (all_ground d is)) × (length (all_ground d is) ≤ most_ground) in
+    let P : List (Name × Name) → Type 0 = λ is. IsThinned useless acts (map (λ (g : GroundAction). g.act) (all_ground d is)) × (length (all_ground d is) ≤ most_ground) in
     let here = subst P c.requires.instances (rw c.in-Some.is at c.in_ok-acts.ensures) in
     let made = c.in_ok-useful in
     let same : c.as_slice.result.now ≡ acts = c.as_slice.ensures.value in

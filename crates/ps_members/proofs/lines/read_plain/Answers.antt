@@ -1,5 +1,5 @@
 use Rattle.std.proofs.Common.{Ok, ap, sym, ◌∙◌}
-use Rattle.ps_forms.specs.Lexemes.{marks}
+use Rattle.ps_lists.specs.Lexemes.{marks}
 use Rattle.ps_script.specs.Judged.{Fits}
 use Rattle.ps_script.proofs.Fronts.{found_fits}
 use Rattle.ps_members.specs.Forms.{start_of}

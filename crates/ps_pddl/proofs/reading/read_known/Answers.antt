@@ -1,5 +1,5 @@
 use Rattle.std.proofs.lemmas.Result.{err_from_is_err_and}
-use Rattle.ps_forms.proofs.Balance.{balanced_shape}
+use Rattle.ps_lists.proofs.Balance.{balanced_shape}
 use Rattle.ps_pddl.proofs.Refused.{class_read, has_words, is_spelt, meant, shape_read}
 use Rattle.ps_pddl.proofs.reading.read_known.Goals as goal
 

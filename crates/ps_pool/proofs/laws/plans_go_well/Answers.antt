@@ -1,5 +1,5 @@
-use Rattle.ps_course.proofs.Ordering.{journals_go_in_order}
-use Rattle.ps_course.proofs.Walking.{journals_go_well}
+use Rattle.ps_good_plan_laws.proofs.Ordering.{journals_go_in_order}
+use Rattle.ps_good_plan_laws.proofs.Walking.{journals_go_well}
 use Rattle.ps_pool.proofs.laws.plans_go_well.Goals as goal
 
 pub returns : goal.returns

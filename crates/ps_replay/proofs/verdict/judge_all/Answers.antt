@@ -3,7 +3,7 @@ use Rattle.std.proofs.lemmas.Bool.{true≢false}
 use Rattle.std.proofs.lemmas.List.{take_more}
 use Rattle.ps_machine.specs.declared.journal.Entry.{Entry}
 use Rattle.ps_rules.specs.Prefixes.{good_length}
-use Rattle.ps_replay.specs.Course.{due_then, may_come, Reaches, still_due}
+use Rattle.ps_replay.specs.Judge.{due_then, may_come, Reaches, still_due}
 use Rattle.ps_replay.proofs.Leading.{all-whole, first-few, first-whole, judged-all, judged-bad, judged-on, reached-as}
 use Rattle.ps_replay.proofs.verdict.judge_all.Goals as goal
 
@@ -13,8 +13,8 @@ returns-then-not-comes g c =
     let es : List Entry = c.args.entries.now in
     let at = c.loop-at.at in
     let e : Entry = c.entry_at-entry.result.now in
-    let bad = sym (sym c.if-not-comes.true ∙ c.in_ok-comes.ensures.answer ∙ ap (λ t. may_come i t (still_due c.loop-at.course) e) c.first-before.ensures) in
-    judged-bad i es (still_due c.loop-at.course) e at (omega arith) c.loop-at.invariant.counted (sym c.entry_at-entry.ensures) bad
+    let bad = sym (sym c.if-not-comes.true ∙ c.in_ok-comes.ensures.answer ∙ ap (λ t. may_come i t (still_due c.loop-at.judge) e) c.first-before.ensures) in
+    judged-bad i es (still_due c.loop-at.judge) e at (omega arith) c.loop-at.invariant.counted (sym c.entry_at-entry.ensures) bad
 
 pub loop-at-preserved : goal.loop-at-preserved
 loop-at-preserved g c =
@@ -22,7 +22,7 @@ loop-at-preserved g c =
     let es : List Entry = c.args.entries.now in
     let at = c.loop-at.at in
     let e : Entry = c.entry_at-entry.result.now in
-    let due : List Entry = still_due c.loop-at.course in
+    let due : List Entry = still_due c.loop-at.judge in
     let good = sym (sym c.if-not-comes.false ∙ c.in_ok-comes.ensures.answer ∙ ap (λ t. may_come i t due e) c.first-before.ensures) in
     let on = judged-on i es due e at (omega arith) c.loop-at.invariant.counted (sym c.entry_at-entry.ensures) good in
     let went = c.in_ok-comes.ensures.comes c.if-not-comes.false in
@@ -39,7 +39,7 @@ step-requires-clause-few g c =
     subst (λ (t : List Entry). length t < 18446744073709551615) (sym c.first-before.ensures) few
 
 pub step-requires-clause-reaches : goal.step-requires-clause-reaches
-step-requires-clause-reaches g c = subst (λ t. Reaches c.args.input.now t c.loop-at.course) (sym c.first-before.ensures) c.loop-at.invariant.reached
+step-requires-clause-reaches g c = subst (λ t. Reaches c.args.input.now t c.loop-at.judge) (sym c.first-before.ensures) c.loop-at.invariant.reached
 
 pub returns-then-is_whole : goal.returns-then-is_whole
 returns-then-is_whole g c =
@@ -53,5 +53,5 @@ returns-else-is_whole g c =
     let at = c.loop-at.at in
     let whole = c.is_whole.ensures i (take at es) c.loop-at.invariant.reached in (
       λ w. absurd (true≢false (sym (whole.1 (first-whole i es at (omega arith) w)) ∙ c.if-is_whole.false)),
-      omega (arith, judged-all i es (still_due c.loop-at.course) at (omega arith) (omega arith) c.loop-at.invariant.counted),
+      omega (arith, judged-all i es (still_due c.loop-at.judge) at (omega arith) (omega arith) c.loop-at.invariant.counted),
     )

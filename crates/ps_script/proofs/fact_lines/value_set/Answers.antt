@@ -2,7 +2,7 @@ use Rattle.std.proofs.Common.{◌∙◌, ◌++◌, List, ap, append_assoc, subst
 use Rattle.ps_world.specs.declared.edits.Edit.TheVariants as edit
 use Rattle.ps_world.specs.declared.facts.Fact.{Fact}
 use Rattle.ps_machine.specs.declared.inputs.Command.TheVariants.{Edit}
-use Rattle.ps_forms.specs.declared.lexemes.Lexeme.{Lexeme}
+use Rattle.ps_lists.specs.declared.lexemes.Lexeme.{Lexeme}
 use Rattle.ps_script.specs.FactLines.{Means}
 use Rattle.ps_script.specs.declared.forms.Form.TheVariants as form
 use Rattle.ps_script.proofs.FactsSaid.{value_means}

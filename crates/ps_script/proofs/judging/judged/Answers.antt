@@ -1,5 +1,5 @@
 use Rattle.std.proofs.Common.{Option, subst, ℕ}
-use Rattle.ps_forms.specs.Lexemes.{marks}
+use Rattle.ps_lists.specs.Lexemes.{marks}
 use Rattle.ps_script.specs.Judged.{Fits}
 use Rattle.ps_script.proofs.Judgements.{misfit_judged, scoped_answer}
 use Rattle.ps_script.proofs.judging.judged.Goals as goal

@@ -1,5 +1,5 @@
 use Rattle.std.proofs.Common.{◌≡◌, ◌≤◌, drop}
-use Rattle.ps_forms.specs.Lexemes.{marks}
+use Rattle.ps_lists.specs.Lexemes.{marks}
 use Rattle.ps_script.specs.Judged.{open_after}
 use Rattle.ps_script.proofs.judging.open_after.Given as goal
 

@@ -1,6 +1,6 @@
 use Rattle.std.proofs.Common.{◌≡◌, ◌-◌, length, drop, map}
-use Rattle.ps_forms.specs.Nested.{nesteds}
-use Rattle.ps_forms.specs.NestedViews.{nested}
+use Rattle.ps_lists.specs.Nested.{nesteds}
+use Rattle.ps_lists.specs.NestedViews.{nested}
 use Rattle.ps_script.specs.Goals.{kind_ahead}
 use Rattle.ps_script.proofs.names.kind_ahead.Given as goal
 

@@ -1,7 +1,7 @@
 use Rattle.std.proofs.Common.{◌≡◌, ◌∙◌, ap, arith, map, subst, take, ℕ}
 use Rattle.std.proofs.Math.ListN.{length-set}
-use Rattle.ps_forms.specs.NestedViews.{nested}
-use Rattle.ps_forms.specs.Places.{word_of}
+use Rattle.ps_lists.specs.NestedViews.{nested}
+use Rattle.ps_lists.specs.Places.{word_of}
 use Rattle.ps_script.specs.Goals.{term}
 use Rattle.ps_script.proofs.Lists.{first_terms, term_more}
 use Rattle.ps_script.proofs.names.lifted.Goals as goal

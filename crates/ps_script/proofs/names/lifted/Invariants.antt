@@ -1,6 +1,6 @@
 use Rattle.std.proofs.Common.{◌≡◌, length, map, take}
-use Rattle.ps_forms.specs.NestedViews.{nested}
-use Rattle.ps_forms.specs.Places.{word_of}
+use Rattle.ps_lists.specs.NestedViews.{nested}
+use Rattle.ps_lists.specs.Places.{word_of}
 use Rattle.ps_script.specs.Goals.{term}
 use Rattle.ps_script.proofs.names.lifted.Given as goal
 

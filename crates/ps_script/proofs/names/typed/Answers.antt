@@ -1,6 +1,6 @@
 use Rattle.std.proofs.Common.{◌≡◌, false, true, rules, arith, ◌∙◌, sym, ap}
-use Rattle.ps_shape.specs.Marks.{is}
-use Rattle.ps_shape.specs.declared.marks.Mark.TheVariants.{Minus}
+use Rattle.ps_grammar.specs.Marks.{is}
+use Rattle.ps_grammar.specs.declared.marks.Mark.TheVariants.{Minus}
 use Rattle.ps_script.proofs.Typed.{listed_type, listed_variable, run_on}
 use Rattle.ps_script.proofs.names.typed.Goals as goal
 

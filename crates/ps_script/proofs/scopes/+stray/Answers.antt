@@ -1,5 +1,5 @@
 use Rattle.std.proofs.Common.{arith}
-use Rattle.ps_forms.proofs.NestedLists.{item-rank}
+use Rattle.ps_lists.proofs.NestedLists.{item-rank}
 use Rattle.ps_script.proofs.scopes.+stray.Goals as goal
 
 pub strays-stray-requires : goal.strays-stray-requires

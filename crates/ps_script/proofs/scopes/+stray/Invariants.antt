@@ -1,6 +1,6 @@
 use Rattle.std.proofs.Common.{◌≡◌, ◌+◌, ◌*◌, drop, map}
-use Rattle.ps_forms.specs.Nested.{nesteds, rank, ranks}
-use Rattle.ps_forms.specs.NestedViews.{nested}
+use Rattle.ps_lists.specs.Nested.{nesteds, rank, ranks}
+use Rattle.ps_lists.specs.NestedViews.{nested}
 use Rattle.ps_script.specs.Scopes.{names_of, strays}
 use Rattle.ps_script.proofs.scopes.+stray.Given as goal
 

@@ -5,7 +5,7 @@ use Rattle.ps_board.proofs.board.Board.halt.Goals as goal
 pub invariant_of-self : goal.invariant_of-self
 invariant_of-self c =
     record {
-      core = c.self.invariant.core;
+      parts = c.self.invariant.parts;
       shown = c.self.invariant.shown;
       out = c.self.invariant.out;
       heard = c.self.invariant.heard;

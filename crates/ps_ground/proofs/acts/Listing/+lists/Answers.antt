@@ -4,8 +4,8 @@ use Rattle.std.proofs.lemmas.List.{drop_all, drop_more, length_push}
 use Rattle.ps_world.specs.Names.{object}
 use Rattle.ps_world.specs.declared.names.Name.{Name}
 use Rattle.ps_action.specs.Grounding.{picks}
-use Rattle.ps_ground.specs.Thinned.{IsIdleFrom, IsThinned}
-use Rattle.ps_ground.proofs.Thinning.{goes_same, gone_on, idle_longer, thin_picked, thin_through}
+use Rattle.ps_ground.specs.Thinned.{IsThinned, IsUselessFrom}
+use Rattle.ps_ground.proofs.Thinning.{goes_same, gone_on, thin_picked, thin_through, useless_longer}
 use Rattle.ps_ground.proofs.acts.Listing.+lists.Goals as goal
 
 pub loop-name-init : goal.loop-name-init
@@ -15,24 +15,24 @@ loop-name-init t c =
     let heads = this.fixed.now.heads.keys in
     let fixed = this.fixed.now.facts in
     let before = length c.args.before.now in
-    let P : List Name → Type 0 = IsIdleFrom d heads fixed this.action before in
-    let Q : List Name → Type 0 = IsIdleFrom d heads fixed this.action (before + 1) in
+    let P : List Name → Type 0 = IsUselessFrom d heads fixed this.action before in
+    let Q : List Name → Type 0 = IsUselessFrom d heads fixed this.action (before + 1) in
     let tails = c.in_ok-tails.tails.items in
     let lists = picks c.in-Some.rest.now in
     let names = c.as_slice-name-items.result.now in
     let longer : length c.as_slice.result.now ≡ before + 1 = ap (λ (l : List Name). length l) (c.as_slice.ensures.value ∙ c.in_ok-longer.ensures) ∙ length_push c.args.before.now object in
-    let thinned : IsThinned Q tails lists = subst (λ n. IsThinned (IsIdleFrom d heads fixed this.action n) tails lists) longer c.in_ok-tails.ensures in
+    let thinned : IsThinned Q tails lists = subst (λ n. IsThinned (IsUselessFrom d heads fixed this.action n) tails lists) longer c.in_ok-tails.ensures in
     let whole : flat_map (λ n. map (λ args. n ∷ args) lists) names ≡ picks c.args.choices.now = rw (c.as_slice-name-items.ensures, c.in-Some.ensures.cases.0) refl in
     λ ks left.
     subst (λ (l : List (List Name)). IsThinned P (l ++ ks) (picks c.args.choices.now)) (sym c.new-kept.ensures.items)
     (subst (λ (l : List (List Name)). IsThinned P ks l) whole
     (thin_through P ks (flat_map (λ n. map (λ args. n ∷ args) tails) names) (flat_map (λ n. map (λ args. n ∷ args) lists) names) left
-    (thin_picked P Q (λ n args. idle_longer d heads fixed this.action before n args) names tails lists thinned)))
+    (thin_picked P Q (λ n args. useless_longer d heads fixed this.action before n args) names tails lists thinned)))
 
 pub loop-name-preserved : goal.loop-name-preserved
 loop-name-preserved t c =
     let this = c.args.self.now in
-    let P : List Name → Type 0 = IsIdleFrom this.expert.now this.fixed.now.heads.keys this.fixed.now.facts this.action (length c.args.before.now) in
+    let P : List Name → Type 0 = IsUselessFrom this.expert.now this.fixed.now.heads.keys this.fixed.now.facts this.action (length c.args.before.now) in
     let items = c.as_slice-name-items.result.now in
     let i = c.loop-name.name-index in
     let none : Name = record { 0 = 0 } in
@@ -45,7 +45,7 @@ loop-name-preserved t c =
 pub returns : goal.returns
 returns t c =
     let this = c.args.self.now in
-    let P : List Name → Type 0 = IsIdleFrom this.expert.now this.fixed.now.heads.keys this.fixed.now.facts this.action (length c.args.before.now) in
+    let P : List Name → Type 0 = IsUselessFrom this.expert.now this.fixed.now.heads.keys this.fixed.now.facts this.action (length c.args.before.now) in
     let items = c.as_slice-name-items.result.now in
     let i = c.loop-name.name-index in
     let F : Name → List (List Name) = λ n. map (λ args. n ∷ args) c.in_ok-tails.tails.items in

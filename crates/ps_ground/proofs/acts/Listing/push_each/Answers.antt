@@ -1,14 +1,14 @@
 use Rattle.std.proofs.Common.{◌≡◌, ◌+◌, ◌++◌, ◌∷◌, [], List, drop, length, map, ap, sym, ◌∙◌, arith}
 use Rattle.std.proofs.lemmas.List.{drop_all, drop_more}
 use Rattle.ps_world.specs.declared.names.Name.{Name}
-use Rattle.ps_ground.specs.Thinned.{IsIdleFrom}
+use Rattle.ps_ground.specs.Thinned.{IsUselessFrom}
 use Rattle.ps_ground.proofs.Thinning.{goes_same}
 use Rattle.ps_ground.proofs.acts.Listing.push_each.Goals as goal
 
 pub loop-tail-preserved : goal.loop-tail-preserved
 loop-tail-preserved c =
     let this = c.args.self.now in
-    let P : List Name → Type 0 = IsIdleFrom this.expert.now this.fixed.now.heads.keys this.fixed.now.facts this.action (length c.args.before.now) in
+    let P : List Name → Type 0 = IsUselessFrom this.expert.now this.fixed.now.heads.keys this.fixed.now.facts this.action (length c.args.before.now) in
     let items = c.args.tails.now in
     let i = c.loop-tail.tail-index in
     let x = c.tail-item.result in
@@ -24,7 +24,7 @@ loop-tail-preserved c =
 pub returns : goal.returns
 returns c =
     let this = c.args.self.now in
-    let P : List Name → Type 0 = IsIdleFrom this.expert.now this.fixed.now.heads.keys this.fixed.now.facts this.action (length c.args.before.now) in
+    let P : List Name → Type 0 = IsUselessFrom this.expert.now this.fixed.now.heads.keys this.fixed.now.facts this.action (length c.args.before.now) in
     let items = c.args.tails.now in
     let i = c.loop-tail.tail-index in
     let gone : drop i items ≡ [] = drop_all i items (omega arith) in

@@ -1,6 +1,6 @@
 use Rattle.std.proofs.Common.{◌≡◌, ◌-◌, [], length, drop, map}
-use Rattle.ps_forms.specs.Nested.{nesteds}
-use Rattle.ps_forms.specs.NestedViews.{nested}
+use Rattle.ps_lists.specs.Nested.{nesteds}
+use Rattle.ps_lists.specs.NestedViews.{nested}
 use Rattle.ps_pddl.specs.Meaning.{actions}
 use Rattle.ps_pddl.proofs.meaning.actions.actions.Given as goal
 

@@ -1,8 +1,8 @@
 use Rattle.std.proofs.Common.{map}
-use Rattle.ps_shape.specs.declared.marks.Mark.TheVariants.{Parameters}
-use Rattle.ps_forms.specs.Nested.{nesteds}
-use Rattle.ps_forms.specs.NestedViews.{nested}
-use Rattle.ps_forms.specs.Places.{after, items_at}
+use Rattle.ps_grammar.specs.declared.marks.Mark.TheVariants.{Parameters}
+use Rattle.ps_lists.specs.Nested.{nesteds}
+use Rattle.ps_lists.specs.NestedViews.{nested}
+use Rattle.ps_lists.specs.Places.{after, items_at}
 use Rattle.ps_pddl.proofs.FewParams.{few}
 use Rattle.ps_pddl.proofs.meaning.actions.add_action.Goals as goal
 

@@ -1,5 +1,5 @@
 use Rattle.std.proofs.Common.{◌∙◌, sym}
-use Rattle.ps_forms.specs.NestedViews.{nested}
+use Rattle.ps_lists.specs.NestedViews.{nested}
 use Rattle.ps_pddl.proofs.EffectForms.{effect_adds}
 use Rattle.ps_pddl.proofs.meaning.effects.effect.Goals as goal
 

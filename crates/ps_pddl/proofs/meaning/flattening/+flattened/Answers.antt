@@ -1,5 +1,5 @@
 use Rattle.std.proofs.Common.{arith}
-use Rattle.ps_forms.proofs.NestedLists.{item-rank}
+use Rattle.ps_lists.proofs.NestedLists.{item-rank}
 use Rattle.ps_pddl.proofs.meaning.flattening.+flattened.Goals as goal
 
 pub all_flattened-flattened-requires : goal.all_flattened-flattened-requires

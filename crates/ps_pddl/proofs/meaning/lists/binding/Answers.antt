@@ -1,7 +1,7 @@
 use Rattle.std.proofs.Common.{◌≡◌, drop, length, map, rules}
 use Rattle.std.proofs.lemmas.List.{take_rest}
-use Rattle.ps_forms.specs.Nested.{nesteds}
-use Rattle.ps_forms.specs.NestedViews.{nested}
+use Rattle.ps_lists.specs.Nested.{nesteds}
+use Rattle.ps_lists.specs.NestedViews.{nested}
 use Rattle.ps_pddl.specs.declared.meaning.lists.Listing.TheVariants.{Bound}
 use Rattle.ps_pddl.proofs.BoundLists.{few_bound, listed_longer}
 use Rattle.ps_pddl.proofs.meaning.lists.binding.Goals as goal

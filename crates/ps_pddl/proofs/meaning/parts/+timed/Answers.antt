@@ -1,5 +1,5 @@
 use Rattle.std.proofs.Common.{arith}
-use Rattle.ps_forms.proofs.NestedLists.{item-rank}
+use Rattle.ps_lists.proofs.NestedLists.{item-rank}
 use Rattle.ps_pddl.proofs.meaning.parts.+timed.Goals as goal
 
 pub all_timed-timed-requires : goal.all_timed-timed-requires

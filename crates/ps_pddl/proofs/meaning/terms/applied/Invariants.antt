@@ -1,7 +1,7 @@
 use Rattle.std.proofs.Common.{◌≡◌, List, [], length, take, drop, map}
 use Rattle.ps_world.specs.declared.schemas.Term.{Term}
-use Rattle.ps_forms.specs.Nested.{nesteds}
-use Rattle.ps_forms.specs.NestedViews.{nested}
+use Rattle.ps_lists.specs.Nested.{nesteds}
+use Rattle.ps_lists.specs.NestedViews.{nested}
 use Rattle.ps_pddl.specs.Terms.{arguments}
 use Rattle.ps_pddl.proofs.meaning.terms.applied.Given as goal
 

@@ -5,6 +5,6 @@ abbrev pub invariant-loop : goal.invariant-loop
 invariant-loop g l = record {
   next : (goal.iterator-loop g).can_next l.iterator';
   finite : (goal.iterator-loop g).is_finite l.iterator';
-  aside : StepsAside l.book.input l.next l.seat.seen l.spot.stand;
+  aside : StepsAside l.book.input l.next l.seat.seen l.round_place.stand;
   stayed : HasStayed l.book l.fn.seat l.seat;
 }

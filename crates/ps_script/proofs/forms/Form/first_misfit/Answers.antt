@@ -1,5 +1,5 @@
 use Rattle.std.proofs.Common.{◌≡◌, Ok, None, subst, sym}
-use Rattle.ps_shape.specs.Shape.{Derives, IsShallowFrom}
+use Rattle.ps_grammar.specs.Shape.{Derives, IsShallowFrom}
 use Rattle.ps_script.specs.Forms.{start_of}
 use Rattle.ps_script.proofs.forms.Form.first_misfit.Goals as goal
 

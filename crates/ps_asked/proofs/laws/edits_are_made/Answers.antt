@@ -1,5 +1,0 @@
-use Rattle.ps_asked.proofs.Accepted.{edits_are_made}
-use Rattle.ps_asked.proofs.laws.edits_are_made.Goals as goal
-
-pub returns : goal.returns
-returns c = edits_are_made

@@ -1,5 +1,0 @@
-use Rattle.ps_asked.proofs.Walking.{only_edits_count}
-use Rattle.ps_asked.proofs.laws.only_edits_count.Goals as goal
-
-pub returns : goal.returns
-returns c = only_edits_count

@@ -1,5 +1,0 @@
-use Rattle.ps_rows.proofs.PlanTrees.{as-many-waits}
-use Rattle.ps_board.proofs.whole.Core.show.Goals as goal
-
-pub tick_tree-requires : goal.tick_tree-requires
-tick_tree-requires c = as-many-waits c.args.self.now.input c.args.self.now.entries.items c.args.self.now.present c.requires.kept

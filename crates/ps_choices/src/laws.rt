@@ -1,7 +1,0 @@
-//! Laws of the definitions: each is the contract of a function that does nothing.
-ghost use Rattle.ps_choices.specs.Heard.{HearingStays};
-
-/// What a performer has answered it has answered after the block of any legal event.
-pub fn hearing_stays()
-    ensures { HearingStays }
-{}

@@ -1,5 +1,0 @@
-use Rattle.ps_ends.proofs.OneWork.{idle_has_no_work}
-use Rattle.ps_ends.proofs.laws.idle_has_no_work.Goals as goal
-
-pub returns : goal.returns
-returns c = idle_has_no_work

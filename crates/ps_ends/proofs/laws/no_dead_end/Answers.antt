@@ -1,5 +1,0 @@
-use Rattle.ps_ends.proofs.DeadEnd.{no_dead_end}
-use Rattle.ps_ends.proofs.laws.no_dead_end.Goals as goal
-
-pub returns : goal.returns
-returns c = no_dead_end

@@ -1,5 +1,0 @@
-use Rattle.ps_ends.proofs.Recording.{who_works_can_record}
-use Rattle.ps_ends.proofs.laws.who_works_can_record.Goals as goal
-
-pub returns : goal.returns
-returns c = who_works_can_record

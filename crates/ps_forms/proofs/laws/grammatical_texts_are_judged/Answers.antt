@@ -1,5 +1,0 @@
-use Rattle.ps_forms.proofs.Grammatical.{grammatical_judged}
-use Rattle.ps_forms.proofs.laws.grammatical_texts_are_judged.Goals as goal
-
-pub returns : goal.returns
-returns c = grammatical_judged

@@ -1,5 +1,0 @@
-use Rattle.ps_forms.proofs.Judged.{judged_grammatical}
-use Rattle.ps_forms.proofs.laws.judged_texts_are_grammatical.Goals as goal
-
-pub returns : goal.returns
-returns c = judged_grammatical

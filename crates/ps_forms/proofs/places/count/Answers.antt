@@ -1,5 +1,0 @@
-use Rattle.ps_forms.proofs.NestedLists.{length-count}
-use Rattle.ps_forms.proofs.places.count.Goals as goal
-
-pub returns-clause-count : goal.returns-clause-count
-returns-clause-count c = length-count c.args.trees.now

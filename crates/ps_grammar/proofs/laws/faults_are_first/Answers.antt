@@ -1,0 +1,5 @@
+use Rattle.ps_grammar.proofs.OneFault.{faults_are_first}
+use Rattle.ps_grammar.proofs.laws.faults_are_first.Goals as goal
+
+pub returns : goal.returns
+returns c = faults_are_first

@@ -1,4 +1,0 @@
-use Rattle.ps_ground.proofs.fixed.has_vain.Given as goal
-
-abbrev pub invariant-loop-cond : goal.invariant-loop-cond
-invariant-loop-cond l = Unit {0}

@@ -1,0 +1,12 @@
+use Rattle.std.proofs.Common.{◌≡◌, ◌-◌, ◌≤◌, length, drop, map}
+use Rattle.ps_lists.specs.Nested.{nesteds}
+use Rattle.ps_lists.specs.NestedViews.{nested}
+use Rattle.ps_lists.specs.Places.{after}
+use Rattle.ps_lists.proofs.places.after.Given as goal
+
+-- what is looked for is what it is among those that are left
+abbrev pub invariant-loop-i : goal.invariant-loop-i
+invariant-loop-i l = (l.i ≤ length l.trees) × (after l.mark (nesteds (map nested (drop l.i l.trees))) ≡ after l.mark (nesteds (map nested l.trees)))
+
+abbrev pub decreases-loop-i : goal.decreases-loop-i
+decreases-loop-i l = length l.trees - l.i

@@ -1,5 +1,0 @@
-use Rattle.ps_shape.proofs.ToldFaults.{faults_are_told}
-use Rattle.ps_shape.proofs.laws.faults_are_told.Goals as goal
-
-pub returns : goal.returns
-returns c = faults_are_told

@@ -1,7 +1,0 @@
-use Rattle.std.proofs.Common.{◌+◌, ◌≤◌}
-use Rattle.ps_shape.specs.Symbols.{level}
-use Rattle.ps_shape.proofs.FirstFaults.{Reached}
-use Rattle.ps_shape.proofs.wanted.Wanted.taken.Given as goal
-
-abbrev pub invariant-loop-at : goal.invariant-loop-at
-invariant-loop-at l = record { reached : Reached l.initial.self l.marks l.at l.self; low : level l.self ≤ l.at + 16 }

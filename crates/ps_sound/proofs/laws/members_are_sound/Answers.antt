@@ -1,5 +1,0 @@
-use Rattle.ps_sound.proofs.SoundMembers.{members_are_sound}
-use Rattle.ps_sound.proofs.laws.members_are_sound.Goals as goal
-
-pub returns : goal.returns
-returns c = members_are_sound
