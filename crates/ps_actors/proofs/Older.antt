@@ -16,8 +16,8 @@ use Rattle.ps_progress_laws.specs.Working.{HasNoWork}
 use Rattle.ps_progress_laws.proofs.OneWork.{idle_has_no_work, older_has_no_work}
 use Rattle.ps_ledger.specs.Requests.{request_at, TellsRequests}
 use Rattle.ps_ledger.specs.declared.requests.Requests.{Requests}
-use Rattle.ps_rows.specs.State.{Stands}
-use Rattle.ps_rows.specs.declared.state.State.{State}
+use Rattle.ps_state.specs.State.{Stands}
+use Rattle.ps_state.specs.declared.state.State.{State}
 use Rattle.ps_actors.specs.Turns.{first_legal, work_event}
 use Rattle.ps_actors.specs.declared.work.AboutWork.{AboutWork}
 use Rattle.ps_actors.specs.declared.work.AboutWork.TheVariants as about

@@ -31,8 +31,8 @@ use Rattle.ps_progress_laws.proofs.Picking.{count_other}
 use Rattle.ps_ledger.specs.Offers.{offered_on, standing, standing_next, without}
 use Rattle.ps_ledger.specs.declared.offers.Offer.{Offer}
 use Rattle.ps_ledger.proofs.Standing.{on-more}
-use Rattle.ps_rows.specs.State.{Stands}
-use Rattle.ps_rows.specs.declared.state.State.{State}
+use Rattle.ps_state.specs.State.{Stands}
+use Rattle.ps_state.specs.declared.state.State.{State}
 use Rattle.ps_actors.specs.Ticks.{better, first_of, IsEarliest, rejection, rejects_on}
 use Rattle.ps_actors.specs.Turns.{first_legal}
 use Rattle.ps_actors.proofs.First.{found-at, found-nowhere, passes}

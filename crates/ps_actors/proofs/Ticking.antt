@@ -4,6 +4,7 @@ use Rattle.std.proofs.lemmas.List.Concat.{flat_map_single}
 use Rattle.std.specs.Option.{option_map_or, option_to_list}
 use Rattle.ps_world.specs.Names.{same_name}
 use Rattle.ps_world.specs.declared.names.Name.{Name}
+use Rattle.ps_world.proofs.Truths.{and_true}
 use Rattle.ps_machine.specs.declared.inputs.Input.{Input}
 use Rattle.ps_machine.specs.declared.journal.Event.{Event}
 use Rattle.ps_machine.specs.declared.journal.Event.TheVariants as event
@@ -17,9 +18,8 @@ use Rattle.ps_rules.specs.Lines.{answers_line}
 use Rattle.ps_rules.specs.Runs.{is_active, is_running, state}
 use Rattle.ps_rules.specs.Settled.{is_settled, places, verdict}
 use Rattle.ps_rules.proofs.SameThings.{same_outcome-decides}
-use Rattle.ps_rows.specs.State.{Stands}
-use Rattle.ps_rows.specs.declared.state.State.{State}
-use Rattle.ps_rows.proofs.Answered.{and-so}
+use Rattle.ps_state.specs.State.{Stands}
+use Rattle.ps_state.specs.declared.state.State.{State}
 use Rattle.ps_actors.specs.Ticks.{fails_on, on_act, on_request}
 use Rattle.ps_actors.specs.Turns.{first_legal}
 use Rattle.ps_actors.specs.declared.acts.AboutAct.TheVariants as act
@@ -94,7 +94,7 @@ pub over-some : (i : Input) (es : List Entry) (how : Outcome) (b : Bool) → is_
     → (if b then Some (event.Over how) else None) ≡ first_legal i es (overs i es)
 over-some i es how b live ends may =
     let fine : is_outcome how (ending i es (verdict i es)) ≡ true = ap (λ v. is_outcome how (ending i es v)) ends ∙ (same_outcome-decides how how).1 refl in
-    alone i es (event.Over how) b live refl (may ∙ and-so (is_settled i es) (is_outcome how (ending i es (verdict i es))) fine)
+    alone i es (event.Over how) b live refl (may ∙ sym (ap (λ b. is_settled i es && b) fine ∙ and_true (is_settled i es)))
     ∙ ap (λ v. first_legal i es (map event.Over (option_to_list v))) (sym ends)
 
 pub over-none : (i : Input) (es : List Entry) → verdict i es ≡ None → None ≡ first_legal i es (overs i es)

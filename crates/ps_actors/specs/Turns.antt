@@ -12,8 +12,8 @@ use Rattle.ps_rules.specs.Runs.{is_running}
 use Rattle.ps_rules.specs.Legal.{is_legal}
 use Rattle.ps_rules.specs.History.{IsHistory}
 use Rattle.ps_rules.specs.Sound.{IsSound}
-use Rattle.ps_rows.specs.State.{Stands}
-use Rattle.ps_rows.specs.declared.state.State.{State}
+use Rattle.ps_state.specs.State.{Stands}
+use Rattle.ps_state.specs.declared.state.State.{State}
 use Rattle.ps_actors.specs.Heard.{HasHeard}
 use Rattle.ps_actors.specs.declared.work.AboutWork.{AboutWork}
 use Rattle.ps_actors.specs.declared.work.AboutWork.TheVariants as about

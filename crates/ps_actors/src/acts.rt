@@ -9,7 +9,7 @@ ghost use Rattle.ps_actors.specs.declared.acts.AboutAct.TheVariants.{Ask as ToAs
 
 use super::choice::{Choice, Chosen, chosen_if};
 use ps_machine::{FailWhy, Input};
-use ps_rows::State;
+use ps_state::State;
 
 /// What the ticker may do about an act.
 #[derive(Clone, Copy)]

@@ -5,7 +5,7 @@ ghost use Rattle.ps_actors.specs.Turns.{answer_by, answers_on, ChoosesFor, Choos
 
 use super::choice::{Choice, Chosen};
 use ps_machine::{Input, PassWhy};
-use ps_rows::{State, performer_of};
+use ps_state::{State, performer_of};
 use ps_world::Name;
 
 /// The answer to a request that a performer has not answered, by why it would pass it and whether it is of the run.

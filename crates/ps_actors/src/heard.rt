@@ -3,10 +3,10 @@ ghost use Rattle.std.specs.Prelude.{◌≡◌, ◌<◌, false, List};
 ghost use Rattle.ps_machine.specs.declared.inputs.Input.{Input};
 ghost use Rattle.ps_machine.specs.declared.journal.Entry.{Entry};
 ghost use Rattle.ps_rules.specs.Auctions.{has_answered, requests};
-ghost use Rattle.ps_rows.specs.State.{Stands};
+ghost use Rattle.ps_state.specs.State.{Stands};
 ghost use Rattle.ps_actors.specs.Heard.{HasHeard};
 
-use ps_rows::State;
+use ps_state::State;
 use ps_world::Name;
 
 /// How far a performer has answered the requests of the last run, seen from where it is known to have: up to the first that it has not.

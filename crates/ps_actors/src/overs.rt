@@ -4,13 +4,13 @@ ghost use Rattle.ps_machine.specs.declared.inputs.Input.{Input as InputView};
 ghost use Rattle.ps_machine.specs.declared.journal.Entry.{Entry};
 ghost use Rattle.ps_rules.specs.Choices.{overs, wants_plan};
 ghost use Rattle.ps_rules.specs.Settled.{is_settled};
-ghost use Rattle.ps_rows.specs.State.{Stands};
+ghost use Rattle.ps_state.specs.State.{Stands};
 ghost use Rattle.ps_actors.specs.Ticks.{IsTickers};
 ghost use Rattle.ps_actors.specs.Turns.{ChoosesFor, first_legal};
 
 use super::choice::{Choice, Chosen, chosen_if};
 use ps_machine::Input;
-use ps_rows::State;
+use ps_state::State;
 
 /// Whether some act of the plan is active.
 fn any_active(state: &State) -> bool

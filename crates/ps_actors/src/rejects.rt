@@ -8,7 +8,7 @@ ghost use Rattle.ps_actors.specs.Turns.{Chooses, first_legal, IsOpen};
 
 use super::choice::{Choice, Chosen};
 use ps_ledger::Offer;
-use ps_rows::State;
+use ps_state::State;
 
 /// Of an offer that may be rejected or not, and the best one before it, the one on the earlier request.
 fn better(may: bool, best: Option<Offer>, offer: Offer) -> Option<Offer>

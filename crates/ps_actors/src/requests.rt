@@ -8,7 +8,7 @@ ghost use Rattle.ps_actors.specs.declared.requests.AboutRequest.TheVariants.{Con
 
 use super::choice::{Choice, Chosen, chosen_if};
 use ps_machine::FailWhy;
-use ps_rows::State;
+use ps_state::State;
 
 /// What the ticker may do about a request.
 #[derive(Clone, Copy)]

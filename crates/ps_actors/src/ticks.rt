@@ -10,7 +10,7 @@ use super::overs::first_over;
 use super::rejects::first_reject;
 use super::requests::{AboutRequest, first_on_requests};
 use ps_machine::Input;
-use ps_rows::State;
+use ps_state::State;
 
 /// What the ticker does from the starts on, if it does something.
 fn from_starts(state: &State, input: &Input) -> Option<Choice>

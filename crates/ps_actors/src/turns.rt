@@ -7,7 +7,7 @@ use super::answers::first_answer;
 use super::choice::Choice;
 use super::work::stop_or_begin;
 use ps_machine::Input;
-use ps_rows::State;
+use ps_state::State;
 use ps_world::Name;
 
 /// What a performer does before any work, if it does something. It has answered the requests below `upto`.

@@ -2,12 +2,12 @@
 ghost use Rattle.std.specs.Prelude.{◌≡◌, ◌++◌, IfSome, IsTrue, map, option_map};
 ghost use Rattle.ps_rules.specs.Choices.{all_requests, beginnings, stops, work_of};
 ghost use Rattle.ps_rules.specs.Legal.{row_allows};
-ghost use Rattle.ps_rows.specs.State.{Says};
+ghost use Rattle.ps_state.specs.State.{Says};
 ghost use Rattle.ps_actors.specs.Turns.{Chooses, ChoosesFor, first_legal, is_choice_of, work_event};
 
 use super::choice::{Choice, Chosen};
 use ps_machine::{Input, Unit};
-use ps_rows::State;
+use ps_state::State;
 use ps_world::Name;
 
 /// What a performer may do about the work on a request.

@@ -11,10 +11,10 @@ use Rattle.ps_machine.specs.declared.journal.Event.TheVariants as event
 use Rattle.ps_machine.specs.declared.journal.Entry.{Entry}
 use Rattle.ps_rules.specs.Choices.{Says}
 use Rattle.ps_rules.specs.Known.{know}
-use Rattle.ps_rows.specs.State.{Stands}
-use Rattle.ps_rows.specs.Table.{KeepsStanding}
-use Rattle.ps_rows.specs.declared.state.State.{State}
-use Rattle.ps_rows.proofs.PlanTrees.{tree-is}
+use Rattle.ps_state.specs.State.{Stands}
+use Rattle.ps_state.specs.Awaiting.{KeepsStanding}
+use Rattle.ps_state.specs.declared.state.State.{State}
+use Rattle.ps_state.proofs.PlanTrees.{tree-is}
 use Rattle.ps_replay.specs.Judge.{GoesTo, Reaches, TellsPlan}
 use Rattle.ps_replay.specs.declared.judge.Judge.{Judge}
 use Rattle.ps_replies.specs.Plans.{GivesLeast, RepliesTo, RepliesToQuery}

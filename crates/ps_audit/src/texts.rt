@@ -4,7 +4,7 @@ ghost use Rattle.ps_machine.specs.declared.inputs.Query.TheVariants.{Tree};
 ghost use Rattle.ps_machine.specs.declared.journal.Event.TheVariants.{Ask};
 ghost use Rattle.ps_rules.specs.Journal.{entry_text, text_after};
 ghost use Rattle.ps_rules.specs.Sound.{IsSound};
-ghost use Rattle.ps_rows.specs.Table.{KeepsStanding};
+ghost use Rattle.ps_state.specs.Awaiting.{KeepsStanding};
 ghost use Rattle.ps_replay.specs.Judge.{GoesTo, may_come, Reaches, still_due};
 ghost use Rattle.ps_replay.specs.Replay.{Replays};
 ghost use Rattle.ps_replies.specs.Plans.{GivesLeast};
@@ -14,7 +14,7 @@ use ps_machine::{Entry, Event, Input, Query};
 use ps_plan::Solver;
 use ps_replay::{Judge, Verdict};
 use ps_replies::push_entry;
-use ps_rows::State;
+use ps_state::State;
 use ps_text::Names;
 use std::alloc::{AllocError, Global};
 

@@ -38,9 +38,9 @@ use Rattle.ps_rules.specs.Choices.{answer_event, edit_event, edit_outcome, line_
 use Rattle.ps_rules.proofs.Choosing.{plan-so}
 use Rattle.ps_rules.proofs.SameThings.{same_acts-decides, same_cause-decides, same_edit-itself, same_query-decides}
 use Rattle.ps_rules.proofs.InOrder.{number-itself, some-none, accepted-act, accepted-plan, goal-so}
-use Rattle.ps_rows.specs.Table.{MayBegin}
-use Rattle.ps_rows.proofs.Answered.{fits-unplanned, with-some-goal}
-use Rattle.ps_rows.proofs.Grounded.{good-each, one-each}
+use Rattle.ps_state.specs.Awaiting.{MayBegin}
+use Rattle.ps_state.proofs.Grounded.{good-each, one-each}
+use Rattle.ps_legal.proofs.Answered.{fits-unplanned, with-some-goal}
 use Rattle.ps_board.specs.declared.whole.Parts.{Parts}
 use Rattle.ps_board.specs.Board.{answer_to, IsStep}
 use Rattle.ps_board.specs.Parts.{BoardStands}

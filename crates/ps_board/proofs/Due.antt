@@ -17,7 +17,7 @@ use Rattle.ps_ledger.specs.Legal.{HasMembersOf}
 use Rattle.ps_rules.specs.Sound.{IsSound}
 use Rattle.ps_action.specs.Arcs.{arcs_of}
 use Rattle.ps_action.specs.Trees.{waits_of}
-use Rattle.ps_rows.specs.State as rows
+use Rattle.ps_state.specs.State.{Stands}
 use Rattle.ps_monitor.specs.declared.acts.Acts.{Acts}
 use Rattle.ps_monitor.specs.Watched.{broken, is_false, marked, others, watched}
 use Rattle.ps_board.specs.declared.whole.Parts.{Parts}
@@ -91,7 +91,7 @@ stands-after c new hand e d input present entries told watching members spare =
     let plans : plan new.entries.items ≡ unwrap_or (says_plan e) (plan c.entries.items) = ap plan entries ∙ planned in
     let history : IsHistory c.input (with_block c.input hand c.entries.items e) = block c.entries.items x d.history d.legal d.by in
     let acts : new.state.grounds.items ≡ c.state.grounds.items = ap (λ p. p.grounds.items) present in
-    let stood : rows.Stands c.input new.entries.items new.state = record {
+    let stood : Stands c.input new.entries.items new.state = record {
       domain = ap (λ p. p.expert) present ∙ d.kept.domain;
       due = ap (λ p. p.due) present ∙ d.kept.due;
       known = ap (λ p. p.problem) present ∙ d.kept.known ∙ sym (know-block c.input c.entries.items x) ∙ ap (know c.input) (sym entries);
@@ -106,7 +106,7 @@ stands-after c new hand e d input present entries told watching members spare =
     record {
       sound = subst IsSound (sym input) d.sound;
       history = subst (λ i. IsHistory i new.entries.items) (sym input) (subst (IsHistory c.input) (sym entries) history);
-      kept = subst (λ i. rows.Stands i new.entries.items new.state) (sym input) stood;
+      kept = subst (λ i. Stands i new.entries.items new.state) (sym input) stood;
       watching = subst (IsWatching new.monitor new.state.ledger) (sym acts) watching;
       all = ap length acts ∙ d.all ∙ ap length (sym plans);
       spare = spare;

@@ -26,7 +26,7 @@ use Rattle.ps_ledger.specs.declared.acts.Acts.{Acts}
 use Rattle.ps_ledger.specs.declared.ledger.Ledger.{Ledger}
 use Rattle.ps_ledger.proofs.Speaking.{acts-there}
 use Rattle.ps_monitor.proofs.Lists.{filter-same}
-use Rattle.ps_rows.specs.Taking.{leaves_known}
+use Rattle.ps_state.specs.Taking.{leaves_known}
 use Rattle.ps_board.specs.Parts.{is_quiet, makes_plan, most_entries, takes_only_room}
 use Rattle.ps_board.proofs.Forced.{block-long, broken-fit}
 use Rattle.ps_board.proofs.Quiet.{quiet-block}

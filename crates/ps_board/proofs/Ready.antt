@@ -24,11 +24,11 @@ use Rattle.ps_rules.specs.Sound.{IsSound}
 use Rattle.ps_rules.specs.Choices.{edit_event, edit_outcome, with_block}
 use Rattle.ps_ledger.specs.Ledger.{KeepsSpare}
 use Rattle.ps_monitor.specs.Watched.{watched}
-use Rattle.ps_rows.specs.State as rows
-use Rattle.ps_rows.specs.Table.{IsAhead, KeepsAwaiting, MayBegin}
-use Rattle.ps_rows.specs.declared.state.State.{State}
-use Rattle.ps_rows.proofs.Awaiting.{keeps-standing}
-use Rattle.ps_rows.proofs.Grounded.{as-many}
+use Rattle.ps_state.specs.State.{Stands}
+use Rattle.ps_state.specs.Awaiting.{IsAhead, KeepsAwaiting, MayBegin}
+use Rattle.ps_state.specs.declared.state.State.{State}
+use Rattle.ps_state.proofs.Awaiting.{keeps-standing}
+use Rattle.ps_state.proofs.Grounded.{as-many}
 use Rattle.ps_board.specs.declared.whole.Parts.{Parts}
 use Rattle.ps_board.specs.Parts.{BoardStands, edit_of, HasPlaces, HasSpare, IsDue, IsGrown, MayCome, most_entries, state_in, watch_for}
 use Rattle.ps_board.specs.Watching.{IsWatchedAs}
@@ -40,14 +40,14 @@ use Rattle.ps_board.proofs.Lengths.{block-space}
 pub watching-told : (c : Parts) → BoardStands c → (act : ℕ) → watched c.monitor act ≡ watch_for c.state.grounds.items act (state act c.entries.items)
 watching-told c s act = s.watching act ∙ ap (watch_for c.state.grounds.items act) (sym (s.kept.told.acts.states act))
 
-pub stands-again : (c new : Parts) → BoardStands c → new.input ≡ c.input → new.entries.items ≡ c.entries.items → rows.Stands c.input c.entries.items new.state
+pub stands-again : (c new : Parts) → BoardStands c → new.input ≡ c.input → new.entries.items ≡ c.entries.items → Stands c.input c.entries.items new.state
     → IsWatchedAs new.monitor (watched c.monitor) → HasSpare new.spare new → BoardStands new
 stands-again c new s input entries stood watching room =
     let same : new.state.grounds.items ≡ c.state.grounds.items = stood.grounds ∙ sym s.kept.grounds in
     record {
       sound = subst IsSound (sym input) s.sound;
       history = subst (λ i. IsHistory i new.entries.items) (sym input) (subst (IsHistory c.input) (sym entries) s.history);
-      kept = subst (λ i. rows.Stands i new.entries.items new.state) (sym input) (subst (λ es. rows.Stands c.input es new.state) (sym entries) stood);
+      kept = subst (λ i. Stands i new.entries.items new.state) (sym input) (subst (λ es. Stands c.input es new.state) (sym entries) stood);
       watching = λ act.
           watching act ∙ watching-told c s act ∙ ap (watch_for c.state.grounds.items act) (stood.told.acts.states act)
           ∙ ap (λ gs. watch_for gs act (state_in new.state.ledger act)) (sym same);
@@ -172,11 +172,11 @@ none-spare c entries =
       ledger = record { requests = omega arith; work = omega arith; answers = omega arith; offers = omega arith };
     }
 
-pub stands-open : (c : Parts) → IsSound c.input → c.entries.items ≡ [] → rows.Stands c.input [] c.state → ((act : ℕ) → watched c.monitor act ≡ None) → c.spare ≡ 0 → BoardStands c
+pub stands-open : (c : Parts) → IsSound c.input → c.entries.items ≡ [] → Stands c.input [] c.state → ((act : ℕ) → watched c.monitor act ≡ None) → c.spare ≡ 0 → BoardStands c
 stands-open c sound entries stood off none = record {
   sound = sound;
   history = subst (IsHistory c.input) (sym entries) nothing;
-  kept = subst (λ es. rows.Stands c.input es c.state) (sym entries) stood;
+  kept = subst (λ es. Stands c.input es c.state) (sym entries) stood;
   watching = λ act. off act ∙ ap (watch_for c.state.grounds.items act) (stood.told.acts.states act);
   all = ap length stood.grounds ∙ ap (λ es. length (plan es)) (sym entries);
   spare = subst (λ n. HasSpare n c) (sym none) (none-spare c entries);

@@ -25,8 +25,8 @@ use Rattle.ps_rules.specs.Runs.{is_running}
 use Rattle.ps_rules.specs.Settled.{given_up, is_settled, verdict}
 use Rattle.ps_rules.proofs.Choosing.{legal-live, plan-so}
 use Rattle.ps_rules.proofs.SameThings.{same_outcome-decides}
-use Rattle.ps_rows.specs.Table.{MayBegin, MayBePlan}
-use Rattle.ps_rows.proofs.Grounded.{good-each}
+use Rattle.ps_state.specs.Awaiting.{MayBegin, MayBePlan}
+use Rattle.ps_state.proofs.Grounded.{good-each}
 use Rattle.ps_board.specs.Parts.{BoardStands, Gains, GainsNothing, MayCome}
 use Rattle.ps_board.specs.Kept.{IsKept, IsShown}
 use Rattle.ps_board.specs.declared.submits.Submitted.{Submitted}

@@ -9,8 +9,8 @@ use Rattle.ps_rules.specs.Legal.{has_hand, is_legal, row_allows, same_flag}
 use Rattle.ps_rules.specs.Lines.{answers_line}
 use Rattle.ps_rules.specs.Runs.{is_running, says_plan}
 use Rattle.ps_rules.proofs.InOrder.{unanswering}
-use Rattle.ps_rows.specs.Table.{MayBegin}
-use Rattle.ps_rows.specs.declared.state.State.{State}
+use Rattle.ps_state.specs.Awaiting.{MayBegin}
+use Rattle.ps_state.specs.declared.state.State.{State}
 use Rattle.ps_actors.specs.Turns.{IsOpen}
 use Rattle.ps_board.specs.declared.whole.Parts.{Parts}
 use Rattle.ps_board.specs.Parts.{BoardStands}

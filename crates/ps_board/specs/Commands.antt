@@ -10,7 +10,7 @@ use Rattle.ps_rules.specs.Choices.{edit_event, line_event, Says}
 use Rattle.ps_rules.specs.Known.{know}
 use Rattle.ps_rules.specs.Legal.{row_allows}
 use Rattle.ps_rules.specs.Lines.{answers_line, next_line}
-use Rattle.ps_rows.specs.Table.{MayBegin}
+use Rattle.ps_state.specs.Awaiting.{MayBegin}
 use Rattle.ps_board.specs.declared.commands.Next.{Next}
 use Rattle.ps_board.specs.declared.commands.Next.TheVariants as next
 use Rattle.ps_board.specs.declared.whole.Parts.{Parts}

@@ -12,8 +12,8 @@ use Rattle.ps_rules.specs.Runs.{is_active, plan, says_plan, says_state, state}
 use Rattle.ps_rules.specs.Legal.{has_hand, is_legal}
 use Rattle.ps_rules.specs.History.{IsHistory, is_fail}
 use Rattle.ps_rules.specs.Sound.{IsSound}
-use Rattle.ps_rows.specs.State as rows
-use Rattle.ps_rows.specs.Table.{IsAhead, KeepsAwaiting}
+use Rattle.ps_state.specs.State.{Stands}
+use Rattle.ps_state.specs.Awaiting.{IsAhead, KeepsAwaiting}
 use Rattle.ps_world.specs.declared.names.Name.{Name}
 use Rattle.ps_world.specs.declared.edits.Edit.{Edit}
 use Rattle.ps_machine.specs.declared.inputs.Input.{Input}
@@ -54,7 +54,7 @@ pub record HasSpare (n : ℕ) (c : Parts) : Type 0 where
 pub record BoardStands (c : Parts) : Type 0 where
   pub sound : IsSound c.input
   pub history : IsHistory c.input c.entries.items
-  pub kept : rows.Stands c.input c.entries.items c.state
+  pub kept : Stands c.input c.entries.items c.state
   pub watching : IsWatching c.monitor c.state.ledger c.state.grounds.items
   pub all : length c.state.grounds.items ≡ length (plan c.entries.items)
   pub spare : HasSpare c.spare c

@@ -13,9 +13,9 @@ ghost use Rattle.ps_board.specs.Commands.{AnswersAnyway, AnswersBy, asks_plan, I
 
 use super::whole::Parts;
 use ps_action::{Act, Answer, PlanStep, PlanTextRefusal};
+use ps_legal::{acts_of, ground_refusal, lacks_goal, refusal_of_query, refusal_of_steps};
 use ps_machine::{By, Command, Event, Line, LineCause, Query, Refusal, RunKind};
 use ps_plan::Solver;
-use ps_rows::{acts_of, ground_refusal, lacks_goal, refusal_of_query, refusal_of_steps};
 use ps_world::{Duplicate, Edit, Seq};
 use std::alloc::{AllocError, Global};
 

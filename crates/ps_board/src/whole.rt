@@ -1,7 +1,7 @@
 //! What a board is made of.
 ghost use Rattle.std.specs.Prelude.{◌≡◌, ◌≤◌, IsTrue, true, false, max, IfOk, IsOk, OnOk, OnErr, Some};
 ghost use Rattle.ps_rules.specs.Legal.{has_hand};
-ghost use Rattle.ps_rows.specs.Table.{MayBegin};
+ghost use Rattle.ps_state.specs.Awaiting.{MayBegin};
 ghost use Rattle.ps_board.specs.Kept.{IsShown};
 ghost use Rattle.ps_board.specs.Parts.{BoardStands, Covers, edit_of, Gains, GainsNothing, HasBlock, HasPlaces, HasSpare, is_quiet, IsDue, IsGrown, makes_plan, MayCome, most_entries, Spends};
 ghost use Rattle.ps_board.specs.Touching.{touched_by};
@@ -14,7 +14,7 @@ use ps_actors::Choice;
 use ps_eval::edited_by;
 use ps_machine::{By, CancelWhy, Entry, Event, Input, Refusal};
 use ps_monitor::Monitor;
-use ps_rows::State;
+use ps_state::State;
 use ps_world::{Edit, Failure};
 use std::alloc::{AllocError, Global};
 

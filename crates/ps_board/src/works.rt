@@ -16,7 +16,7 @@ use super::boxes::Boxed;
 use super::whole::Parts;
 use ps_actors::{performed, work_of};
 use ps_machine::{By, Event, Unit};
-use ps_rows::performer_of;
+use ps_state::performer_of;
 use ps_world::{Duplicate, Name};
 use std::alloc::{AllocError, Global};
 

@@ -15,8 +15,8 @@ use Rattle.ps_rules.specs.Known.{know}
 use Rattle.ps_rules.specs.Runs.{is_running}
 use Rattle.ps_progress_laws.specs.Working.{unit_due}
 use Rattle.ps_progress_laws.proofs.Picking.{by_test}
-use Rattle.ps_rows.specs.Same.{same_unit}
-use Rattle.ps_rows.proofs.Units.{same_unit-is, same_unit-itself}
+use Rattle.ps_legal.specs.Same.{same_unit}
+use Rattle.ps_legal.proofs.Units.{same_unit-is, same_unit-itself}
 use Rattle.ps_board.specs.Board.{Appended, grants_without, IsOut, number_of, recording, tick_answer, ticking, with_done}
 use Rattle.ps_board.specs.declared.ticks.Snapshot.{Snapshot}
 use Rattle.ps_board.specs.declared.ticks.Ticked.{Ticked}

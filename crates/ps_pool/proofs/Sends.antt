@@ -21,7 +21,7 @@ use Rattle.ps_tree.proofs.tree.Tree.TheSendSync as tree
 use Rattle.ps_monitor.specs.contracts.monitor.Monitor as Monitor
 use Rattle.ps_monitor.specs.contracts.watch.Watch as Watch
 use Rattle.ps_monitor.specs.contracts.watches.Watches as Watches
-use Rattle.ps_rows.specs.contracts.state.State as State
+use Rattle.ps_state.specs.contracts.state.State as State
 use Rattle.ps_board.specs.contracts.board.Board as Board
 use Rattle.ps_board.specs.contracts.whole.Parts as Parts
 use Rattle.ps_turn.proofs.Sends.{entry_send, input_send}

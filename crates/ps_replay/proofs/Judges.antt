@@ -18,10 +18,10 @@ use Rattle.ps_rules.specs.Prefixes.{is_due, IsPrefix}
 use Rattle.ps_rules.specs.Runs.{is_running, plan, says_plan}
 use Rattle.ps_rules.specs.Settled.{places}
 use Rattle.ps_rules.proofs.Longest.{is_due-is}
-use Rattle.ps_rows.specs.State.{Stands}
-use Rattle.ps_rows.specs.Table.{TakesCancelOf}
-use Rattle.ps_rows.specs.declared.state.State.{State}
-use Rattle.ps_rows.proofs.Awaiting.{plan-push}
+use Rattle.ps_state.specs.State.{Stands}
+use Rattle.ps_state.specs.Awaiting.{TakesCancelOf}
+use Rattle.ps_state.specs.declared.state.State.{State}
+use Rattle.ps_state.proofs.Awaiting.{plan-push}
 use Rattle.ps_replay.specs.Judge.{AreInPlan, cancelled_act, due_then, is_cancel_in, is_over, may_come, Reaches, still_due}
 use Rattle.ps_replay.specs.declared.judge.Judge.{Judge}
 use Rattle.ps_replay.proofs.Leading.{comes-on, done-history, history-done}

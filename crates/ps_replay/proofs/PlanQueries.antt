@@ -16,10 +16,10 @@ use Rattle.ps_rules.specs.Lines.{next_line, refusal_of_goal}
 use Rattle.ps_rules.specs.Runs.{is_running}
 use Rattle.ps_rules.specs.Same.{same_query}
 use Rattle.ps_rules.proofs.SameThings.{same_query-decides}
-use Rattle.ps_rows.specs.State.{Stands}
-use Rattle.ps_rows.specs.Table.{after_edit, Awaits, MayBegin}
-use Rattle.ps_rows.specs.declared.state.State.{State}
-use Rattle.ps_rows.proofs.Awaiting.{awaits}
+use Rattle.ps_state.specs.State.{Stands}
+use Rattle.ps_state.specs.Awaiting.{after_edit, Awaits, MayBegin}
+use Rattle.ps_state.specs.declared.state.State.{State}
+use Rattle.ps_state.proofs.Awaiting.{awaits}
 use Rattle.ps_replay.specs.Judge.{is_cancel_in, may_ask_plan, TellsPlan}
 use Rattle.ps_rules.specs.Choices.{Says}
 use Rattle.ps_action.specs.declared.acts.Act.{Act}

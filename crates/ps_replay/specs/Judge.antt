@@ -15,8 +15,8 @@ use Rattle.ps_rules.specs.Legal.{has_hand, is_legal, is_query}
 use Rattle.ps_rules.specs.Prefixes.{is_due, IsPrefix}
 use Rattle.ps_rules.specs.Lines.{answered, due_lines, next_line}
 use Rattle.ps_rules.specs.Runs.{is_running, plan}
-use Rattle.ps_rows.specs.State.{Stands}
-use Rattle.ps_rows.specs.declared.state.State.{State}
+use Rattle.ps_state.specs.State.{Stands}
+use Rattle.ps_state.specs.declared.state.State.{State}
 use Rattle.ps_replay.specs.declared.judge.Judge.{Judge}
 
 -- whether every line that is due is answered, and no run is open

@@ -8,14 +8,15 @@ ghost use Rattle.ps_rules.specs.Legal.{has_hand, is_legal};
 ghost use Rattle.ps_rules.specs.Prefixes.{is_due, same_cancel, same_why};
 ghost use Rattle.ps_rules.specs.Sound.{IsSound};
 ghost use Rattle.ps_rules.specs.Choices.{Says};
-ghost use Rattle.ps_rows.specs.State.{Says as SaysOf, Stands};
+ghost use Rattle.ps_state.specs.State.{Says as SaysOf, Stands};
 ghost use Rattle.ps_replay.specs.Judge.{cancelled_act, Comes, ForcedBy, is_over, is_quiet, Reaches, TellsPlan};
 
 use super::queries::{asks_plan, judge_plan_query};
 use ps_action::Act;
+use ps_legal::{has_hand, is_legal};
 use ps_machine::{CancelWhy, Entry, Event, Input};
 use ps_plan::Solver;
-use ps_rows::{State, has_hand};
+use ps_state::State;
 use ps_world::Seq;
 use std::alloc::{AllocError, Global};
 
@@ -97,7 +98,7 @@ fn judge_other<S: Solver>(
         → Stands input.now (before.now ++ entry.now ∷ []) state.new) }
 {
     let fits = has_hand(&entry.what, entry.hand);
-    let legal = state.is_legal(alloc, solver, input, &entry.what)?;
+    let legal = is_legal(state, alloc, solver, input, &entry.what)?;
     if legal && fits {
         state.make_room(&entry.what)?;
         state.take(alloc, &entry.what)?;

@@ -10,13 +10,13 @@ ghost use Rattle.ps_rules.specs.Legal.{has_hand, is_legal, is_query};
 ghost use Rattle.ps_rules.specs.Lines.{refusal_of_goal};
 ghost use Rattle.ps_rules.specs.Same.{same_query};
 ghost use Rattle.ps_rules.specs.Sound.{IsSound};
-ghost use Rattle.ps_rows.specs.State.{SaysFor, Stands};
+ghost use Rattle.ps_state.specs.State.{SaysFor, Stands};
 ghost use Rattle.ps_replay.specs.Judge.{may_ask_plan, TellsPlan};
 
 use ps_action::{Act, Answer};
 use ps_machine::{Command, Entry, Event, Input, Line, Query};
 use ps_plan::Solver;
-use ps_rows::State;
+use ps_state::State;
 use ps_world::Seq;
 use std::alloc::{AllocError, Global};
 

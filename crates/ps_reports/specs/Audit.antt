@@ -14,7 +14,7 @@ use Rattle.ps_machine.specs.declared.journal.Entry.{Entry}
 use Rattle.ps_rules.specs.Reading.{times}
 use Rattle.ps_rules.specs.Members.{job}
 use Rattle.ps_hub.specs.declared.report.Report.{Report}
-use Rattle.ps_rows.specs.Same.{same_unit}
+use Rattle.ps_legal.specs.Same.{same_unit}
 use Rattle.ps_reports.specs.Stints.{stint, unit_by}
 use Rattle.ps_reports.specs.declared.audited.Audit.{Audit}
 use Rattle.ps_reports.specs.declared.stints.Stint.{Stint}

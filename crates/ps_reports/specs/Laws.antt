@@ -13,7 +13,7 @@ use Rattle.ps_rules.specs.Sound.{IsSound}
 use Rattle.ps_hub.specs.declared.report.Report.{Report}
 use Rattle.ps_hub.specs.Reports.{IsNumbered}
 use Rattle.ps_reports.specs.Audit.{all_recorded, firsts}
-use Rattle.ps_rows.specs.Same.{same_unit}
+use Rattle.ps_legal.specs.Same.{same_unit}
 use Rattle.ps_reports.specs.Stints.{recorded, turn_on}
 
 -- sameness of units decides equality

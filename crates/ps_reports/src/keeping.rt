@@ -8,8 +8,8 @@ ghost use Rattle.ps_reports.specs.Stints.{stint_at};
 use crate::firsts::copy_of;
 use crate::stints::{Stint, Stints};
 use ps_hub::Report;
+use ps_legal::same_unit;
 use ps_machine::{Entry, Input, Member, Performer, Unit};
-use ps_rows::same_unit;
 use ps_world::Seq;
 use std::alloc::{AllocError, Global};
 

@@ -1,7 +1,7 @@
 use Rattle.std.proofs.Common.{List}
 use Rattle.ps_machine.specs.declared.inputs.Input.{Input}
 use Rattle.ps_machine.specs.declared.journal.Entry.{Entry}
-use Rattle.ps_rows.specs.State.{Stands}
+use Rattle.ps_state.specs.State.{Stands}
 use Rattle.ps_actors.specs.Heard.{HasHeard}
 use Rattle.ps_actors.proofs.Hearing.{HasAnsweredBelow}
 use Rattle.ps_actors.proofs.heard.heard_upto.Given as goal

@@ -1,6 +1,6 @@
 use Rattle.std.proofs.Common.{Some, [], ◌∷◌, ◌++◌, sym, subst}
 use Rattle.ps_replies.specs.Plans.{RepliesTo}
-use Rattle.ps_rows.proofs.PlanTrees.{as-many-waits}
+use Rattle.ps_state.proofs.PlanTrees.{as-many-waits}
 use Rattle.ps_audit.proofs.Replies.{replies-after}
 use Rattle.ps_audit.proofs.texts.judge_one.Goals as goal
 

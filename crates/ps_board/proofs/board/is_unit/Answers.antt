@@ -1,8 +1,8 @@
 use Rattle.std.proofs.Common.{Some, ap, sym, ◌∙◌}
 use Rattle.std.specs.Option.{option_copied}
 use Rattle.ps_world.proofs.Optionals.{some_same}
-use Rattle.ps_rows.proofs.Units.{same_unit-is, same_unit-itself}
-use Rattle.ps_rows.specs.Same.{same_unit}
+use Rattle.ps_legal.proofs.Units.{same_unit-is, same_unit-itself}
+use Rattle.ps_legal.specs.Same.{same_unit}
 use Rattle.ps_board.proofs.board.is_unit.Goals as goal
 
 pub returns-in-Some : goal.returns-in-Some

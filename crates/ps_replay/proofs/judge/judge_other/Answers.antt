@@ -1,8 +1,8 @@
 use Rattle.std.proofs.Common.{◌≡◌, ◌&&◌, IsTrue, true, refl, ap, sym, ◌∙◌}
 use Rattle.ps_rules.specs.Legal.{has_hand, is_legal}
 use Rattle.ps_ledger.proofs.LegalEvents.{legal_events_speak_of_ledgers}
-use Rattle.ps_rows.specs.Table.{Awaits}
-use Rattle.ps_rows.proofs.Awaiting.{awaits}
+use Rattle.ps_state.specs.Awaiting.{Awaits}
+use Rattle.ps_state.proofs.Awaiting.{awaits}
 use Rattle.ps_replay.proofs.judge.judge_other.Goals as goal
 
 pub take-requires-clause-speaks : goal.take-requires-clause-speaks

@@ -1,7 +1,7 @@
 use Rattle.std.proofs.Common.{◌≡◌, Some, None, if◌then◌else◌, true, ap, sym, subst, ◌∙◌}
 use Rattle.ps_rules.specs.Journal.{tree_of}
 use Rattle.ps_rules.specs.Runs.{has_run}
-use Rattle.ps_rows.proofs.PlanTrees.{tree-is}
+use Rattle.ps_state.proofs.PlanTrees.{tree-is}
 use Rattle.ps_board.specs.declared.whole.Parts.{Parts}
 use Rattle.ps_board.specs.Board.{shown_tree}
 use Rattle.ps_board.specs.Parts.{BoardStands}

@@ -7,9 +7,9 @@ use Rattle.ps_rules.specs.Runs.{plan, state}
 use Rattle.ps_ledger.specs.Ledger as ledger
 use Rattle.ps_ledger.specs.Ledger.{HasRoom}
 use Rattle.ps_monitor.specs.Watched.{watched}
-use Rattle.ps_rows.specs.State as rows
-use Rattle.ps_rows.specs.declared.state.State.{State}
-use Rattle.ps_rows.proofs.Awaiting.{keeps-standing}
+use Rattle.ps_state.specs.State.{Stands}
+use Rattle.ps_state.specs.declared.state.State.{State}
+use Rattle.ps_state.proofs.Awaiting.{keeps-standing}
 use Rattle.ps_board.specs.declared.whole.Parts.{Parts}
 use Rattle.ps_board.specs.Parts.{watch_for}
 use Rattle.ps_board.proofs.Lengths.{block-exact, block-some, plans-none}
@@ -107,5 +107,5 @@ returns-in-Err-clause-err c =
     let watching = watches-again old.input es e c.deref-2.result.now mid.monitor c.watch_started.new.monitor c.unwatch_started.new.monitor c.requires.legal
     (λ act. ap (λ m. watched m act) grown.monitor ∙ watching-told old c.requires.stands act ∙ ap (λ (xs : List GroundAction). watch_for xs act (state act es)) (c.requires.stands.kept.grounds ∙ sym gs))
     c.in_ok-watch_started.ensures.ok c.unwatch_started.ensures in
-    stands-again old _ c.requires.stands grown.input grown.entries (subst (rows.Stands old.input es) same stood) (λ act. watching act ∙ ap (λ m. watched m act) grown.monitor)
+    stands-again old _ c.requires.stands grown.input grown.entries (subst (Stands old.input es) same stood) (λ act. watching act ∙ ap (λ m. watched m act) grown.monitor)
     (record { entries = room.entries; ledger = subst (λ (p : State). ledger.HasSpare mid.spare p.ledger) same room.ledger })

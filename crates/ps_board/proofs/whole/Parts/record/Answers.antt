@@ -6,8 +6,8 @@ use Rattle.ps_machine.specs.declared.journal.Refusal.TheVariants as refusal
 use Rattle.ps_rules.specs.Choices.{with_block}
 use Rattle.ps_rules.specs.Known.{kept}
 use Rattle.ps_rules.specs.Legal.{has_hand}
-use Rattle.ps_rows.specs.State as rows
-use Rattle.ps_rows.proofs.Awaiting.{edit-ahead, others-ahead}
+use Rattle.ps_state.specs.State.{Stands}
+use Rattle.ps_state.proofs.Awaiting.{edit-ahead, others-ahead}
 use Rattle.ps_board.specs.declared.whole.Parts.{Parts}
 use Rattle.ps_board.specs.Parts.{edit_of, MayCome}
 use Rattle.ps_board.proofs.Ready.{block-grown, due-still, edit-grown, event-accepted, event-refused, legal-grown, on-err, stands-again, stands-grown}
@@ -92,7 +92,7 @@ returns-clause-stands c =
     let mid : Parts = c.make_room.new.self in
     let failed = subst (λ f. Edits mid.state.expert c.args.edit mid.state.problem (Err f) c.edit.new.self) c.in-Err-OutOfMemory.field-0-is c.in-Err-OutOfMemory.ensures in
     let stands = stands-grown c.args.self.now mid c.requires.stands c.make_room.ensures.grown c.make_room.ensures.spare in
-    stands-again mid _ stands refl refl (subst (λ k. rows.Stands mid.input mid.entries.items (record mid.state { problem = k })) (sym failed.1) stands.kept) (λ act. refl)
+    stands-again mid _ stands refl refl (subst (λ k. Stands mid.input mid.entries.items (record mid.state { problem = k })) (sym failed.1) stands.kept) (λ act. refl)
     (record { entries = stands.spare.entries; ledger = stands.spare.ledger })
 
 pub returns-in_err-make_room-clause-err : goal.returns-in_err-make_room-clause-err

@@ -1,4 +1,4 @@
-use Rattle.ps_rows.proofs.PlanTrees.{as-many-waits}
+use Rattle.ps_state.proofs.PlanTrees.{as-many-waits}
 use Rattle.ps_board.proofs.whole.Parts.show.Goals as goal
 
 pub tick_tree-requires : goal.tick_tree-requires

@@ -1,7 +1,7 @@
 use Rattle.std.proofs.Common.{◌≡◌, true, false, IsTrue, List, get_or, length, ap, sym, ◌∙◌, subst, arith}
 use Rattle.ps_machine.specs.declared.journal.Entry.{Entry}
 use Rattle.ps_rules.specs.Runs.{plan}
-use Rattle.ps_rows.specs.Table.{TakesCancelOf}
+use Rattle.ps_state.specs.Awaiting.{TakesCancelOf}
 use Rattle.ps_replay.proofs.Judges.{act-below, answers, due-rest, is-in, prefix-rest, stands-on, within-rest}
 use Rattle.ps_replay.proofs.PlanQueries.{cancel-told}
 use Rattle.ps_replay.proofs.judge.Judge.meet.Goals as goal

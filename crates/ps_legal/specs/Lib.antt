@@ -1,0 +1,4 @@
+pub mod Lines
+pub mod Plans
+pub mod Same
+pub mod Table

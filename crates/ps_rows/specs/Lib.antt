@@ -1,9 +1,0 @@
-pub mod Acts
-pub mod Forced
-pub mod Lines
-pub mod Names
-pub mod Plans
-pub mod Same
-pub mod State
-pub mod Table
-pub mod Taking

@@ -1,0 +1,8 @@
+pub mod Awaiting
+mod Due
+mod Gathered
+pub mod Grounded
+mod MemberNames
+mod Places
+pub mod PlanTrees
+mod Rest
