@@ -50,7 +50,7 @@ pub fn session_of(alloc: Global, texts: &Texts, line: &str) -> Result<Session, F
     let words = words_of(alloc, line)?;
     let mut files = files_of(alloc, texts, "")?;
     match load(alloc, &words, &mut files)? {
-        Work::Session(session) => Ok(session),
+        Work::Session(session) => Ok(session.into_inner()),
         _ => Err(Fail::from("no session")),
     }
 }

@@ -1,7 +1,8 @@
 //! Runs whose calls are made in order.
 use super::texts::{DRAINED, KITCHEN};
 use super::worlds::{World, command, hand_in, observer_turn, performer_turn, tick, world_of};
-use ps_board::{Board, Boxed, Grant, Step, Ticked, Turn};
+use ps_board::{Board, Grant, Step, Ticked, Turn};
+use ps_boxes::Boxed;
 use ps_journal::print_entry;
 use ps_machine::{Entry, Unit};
 use ps_text::Names;

@@ -32,7 +32,7 @@ fn files_of(alloc: Global, texts: Texts) -> Result<MemFiles, AllocError> {
 
 fn replay_of(alloc: Global, words: &[String], files: &mut MemFiles) -> Result<Replay, Fail> {
     match load(alloc, words, files)? {
-        Work::Replay(replay) => Ok(replay),
+        Work::Replay(replay) => Ok(replay.into_inner()),
         _ => Err(Fail::from("no replay")),
     }
 }

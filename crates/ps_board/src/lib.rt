@@ -3,7 +3,6 @@
 
 mod blocks;
 mod board;
-mod boxes;
 mod commands;
 mod submits;
 mod ticks;
@@ -14,7 +13,6 @@ mod whole;
 mod works;
 
 pub use board::{Board, GrantBack, Shown};
-pub use boxes::Boxed;
 pub use commands::Next;
 pub use submits::Submitted;
 pub use ticks::{Snapshot, Ticked};

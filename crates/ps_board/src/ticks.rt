@@ -5,9 +5,9 @@ ghost use Rattle.ps_actors.specs.Ticks.{IsTickers};
 ghost use Rattle.ps_board.specs.Parts.{BoardStands, Covers, Gains, GainsNothing};
 ghost use Rattle.ps_board.specs.Ticks.{answer_of, closed_answer, done_answer, idle_answer, snapshot_of, tick_of};
 
-use super::boxes::Boxed;
 use super::whole::Parts;
 use ps_actors::{ticked, wants_plan};
+use ps_boxes::Boxed;
 use ps_machine::Outcome;
 use ps_problem::Problem;
 use std::alloc::{AllocError, Global};

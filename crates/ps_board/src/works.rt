@@ -12,9 +12,9 @@ ghost use Rattle.ps_actors.specs.Turns.{is_choice_of};
 ghost use Rattle.ps_board.specs.Parts.{BoardStands, Covers, Gains, GainsNothing};
 ghost use Rattle.ps_board.specs.Grants.{grant_for, is_bare, performed_answer};
 
-use super::boxes::Boxed;
 use super::whole::Parts;
 use ps_actors::{performed, work_of};
+use ps_boxes::Boxed;
 use ps_machine::{By, Event, Unit};
 use ps_state::performer_of;
 use ps_world::{Duplicate, Name};

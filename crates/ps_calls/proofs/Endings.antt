@@ -94,7 +94,7 @@ reported-no_work f old new status r h =
 -- what is asked for has reports where the work has them
 asked-reports : (q : Request) (w : Work) → IsAsked q w → asks_reports (Some q) ≡ has_reports w
 asked-reports (a_session s) (work.Session t) kind = sym kind
-asked-reports (a_check file) (work.Check names d) kind = refl
+asked-reports (a_check file) (work.Check c) kind = refl
 asked-reports (a_validation domain script plan) (work.Validation v) kind = refl
 asked-reports (a_planning domain script budget) (work.Planning p) kind = refl
 asked-reports (a_replay q) (work.Replay r) kind = refl
@@ -368,7 +368,7 @@ one-run (a_session s) (work.Session t) status kind h one = inl (s, refl)
 one-run (a_generation n) (work.Generation g) status kind h one = inr (inl (n, refl))
 one-run (an_editing domain script) (work.Editing e) status kind h one = inr (inr (inl (domain, script, refl)))
 one-run (a_planning domain script budget) (work.Planning p) status kind h one = inr (inr (inr (domain, script, budget, refl)))
-one-run (a_check file) (work.Check names d) status kind h one = absurd (omega arith)
+one-run (a_check file) (work.Check c) status kind h one = absurd (omega arith)
 one-run (a_validation domain script plan) (work.Validation v) status kind h one = absurd (no_one (verdict_of v).0 (sym h ∙ one))
 one-run (a_replay q) (work.Replay r) status kind h one = absurd (not_one h.0 (sym h.2 ∙ one))
 one-run o w status kind h one = absurd kind
@@ -386,7 +386,7 @@ seven-judged (a_session s) (work.Session t) status kind h seven = absurd (omega 
 seven-judged (a_generation n) (work.Generation g) status kind h seven = absurd (omega arith)
 seven-judged (an_editing domain script) (work.Editing e) status kind h seven = absurd (no_seven (list_any (λ (s : Stage). is_refused s.answer) h.0) status h.3 seven)
 seven-judged (a_planning domain script budget) (work.Planning p) status kind h seven = absurd (few_seven (plan_of p).1 (few_planned p) (sym h ∙ seven))
-seven-judged (a_check file) (work.Check names d) status kind h seven = absurd (omega arith)
+seven-judged (a_check file) (work.Check c) status kind h seven = absurd (omega arith)
 seven-judged (a_validation domain script plan) (work.Validation v) status kind h seven = inl (domain, script, plan, refl)
 seven-judged (a_replay q) (work.Replay r) status kind h seven = inr (q, refl)
 seven-judged o w status kind h seven = absurd kind

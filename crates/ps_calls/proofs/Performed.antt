@@ -47,11 +47,6 @@ written text status old new p = record { done = (refl, p.whole); cut = tt; count
 
 -- ---- each kind of work
 
--- a domain's text
-pub checked : (names : Table) (d : Domain) (old new : SinkView) (r : Result ℕ SinkRefusal) → WritesWithStatus (domain_text names d) 0 old new r → Performs (work.Check names d) old new r
-checked names d old new (Ok status) w = record { done = w.done; cut = tt; counted = w.counted }
-checked names d old new (Err e) w = record { done = tt; cut = w.cut; counted = w.counted }
-
 -- the line of a plan
 pub judged : (v : Validation) (wrong : Option Invalid) (after : Table) (old new : SinkView) (r : Result ℕ SinkRefusal) → (wrong, after) ≡ verdict_of v → WritesWithStatus (verdict_line after wrong) (verdict_status wrong) old new r → Performs (work.Validation v) old new r
 judged v wrong after old new r same w = of_line r (subst (λ p. WritesWithStatus (answer_line p) (verdict_status p.0) old new r) same w) where

@@ -37,7 +37,7 @@ flag_below false = omega arith
 pub status-performed : (w : Work) (old new : SinkView) (status : ℕ) → Performs w old new (Ok status) → IsStatusOf w status
 status-performed (work.Session s) old new status p = subst (λ n. n < 2) (sym p.done.2.answer) (flag_below (list_any (λ e. is_mishap e.what) p.done.2.journal))
 status-performed (work.Generation g) old new status p = subst (λ n. n < 2) (sym p.done.2) (flag_below (list_any (λ e. is_mishap e.what) p.done.0))
-status-performed (work.Check names d) old new status p = p.done.0
+status-performed (work.Check c) old new status p = p.done.0
 status-performed (work.Validation v) old new status p = p.done.0
 status-performed (work.Planning p) old new status d = d.done.0
 status-performed (work.Replay r) old new status p = (p.done.0, p.done.2, p.done.4)
@@ -71,7 +71,7 @@ few_planned p =
 pub status-of_work : (w : Work) (status : ℕ) → IsStatusOf w status → IsOfWork status
 status-of_work (work.Session s) status h = inl h
 status-of_work (work.Generation g) status h = inl h
-status-of_work (work.Check names d) status h = inl (omega arith)
+status-of_work (work.Check c) status h = inl (omega arith)
 status-of_work (work.Validation v) status h = subst IsOfWork (sym h) (verdict_of_work (verdict_of v).0)
 status-of_work (work.Planning p) status h = inl (subst (λ n. n < 2) (sym h) (few_planned p))
 status-of_work (work.Replay r) status h = subst IsOfWork (sym h.2) (finding_of_work h.0)

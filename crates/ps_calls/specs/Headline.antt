@@ -99,7 +99,7 @@ edit_lines e = worded e.lines.items e.words.items
 abbrev pub IsWorkDone : Work → Option (List ℕ) → Option (List ℕ) → ℕ → Type 0
 IsWorkDone (work.Session s) old new status = IsDone (turns_of s) s.input s.names old new status
 IsWorkDone (work.Generation g) old new status = IsCountDone g.input g.carts old new status
-IsWorkDone (work.Check names d) old new status = (status ≡ 0) × Appends old new (domain_text names d)
+IsWorkDone (work.Check c) old new status = (status ≡ 0) × Appends old new (domain_text c.names c.domain)
 IsWorkDone (work.Validation v) old new status =
     (status ≡ verdict_status (verdict_of v).0) × Appends old new (answer_line (verdict_of v))
 IsWorkDone (work.Planning p) old new status = (status ≡ (plan_of p).1) × Appends old new (plan_of p).0
@@ -113,7 +113,7 @@ IsWorkDone (work.Editing e) old new status = IsEdited e.domain e.names (edit_lin
 abbrev pub IsWorkCut : Work → SinkView → SinkView → Type 0
 IsWorkCut (work.Session s) old new = IsCut (turns_of s) s.input s.names old new
 IsWorkCut (work.Generation g) old new = IsCountCut g.input g.carts old.bytes new.bytes
-IsWorkCut (work.Check names d) old new = AppendsPrefix old.bytes new.bytes (domain_text names d)
+IsWorkCut (work.Check c) old new = AppendsPrefix old.bytes new.bytes (domain_text c.names c.domain)
 IsWorkCut (work.Validation v) old new = AppendsPrefix old.bytes new.bytes (answer_line (verdict_of v))
 IsWorkCut (work.Planning p) old new = AppendsPrefix old.bytes new.bytes (plan_of p).0
 IsWorkCut (work.Replay r) old new =

@@ -115,7 +115,7 @@ WordsDecide = OfEachCall (λ c status.
 abbrev pub IsStatusOf : Work → ℕ → Type 0
 IsStatusOf (work.Session s) status = status < 2
 IsStatusOf (work.Generation g) status = status < 2
-IsStatusOf (work.Check names d) status = status ≡ 0
+IsStatusOf (work.Check c) status = status ≡ 0
 IsStatusOf (work.Validation v) status = status ≡ verdict_status (verdict_of v).0
 IsStatusOf (work.Planning p) status = status ≡ (plan_of p).1
 IsStatusOf (work.Replay r) status = (f : Finding) × IsFound r f × (status ≡ finding_status f)

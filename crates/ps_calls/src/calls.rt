@@ -81,10 +81,10 @@ fn do_work<R: Threads + Wait + Sync, O: Sink, E: Sink, G: Gate + Sync>(
         result }
 {
     match work {
-        Work::Session(session) => end_session(rt, alloc, session, gate, out, err),
-        Work::Planning(planning) => finish(do_plan(rt, alloc, planning, out), err),
+        Work::Session(session) => end_session(rt, alloc, session.into_inner(), gate, out, err),
+        Work::Planning(planning) => finish(do_plan(rt, alloc, planning.into_inner(), out), err),
         Work::Generation(generation) => {
-            finish(do_generation(rt, alloc, generation, gate, out), err)
+            finish(do_generation(rt, alloc, generation.into_inner(), gate, out), err)
         }
         quiet => finish(perform_quiet(alloc, quiet, out), err),
     }

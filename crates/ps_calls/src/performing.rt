@@ -40,10 +40,10 @@ pub fn perform_quiet<O: Sink>(alloc: Global, work: Work, out: &mut O) -> Result<
     ensures { Performs work (O.shown out.old) (O.shown out.new) result }
 {
     match work {
-        Work::Check { names, domain } => check(alloc, &names, &domain, out),
-        Work::Validation(validation) => validate(alloc, validation, out),
-        Work::Replay(replay) => do_replay(alloc, replay, out),
-        Work::Editing(editing) => do_edit(alloc, editing, out),
+        Work::Check(asked) => check(alloc, &asked.get().names, &asked.get().domain, out),
+        Work::Validation(validation) => validate(alloc, validation.into_inner(), out),
+        Work::Replay(replay) => do_replay(alloc, replay.into_inner(), out),
+        Work::Editing(editing) => do_edit(alloc, editing.into_inner(), out),
         Work::Session(_) | Work::Generation(_) | Work::Planning(_) => unreachable!(),
     }
 }

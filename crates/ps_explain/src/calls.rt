@@ -686,15 +686,20 @@ fn explain_work<R: Threads + Wait + Sync, F: Files>(
     page: &mut Page,
 ) -> Result<(), AllocError> {
     match work {
-        Work::Session(session) => explain_session(rt, alloc, called, session, files, page),
-        Work::Validation(mut validation) => {
-            explain_validation(alloc, called, &mut validation, files, page)
+        Work::Session(session) => {
+            explain_session(rt, alloc, called, session.into_inner(), files, page)
         }
-        Work::Planning(planning) => explain_planning(rt, alloc, called, &planning, files, page),
-        Work::Replay(mut replay) => {
-            explain_replay(alloc, called.other.unwrap_or(""), &mut replay, page)
+        Work::Validation(validation) => {
+            explain_validation(alloc, called, &mut validation.into_inner(), files, page)
         }
-        Work::Check { .. } | Work::Editing(_) | Work::Generation(_) => Ok(()),
+        Work::Planning(planning) => {
+            explain_planning(rt, alloc, called, planning.get(), files, page)
+        }
+        Work::Replay(replay) => {
+            let other = called.other.unwrap_or("");
+            explain_replay(alloc, other, &mut replay.into_inner(), page)
+        }
+        Work::Check(_) | Work::Editing(_) | Work::Generation(_) => Ok(()),
     }
 }
 

@@ -21,7 +21,7 @@ use Rattle.ps_inputs.specs.Input.{GoesBy, HasBadMembers, InputTexts, IsBegun, Is
 use Rattle.ps_rules.specs.Heads.{Settings}
 use Rattle.ps_inputs.specs.Input.Material.{for_session, for_check, for_validation, for_planning, for_replay, for_editing, for_generation}
 use Rattle.ps_inputs.specs.Faults.{ReadsPart}
-use Rattle.ps_inputs.specs.Parts.{Generates, IsAnswered, IsGenerated, IsJudged, IsJudgedAs, IsJudgedInput, IsScriptFrom, IsUnjudged, IsWordedFrom, Joins, Judges, LoadsRequest, ReadsDomainFile, ReadsInput, ReadsMembers, ReadsScript, ReadsText, named}
+use Rattle.ps_inputs.specs.Parts.{Generates, IsAnswered, IsGenerated, IsJudged, IsJudgedAs, IsJudgedInput, IsScriptFrom, IsUnjudged, IsWordedFrom, Joins, Judges, LoadsRequest, ReadsDomainFile, ReadsInput, ReadsMembers, ReadsScript, ReadsText, flat, named}
 use Rattle.ps_inputs.specs.declared.judging.Loaded.{Loaded}
 use Rattle.ps_inputs.specs.declared.reading.domains.Judged.{Judged}
 use Rattle.ps_inputs.specs.declared.reading.inputs.Unjudged.{Unjudged}
@@ -39,6 +39,19 @@ use Rattle.ps_inputs.specs.declared.works.Work.{Work}
 use Rattle.ps_inputs.specs.declared.works.Work.TheVariants as work
 use Rattle.ps_inputs.specs.declared.works.Work.TheVariants.{Check}
 use Rattle.ps_inputs.proofs.ReadParts.{give_be, out_of_memory, read_nothing, then_ended, then_read}
+
+-- ---- the answer
+
+-- reading all files of a request comes to this, where a fault of what was read is told as such
+abbrev Answers : Request → FilesView → FilesView → Result (Result Work Fault) (Failure Fault) → Type 0
+Answers request old new answer = ReadsPart (reading_of old.told request) old new (IsAnswered old.told request) answer
+
+loads : (request : Request) (old new : FilesView) (answer : Result (Result Work Fault) (Failure Fault)) → Answers request old new answer → LoadsRequest request old new (flat answer)
+loads request old new answer h = record { answer = answer; reads = h; is = refl }
+
+-- memory runs out after all files are read
+starved : (request : Request) (old new : FilesView) → new.failed ≡ old.failed → new.told ≡ old.told → LoadsRequest request old new (Err OutOfMemory)
+starved request old new failed same = loads request old new (Err OutOfMemory) (out_of_memory (reading_of old.told request) old new failed same)
 
 -- ---- the domain
 
@@ -67,17 +80,21 @@ told_judged file old new j judged e h =
 module _ (file : List ℕ) (old new : FilesView) where
   pub check_unread : (why : Failure Fault) → ReadsDomainFile file old new (Err why) → LoadsRequest (a_check file) old new (Err why)
   unfolding reading_of
-  check_unread why h = then_ended (read_file old.told file) (λ d. gives [] (for_check d)) old new why h
+  check_unread why h = loads (a_check file) old new (Err why) (then_ended (read_file old.told file) (λ d. gives [] (for_check d)) old new why h)
 
-  check_read : (j : Judged) (r : Result Work Fault) → ReadsDomainFile file old new (Ok j) → ((d : List ℕ) → IsJudged d j → IsAnswered old.told (a_check file) (for_check d) r) → LoadsRequest (a_check file) old new (Ok r)
+  check_read : (j : Judged) (r : Result Work Fault) → ReadsDomainFile file old new (Ok j) → ((d : List ℕ) → IsJudged d j → IsAnswered old.told (a_check file) (for_check d) r) → LoadsRequest (a_check file) old new (flat (Ok r))
   unfolding reading_of
-  check_read j r h f = then_read (read_file old.told file) (λ t d. gives [] (for_check d)) old new new j (Ok r) h (λ d is. read_nothing new (for_check d) r (f d is))
+  check_read j r h f = loads (a_check file) old new (Ok r) (then_read (read_file old.told file) (λ t d. gives [] (for_check d)) old new new j (Ok r) h (λ d is. read_nothing new (for_check d) r (f d is)))
 
-  pub check_good : (j : Judged) (d : Domain) → j.domain ≡ Ok d → ReadsDomainFile file old new (Ok j) → LoadsRequest (a_check file) old new (Ok (Ok (Check j.names d)))
-  check_good j d e h = check_read j (Ok (Check j.names d)) h (λ text is. (tt, judged_domain text j d e is))
+  pub check_good : (j : Judged) (d : Domain) → j.domain ≡ Ok d → ReadsDomainFile file old new (Ok j) → LoadsRequest (a_check file) old new (Ok (Check (record { names = j.names; domain = d })))
+  check_good j d e h = check_read j (Ok (Check (record { names = j.names; domain = d }))) h (λ text is. (tt, judged_domain text j d e is))
 
-  pub check_bad : (j : Judged) (fault : Fault) → j.domain ≡ Err fault → ReadsDomainFile file old new (Ok j) → LoadsRequest (a_check file) old new (Ok (Err fault))
+  pub check_bad : (j : Judged) (fault : Fault) → j.domain ≡ Err fault → ReadsDomainFile file old new (Ok j) → LoadsRequest (a_check file) old new (Err (Refused fault))
   check_bad j fault e h = check_read j (Err fault) h (λ text is. judged_fault old.told j.names (a_check file) (for_check text) fault (subst (IsJudgedAs text j.names) e is) (told_judged file old new j (Err fault) e h))
+
+  -- memory runs out after the file is read
+  pub check_starved : (j : Judged) → ReadsDomainFile file old new (Ok j) → LoadsRequest (a_check file) old new (Err OutOfMemory)
+  check_starved j h = starved (a_check file) old new (h.failed) (h.same)
 
 -- ---- the texts of an input
 
@@ -203,16 +220,17 @@ module _ (s : SessionRequest) (old new : FilesView) where
 
   pub session_unread : (why : Failure Fault) → ReadsInput s.domain s.script s.members old new (Err why) → LoadsRequest (a_session s) old new (Err why)
   unfolding reading_of
-  session_unread why h = then_ended (texts_in old.told s.domain s.script s.members) session_of old new why h
+  session_unread why h = loads (a_session s) old new (Err why) (then_ended (texts_in old.told s.domain s.script s.members) session_of old new why h)
 
   module _ (u : Unjudged) (h : ReadsInput s.domain s.script s.members old new (Ok u)) where
-    session_read : (r : Result Work Fault) → ((input : InputTexts) → IsUnjudged (read_file old.told s.domain) input u → IsAnswered old.told (a_session s) (for_session s input) r) → LoadsRequest (a_session s) old new (Ok r)
+    session_read : (r : Result Work Fault) → ((input : InputTexts) → IsUnjudged (read_file old.told s.domain) input u → IsAnswered old.told (a_session s) (for_session s input) r) → LoadsRequest (a_session s) old new (flat (Ok r))
     unfolding reading_of
     session_read r f =
-        then_read (texts_in old.told s.domain s.script s.members) (λ t input. session_of input) old new new u (Ok r) h
-        (λ input is. read_nothing new (for_session s input) r (f input is))
+        loads (a_session s) old new (Ok r)
+        (then_read (texts_in old.told s.domain s.script s.members) (λ t input. session_of input) old new new u (Ok r) h
+        (λ input is. read_nothing new (for_session s input) r (f input is)))
 
-    pub session_good : (l : Loaded) (w : Session) → w.names ≡ l.names → w.input ≡ l.input → w.workers ≡ s.workers → w.ordered ≡ s.ordered → w.reports ≡ s.reports → Judges u s.budget s.replans (Ok l) → LoadsRequest (a_session s) old new (Ok (Ok (work.Session w)))
+    pub session_good : (l : Loaded) (w : Session) → w.names ≡ l.names → w.input ≡ l.input → w.workers ≡ s.workers → w.ordered ≡ s.ordered → w.reports ≡ s.reports → Judges u s.budget s.replans (Ok l) → LoadsRequest (a_session s) old new (Ok (work.Session w))
     session_good l w names input workers ordered reports judges =
         session_read (Ok (work.Session w))
         (λ texts is. (
@@ -225,13 +243,14 @@ module _ (s : SessionRequest) (old new : FilesView) where
           ),
         ))
 
-    pub session_bad : (fault : Fault) → Judges u s.budget s.replans (Err (Refused fault)) → LoadsRequest (a_session s) old new (Ok (Err fault))
-    session_bad fault judges =
-        session_read (Err fault) (λ texts is. answered_fault old.told (a_session s) (for_session s texts) s.budget s.replans fault (judges (read_file old.told s.domain) texts is))
-
     -- memory runs out after all files are read
     pub session_starved : LoadsRequest (a_session s) old new (Err OutOfMemory)
-    session_starved = out_of_memory (reading_of old.told (a_session s)) old new h.failed h.same
+    session_starved = starved (a_session s) old new h.failed h.same
+
+    pub session_unjudged : (why : Failure Fault) → Judges u s.budget s.replans (Err why) → LoadsRequest (a_session s) old new (Err why)
+    session_unjudged OutOfMemory judges = session_starved
+    session_unjudged (Refused fault) judges =
+        session_read (Err fault) (λ texts is. answered_fault old.told (a_session s) (for_session s texts) s.budget s.replans fault (judges (read_file old.told s.domain) texts is))
 
 -- ---- an input and one file more, that of a plan or a journal
 
@@ -245,8 +264,8 @@ module _ (request : Request) (domain_file script_file last_file : List ℕ) (mem
 
   -- what reading all of them comes to
   abbrev LoadsAll : FilesView → Result (Result Work Fault) (Failure Fault) → Type 0
-  LoadsAll new r =
-      ReadsPart (and_then (texts_in old.told domain_file script_file member_files) (last_after old.told)) old new (IsAnswered old.told request) r
+  LoadsAll new answer =
+      ReadsPart (and_then (texts_in old.told domain_file script_file member_files) (last_after old.told)) old new (IsAnswered old.told request) answer
 
   input_unread : (new : FilesView) (why : Failure Fault) → ReadsInput domain_file script_file member_files old new (Err why) → LoadsAll new (Err why)
   input_unread new why h = then_ended (texts_in old.told domain_file script_file member_files) (last_after old.told) old new why h
@@ -271,19 +290,19 @@ module _ (domain_file script_file plan_file : List ℕ) (old : FilesView) where
 
   pub validation_unread : (new : FilesView) (why : Failure Fault) → ReadsInput domain_file script_file [] old new (Err why) → LoadsRequest validation_request old new (Err why)
   unfolding reading_of
-  validation_unread new why h = input_unread validation_request domain_file script_file plan_file [] for_validation old new why h
+  validation_unread new why h = loads validation_request old new (Err why) (input_unread validation_request domain_file script_file plan_file [] for_validation old new why h)
 
   module _ (middle new : FilesView) (u : Unjudged) (first : ReadsInput domain_file script_file [] old middle (Ok u)) where
     pub validation_unplanned : (why : Failure Fault) → ReadsText plan_file middle new (Err why) → LoadsRequest validation_request old new (Err why)
     unfolding reading_of
-    validation_unplanned why h = last_unread validation_request domain_file script_file plan_file [] for_validation old middle new u first why h
+    validation_unplanned why h = loads validation_request old new (Err why) (last_unread validation_request domain_file script_file plan_file [] for_validation old middle new u first why h)
 
     module _ (plan : Vec ℕ) (h : ReadsText plan_file middle new (Ok plan)) where
-      validation_read : (r : Result Work Fault) → ((input : InputTexts) → IsUnjudged (read_file old.told domain_file) input u → IsAnswered old.told validation_request (for_validation input plan.items) r) → LoadsRequest validation_request old new (Ok r)
+      validation_read : (r : Result Work Fault) → ((input : InputTexts) → IsUnjudged (read_file old.told domain_file) input u → IsAnswered old.told validation_request (for_validation input plan.items) r) → LoadsRequest validation_request old new (flat (Ok r))
       unfolding reading_of
-      validation_read r f = last_read validation_request domain_file script_file plan_file [] for_validation old middle new u first plan h r f
+      validation_read r f = loads validation_request old new (Ok r) (last_read validation_request domain_file script_file plan_file [] for_validation old middle new u first plan h r f)
 
-      pub validation_good : (l : Loaded) (w : Validation) → w.names ≡ l.names → w.input ≡ l.input → w.plan ≡ plan → Judges u 0 0 (Ok l) → LoadsRequest validation_request old new (Ok (Ok (work.Validation w)))
+      pub validation_good : (l : Loaded) (w : Validation) → w.names ≡ l.names → w.input ≡ l.input → w.plan ≡ plan → Judges u 0 0 (Ok l) → LoadsRequest validation_request old new (Ok (work.Validation w))
       validation_good l w names input same judges =
           validation_read (Ok (work.Validation w))
           (λ texts is. (
@@ -294,13 +313,14 @@ module _ (domain_file script_file plan_file : List ℕ) (old : FilesView) where
             ),
           ))
 
-      pub validation_bad : (fault : Fault) → Judges u 0 0 (Err (Refused fault)) → LoadsRequest validation_request old new (Ok (Err fault))
-      validation_bad fault judges =
-          validation_read (Err fault) (λ texts is. answered_fault old.told validation_request (for_validation texts plan.items) 0 0 fault (judges (read_file old.told domain_file) texts is))
-
       -- memory runs out after all files are read
       pub validation_starved : LoadsRequest validation_request old new (Err OutOfMemory)
-      validation_starved = out_of_memory (reading_of old.told validation_request) old new (h.failed ∙ first.failed) (h.same ∙ first.same)
+      validation_starved = starved validation_request old new (h.failed ∙ first.failed) (h.same ∙ first.same)
+
+      pub validation_unjudged : (why : Failure Fault) → Judges u 0 0 (Err why) → LoadsRequest validation_request old new (Err why)
+      validation_unjudged OutOfMemory judges = validation_starved
+      validation_unjudged (Refused fault) judges =
+          validation_read (Err fault) (λ texts is. answered_fault old.told validation_request (for_validation texts plan.items) 0 0 fault (judges (read_file old.told domain_file) texts is))
 
 -- ---- a plan that is searched for
 
@@ -314,16 +334,17 @@ module _ (domain_file script_file : List ℕ) (budget : ℕ) (old new : FilesVie
 
   pub planning_unread : (why : Failure Fault) → ReadsInput domain_file script_file [] old new (Err why) → LoadsRequest planning_request old new (Err why)
   unfolding reading_of
-  planning_unread why h = then_ended (texts_in old.told domain_file script_file []) planning_of old new why h
+  planning_unread why h = loads planning_request old new (Err why) (then_ended (texts_in old.told domain_file script_file []) planning_of old new why h)
 
   module _ (u : Unjudged) (h : ReadsInput domain_file script_file [] old new (Ok u)) where
-    planning_read : (r : Result Work Fault) → ((input : InputTexts) → IsUnjudged (read_file old.told domain_file) input u → IsAnswered old.told planning_request (for_planning budget input) r) → LoadsRequest planning_request old new (Ok r)
+    planning_read : (r : Result Work Fault) → ((input : InputTexts) → IsUnjudged (read_file old.told domain_file) input u → IsAnswered old.told planning_request (for_planning budget input) r) → LoadsRequest planning_request old new (flat (Ok r))
     unfolding reading_of
     planning_read r f =
-        then_read (texts_in old.told domain_file script_file []) (λ t input. planning_of input) old new new u (Ok r) h
-        (λ input is. read_nothing new (for_planning budget input) r (f input is))
+        loads planning_request old new (Ok r)
+        (then_read (texts_in old.told domain_file script_file []) (λ t input. planning_of input) old new new u (Ok r) h
+        (λ input is. read_nothing new (for_planning budget input) r (f input is)))
 
-    pub planning_good : (l : Loaded) (w : Planning) → w.names ≡ l.names → w.input ≡ l.input → Judges u budget 0 (Ok l) → LoadsRequest planning_request old new (Ok (Ok (work.Planning w)))
+    pub planning_good : (l : Loaded) (w : Planning) → w.names ≡ l.names → w.input ≡ l.input → Judges u budget 0 (Ok l) → LoadsRequest planning_request old new (Ok (work.Planning w))
     planning_good l w names input judges =
         planning_read (Ok (work.Planning w))
         (λ texts is. (
@@ -332,33 +353,34 @@ module _ (domain_file script_file : List ℕ) (budget : ℕ) (old new : FilesVie
               (subst (λ (i : Input). IsInput budget 0 texts i l.names) (sym input) (judges (read_file old.told domain_file) texts is).0),
         ))
 
-    pub planning_bad : (fault : Fault) → Judges u budget 0 (Err (Refused fault)) → LoadsRequest planning_request old new (Ok (Err fault))
-    planning_bad fault judges =
-        planning_read (Err fault) (λ texts is. answered_fault old.told planning_request (for_planning budget texts) budget 0 fault (judges (read_file old.told domain_file) texts is))
-
     -- memory runs out after all files are read
     pub planning_starved : LoadsRequest planning_request old new (Err OutOfMemory)
-    planning_starved = out_of_memory (reading_of old.told planning_request) old new h.failed h.same
+    planning_starved = starved planning_request old new h.failed h.same
+
+    pub planning_unjudged : (why : Failure Fault) → Judges u budget 0 (Err why) → LoadsRequest planning_request old new (Err why)
+    planning_unjudged OutOfMemory judges = planning_starved
+    planning_unjudged (Refused fault) judges =
+        planning_read (Err fault) (λ texts is. answered_fault old.told planning_request (for_planning budget texts) budget 0 fault (judges (read_file old.told domain_file) texts is))
 
 -- ---- a replay
 
 module _ (s : ReplayRequest) (old : FilesView) where
   pub replay_unread : (new : FilesView) (why : Failure Fault) → ReadsInput s.domain s.script s.members old new (Err why) → LoadsRequest (a_replay s) old new (Err why)
   unfolding reading_of
-  replay_unread new why h = input_unread (a_replay s) s.domain s.script s.journal s.members (for_replay s.budget s.replans) old new why h
+  replay_unread new why h = loads (a_replay s) old new (Err why) (input_unread (a_replay s) s.domain s.script s.journal s.members (for_replay s.budget s.replans) old new why h)
 
   module _ (middle new : FilesView) (u : Unjudged) (first : ReadsInput s.domain s.script s.members old middle (Ok u)) where
     pub replay_unrecorded : (why : Failure Fault) → ReadsText s.journal middle new (Err why) → LoadsRequest (a_replay s) old new (Err why)
     unfolding reading_of
-    replay_unrecorded why h = last_unread (a_replay s) s.domain s.script s.journal s.members (for_replay s.budget s.replans) old middle new u first why h
+    replay_unrecorded why h = loads (a_replay s) old new (Err why) (last_unread (a_replay s) s.domain s.script s.journal s.members (for_replay s.budget s.replans) old middle new u first why h)
 
     module _ (journal : Vec ℕ) (h : ReadsText s.journal middle new (Ok journal)) where
-      replay_read : (r : Result Work Fault) → ((input : InputTexts) → IsUnjudged (read_file old.told s.domain) input u → IsAnswered old.told (a_replay s) (for_replay s.budget s.replans input journal.items) r) → LoadsRequest (a_replay s) old new (Ok r)
+      replay_read : (r : Result Work Fault) → ((input : InputTexts) → IsUnjudged (read_file old.told s.domain) input u → IsAnswered old.told (a_replay s) (for_replay s.budget s.replans input journal.items) r) → LoadsRequest (a_replay s) old new (flat (Ok r))
       unfolding reading_of
-      replay_read r f = last_read (a_replay s) s.domain s.script s.journal s.members (for_replay s.budget s.replans) old middle new u first journal h r f
+      replay_read r f = loads (a_replay s) old new (Ok r) (last_read (a_replay s) s.domain s.script s.journal s.members (for_replay s.budget s.replans) old middle new u first journal h r f)
 
       pub replay_good : (t : Settings) → GoesBy (s.budget, s.replans) journal.items t → (l : Loaded) (w : Replay) → w.names ≡ l.names → w.input ≡ l.input → w.journal ≡ journal
-          → w.migrates ≡ s.migrates → Judges u t.0 t.1 (Ok l) → LoadsRequest (a_replay s) old new (Ok (Ok (work.Replay w)))
+          → w.migrates ≡ s.migrates → Judges u t.0 t.1 (Ok l) → LoadsRequest (a_replay s) old new (Ok (work.Replay w))
       replay_good t goes l w names input same migrates judges =
           replay_read (Ok (work.Replay w))
           (λ texts is. (
@@ -374,23 +396,28 @@ module _ (s : ReplayRequest) (old : FilesView) where
             ),
           ))
 
-      pub replay_bad : (t : Settings) (fault : Fault) → Judges u t.0 t.1 (Err (Refused fault)) → LoadsRequest (a_replay s) old new (Ok (Err fault))
-      replay_bad t fault judges =
+      -- memory runs out after all files are read
+      pub replay_starved : LoadsRequest (a_replay s) old new (Err OutOfMemory)
+      replay_starved = starved (a_replay s) old new (h.failed ∙ first.failed) (h.same ∙ first.same)
+
+      pub replay_unjudged : (t : Settings) (why : Failure Fault) → Judges u t.0 t.1 (Err why) → LoadsRequest (a_replay s) old new (Err why)
+      replay_unjudged t OutOfMemory judges = replay_starved
+      replay_unjudged t (Refused fault) judges =
           replay_read (Err fault)
           (λ texts is. answered_fault old.told (a_replay s) (for_replay s.budget s.replans texts journal.items) t.0 t.1 fault (judges (read_file old.told s.domain) texts is))
 
-      -- memory runs out after all files are read
-      pub replay_starved : LoadsRequest (a_replay s) old new (Err OutOfMemory)
-      replay_starved = out_of_memory (reading_of old.told (a_replay s)) old new (h.failed ∙ first.failed) (h.same ∙ first.same)
-
 -- ---- a generation
 
-module _ (carts : ℕ) (u : Unjudged) (is : IsGenerated carts u) where
-  generation_read : (r : Result Work Fault) → ((told : Texts) → IsAnswered told (a_generation carts) (for_generation carts) r) → Generates carts (Ok r)
-  unfolding reading_of
-  generation_read r f files = read_nothing files (for_generation carts) r (f files.told)
+-- memory runs out
+pub generation_starved : (carts : ℕ) → Generates carts (Err OutOfMemory)
+generation_starved carts files = starved (a_generation carts) files files refl refl
 
-  pub generation_good : (l : Loaded) (w : Generation) → w.carts ≡ carts → w.names ≡ l.names → w.input ≡ l.input → Judges u 20000 3 (Ok l) → Generates carts (Ok (Ok (work.Generation w)))
+module _ (carts : ℕ) (u : Unjudged) (is : IsGenerated carts u) where
+  generation_read : (r : Result Work Fault) → ((told : Texts) → IsAnswered told (a_generation carts) (for_generation carts) r) → Generates carts (flat (Ok r))
+  unfolding reading_of
+  generation_read r f files = loads (a_generation carts) files files (Ok r) (read_nothing files (for_generation carts) r (f files.told))
+
+  pub generation_good : (l : Loaded) (w : Generation) → w.carts ≡ carts → w.names ≡ l.names → w.input ≡ l.input → Judges u 20000 3 (Ok l) → Generates carts (Ok (work.Generation w))
   generation_good l w count names input judges =
       generation_read (Ok (work.Generation w))
       (λ told. (
@@ -402,14 +429,11 @@ module _ (carts : ℕ) (u : Unjudged) (is : IsGenerated carts u) where
         ),
       ))
 
-  pub generation_bad : (fault : Fault) → Judges u 20000 3 (Err (Refused fault)) → Generates carts (Ok (Err fault))
-  generation_bad fault judges =
+  pub generation_unjudged : (why : Failure Fault) → Judges u 20000 3 (Err why) → Generates carts (Err why)
+  generation_unjudged OutOfMemory judges = generation_starved carts
+  generation_unjudged (Refused fault) judges =
       generation_read (Err fault)
       (λ told. answered_fault told (a_generation carts) (for_generation carts) 20000 3 fault (judges (domain_in told (a_generation carts)) (generated carts) is))
-
--- memory runs out
-pub generation_starved : (carts : ℕ) → Generates carts (Err OutOfMemory)
-generation_starved carts files = out_of_memory (reading_of files.told (a_generation carts)) files files refl refl
 
 -- ---- a problem that is to be prepared
 
@@ -429,23 +453,25 @@ module _ (domain_file script_file : List ℕ) (old : FilesView) where
 
   pub editing_undomained : (new : FilesView) (why : Failure Fault) → ReadsDomainFile domain_file old new (Err why) → LoadsRequest (an_editing domain_file script_file) old new (Err why)
   unfolding reading_of
-  editing_undomained new why h = then_ended (read_file old.told domain_file) (editing_after old.told) old new why h
+  editing_undomained new why h = loads (an_editing domain_file script_file) old new (Err why) (then_ended (read_file old.told domain_file) (editing_after old.told) old new why h)
 
   module _ (middle : FilesView) (j : Judged) (first : ReadsDomainFile domain_file old middle (Ok j)) where
     pub editing_unscripted : (new : FilesView) (why : Failure Fault) → ReadsScript j.names script_file middle new (Err why) → LoadsRequest (an_editing domain_file script_file) old new (Err why)
     unfolding reading_of
     editing_unscripted new why h =
-        then_read (read_file old.told domain_file) editing_after old middle new j (Err why) first (λ d is. then_ended (script_in middle.told script_file) (editing_of d) middle new why h)
+        loads (an_editing domain_file script_file) old new (Err why)
+        (then_read (read_file old.told domain_file) editing_after old middle new j (Err why) first (λ d is. then_ended (script_in middle.told script_file) (editing_of d) middle new why h))
 
     module _ (new : FilesView) (script : Script) (second : ReadsScript j.names script_file middle new (Ok script)) where
-      editing_read : (r : Result Work Fault) → ((d : List ℕ) (flat : Flat) → IsJudged d j → IsWordedFrom j.names flat.lines script → IsAnswered old.told (an_editing domain_file script_file) (for_editing d flat.lines) r) → LoadsRequest (an_editing domain_file script_file) old new (Ok r)
+      editing_read : (r : Result Work Fault) → ((d : List ℕ) (flat : Flat) → IsJudged d j → IsWordedFrom j.names flat.lines script → IsAnswered old.told (an_editing domain_file script_file) (for_editing d flat.lines) r) → LoadsRequest (an_editing domain_file script_file) old new (flat (Ok r))
       unfolding reading_of
       editing_read r f =
-          then_read (read_file old.told domain_file) editing_after old middle new j (Ok r) first
+          loads (an_editing domain_file script_file) old new (Ok r)
+          (then_read (read_file old.told domain_file) editing_after old middle new j (Ok r) first
           (λ d is. then_read (script_in middle.told script_file) (λ t flat. editing_of d flat) middle new new script (Ok r) second
-          (λ flat are. read_nothing new (for_editing d flat.lines) r (f d flat is are)))
+          (λ flat are. read_nothing new (for_editing d flat.lines) r (f d flat is are))))
 
-      pub editing_good : (d : Domain) → j.domain ≡ Ok d → (e : Editing) → e.names ≡ script.names → e.domain ≡ d → e.lines.items ≡ script.lines.items → e.words.items ≡ script.words.items → LoadsRequest (an_editing domain_file script_file) old new (Ok (Ok (work.Editing e)))
+      pub editing_good : (d : Domain) → j.domain ≡ Ok d → (e : Editing) → e.names ≡ script.names → e.domain ≡ d → e.lines.items ≡ script.lines.items → e.words.items ≡ script.words.items → LoadsRequest (an_editing domain_file script_file) old new (Ok (work.Editing e))
       editing_good d good e names same lines words =
           editing_read (Ok (work.Editing e))
           (λ text flat is are. (
@@ -458,7 +484,11 @@ module _ (domain_file script_file : List ℕ) (old : FilesView) where
             },
           ))
 
-      pub editing_bad : (fault : Fault) → j.domain ≡ Err fault → LoadsRequest (an_editing domain_file script_file) old new (Ok (Err fault))
+      pub editing_bad : (fault : Fault) → j.domain ≡ Err fault → LoadsRequest (an_editing domain_file script_file) old new (Err (Refused fault))
       editing_bad fault bad =
           editing_read (Err fault)
           (λ text flat is are. judged_fault old.told j.names (an_editing domain_file script_file) (for_editing text flat.lines) fault (subst (IsJudgedAs text j.names) bad is) (told_judged domain_file old middle j (Err fault) bad first))
+
+      -- memory runs out after all files are read
+      pub editing_starved : LoadsRequest (an_editing domain_file script_file) old new (Err OutOfMemory)
+      editing_starved = starved (an_editing domain_file script_file) old new (second.failed ∙ first.failed) (second.same ∙ first.same)

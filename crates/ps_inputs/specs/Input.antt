@@ -174,7 +174,7 @@ GoesBy words journal s = HasSettings journal (Some s) ⊎ (HasSettings journal N
 abbrev pub IsWork : Material → Work → Type 0
 IsWork (for_session asked input) (Session s) =
     IsInput asked.budget asked.replans input s.input s.names × (s.workers ≡ asked.workers) × (s.ordered ≡ asked.ordered)
-IsWork (for_check domain) (Check names d) = IsDomain domain d names
+IsWork (for_check domain) (Check c) = IsDomain domain c.domain c.names
 IsWork (for_validation input plan) (Validation v) = IsInput 0 0 input v.input v.names × (v.plan.items ≡ plan)
 IsWork (for_planning budget input) (Planning p) = IsInput budget 0 input p.input p.names
 IsWork (for_replay budget replans input journal) (Replay r) =
@@ -188,7 +188,7 @@ IsWork m w = ⊥
 -- many carts are generated.
 abbrev pub IsAsked : Request → Work → Type 0
 IsAsked (a_session s) (Session t) = t.reports ≡ s.reports
-IsAsked (a_check file) (Check names d) = Unit {0}
+IsAsked (a_check file) (Check c) = Unit {0}
 IsAsked (a_validation domain script plan) (Validation v) = Unit {0}
 IsAsked (a_planning domain script budget) (Planning p) = Unit {0}
 IsAsked (a_replay r) (Replay w) = w.migrates ≡ r.migrates

@@ -235,10 +235,18 @@ IsAnswered texts request m (Err (NoDomain cause)) =
     IsNoDomain (domain_text_of m) cause.items × MayGive (domain_in texts request) (λ text. IsNoDomain text cause.items)
 IsAnswered texts request m (Err fault) = HasBadMembers (texts_of m) fault
 
--- reading all files of a request, and judging their texts
-abbrev pub LoadsRequest : Request → FilesView → FilesView → Result (Result Work Fault) (Failure Fault) → Type 0
-LoadsRequest request old new r = ReadsPart (reading_of old.told request) old new (IsAnswered old.told request) r
+-- a fault of what was read is a failure as one of reading is
+abbrev pub flat : Result (Result Work Fault) (Failure Fault) → Result Work (Failure Fault)
+flat (Ok (Ok work)) = Ok work
+flat (Ok (Err fault)) = Err (Refused fault)
+flat (Err failure) = Err failure
+
+-- Reading all files of a request, and judging their texts: the answer is the work, or the fault of what was read, or why reading was ended.
+pub record LoadsRequest (request : Request) (old new : FilesView) (r : Result Work (Failure Fault)) : Type 0 where
+  pub answer : Result (Result Work Fault) (Failure Fault)
+  pub reads : ReadsPart (reading_of old.told request) old new (IsAnswered old.told request) answer
+  pub is : flat answer ≡ r
 
 -- judging the generator's texts, which reads no file
-abbrev pub Generates : ℕ → Result (Result Work Fault) (Failure Fault) → Type 0
+abbrev pub Generates : ℕ → Result Work (Failure Fault) → Type 0
 Generates carts r = (files : FilesView) → LoadsRequest (a_generation carts) files files r

@@ -13,4 +13,4 @@ mod works;
 pub use faults::{Fault, fault_line};
 pub use laws::{members_are_sound, scripts_are_read_as_one};
 pub use loading::load;
-pub use works::{Editing, Generation, Planning, Replay, Session, Validation, Work};
+pub use works::{Check, Editing, Generation, Planning, Replay, Session, Validation, Work};

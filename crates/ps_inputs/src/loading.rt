@@ -12,7 +12,8 @@ use crate::judging::{Loaded, judge};
 use crate::reading::{
     Judged, Script, generate, read_domain_file, read_input, read_script, read_text,
 };
-use crate::works::{Editing, Generation, Planning, Replay, Session, Validation, Work};
+use crate::works::{Check, Editing, Generation, Planning, Replay, Session, Validation, Work};
+use ps_boxes::Boxed;
 use ps_entries::settings_in;
 use ps_text::Files;
 use ps_words::{Asked, ReplaySettings, Settings, read_words};
@@ -31,38 +32,32 @@ fn load_session<'a, F: Files>(
     alloc: Global,
     settings: &Settings<'a>,
     files: &mut F,
-) -> Result<Result<Work, Fault>, Failure<Fault>>
+) -> Result<Work, Failure<Fault>>
     requires { IsInRange (a_session (settings_said settings.now)) }
     ensures { LoadsRequest (a_session (settings_said settings.now)) (F.shown files.old)
         (F.shown files.new) result }
 {
     let members = settings.members.as_slice();
     let read = read_input(alloc, settings.domain, settings.script, members, files)?;
-    match judge(alloc, read, settings.budget, settings.replans as u8) {
-        Ok(Loaded { names, input }) => Ok(Ok(Work::Session(Session {
-            names,
-            input,
-            workers: settings.workers as u8,
-            ordered: settings.ordered,
-            reports: settings.reports,
-        }))),
-        Err(Failure::Refused(fault)) => Ok(Err(fault)),
-        Err(Failure::OutOfMemory) => Err(Failure::OutOfMemory),
-    }
+    let Loaded { names, input } = judge(alloc, read, settings.budget, settings.replans as u8)?;
+    let session = Session {
+        names,
+        input,
+        workers: settings.workers as u8,
+        ordered: settings.ordered,
+        reports: settings.reports,
+    };
+    Ok(Work::Session(Boxed::new(alloc, session)?))
 }
 
 /// Reads the file of a check.
-fn load_check<F: Files>(
-    alloc: Global,
-    file: &str,
-    files: &mut F,
-) -> Result<Result<Work, Fault>, Failure<Fault>>
+fn load_check<F: Files>(alloc: Global, file: &str, files: &mut F) -> Result<Work, Failure<Fault>>
     ensures { LoadsRequest (a_check file.now) (F.shown files.old) (F.shown files.new) result }
 {
     let Judged { names, domain } = read_domain_file(alloc, file, files)?;
     match domain {
-        Ok(domain) => Ok(Ok(Work::Check { names, domain })),
-        Err(fault) => Ok(Err(fault)),
+        Ok(domain) => Ok(Work::Check(Boxed::new(alloc, Check { names, domain })?)),
+        Err(fault) => Err(Failure::Refused(fault)),
     }
 }
 
@@ -74,17 +69,15 @@ fn load_validation<F: Files>(
     script: &str,
     plan: &str,
     files: &mut F,
-) -> Result<Result<Work, Fault>, Failure<Fault>>
+) -> Result<Work, Failure<Fault>>
     ensures { LoadsRequest (a_validation domain.now script.now plan.now) (F.shown files.old)
         (F.shown files.new) result }
 {
     let read = read_input(alloc, domain, script, &[], files)?;
     let plan = read_text(alloc, plan, files)?;
-    match judge(alloc, read, 0, 0) {
-        Ok(Loaded { names, input }) => Ok(Ok(Work::Validation(Validation { names, input, plan }))),
-        Err(Failure::Refused(fault)) => Ok(Err(fault)),
-        Err(Failure::OutOfMemory) => Err(Failure::OutOfMemory),
-    }
+    let Loaded { names, input } = judge(alloc, read, 0, 0)?;
+    let validation = Validation { names, input, plan };
+    Ok(Work::Validation(Boxed::new(alloc, validation)?))
 }
 
 /// Reads the files of a problem that is to be planned: the domain's, and the script's with the files that it names. A domain's text that is
@@ -95,17 +88,14 @@ fn load_planning<F: Files>(
     script: &str,
     budget: u32,
     files: &mut F,
-) -> Result<Result<Work, Fault>, Failure<Fault>>
+) -> Result<Work, Failure<Fault>>
     requires { IsInRange (a_planning domain.now script.now budget) }
     ensures { LoadsRequest (a_planning domain.now script.now budget) (F.shown files.old)
         (F.shown files.new) result }
 {
     let read = read_input(alloc, domain, script, &[], files)?;
-    match judge(alloc, read, budget, 0) {
-        Ok(Loaded { names, input }) => Ok(Ok(Work::Planning(Planning { names, input }))),
-        Err(Failure::Refused(fault)) => Ok(Err(fault)),
-        Err(Failure::OutOfMemory) => Err(Failure::OutOfMemory),
-    }
+    let Loaded { names, input } = judge(alloc, read, budget, 0)?;
+    Ok(Work::Planning(Boxed::new(alloc, Planning { names, input })?))
 }
 
 /// The settings that a replay goes by: those that the head of its journal says, or these where it says none.
@@ -126,7 +116,7 @@ fn load_replay<'a, F: Files>(
     alloc: Global,
     settings: &ReplaySettings<'a>,
     files: &mut F,
-) -> Result<Result<Work, Fault>, Failure<Fault>>
+) -> Result<Work, Failure<Fault>>
     requires { IsInRange (a_replay (replay_said settings.now)) }
     ensures { LoadsRequest (a_replay (replay_said settings.now)) (F.shown files.old)
         (F.shown files.new) result }
@@ -136,16 +126,14 @@ fn load_replay<'a, F: Files>(
     let journal = read_text(alloc, settings.journal, files)?;
     let asked = (settings.budget, settings.replans as u8);
     let own = settings_for(alloc, asked, &journal)?;
-    match judge(alloc, read, own.0, own.1) {
-        Ok(Loaded { names, input }) => Ok(Ok(Work::Replay(Replay {
-            names,
-            input,
-            journal,
-            migrates: settings.migrates,
-        }))),
-        Err(Failure::Refused(fault)) => Ok(Err(fault)),
-        Err(Failure::OutOfMemory) => Err(Failure::OutOfMemory),
-    }
+    let Loaded { names, input } = judge(alloc, read, own.0, own.1)?;
+    let replay = Replay {
+        names,
+        input,
+        journal,
+        migrates: settings.migrates,
+    };
+    Ok(Work::Replay(Boxed::new(alloc, replay)?))
 }
 
 /// Reads the files of a problem that is to be prepared: the domain's, and the script's with the files that it names. A domain's text that
@@ -155,7 +143,7 @@ fn load_editing<F: Files>(
     domain: &str,
     script: &str,
     files: &mut F,
-) -> Result<Result<Work, Fault>, Failure<Fault>>
+) -> Result<Work, Failure<Fault>>
     ensures { LoadsRequest (an_editing domain.now script.now) (F.shown files.old)
         (F.shown files.new) result }
 {
@@ -166,31 +154,32 @@ fn load_editing<F: Files>(
         words,
     } = read_script(alloc, names, script, files)?;
     match domain {
-        Ok(domain) => Ok(Ok(Work::Editing(Editing {
-            names,
-            domain,
-            lines,
-            words,
-        }))),
-        Err(fault) => Ok(Err(fault)),
+        Ok(domain) => {
+            let editing = Editing {
+                names,
+                domain,
+                lines,
+                words,
+            };
+            Ok(Work::Editing(Boxed::new(alloc, editing)?))
+        }
+        Err(fault) => Err(Failure::Refused(fault)),
     }
 }
 
 /// Judges the generator's texts, for which no file is read.
-fn load_generation(alloc: Global, carts: u32) -> Result<Result<Work, Fault>, Failure<Fault>>
+fn load_generation(alloc: Global, carts: u32) -> Result<Work, Failure<Fault>>
     requires { IsInRange (a_generation carts) }
     ensures { Generates carts result }
 {
     let read = generate(alloc, carts)?;
-    match judge(alloc, read, USUAL_BUDGET, USUAL_REPLANS) {
-        Ok(Loaded { names, input }) => Ok(Ok(Work::Generation(Generation {
-            carts,
-            names,
-            input,
-        }))),
-        Err(Failure::Refused(fault)) => Ok(Err(fault)),
-        Err(Failure::OutOfMemory) => Err(Failure::OutOfMemory),
-    }
+    let Loaded { names, input } = judge(alloc, read, USUAL_BUDGET, USUAL_REPLANS)?;
+    let generation = Generation {
+        carts,
+        names,
+        input,
+    };
+    Ok(Work::Generation(Boxed::new(alloc, generation)?))
 }
 
 /// Reads all files of what is asked for.
@@ -198,7 +187,7 @@ fn load_asked<'a, F: Files>(
     alloc: Global,
     asked: Asked<'a>,
     files: &mut F,
-) -> Result<Result<Work, Fault>, Failure<Fault>>
+) -> Result<Work, Failure<Fault>>
     requires { IsInRange (said asked) }
     ensures { LoadsRequest (said asked.entry) (F.shown files.old) (F.shown files.new) result }
 {
@@ -237,8 +226,5 @@ pub fn load<F: Files>(
     let Some(asked) = read_words(alloc, words)? else {
         return Err(Failure::Refused(Fault::Usage));
     };
-    match load_asked(alloc, asked, files)? {
-        Ok(work) => Ok(work),
-        Err(fault) => Err(Failure::Refused(fault)),
-    }
+    load_asked(alloc, asked, files)
 }

@@ -4,6 +4,7 @@ ghost use Rattle.ps_rules.specs.Sound.{IsSound};
 ghost use Rattle.ps_problem.specs.WellKnown.{HasConstants};
 ghost use Rattle.ps_inputs.specs.Propositions.{constants_prop, sound_prop};
 
+use ps_boxes::Boxed;
 use ps_edit_words::EditWord;
 use ps_machine::{Input, Line};
 use ps_text::Names;
@@ -23,6 +24,13 @@ pub struct Session {
     ghost sound: { IsSound input } by { Prim.hlevel sound_prop },
     ghost some: { 1 ≤ workers },
     ghost few: { workers ≤ 16 },
+}
+
+/// A domain whose canonical text is to be written, with the table of its names.
+#[derive(Drop)]
+pub struct Check {
+    pub names: Names,
+    pub domain: Domain,
 }
 
 /// A plan that is to be validated after the edits of an input, with the table of the input's names. It isn't read yet.
@@ -79,21 +87,21 @@ pub struct Generation {
     ghost sound: { IsSound input } by { Prim.hlevel sound_prop },
 }
 
-/// What a call is to do, with all that it is done on.
+/// What a call is to do, with all that it is done on. What is large is in a box, so that letting go of it is one step.
 #[derive(Drop)]
 pub enum Work {
     /// To do the lines of a script.
-    Session(Session),
-    /// To write the canonical text of a domain, which has these names.
-    Check { names: Names, domain: Domain },
+    Session(Boxed<Session>),
+    /// To write the canonical text of a domain.
+    Check(Boxed<Check>),
     /// To judge a plan.
-    Validation(Validation),
+    Validation(Boxed<Validation>),
     /// To plan.
-    Planning(Planning),
+    Planning(Boxed<Planning>),
     /// To judge a journal.
-    Replay(Replay),
+    Replay(Boxed<Replay>),
     /// To prepare a problem.
-    Editing(Editing),
+    Editing(Boxed<Editing>),
     /// To do the lines of the generator's script, and to sum up what came of it.
-    Generation(Generation),
+    Generation(Boxed<Generation>),
 }

@@ -1,12 +1,11 @@
 use Rattle.std.proofs.Common.{◌≡◌, ℕ, Ok, Err, List, map, refl, subst, arith}
 use Rattle.std.specs.Borrow.{Bor}
 use Rattle.std.proofs.lemmas.Result.{err_from_is_err_and}
-use Rattle.ps_world.specs.declared.failures.Failure.TheVariants.{Refused}
 use Rattle.ps_words.specs.Words.{replay_said}
 use Rattle.ps_inputs.specs.Input.{GoesBy}
-use Rattle.ps_inputs.specs.Parts.{Judges, ReadsInput}
+use Rattle.ps_inputs.specs.Parts.{ReadsInput}
 use Rattle.ps_inputs.specs.Reading.{read_file}
-use Rattle.ps_inputs.proofs.Loaded.{replay_bad, replay_good, replay_starved, replay_unread, replay_unrecorded}
+use Rattle.ps_inputs.proofs.Loaded.{replay_good, replay_starved, replay_unjudged, replay_unread, replay_unrecorded}
 use Rattle.ps_inputs.proofs.SoundInput.{input_sound}
 use Rattle.ps_inputs.proofs.loading.load_replay.Goals as goal
 
@@ -33,32 +32,38 @@ returns-in_err-own g c =
     rw (p.1, p.2)
     (replay_starved s (g.F.Files.shown c.args.files.now) (g.F.Files.shown c.read_input.new.files) (g.F.Files.shown c.read_text.new.files) c.in_ok-read.read h c.in_ok-journal.journal c.in_ok-journal.ensures.reads)
 
-pub invariant_of-result : goal.invariant_of-result
-invariant_of-result g c =
+pub returns-in_err-names : goal.returns-in_err-names
+returns-in_err-names g c =
+    let p = err_from_is_err_and c.from_residual-in_err-names.result c.from_residual-in_err-names.ensures.1 in
+    let s = replay_said c.args.settings.now in
+    let h = subst (λ (ms : List (Bor (List ℕ))). ReadsInput s.domain s.script (map (λ m. m.now) ms) (g.F.Files.shown c.args.files.now) (g.F.Files.shown c.read_input.new.files) (Ok c.in_ok-read.read)) c.as_slice-members.ensures.value c.in_ok-read.ensures in
+    rw (p.1, p.2)
+    (replay_unjudged s (g.F.Files.shown c.args.files.now) (g.F.Files.shown c.read_input.new.files) (g.F.Files.shown c.read_text.new.files) c.in_ok-read.read h c.in_ok-journal.journal c.in_ok-journal.ensures.reads c.in_ok-own.own c.in_err-names.field-0.0 c.in_err-names.ensures)
+
+pub invariant_of-replay : goal.invariant_of-replay
+invariant_of-replay g c =
     let s = replay_said c.args.settings.now in
     let t = c.in_ok-own.own in
     let r = c.in_ok-own.ensures.ranged in
-    let judges : Judges c.in_ok-read.read t.0 t.1 (Ok c.in-Ok.field-0) = subst (Judges c.in_ok-read.read t.0 t.1) c.in-Ok.is c.judge.ensures in
-    let judged = judges (read_file (g.F.Files.shown c.args.files.now).told s.domain) c.in_ok-read.ensures.given.1 c.in_ok-read.ensures.given.4 in
+    let judged = c.in_ok-names.ensures (read_file (g.F.Files.shown c.args.files.now).told s.domain) c.in_ok-read.ensures.given.1 c.in_ok-read.ensures.given.4 in
     record {
-      sound = input_sound t.0 t.1 c.in_ok-read.ensures.given.1 c.in-Ok.field-0.input c.in-Ok.field-0.names judged.0 judged.1 r.0 r.1 r.2;
+      sound = input_sound t.0 t.1 c.in_ok-read.ensures.given.1 c.in_ok-names.field-0.input c.in_ok-names.field-0.names judged.0 judged.1 r.0 r.1 r.2;
       short = omega (arith, c.in_ok-journal.ensures.short);
     }
 
-pub returns-in-Ok : goal.returns-in-Ok
-returns-in-Ok g c =
+pub returns-in_err-new : goal.returns-in_err-new
+returns-in_err-new g c =
+    let p = err_from_is_err_and c.from_residual-in_err-new.result c.from_residual-in_err-new.ensures.1 in
+    let s = replay_said c.args.settings.now in
+    let h = subst (λ (ms : List (Bor (List ℕ))). ReadsInput s.domain s.script (map (λ m. m.now) ms) (g.F.Files.shown c.args.files.now) (g.F.Files.shown c.read_input.new.files) (Ok c.in_ok-read.read)) c.as_slice-members.ensures.value c.in_ok-read.ensures in
+    rw (p.1, p.2) (replay_starved s (g.F.Files.shown c.args.files.now) (g.F.Files.shown c.read_input.new.files) (g.F.Files.shown c.read_text.new.files) c.in_ok-read.read h c.in_ok-journal.journal c.in_ok-journal.ensures.reads)
+
+pub returns : goal.returns
+returns g c =
     let s = replay_said c.args.settings.now in
     let t = c.in_ok-own.own in
     let h = subst (λ (ms : List (Bor (List ℕ))). ReadsInput s.domain s.script (map (λ m. m.now) ms) (g.F.Files.shown c.args.files.now) (g.F.Files.shown c.read_input.new.files) (Ok c.in_ok-read.read)) c.as_slice-members.ensures.value c.in_ok-read.ensures in
     let goes : GoesBy (s.budget, s.replans) c.in_ok-journal.journal.items t = subst (λ l. GoesBy (s.budget, s.replans) l t) c.deref.ensures.value c.in_ok-own.ensures.goes in
-    replay_good s (g.F.Files.shown c.args.files.now) (g.F.Files.shown c.read_input.new.files) (g.F.Files.shown c.read_text.new.files) c.in_ok-read.read h c.in_ok-journal.journal c.in_ok-journal.ensures.reads
-    t goes c.in-Ok.field-0 _ refl refl refl refl (subst (Judges c.in_ok-read.read t.0 t.1) c.in-Ok.is c.judge.ensures)
-
-pub returns-in-Err-Refused : goal.returns-in-Err-Refused
-returns-in-Err-Refused g c =
-    let s = replay_said c.args.settings.now in
-    let t = c.in_ok-own.own in
-    let l : c.judge.result ≡ Err (Refused c.in-Err-Refused.fault) = cc in
-    let h = subst (λ (ms : List (Bor (List ℕ))). ReadsInput s.domain s.script (map (λ m. m.now) ms) (g.F.Files.shown c.args.files.now) (g.F.Files.shown c.read_input.new.files) (Ok c.in_ok-read.read)) c.as_slice-members.ensures.value c.in_ok-read.ensures in
-    replay_bad s (g.F.Files.shown c.args.files.now) (g.F.Files.shown c.read_input.new.files) (g.F.Files.shown c.read_text.new.files) c.in_ok-read.read h c.in_ok-journal.journal c.in_ok-journal.ensures.reads
-    t c.in-Err-Refused.fault (subst (Judges c.in_ok-read.read t.0 t.1) l c.judge.ensures)
+    rw c.in_ok-new.ensures
+    (replay_good s (g.F.Files.shown c.args.files.now) (g.F.Files.shown c.read_input.new.files) (g.F.Files.shown c.read_text.new.files) c.in_ok-read.read h c.in_ok-journal.journal c.in_ok-journal.ensures.reads
+    t goes c.in_ok-names.field-0 _ refl refl refl refl c.in_ok-names.ensures)

@@ -1,11 +1,10 @@
 use Rattle.std.proofs.Common.{◌≡◌, ℕ, Ok, Err, List, map, refl, subst, arith}
 use Rattle.std.specs.Borrow.{Bor}
 use Rattle.std.proofs.lemmas.Result.{err_from_is_err_and}
-use Rattle.ps_world.specs.declared.failures.Failure.TheVariants.{Refused}
 use Rattle.ps_words.specs.Words.{settings_said}
-use Rattle.ps_inputs.specs.Parts.{Judges, ReadsInput}
+use Rattle.ps_inputs.specs.Parts.{ReadsInput}
 use Rattle.ps_inputs.specs.Reading.{read_file}
-use Rattle.ps_inputs.proofs.Loaded.{session_bad, session_good, session_unread}
+use Rattle.ps_inputs.proofs.Loaded.{session_good, session_starved, session_unjudged, session_unread}
 use Rattle.ps_inputs.proofs.SoundInput.{input_sound}
 use Rattle.ps_inputs.proofs.loading.load_session.Goals as goal
 
@@ -16,26 +15,32 @@ returns-in_err-read g c =
     let h = subst (λ (ms : List (Bor (List ℕ))). ReadsInput s.domain s.script (map (λ m. m.now) ms) (g.F.Files.shown c.args.files.now) (g.F.Files.shown c.read_input.new.files) (Err c.in_err-read.field-0.0)) c.as_slice-members.ensures.value c.in_err-read.ensures in
     rw (p.1, p.2) (session_unread s (g.F.Files.shown c.args.files.now) (g.F.Files.shown c.read_input.new.files) c.in_err-read.field-0.0 h)
 
-pub invariant_of-result : goal.invariant_of-result
-invariant_of-result g c =
+pub returns-in_err-names : goal.returns-in_err-names
+returns-in_err-names g c =
+    let p = err_from_is_err_and c.from_residual-in_err-names.result c.from_residual-in_err-names.ensures.1 in
     let s = settings_said c.args.settings.now in
-    let judges : Judges c.in_ok-read.read s.budget s.replans (Ok c.in-Ok.field-0) = subst (Judges c.in_ok-read.read s.budget s.replans) c.in-Ok.is c.judge.ensures in
-    let judged = judges (read_file (g.F.Files.shown c.args.files.now).told s.domain) c.in_ok-read.ensures.given.1 c.in_ok-read.ensures.given.4 in
+    let h = subst (λ (ms : List (Bor (List ℕ))). ReadsInput s.domain s.script (map (λ m. m.now) ms) (g.F.Files.shown c.args.files.now) (g.F.Files.shown c.read_input.new.files) (Ok c.in_ok-read.read)) c.as_slice-members.ensures.value c.in_ok-read.ensures in
+    rw (p.1, p.2) (session_unjudged s (g.F.Files.shown c.args.files.now) (g.F.Files.shown c.read_input.new.files) c.in_ok-read.read h c.in_err-names.field-0.0 c.in_err-names.ensures)
+
+pub invariant_of-session : goal.invariant_of-session
+invariant_of-session g c =
+    let s = settings_said c.args.settings.now in
+    let judged = c.in_ok-names.ensures (read_file (g.F.Files.shown c.args.files.now).told s.domain) c.in_ok-read.ensures.given.1 c.in_ok-read.ensures.given.4 in
     record {
-      sound = input_sound s.budget s.replans c.in_ok-read.ensures.given.1 c.in-Ok.field-0.input c.in-Ok.field-0.names judged.0 judged.1 c.requires.2 c.requires.3 c.requires.4;
+      sound = input_sound s.budget s.replans c.in_ok-read.ensures.given.1 c.in_ok-names.field-0.input c.in_ok-names.field-0.names judged.0 judged.1 c.requires.2 c.requires.3 c.requires.4;
       some = c.requires.0;
       few = c.requires.1;
     }
 
-pub returns-in-Ok : goal.returns-in-Ok
-returns-in-Ok g c =
+pub returns-in_err-new : goal.returns-in_err-new
+returns-in_err-new g c =
+    let p = err_from_is_err_and c.from_residual-in_err-new.result c.from_residual-in_err-new.ensures.1 in
     let s = settings_said c.args.settings.now in
     let h = subst (λ (ms : List (Bor (List ℕ))). ReadsInput s.domain s.script (map (λ m. m.now) ms) (g.F.Files.shown c.args.files.now) (g.F.Files.shown c.read_input.new.files) (Ok c.in_ok-read.read)) c.as_slice-members.ensures.value c.in_ok-read.ensures in
-    session_good s (g.F.Files.shown c.args.files.now) (g.F.Files.shown c.read_input.new.files) c.in_ok-read.read h c.in-Ok.field-0 _ refl refl refl refl refl (subst (Judges c.in_ok-read.read s.budget s.replans) c.in-Ok.is c.judge.ensures)
+    rw (p.1, p.2) (session_starved s (g.F.Files.shown c.args.files.now) (g.F.Files.shown c.read_input.new.files) c.in_ok-read.read h)
 
-pub returns-in-Err-Refused : goal.returns-in-Err-Refused
-returns-in-Err-Refused g c =
+pub returns : goal.returns
+returns g c =
     let s = settings_said c.args.settings.now in
-    let l : c.judge.result ≡ Err (Refused c.in-Err-Refused.fault) = cc in
     let h = subst (λ (ms : List (Bor (List ℕ))). ReadsInput s.domain s.script (map (λ m. m.now) ms) (g.F.Files.shown c.args.files.now) (g.F.Files.shown c.read_input.new.files) (Ok c.in_ok-read.read)) c.as_slice-members.ensures.value c.in_ok-read.ensures in
-    session_bad s (g.F.Files.shown c.args.files.now) (g.F.Files.shown c.read_input.new.files) c.in_ok-read.read h c.in-Err-Refused.fault (subst (Judges c.in_ok-read.read s.budget s.replans) l c.judge.ensures)
+    rw c.in_ok-new.ensures (session_good s (g.F.Files.shown c.args.files.now) (g.F.Files.shown c.read_input.new.files) c.in_ok-read.read h c.in_ok-names.field-0 _ refl refl refl refl refl c.in_ok-names.ensures)

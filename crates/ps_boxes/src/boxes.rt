@@ -1,4 +1,4 @@
-//! Large parts of answers, in boxes.
+//! A large value in a box.
 ghost use Rattle.std.specs.Prelude.{◌≡◌, IfOk};
 
 use std::alloc::{AllocError, Global};

@@ -1,0 +1,6 @@
+//! Large values in boxes.
+#![tactic(auto)]
+
+mod boxes;
+
+pub use boxes::Boxed;
