@@ -1,5 +1,5 @@
 //! Tests of calls over a board and over the whole program: inputs read from texts, whose boards are called in order and in random order;
-//! sessions whose runs workers do, with threads. Journals are compared, or judged by replay; reports are held against journals.
+//! sessions whose runs workers do, with threads. Journals are compared, or judged by the steps of a replay; reports are held against journals.
 #![tactic(auto)]
 
 #[cfg(test)]
@@ -10,6 +10,8 @@ mod dice;
 mod drained;
 #[cfg(test)]
 mod in_order;
+#[cfg(test)]
+mod judging;
 #[cfg(test)]
 mod meeting;
 #[cfg(test)]

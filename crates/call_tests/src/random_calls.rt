@@ -2,13 +2,13 @@
 ghost use Rattle.std.specs.Prelude.{◌&&◌, nat_le, IsTrue};
 
 use super::dice::Dice;
+use super::judging::judged;
 use super::texts::{DRAINED, FAILING, Texts, WAREHOUSE};
 use super::worlds::{command, hand_in, observer_turn, performer_turn, tick, world_of};
 use ps_board::{Board, Grant, Step, Turn};
 use ps_boxes::Boxed;
 use ps_machine::{Event, PassWhy, Unit};
-use ps_replay::{Verdict, replay};
-use ps_solve::Forward;
+use ps_replay::Verdict;
 use ps_world::Name;
 use std::alloc::{AllocError, Global};
 use std::process::Abort;
@@ -120,7 +120,7 @@ fn play(alloc: Global, board: &mut Board, seed: u64) -> Result<(), AllocError> {
     Ok(())
 }
 
-/// Judges the entries by replay, and tells whether it answers what it should: that they are a whole session, or, where a run is
+/// Judges the entries, and tells whether it answers what it should: that they are a whole session, or, where a run is
 /// still open, that all of them begin one.
 fn judge(alloc: Global, board: &Board, seen: &mut Seen) -> Result<bool, AllocError> {
     let entries = board.entries();
@@ -128,7 +128,7 @@ fn judge(alloc: Global, board: &Board, seen: &mut Seen) -> Result<bool, AllocErr
         seen.take(&entry.what);
     }
     let open = board.is_running();
-    match replay(alloc, board.input(), entries, &Forward::new())? {
+    match judged(alloc, board.input(), entries)? {
         Verdict::Legal => {
             seen.whole = true;
             Ok(!open)

@@ -6,6 +6,7 @@ ghost use Rattle.ps_rules.specs.Runs.{has_run, is_running};
 ghost use Rattle.ps_turn.specs.Books.{hands, new_place};
 
 use super::drained::drained;
+use super::judging::judged;
 use ps_action::Answer;
 use ps_board::{Board, Step};
 use ps_domain::Expert;
@@ -14,7 +15,7 @@ use ps_journal::print_entry;
 use ps_plan::Solver;
 use ps_pool::{NoGate, RunStop, run_ordered, run_workers, work};
 use ps_problem::Problem;
-use ps_replay::{Verdict, replay};
+use ps_replay::Verdict;
 use ps_solve::Forward;
 use ps_text::Names;
 use ps_turn::{Seat, TurnBook};
@@ -80,7 +81,7 @@ fn board_of(alloc: Global) -> Result<(Box<Names>, Box<Board>), Fail> {
 /// Asserts that all entries of a board begin a history of its input, and that lines are left or a run is open.
 fn assert_begun(rt: &impl Abort, alloc: Global, board: &Board) -> Result<(), Fail> {
     let entries = board.entries();
-    match replay(alloc, board.input(), entries, &Forward::new())? {
+    match judged(alloc, board.input(), entries)? {
         Verdict::Legal => Err(Fail::from("the run is over")),
         Verdict::Illegal { at } => {
             assert_eq!(rt; at, entries.len());

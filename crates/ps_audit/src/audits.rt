@@ -4,9 +4,11 @@ ghost use Rattle.ps_rules.specs.Heads.{head_text};
 ghost use Rattle.ps_rules.specs.Sound.{IsSound};
 ghost use Rattle.ps_text.specs.Names.{Keeps};
 ghost use Rattle.ps_replies.specs.Plans.{GivesLeast};
+ghost use Rattle.ps_audit.specs.EntryLines.{ArePrinted};
 ghost use Rattle.ps_audit.specs.Findings.{compared, due_head, Finds, found_by, IsAnswer, IsWritten, Judges, line_of, line_of_fault};
 
 use super::differences::line_of_difference;
+use super::entry_lines::EntryLines;
 use super::findings::{Finding, finding_line};
 use super::texts::judge_text;
 use ps_entries::{JournalRefusal, JournalText, read_journal};
@@ -118,14 +120,17 @@ fn judge<S: Solver>(
     requires sound { IsSound input.now }
     requires solver { GivesLeast (S.says solver.now) }
     requires few { length journal.now < 2 ^ 32 }
+    requires printed { ArePrinted names.now journal.now read.now.entries }
     ensures { IfOk result (Judges input.now names.now journal.now read.now) }
 {
+    let printed = EntryLines::of(alloc, journal, read.entries.lines())?;
     let mut body = Vec::new(alloc);
     let verdict = judge_text(
         alloc,
         names,
         input,
         read.entries.entries(),
+        &printed,
         solver,
         &mut body,
     )?;
@@ -179,6 +184,8 @@ pub fn audit<S: Solver>(
         a.text.items) }
     ensures kept { Keeps names.old names.new }
 {
+    // What is said of the table's length is that it is one of names.
+    let _count = names.len();
     match read_journal(alloc, names, journal) {
         Ok(read) => {
             let judged = judge(alloc, names, input, journal, &read, solver)?;

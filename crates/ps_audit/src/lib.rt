@@ -3,6 +3,7 @@
 
 mod audits;
 mod differences;
+mod entry_lines;
 mod findings;
 mod texts;
 

@@ -1,7 +1,7 @@
 -- Entries that are a prefix of a history, and one more.
 use Rattle.std.proofs.Common.{◌≡◌, ℕ, zero, suc, ◌+◌, ◌≤◌, ◌<◌, ◌&&◌, nat_lt, Bool, true, false, IsTrue, if◌then◌else◌, List, [], ◌∷◌, ◌++◌, drop, get_or, length, take, refl, ap, sym, ◌∙◌, subst, arith}
 use Rattle.std.proofs.Math.Seq.{take-length}
-use Rattle.std.proofs.lemmas.List.{at_drop_all, drop_more, length-take-le, take_more}
+use Rattle.std.proofs.lemmas.List.{drop_more, take_more}
 use Rattle.std.proofs.lemmas.Bool.{true≢false, and_parts}
 use Rattle.ps_machine.specs.declared.inputs.Input.{Input}
 use Rattle.ps_machine.specs.declared.journal.CancelWhy.TheVariants as cancel
@@ -52,9 +52,6 @@ good-goes : (i : Input) (es due rest : List Entry) (e : Entry) → may_come i es
 good-goes i es (c ∷ due) rest e h = rw h refl
 good-goes i es [] rest e h = rw h refl
 
-good-none : (i : Input) (es due : List Entry) → good_length i es due [] ≡ 0
-good-none i es due = refl
-
 -- all entries of a history are good
 pub history-good : (i : Input) (es : List Entry) → IsHistory i es → length es ≤ good_length i [] [] es
 history-good i es h =
@@ -85,22 +82,6 @@ judged-on i es due e at lt g same good =
     ∙ ap (λ t. good_length i t (due_then i (take at es) due e) (drop (at + 1) es) + 1) (sym more) in
     omega (arith, g, one)
 
--- at the end all entries are good
-pub judged-all : (i : Input) (es due : List Entry) (at : ℕ) → length es ≤ at → at ≤ length es → good_length i [] [] es ≡ at + good_length i (take at es) due (drop at es) → length es ≡ good_length i [] [] es
-judged-all i es due at past within g =
-    let none : good_length i (take at es) due (drop at es) ≡ 0 = ap (good_length i (take at es) due) (at_drop_all (λ x. x) es at past) ∙ good-none i (take at es) due in
-    omega (arith, g, none, past, within)
-
 -- what equal entries have come to
 pub reached-as : (i : Input) (c : Judge) (t u : List Entry) → t ≡ u → Reaches i t c → Reaches i u c
 reached-as i c t u e r = subst (λ x. Reaches i x c) e r
-
--- what holds of all entries of the journal holds of the first of them that are so many
-pub all-whole : (i : Input) (es : List Entry) (at : ℕ) → at ≡ length es → IsHistory i (take at es) × IsWhole i (take at es) → IsHistory i es × IsWhole i es
-all-whole i es at e w = subst (λ t. IsHistory i t × IsWhole i t) (ap (λ n. take n es) e ∙ take-length es) w
-
-pub first-whole : (i : Input) (es : List Entry) (at : ℕ) → at ≡ length es → IsHistory i es × IsWhole i es → IsHistory i (take at es) × IsWhole i (take at es)
-first-whole i es at e w = subst (λ t. IsHistory i t × IsWhole i t) (sym (ap (λ n. take n es) e ∙ take-length es)) w
-
-pub first-few : (es : List Entry) (at n : ℕ) → at < n → at ≤ length es → length (take at es) < n
-first-few es at n h le = omega (arith, h, length-take-le at es le)

@@ -1,4 +1,4 @@
--- What replay answers.
+-- What a replay answers.
 use Rattle.std.specs.Prelude.{◌≡◌, Result, Ok, Err, List, []}
 use Rattle.ps_machine.specs.declared.inputs.Input.{Input}
 use Rattle.ps_machine.specs.declared.journal.Entry.{Entry}

@@ -1,4 +1,4 @@
-//! Replay: whether the entries of a journal are a whole history of an input.
+//! Replay: the judge that says of the entries of a journal, one after another, whether they are a history of an input.
 #![tactic(auto)]
 
 mod judge;
@@ -6,4 +6,4 @@ mod queries;
 mod verdict;
 
 pub use judge::Judge;
-pub use verdict::{Verdict, replay};
+pub use verdict::Verdict;

@@ -1,10 +1,16 @@
-use Rattle.std.proofs.Common.{[], IfOk, refl, ap, ◌∙◌, subst}
+use Rattle.std.proofs.Common.{[], IfOk, map, refl, ap, sym, ◌∙◌, subst}
+use Rattle.ps_machine.specs.Texts.{entry_line}
 use Rattle.ps_rules.specs.Journal.{text_after}
 use Rattle.ps_replay.specs.Replay.{Replays}
+use Rattle.ps_audit.specs.EntryLines.{line_numbered}
 use Rattle.ps_audit.specs.Findings.{found_by}
 use Rattle.ps_audit.specs.Texts.{AddsIfLegal}
 use Rattle.ps_audit.proofs.Found.{judged}
 use Rattle.ps_audit.proofs.audits.judge.Goals as goal
+
+pub judge_text-requires-clause-lines : goal.judge_text-requires-clause-lines
+judge_text-requires-clause-lines g c =
+    c.in_ok-printed.ensures ∙ ap (map (line_numbered c.args.journal.now)) c.lines.ensures ∙ c.requires.printed ∙ sym (ap (map (entry_line c.args.names.now)) c.entries.ensures)
 
 pub returns : goal.returns
 returns g c =

@@ -1,11 +1,20 @@
-use Rattle.std.proofs.Common.{◌≡◌, ◌+◌, ◌++◌, [], ◌∷◌, List, drop, take, ap, sym, ◌∙◌, arith}
-use Rattle.std.proofs.lemmas.List.{take_more}
+use Rattle.std.proofs.Common.{◌≡◌, ◌+◌, ◌++◌, [], ◌∷◌, List, drop, length, take, ap, sym, ◌∙◌, arith}
+use Rattle.std.proofs.lemmas.List.{length-map, take_more}
+use Rattle.ps_machine.specs.Texts.{entry_line}
 use Rattle.ps_machine.specs.declared.journal.Entry.{Entry}
 use Rattle.ps_rules.specs.Prefixes.{good_length}
 use Rattle.ps_replay.specs.Judge.{still_due}
 use Rattle.ps_replay.proofs.Leading.{judged-bad, judged-on, reached-as}
 use Rattle.ps_audit.proofs.AddedTexts.{text-more}
+use Rattle.ps_audit.proofs.PrintedLines.{line-at}
 use Rattle.ps_audit.proofs.texts.judge_all.Goals as goal
+
+pub line-line-requires : goal.line-line-requires
+line-line-requires g c = omega (arith, ap length c.requires.lines, length-map c.args.entries.now (entry_line c.args.names.now))
+
+pub judge_one-requires-clause-line : goal.judge_one-requires-clause-line
+judge_one-requires-clause-line g c =
+    line-at c.args.names.now c.args.lines.now c.args.entries.now c.loop-at.at c.index-entries-at.result c.line-line.result.now c.requires.lines (omega arith) c.index-entries-at.is c.line-line.ensures
 
 pub returns-then-not-comes-clause-verdict : goal.returns-then-not-comes-clause-verdict
 returns-then-not-comes-clause-verdict g c =
