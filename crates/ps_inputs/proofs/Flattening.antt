@@ -18,11 +18,11 @@ use Rattle.ps_text.specs.Outside.{FilesView}
 use Rattle.ps_text.specs.ScriptLines.{script_lines}
 use Rattle.ps_text.specs.Words.{pieces}
 use Rattle.ps_text.specs.declared.spans.Span.{Span}
-use Rattle.ps_script.specs.Files.{is_run_plan, is_source}
+use Rattle.ps_script.specs.Files.{is_run_plan}
 use Rattle.ps_script.specs.Kinds.{IsKind}
-use Rattle.ps_script.specs.Lines.{IsRead, is_nothing}
+use Rattle.ps_script.specs.Lines.{IsRead}
 use Rattle.ps_script.specs.Lines.IsRead.{nothing, source, source_nothing, run_plan, run_nothing, without_class, without_number, without_form, without_shape, good}
-use Rattle.ps_script.specs.declared.kinds.Kind.TheVariants.{Nothing, Command}
+use Rattle.ps_script.specs.declared.kinds.Kind.TheVariants.{Command}
 use Rattle.ps_script.specs.declared.reading.Read.{Read}
 use Rattle.ps_script.specs.declared.reading.Read.TheVariants as reads
 use Rattle.ps_inputs.specs.Reading.{MayFail, Reading, Texts, and_then, most_lines, read_file}
@@ -31,14 +31,16 @@ use Rattle.ps_inputs.specs.Reading.Reading.{gives, faulty}
 use Rattle.ps_inputs.specs.Flats.{Flat, Flattened, followed, is_quit, no_line, on_source, plain_line, plan_line, step, walk, with_room}
 use Rattle.ps_inputs.specs.Flats.Flattened.{plain, with_plan, too_deep}
 use Rattle.ps_edit_words.specs.Words.{edit_word}
-use Rattle.ps_inputs.specs.Scripts.{IsScript, given_by, plan_in, word_of}
+use Rattle.ps_inputs.specs.Scripts.{IsScript, ends_script, plan_in, word_of}
 use Rattle.ps_inputs.specs.Scripts.IsScript.{nothing as no_script, one_more}
 use Rattle.ps_edit_words.specs.declared.words.EditWord.{EditWord}
 use Rattle.ps_inputs.specs.Faults.{ReadsPart}
-use Rattle.ps_inputs.specs.Parts.{Adds, HasRoom, IsAdded, IsPushed, Opens, PutsDeep, PutsPlain, PutsPlan, ReadsText, ReadsFileLine, Walks, WalksLines, count_of}
+use Rattle.ps_inputs.specs.Parts.{Adds, HasRoom, IsAdded, Opens, PutsDeep, PutsLine, PutsPlain, PutsPlan, PutsReadPlan, ReadsText, ReadsFileLine, Walks, WalksLines, count_of, with_names}
 use Rattle.ps_inputs.specs.declared.reading.scripts.Script.{Script}
 use Rattle.ps_inputs.specs.declared.faults.Fault.{Fault}
 use Rattle.ps_inputs.specs.declared.faults.Fault.TheVariants.{Usage, NoDomain, NoMember, Crowd, Twice, TooLong, Lines, Unread}
+use Rattle.ps_inputs.proofs.LineKinds.{said_by}
+use Rattle.ps_inputs.proofs.QuitLines.{ends_where_quit}
 use Rattle.ps_inputs.proofs.ReadParts.{read_nothing, then_ended, then_read}
 
 -- ---- scripts
@@ -69,22 +71,6 @@ command_read t bytes r after h read =
       | without_form tokens p are f ↦ (_, refl)
       | without_shape form tokens ls after at is words judged ↦ (_, refl)
       | good form tokens ls after ts command is e s c ↦ (_, refl)
-    ]
-
--- a line that may run the plan in a file gives one line
-one_read : (run : Line) (t : Table) (bytes : List ℕ) (r : Read) (after : Table) → is_nothing bytes ≡ false → is_source bytes ≡ false → IsRead t bytes r after → length (given_by run r) ≡ 1
-one_read run t bytes r after something no_source read =
-    elim read as (λ r a i. length (given_by run r) ≡ 1) [
-      | nothing e ↦ absurd (cc (something, e))
-      | source file some is e ↦ absurd (cc (no_source, is))
-      | source_nothing some is e ↦ refl
-      | run_plan file some other is e ↦ refl
-      | run_nothing some other is e ↦ refl
-      | without_class at p f ↦ refl
-      | without_number at p f ↦ refl
-      | without_form tokens p are f ↦ refl
-      | without_shape form tokens ls after at is words judged ↦ refl
-      | good form tokens ls after ts command is e s c ↦ refl
     ]
 
 -- ---- one command line
@@ -118,18 +104,18 @@ more_few : (before after : Script) (new : List Line) → count_of before < most_
 more_few before after new lt e one = omega (arith, ap length e, length-append before.lines.items new, one)
 
 -- a command line is read
-pub plain_added : (bytes : List ℕ) (before after : Script) (ends : Bool) → ends ≡ is_quit bytes → count_of before < most_lines → IsPushed bytes before after → after.words.items ≡ before.words.items ++ edit_word bytes ∷ [] → PutsPlain bytes before after (Ok ends)
-plain_added bytes before after ends e lt pushed words files =
-    let here = pushed.0 ∷ [] in
+pub line_added : (bytes : List ℕ) (line : Line) (before after : Script) (ends : Bool) → ends ≡ ends_script line → count_of before < most_lines → after.names ≡ before.names → after.lines.items ≡ before.lines.items ++ line ∷ [] → after.words.items ≡ before.words.items ++ edit_word bytes ∷ [] → PutsLine bytes line before after (Ok ends)
+line_added bytes line before after ends e lt same pushed words names read files =
     let flat : Flat = record { lines = plain bytes ∷ []; ended = is_quit bytes } in
-    let added : IsAdded before after flat ends = record {
-      lines = here;
-      read = one_more [] [] before.names (plain bytes) here after.names no_script (pushed.0, pushed.1, refl);
-      added = pushed.2;
+    let here : IsRead names bytes (reads.Line line) after.names = subst (λ (t : Table). IsRead names bytes (reads.Line line) t) (sym same) read in
+    let added : IsAdded (with_names names before) after flat ends = record {
+      lines = line ∷ [];
+      read = one_more [] [] names (plain bytes) (line ∷ []) after.names no_script (line, here, refl);
+      added = pushed;
       words = words;
       count = refl;
-      few = more_few before after here lt pushed.2 refl;
-      ends = sym e;
+      few = more_few before after (line ∷ []) lt pushed refl;
+      ends = sym (e ∙ ends_where_quit names bytes line before.names read);
     } in
     room_read (count_of before) (gives [] flat) files files (Ok ends) lt (read_nothing files flat ends added)
 
@@ -154,20 +140,18 @@ deep_added before after lt same pushed words files =
 abbrev with_its_plan : List ℕ → List ℕ → Reading Flat
 with_its_plan bytes plan = gives [] (record { lines = with_plan bytes plan ∷ []; ended = false })
 
-pub plan_added : (bytes file : List ℕ) (old new : FilesView) (before after : Script) (v : Vec ℕ) (r : Read) (between : Table) (plan : Result (List PlanStep) PlanTextRefusal) → is_nothing bytes ≡ false → is_source bytes ≡ false → count_of before < most_lines → ReadsText file old new (Ok v) → IsRead before.names bytes r between → plan_in between v.items ≡ (plan, after.names) → after.lines.items ≡ before.lines.items ++ given_by (Good (RunPlanLine plan)) r → after.words.items ≡ before.words.items ++ None ∷ [] → PutsPlan bytes file old new before after (Ok false)
-plan_added bytes file old new before after v r between plan something no_source lt text read names pushed words =
-    let run = Good (RunPlanLine plan) in
-    let here = given_by run r in
-    let one : length here ≡ 1 = one_read run before.names bytes r between something no_source read in
-    let of : (t : List ℕ) → v.items ≡ t → (plan, after.names) ≡ plan_in between t = λ t e. sym names ∙ ap (plan_in between) e in
-    let added : (t : List ℕ) → v.items ≡ t → IsAdded before after (record { lines = with_plan bytes t ∷ []; ended = false }) false = λ t e. record {
+pub plan_added : (file : List ℕ) (old new : FilesView) (before after : Script) (v : Vec ℕ) (plan : Result (List PlanStep) PlanTextRefusal) → count_of before < most_lines → ReadsText file old new (Ok v) → plan_in before.names v.items ≡ (plan, after.names) → after.lines.items ≡ before.lines.items ++ Good (RunPlanLine plan) ∷ [] → after.words.items ≡ before.words.items ++ None ∷ [] → PutsReadPlan file old new before after (Ok false)
+plan_added file old new before after v plan lt text names pushed words bytes first read =
+    let here = Good (RunPlanLine plan) ∷ [] in
+    let of : (t : List ℕ) → v.items ≡ t → (plan, after.names) ≡ plan_in before.names t = λ t e. sym names ∙ ap (plan_in before.names) e in
+    let added : (t : List ℕ) → v.items ≡ t → IsAdded (with_names first before) after (record { lines = with_plan bytes t ∷ []; ended = false }) false = λ t e. record {
       lines = here;
-      read = one_more [] [] before.names (with_plan bytes t) here after.names no_script
-          (r, between, read, ap (λ p. given_by (Good (RunPlanLine p.0)) r) (of t e), ap (λ p. p.1) (of t e));
+      read = one_more [] [] first (with_plan bytes t) here after.names no_script
+          (reads.RunPlan file, before.names, read, ap (λ p. Good (RunPlanLine p.0) ∷ []) (of t e), ap (λ p. p.1) (of t e));
       added = pushed;
       words = words;
-      count = one;
-      few = more_few before after here lt pushed one;
+      count = refl;
+      few = more_few before after here lt pushed refl;
       ends = refl;
     } in
     room_read (count_of before) (and_then (read_file old.told file) (with_its_plan bytes)) old new (Ok false) lt
@@ -203,20 +187,39 @@ opens_nothing levels file old new before after m why e h =
 pub none_added : (script : Script) → length script.lines.items ≤ most_lines → IsAdded script script no_line false
 none_added script few = record { lines = []; read = no_script; added = sym (append-nil script.lines.items); words = sym (append-nil script.words.items); count = refl; few = few; ends = refl }
 
-pub takes_nothing : (levels : ℕ) (bytes : List ℕ) (files : FilesView) (script : Script) → length script.lines.items ≤ most_lines → IsKind bytes Nothing → ReadsFileLine levels bytes files files script script (Ok false)
-takes_nothing levels bytes files script few is = rw is (read_nothing files no_line false (none_added script few))
+module _ (levels : ℕ) (bytes : List ℕ) (old : FilesView) (before : Script) (names : Table) where
+  -- a line that says nothing
+  pub takes_nothing : length before.lines.items ≤ most_lines → IsRead before.names bytes reads.Nothing names → ReadsFileLine levels bytes old old before (with_names names before) (Ok false)
+  takes_nothing few read =
+      let said = said_by before.names bytes reads.Nothing names read in
+      subst (λ (t : Table). ReadsFileLine levels bytes old old before (with_names t before) (Ok false)) (sym said.0) (rw said.1 (read_nothing old no_line false (none_added before few)))
 
-module _ (levels : ℕ) (bytes : List ℕ) (old : FilesView) (before after : Script) (r : Result Bool (Failure Fault)) where
-  -- a line without `source` and `run plan`, or one of these that names no file
-  pub takes_command : IsKind bytes Command → PutsPlain bytes before after r → ReadsFileLine levels bytes old old before after r
-  takes_command is h =
-      elim is.1 [
-        | inl s ↦ rw (is.0, s.0, s.1) (h old)
-        | inr s ↦ elim s.1 [ inl other ↦ rw (is.0, s.0, other) (h old) | inr none ↦ rw (is.0, s.0, none) (by_plan (is_run_plan bytes)) ]
-      ] where
-        by_plan : (b : Bool) → Adds (if b then plan_line old.told (count_of before) bytes None else plain_line (count_of before) bytes) old old before after r
-        by_plan true = h old
-        by_plan false = h old
+  module _ (after : Script) (r : Result Bool (Failure Fault)) where
+    -- a line without `source` and `run plan`, or one of these that names no file
+    pub takes_command : (line : Line) → IsRead before.names bytes (reads.Line line) names → PutsLine bytes line (with_names names before) after r → ReadsFileLine levels bytes old old before after r
+    takes_command line read puts =
+        let h : PutsPlain bytes before after r = puts before.names read in
+        let is = said_by before.names bytes (reads.Line line) names read in
+        elim is.1 [
+          | inl s ↦ rw (is.0, s.0, s.1) (h old)
+          | inr s ↦ elim s.1 [ inl other ↦ rw (is.0, s.0, other) (h old) | inr none ↦ rw (is.0, s.0, none) (by_plan (is_run_plan bytes) (h old)) ]
+        ] where
+          by_plan : (b : Bool) → Adds (plain_line (count_of before) bytes) old old before after r → Adds (if b then plan_line old.told (count_of before) bytes None else plain_line (count_of before) bytes) old old before after r
+          by_plan true h = h
+          by_plan false h = h
+
+    -- a line that names a file
+    pub takes_source : (file used : List ℕ) (new : FilesView) → used ≡ file → IsRead before.names bytes (reads.Source file) names → Opens levels used old new (with_names names before) after r → ReadsFileLine levels bytes old new before after r
+    takes_source file used new same read opened =
+        let said = said_by before.names bytes (reads.Source file) names read in
+        rw (said.1.0, said.1.1, said.1.2, sym same) (subst (λ (t : Table). Opens levels used old new (with_names t before) after r) said.0 opened)
+
+    -- a line that runs the plan in a file
+    pub takes_plan : (file used : List ℕ) (new : FilesView) → used ≡ file → IsRead before.names bytes (reads.RunPlan file) names → PutsReadPlan used old new (with_names names before) after r → ReadsFileLine levels bytes old new before after r
+    takes_plan file used new same read puts =
+        let h : PutsPlan bytes file old new before after r = subst (λ (f : List ℕ). PutsReadPlan f old new (with_names names before) after r) same puts bytes before.names read in
+        let said = said_by before.names bytes (reads.RunPlan file) names read in
+        rw (said.0, said.1, said.2, said.3) h
 
 -- ---- the lines of a file
 

@@ -1,10 +1,8 @@
 -- The lines of the generator's script are few command lines, which name no file.
-use Rattle.std.proofs.Common.{◌≡◌, ℕ, ◌+◌, ◌*◌, inl, inr, List, [], ◌∷◌, ◌++◌, All, codes, length, map, refl, arith}
+use Rattle.std.proofs.Common.{ℕ, inl, inr, List, [], ◌∷◌, ◌++◌, All, codes, map, refl}
 use Rattle.std.specs.Global.{Vec}
 use Rattle.std.specs.List.{flat_map}
-use Rattle.std.proofs.lemmas.List.{length-append, length-map}
 use Rattle.std.proofs.lemmas.List.Elements.{All-nil, All-cons, All-append, All-head, All-tail}
-use Rattle.std.proofs.lemmas.List.FromFn.{length-range_with_len}
 use Rattle.ps_script.specs.Kinds.{IsKind}
 use Rattle.ps_script.specs.declared.kinds.Kind.TheVariants.{Command}
 use Rattle.ps_gen.specs.Texts.{cart_line, carts_of, goal_line, script_lines, stage_lines, store_line, texts_of, trip_lines}

@@ -1,6 +1,7 @@
 pub mod Flattening
 pub mod GeneratedLines
 pub mod JudgedMembers
+pub mod LineKinds
 pub mod Loaded
 pub mod MemberTexts
 pub mod OneScript

@@ -98,6 +98,15 @@ ArePushed commands before after =
 abbrev pub PutsPlain : List ℕ → Script → Script → Result Bool (Failure Fault) → Type 0
 PutsPlain bytes before after r = (files : FilesView) → Adds (plain_line (count_of before) bytes) files files before after r
 
+-- a script with this table in place of its own
+abbrev pub with_names : Table → Script → Script
+with_names names s = record { names = names; lines = s.lines; words = s.words }
+
+-- Putting the line that a command line was read as, after which the script has its table: the same as reading it, with the table before it.
+abbrev pub PutsLine : List ℕ → Line → Script → Script → Result Bool (Failure Fault) → Type 0
+PutsLine bytes line before after r =
+    (names : Table) → IsRead names bytes (read.Line line) before.names → PutsPlain bytes (with_names names before) after r
+
 -- a line that stands too deep, which reads no file
 abbrev pub PutsDeep : Script → Script → Result Bool (Failure Fault) → Type 0
 PutsDeep before after r = (files : FilesView) → Adds (one_line (count_of before) too_deep false) files files before after r
@@ -105,6 +114,12 @@ PutsDeep before after r = (files : FilesView) → Adds (one_line (count_of befor
 -- reading a line that runs the plan in a file, and the file
 abbrev pub PutsPlan : List ℕ → List ℕ → FilesView → FilesView → Script → Script → Result Bool (Failure Fault) → Type 0
 PutsPlan bytes file old new before after r = Adds (plan_line old.told (count_of before) bytes (Some file)) old new before after r
+
+-- reading the file of a line that was read, which runs the plan in it: the same as reading that line, with the table before it
+abbrev pub PutsReadPlan : List ℕ → FilesView → FilesView → Script → Script → Result Bool (Failure Fault) → Type 0
+PutsReadPlan file old new before after r =
+    (bytes : List ℕ) (names : Table) → IsRead names bytes (read.RunPlan file) before.names
+    → PutsPlan bytes file old new (with_names names before) after r
 
 -- reading a file that is named where so many levels of files may still be opened
 abbrev pub Opens : ℕ → List ℕ → FilesView → FilesView → Script → Script → Result Bool (Failure Fault) → Type 0

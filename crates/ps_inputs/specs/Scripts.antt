@@ -1,10 +1,10 @@
 -- The lines of a script.
-use Rattle.std.specs.Prelude.{◌≡◌, ℕ, Option, Some, None, Result, Ok, Err, List, [], ◌∷◌, ◌++◌}
+use Rattle.std.specs.Prelude.{◌≡◌, ℕ, Bool, true, false, Option, Some, None, Result, Ok, Err, List, [], ◌∷◌, ◌++◌}
 use Rattle.ps_world.specs.Names.{Table}
 use Rattle.ps_machine.specs.declared.inputs.LineCause.TheVariants.{Nest}
 use Rattle.ps_machine.specs.declared.inputs.Line.{Line}
 use Rattle.ps_machine.specs.declared.inputs.Line.TheVariants.{Good, Bad}
-use Rattle.ps_machine.specs.declared.inputs.Command.TheVariants.{RunPlan}
+use Rattle.ps_machine.specs.declared.inputs.Command.TheVariants.{RunPlan, Quit}
 use Rattle.ps_plan.specs.PlanText.{plan_fault, planned, said_by}
 use Rattle.ps_action.specs.declared.acts.PlanStep.{PlanStep}
 use Rattle.ps_action.specs.declared.refusals.PlanTextRefusal.{PlanTextRefusal}
@@ -15,6 +15,11 @@ use Rattle.ps_script.specs.declared.reading.Read.{Read}
 use Rattle.ps_script.specs.declared.reading.Read.TheVariants as read
 use Rattle.ps_inputs.specs.Flats.{Flattened}
 use Rattle.ps_inputs.specs.Flats.Flattened.{plain, with_plan, too_deep}
+
+-- a line that ends the script
+abbrev pub ends_script : Line → Bool
+ends_script (Good Quit) = true
+ends_script line = false
 
 -- The lines that a line gives, by what it is read as: none where it says nothing, or where the lines of a file stand in its place, and
 -- this line where it runs the plan in a file.

@@ -4,9 +4,9 @@ ghost use Rattle.ps_inputs.specs.Reading.{most_lines};
 ghost use Rattle.ps_inputs.specs.Parts.{Opens, ReadsFileLine, ReadsScript, Walks};
 
 use super::files::read_text;
-use super::scripts::{Script, put_deep, put_plain, put_plan};
+use super::scripts::{Script, put_deep, put_line, put_plan};
 use crate::faults::Fault;
-use ps_script::{Kind, kind_of};
+use ps_script::{Read, read_line};
 use ps_text::{Files, Names, script_lines};
 use ps_world::Failure;
 use std::alloc::Global;
@@ -48,11 +48,11 @@ fn take<F: Files>(
     ensures { ReadsFileLine levels line.now (F.shown files.old)
         (F.shown files.new) script.old script.new result }
 {
-    match kind_of(alloc, line)? {
-        Kind::Nothing => Ok(false),
-        Kind::Source(file) => open(alloc, files, levels, file.as_str(), script),
-        Kind::RunPlan(file) => put_plan(alloc, files, line, file.as_str(), script),
-        Kind::Command => put_plain(alloc, line, script),
+    match read_line(alloc, &mut script.names, line)? {
+        Read::Nothing => Ok(false),
+        Read::Line(read) => put_line(line, read, script),
+        Read::RunPlan(file) => put_plan(alloc, files, file.as_str(), script),
+        Read::Source(file) => open(alloc, files, levels, file.as_str(), script),
     }
 }
 

@@ -5,15 +5,27 @@ ghost use Rattle.ps_gen.specs.Texts.{texts_of};
 ghost use Rattle.ps_script.specs.Kinds.{IsKind};
 ghost use Rattle.ps_script.specs.declared.kinds.Kind.TheVariants as kind;
 ghost use Rattle.ps_inputs.specs.Input.{generated, generated_members};
-ghost use Rattle.ps_inputs.specs.Parts.{ArePushed, IsGenerated, IsNamed, IsScriptFrom, named};
+ghost use Rattle.ps_inputs.specs.Parts.{ArePushed, IsGenerated, IsNamed, IsPushed, IsScriptFrom, named};
 
 use super::domains::{Judged, judge_domain};
 use super::inputs::Unjudged;
 use super::members::MemberText;
-use super::scripts::{Script, push_plain};
+use super::scripts::{Script, push_line};
 use ps_gen::{carrier_text, domain_text, helper_text, script_lines};
+use ps_script::{Read, read_line};
 use ps_text::Names;
 use std::alloc::{AllocError, Global};
+
+/// Reads a command line that names no file, and puts it at the end of those of a script.
+fn push_command(alloc: Global, line: &[u8], script: &mut Script) -> Result<(), AllocError>
+    requires { IsKind line.now kind.Command }
+    ensures { OnOk result (IsPushed line.now script.old script.new) }
+{
+    let Read::Line(read) = read_line(alloc, &mut script.names, line)? else {
+        unreachable!()
+    };
+    push_line(read, &mut script.lines)
+}
 
 /// Reads command lines that name no file, one after another, and puts them at the end of those of a script.
 fn push_all(alloc: Global, lines: &[Vec<u8>], script: &mut Script) -> Result<(), AllocError>
@@ -21,7 +33,7 @@ fn push_all(alloc: Global, lines: &[Vec<u8>], script: &mut Script) -> Result<(),
     ensures { OnOk result (ArePushed (texts_of lines.now) script.old script.new) }
 {
     for line in lines {
-        push_plain(alloc, line.as_slice(), script)?;
+        push_command(alloc, line.as_slice(), script)?;
     }
     Ok(())
 }

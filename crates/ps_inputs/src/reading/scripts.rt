@@ -1,13 +1,8 @@
 //! The lines of a script.
-ghost use Rattle.std.specs.Prelude.{◌≡◌, ◌≤◌, ◌++◌, false, length, IfOk, OnOk};
-ghost use Rattle.ps_script.specs.Files.{is_source};
-ghost use Rattle.ps_script.specs.Kinds.{IsKind};
-ghost use Rattle.ps_script.specs.Lines.{is_nothing};
-ghost use Rattle.ps_script.specs.declared.kinds.Kind.TheVariants as kind;
-ghost use Rattle.ps_inputs.specs.Flats.{is_quit};
+ghost use Rattle.std.specs.Prelude.{◌≡◌, ◌≤◌, [], ◌∷◌, ◌++◌, length, IfOk, OnOk};
 ghost use Rattle.ps_inputs.specs.Reading.{most_lines};
-ghost use Rattle.ps_inputs.specs.Scripts.{given_by, plan_in};
-ghost use Rattle.ps_inputs.specs.Parts.{HasRoom, IsPushed, PutsDeep, PutsPlain, PutsPlan};
+ghost use Rattle.ps_inputs.specs.Scripts.{ends_script, plan_in};
+ghost use Rattle.ps_inputs.specs.Parts.{HasRoom, PutsDeep, PutsLine, PutsReadPlan};
 
 use super::files::read_text;
 use crate::faults::Fault;
@@ -15,8 +10,7 @@ use ps_action::{PlanStep, PlanTextRefusal};
 use ps_edit_words::{EditWord, edit_word};
 use ps_machine::{Command, Line, LineCause};
 use ps_plan::read_plan;
-use ps_script::{Read, read_line, trimmed};
-use ps_text::{Files, Names, Words};
+use ps_text::{Files, Names};
 use ps_world::{Failure, Seq};
 use std::alloc::{AllocError, Global};
 
@@ -42,42 +36,20 @@ fn check_room(lines: &[Line]) -> Result<(), Failure<Fault>>
     Ok(())
 }
 
-/// Whether a line may be the word `quit` alone, by its first byte after blanks. A word may follow a comment that begins there.
-fn may_be_quit(line: &[u8]) -> bool
-    ensures { result ≡ false → is_quit line.now ≡ false }
+/// Whether a line ends the script.
+fn ends_script(line: &Line) -> bool
+    ensures { result ≡ ends_script line.now }
 {
-    match trimmed(line) {
-        [] => false,
-        [first, ..] => first.to_ascii_lowercase() == b'q' || *first == b';',
-    }
+    matches!(line, Line::Good(Command::Quit))
 }
 
-/// Whether a line is the word `quit` alone.
-fn is_quit(alloc: Global, line: &[u8]) -> Result<bool, AllocError>
-    ensures { IfOk result (λ b. b ≡ is_quit line.now) }
+/// Puts a line at the end. There is room first, since a push that may fail moves a line, which is large, once more.
+pub fn push_line(line: Line, all: &mut Vec<Line>) -> Result<(), AllocError>
+    ensures { OnOk result (all.new.items ≡ all.old.items ++ line ∷ []) }
 {
-    if !may_be_quit(line) {
-        return Ok(false);
-    }
-    let words = Words::of(alloc, line)?;
-    Ok(words.len() == 1 && words.reads(0, b"quit"))
-}
-
-/// Puts the line that a line of a file is read as at the end of those before it, if it is one: `run` where it runs the plan in a file.
-fn push_read(read: Read, run: Line, all: &mut Vec<Line>) -> Result<(), AllocError>
-    ensures { OnOk result (all.new.items ≡ all.old.items ++ given_by run read) }
-{
-    match read {
-        Read::Nothing | Read::Source(_) => Ok(()),
-        Read::Line(line) => {
-            all.push(line)?;
-            Ok(())
-        }
-        Read::RunPlan(_) => {
-            all.push(run)?;
-            Ok(())
-        }
-    }
+    all.reserve(1)?;
+    all.push_reserved(line);
+    Ok(())
 }
 
 /// The steps of a plan's text, or its first fault. Its names are put into the table, unless it has a fault.
@@ -95,31 +67,15 @@ fn plan_in(
     }
 }
 
-/// Reads a command line that names no file, and puts it at the end of those before it.
-pub fn push_plain(alloc: Global, line: &[u8], script: &mut Script) -> Result<(), AllocError>
-    requires { IsKind line.now kind.Command }
-    ensures pushed { OnOk result (IsPushed line.now script.old script.new) }
-    ensures words { script.new.words ≡ script.old.words }
-{
-    let Read::Line(read) = read_line(alloc, &mut script.names, line)? else {
-        unreachable!()
-    };
-    // Room first, since a push that may fail moves a line, which is large, once more.
-    script.lines.reserve(1)?;
-    script.lines.push_reserved(read);
-    Ok(())
-}
-
-/// Puts a command line that names no file at the end of those before it. Answers whether it ends the script.
-pub fn put_plain(alloc: Global, line: &[u8], script: &mut Script) -> Result<bool, Failure<Fault>>
-    requires line { IsKind line.now kind.Command }
-    requires few { length script.old.lines.items ≤ most_lines }
-    ensures { PutsPlain line.now script.old script.new result }
+/// Puts the line that a command line is read as at the end of those before it. Answers whether it ends the script.
+pub fn put_line(bytes: &[u8], line: Line, script: &mut Script) -> Result<bool, Failure<Fault>>
+    requires { length script.old.lines.items ≤ most_lines }
+    ensures { PutsLine bytes.now line script.old script.new result }
 {
     check_room(script.lines.as_slice())?;
-    let ends = is_quit(alloc, line)?;
-    push_plain(alloc, line, script)?;
-    script.words.push(edit_word(line))?;
+    let ends = ends_script(&line);
+    push_line(line, &mut script.lines)?;
+    script.words.push(edit_word(bytes))?;
     Ok(ends)
 }
 
@@ -139,21 +95,17 @@ pub fn put_deep(script: &mut Script) -> Result<bool, Failure<Fault>>
 pub fn put_plan<F: Files>(
     alloc: Global,
     files: &mut F,
-    line: &[u8],
     file: &str,
     script: &mut Script,
 ) -> Result<bool, Failure<Fault>>
-    requires line { is_nothing line.now ≡ false }
-    requires plan { is_source line.now ≡ false }
-    requires few { length script.old.lines.items ≤ most_lines }
-    ensures { PutsPlan line.now file.now (F.shown files.old)
+    requires { length script.old.lines.items ≤ most_lines }
+    ensures { PutsReadPlan file.now (F.shown files.old)
         (F.shown files.new) script.old script.new result }
 {
     check_room(script.lines.as_slice())?;
     let text = read_text(alloc, file, files)?;
-    let read = read_line(alloc, &mut script.names, line)?;
     let plan = plan_in(alloc, &mut script.names, text.as_slice())?;
-    push_read(read, Line::Good(Command::RunPlan(plan)), &mut script.lines)?;
+    push_line(Line::Good(Command::RunPlan(plan)), &mut script.lines)?;
     script.words.push(None)?;
     Ok(false)
 }

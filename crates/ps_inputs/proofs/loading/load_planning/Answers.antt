@@ -1,4 +1,4 @@
-use Rattle.std.proofs.Common.{◌≡◌, Ok, Err, refl, arith}
+use Rattle.std.proofs.Common.{refl, arith}
 use Rattle.std.proofs.lemmas.Result.{err_from_is_err_and}
 use Rattle.ps_inputs.specs.Reading.{read_file}
 use Rattle.ps_inputs.proofs.Loaded.{planning_good, planning_starved, planning_unjudged, planning_unread}

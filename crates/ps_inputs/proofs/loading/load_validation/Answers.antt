@@ -1,4 +1,4 @@
-use Rattle.std.proofs.Common.{◌≡◌, Err, refl}
+use Rattle.std.proofs.Common.{refl}
 use Rattle.std.proofs.lemmas.Result.{err_from_is_err_and}
 use Rattle.ps_inputs.proofs.Loaded.{validation_good, validation_starved, validation_unjudged, validation_unplanned, validation_unread}
 use Rattle.ps_inputs.proofs.loading.load_validation.Goals as goal

@@ -1,8 +1,9 @@
 use Rattle.std.proofs.Common.{◌-◌, subst, arith}
 use Rattle.std.proofs.lemmas.Result.{err_from_is_err_and}
 use Rattle.ps_text.specs.ScriptLines.{script_lines}
-use Rattle.ps_script.specs.Kinds.{IsKind}
-use Rattle.ps_inputs.proofs.Flattening.{loop_done, loop_ended, loop_last, loop_next, opens_deep, opens_file, opens_nothing, takes_command, takes_nothing}
+use Rattle.ps_script.specs.Lines.{IsRead}
+use Rattle.ps_script.specs.declared.reading.Read.{Read}
+use Rattle.ps_inputs.proofs.Flattening.{loop_done, loop_ended, loop_last, loop_next, opens_deep, opens_file, opens_nothing, takes_command, takes_nothing, takes_plan, takes_source}
 use Rattle.ps_inputs.proofs.reading.flatten.+flatten.Goals as goal
 
 pub open-returns-then-levels-eq0 : goal.open-returns-then-levels-eq0
@@ -21,11 +22,23 @@ open-returns g t c =
 
 pub take-returns-in-Nothing : goal.take-returns-in-Nothing
 take-returns-in-Nothing g t c =
-    takes_nothing c.args.levels c.args.line.now (g.F.Files.shown c.args.files.now) c.args.script.now c.requires (subst (IsKind c.args.line.now) c.in-Nothing.is c.in_ok-kind_of.ensures)
+    takes_nothing c.args.levels c.args.line.now (g.F.Files.shown c.args.files.now) c.args.script.now c.read_line.new.names c.requires
+    (subst (λ (r : Read). IsRead c.args.script.now.names c.args.line.now r c.read_line.new.names) c.in-Nothing.is c.in_ok-read_line.ensures.read)
 
-pub take-returns-in-Command : goal.take-returns-in-Command
-take-returns-in-Command g t c =
-    takes_command c.args.levels c.args.line.now (g.F.Files.shown c.args.files.now) c.args.script.now c.put_plain.new.script c.put_plain.result (subst (IsKind c.args.line.now) c.in-Command.is c.in_ok-kind_of.ensures) c.put_plain.ensures
+pub take-returns-in-Line : goal.take-returns-in-Line
+take-returns-in-Line g t c =
+    takes_command c.args.levels c.args.line.now (g.F.Files.shown c.args.files.now) c.args.script.now c.read_line.new.names c.put_line.new.script c.put_line.result c.in-Line.read
+    (subst (λ (r : Read). IsRead c.args.script.now.names c.args.line.now r c.read_line.new.names) c.in-Line.is c.in_ok-read_line.ensures.read) c.put_line.ensures
+
+pub take-returns-in-RunPlan : goal.take-returns-in-RunPlan
+take-returns-in-RunPlan g t c =
+    takes_plan c.args.levels c.args.line.now (g.F.Files.shown c.args.files.now) c.args.script.now c.read_line.new.names c.put_plan.new.script c.put_plan.result c.in-RunPlan.file c.as_str.result.now (g.F.Files.shown c.put_plan.new.files) c.as_str.ensures
+    (subst (λ (r : Read). IsRead c.args.script.now.names c.args.line.now r c.read_line.new.names) c.in-RunPlan.is c.in_ok-read_line.ensures.read) c.put_plan.ensures
+
+pub take-returns-in-Source : goal.take-returns-in-Source
+take-returns-in-Source g t c =
+    takes_source c.args.levels c.args.line.now (g.F.Files.shown c.args.files.now) c.args.script.now c.read_line.new.names c.open.new.script c.open.result c.in-Source.file c.as_str-in-Source.result.now (g.F.Files.shown c.open.new.files) c.as_str-in-Source.ensures
+    (subst (λ (r : Read). IsRead c.args.script.now.names c.args.line.now r c.read_line.new.names) c.in-Source.is c.in_ok-read_line.ensures.read) c.open.ensures
 
 pub walk-returns-in_err-ended : goal.walk-returns-in_err-ended
 walk-returns-in_err-ended g t c =

@@ -8,5 +8,5 @@ loop-line-init c = none_pushed c.args.script.now
 
 pub loop-line-preserved : goal.loop-line-preserved
 loop-line-preserved c =
-    next_pushed c.args.lines.now c.loop-line.line-index _ c.as_slice.result.now c.args.script.now c.loop-line.script c.push_plain.new.script (omega arith)
-    (c.as_slice.ensures.value ∙ ap (λ (v : Vec ℕ). v.items) c.line-item.is) c.loop-line.invariant c.in_ok-push_plain.ensures.pushed
+    next_pushed c.args.lines.now c.loop-line.line-index _ c.as_slice.result.now c.args.script.now c.loop-line.script c.push_command.new.script (omega arith)
+    (c.as_slice.ensures.value ∙ ap (λ (v : Vec ℕ). v.items) c.line-item.is) c.loop-line.invariant c.in_ok-push_command.ensures

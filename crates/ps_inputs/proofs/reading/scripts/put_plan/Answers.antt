@@ -5,6 +5,6 @@ use Rattle.ps_inputs.proofs.reading.scripts.put_plan.Goals as goal
 
 pub returns : goal.returns
 returns g c =
-    plan_added c.args.line.now c.args.file.now (g.F.Files.shown c.args.files.now) (g.F.Files.shown c.read_text.new.files) c.args.script.now _ c.in_ok-text.text c.in_ok-read.read c.read_line.new.names c.in_ok-plan.plan
-    c.requires.line c.requires.plan (omega (arith, ap length c.as_slice.ensures.value, c.in_ok-check_room.ensures)) c.in_ok-text.ensures.reads c.in_ok-read.ensures.read
-    (ap (plan_in c.read_line.new.names) (sym c.as_slice-2.ensures.value) ∙ c.in_ok-plan.ensures) c.in_ok-push_read.ensures c.in_ok-push.ensures.items
+    plan_added c.args.file.now (g.F.Files.shown c.args.files.now) (g.F.Files.shown c.read_text.new.files) c.args.script.now _ c.in_ok-text.text c.in_ok-plan.plan
+    (omega (arith, ap length c.as_slice.ensures.value, c.in_ok-check_room.ensures)) c.in_ok-text.ensures.reads
+    (ap (plan_in c.args.script.now.names) (sym c.as_slice-2.ensures.value) ∙ c.in_ok-plan.ensures) c.in_ok-push_line.ensures c.in_ok-push.ensures.items

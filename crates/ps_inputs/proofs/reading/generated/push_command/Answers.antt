@@ -1,5 +1,5 @@
 use Rattle.ps_inputs.proofs.Flattening.{command_read}
-use Rattle.ps_inputs.proofs.reading.scripts.push_plain.Goals as goal
+use Rattle.ps_inputs.proofs.reading.generated.push_command.Goals as goal
 
 pub unreachable-requires : goal.unreachable-requires
 unreachable-requires c =
