@@ -5,8 +5,8 @@ use ps_action::GroundAction;
 use ps_eval::apply;
 use ps_problem::{Change, Problem};
 use ps_text::Names;
-use ps_world::Seq;
-use std::alloc::Global;
+use ps_world::{Fact, Seq};
+use std::alloc::{AllocError, Global};
 use std::process::Abort;
 use std::test::Fail;
 
@@ -24,13 +24,13 @@ set predicate (connected chargingroom kitchen)
 set predicate (connected kitchen bedroom)
 set goal (and (robot_at leia bedroom))";
 
-/// A change that changes nothing.
-fn no_change(alloc: Global) -> Change {
+/// A change that adds and deletes these facts alone.
+fn change_of(alloc: Global, adds: Seq<Fact>, deletes: Seq<Fact>) -> Change {
     Change {
         instances_in: Seq::new(alloc),
         instances_out: Seq::new(alloc),
-        adds: Seq::new(alloc),
-        deletes: Seq::new(alloc),
+        adds,
+        deletes,
         values: Seq::new(alloc),
         gone: Seq::new(alloc),
         goal: None,
@@ -41,10 +41,9 @@ fn no_change(alloc: Global) -> Change {
 fn driven(alloc: Global, names: &mut Names) -> Result<Change, Fail> {
     let there = fact_of(alloc, names, "(robot_at leia chargingroom)")?;
     let here = fact_of(alloc, names, "(robot_at leia entrance)")?;
-    let mut change = no_change(alloc);
-    change.adds = Seq::of(vec![in alloc; there]?);
-    change.deletes = Seq::of(vec![in alloc; here]?);
-    Ok(change)
+    let adds = Seq::of(vec![in alloc; there]?);
+    let deletes = Seq::of(vec![in alloc; here]?);
+    Ok(change_of(alloc, adds, deletes))
 }
 
 fn make_effects(problem: &mut Problem, world: &World, act: &GroundAction) -> Result<(), Fail> {
@@ -53,11 +52,16 @@ fn make_effects(problem: &mut Problem, world: &World, act: &GroundAction) -> Res
     Ok(())
 }
 
+/// Makes the act that brings leia there.
+fn bring(alloc: Global, world: &mut World, problem: &mut Problem) -> Result<(), Fail> {
+    let act = ground_of(alloc, world, "(askcharge leia entrance chargingroom)")?;
+    make_effects(problem, world, &act)
+}
+
 /// What is known after the act that brings leia there.
 fn after_act(alloc: Global, world: &mut World) -> Result<Box<Problem>, Fail> {
-    let act = ground_of(alloc, world, "(askcharge leia entrance chargingroom)")?;
     let mut after = Box::new(alloc, world.problem.copy()?)?;
-    make_effects(&mut after, world, &act)?;
+    bring(alloc, world, &mut after)?;
     Ok(after)
 }
 
@@ -70,10 +74,10 @@ fn know_the_same(one: &Problem, other: &Problem) -> Result<bool, Fail> {
     )
 }
 
-/// Whether a change of nothing leaves a problem as it is.
-fn stays(alloc: Global, problem: &mut Problem) -> Result<bool, Fail> {
-    let none = no_change(alloc);
-    Ok(!problem.patch(&none)?)
+/// Whether a change of nothing changes a problem.
+fn changes(alloc: Global, problem: &mut Problem) -> Result<bool, AllocError> {
+    let none = change_of(alloc, Seq::new(alloc), Seq::new(alloc));
+    problem.patch(&none)
 }
 
 /// That a change makes of what is known what is known after the act, once.
@@ -87,7 +91,7 @@ fn leads_there(
     assert!(rt; !know_the_same(&*problem, after)?);
     assert!(rt; problem.patch(change)?);
     assert!(rt; know_the_same(&*problem, after)?);
-    assert!(rt; stays(alloc, &mut *problem)?);
+    assert!(rt; !changes(alloc, &mut *problem)?);
     assert!(rt; know_the_same(&*problem, after)?);
     Ok(())
 }

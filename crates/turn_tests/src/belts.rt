@@ -1,5 +1,5 @@
 //! Reports over a belt, with threads.
-ghost use Rattle.std.specs.Prelude.{◌≡◌};
+ghost use Rattle.std.specs.Prelude.{◌≡◌, length, OnOk};
 ghost use Rattle.std.specs.List.{All};
 
 use ps_hub::{Belt, Desk, Report, Sent, Tray};
@@ -30,35 +30,70 @@ fn drain<R: Wait>(rt: &R, belt: &Belt, tray: &mut Tray) -> Result<u32, AllocErro
     tray.drain(rt, belt)
 }
 
-/// The reports of a belt with one desk and room for one report. A second one is sent once the first is drained.
-fn fill_and_drain<R: Wait + Abort>(rt: &R, alloc: Global) -> Result<Vec<Report>, Fail> {
-    let (belt, mut desks, mut tray) = Belt::open(alloc, 1, 1)?;
+/// Sends two reports over a belt with room for one: the second once the first is drained.
+fn send_two<R: Wait + Abort>(
+    rt: &R,
+    belt: &Belt,
+    desk: &mut Desk,
+    tray: &mut Tray,
+    finish: &Unit,
+) -> Result<(), AllocError>
+    requires desk { desk.old.belt ≡ belt.now }
+    requires tray { tray.old.belt ≡ belt.now }
+    ensures desk { desk.new.belt ≡ desk.old.belt }
+    ensures tray { tray.new.belt ≡ tray.old.belt }
+{
+    assert!(rt; send_one(rt, belt, desk, 0, &Unit::Work) == Some(Sent::Put));
+    assert!(rt; send_one(rt, belt, desk, 0, finish) == Some(Sent::Full));
+    assert_eq!(rt; drain(rt, belt, tray)?, 1);
+    assert!(rt; send_one(rt, belt, desk, 0, finish) == Some(Sent::Put));
+    Ok(())
+}
+
+/// Sends two reports, as `send_two` does, from the last of some desks.
+fn send_from_last<R: Wait + Abort>(
+    rt: &R,
+    belt: &Belt,
+    desks: &mut Vec<Desk>,
+    tray: &mut Tray,
+    finish: &Unit,
+) -> Result<(), Fail>
+    requires desks { All (λ d. d.belt ≡ belt.now) desks.old.items }
+    requires tray { tray.old.belt ≡ belt.now }
+    ensures many { OnOk result (length desks.new.items ≡ length desks.old.items) }
+    ensures desks { OnOk result (All (λ d. d.belt ≡ belt.now) desks.new.items) }
+    ensures tray { tray.new.belt ≡ tray.old.belt }
+{
     let mut desk = desks.pop().ok_or("no desk")?;
-    let finish = Unit::Finish(true);
-    assert!(rt; send_one(rt, &belt, &mut desk, 0, &Unit::Work) == Some(Sent::Put));
-    assert!(rt; send_one(rt, &belt, &mut desk, 0, &finish) == Some(Sent::Full));
-    assert_eq!(rt; drain(rt, &belt, &mut tray)?, 1);
-    assert!(rt; send_one(rt, &belt, &mut desk, 0, &finish) == Some(Sent::Put));
+    send_two(rt, belt, &mut desk, tray, finish)?;
     desks.push(desk)?;
+    Ok(())
+}
+
+/// The reports of a belt with one desk and room for one report, over which two are sent.
+fn fill_and_drain<R: Wait + Abort>(rt: &R, alloc: Global) -> Result<Vec<Report>, Fail> {
+    let finish = Box::new(alloc, Unit::Finish(true))?;
+    let (belt, mut desks, mut tray) = Belt::open(alloc, 1, 1)?;
+    send_from_last(rt, &belt, &mut desks, &mut tray, &finish)?;
     Ok(belt.close(rt, desks, tray)?)
 }
 
-/// The first performer's report with this number on request 0.
-fn report(n: u32, unit: Unit) -> Report {
-    Report {
-        by: 0,
-        r: 0,
-        n,
-        unit,
-    }
+/// Asserts that these are the first performer's reports of work and of its end on request 0. They are matched as they are: a report is dear to let go
+/// of.
+fn assert_both(rt: &impl Abort, reports: &[Report]) {
+    let [first, second] = reports else {
+        panic!(rt; "not two reports")
+    };
+    assert!(rt; (first.by, first.r, first.n) == (0, 0, 0));
+    assert!(rt; matches!(first.unit, Unit::Work));
+    assert!(rt; (second.by, second.r, second.n) == (0, 0, 1));
+    assert!(rt; matches!(second.unit, Unit::Finish(true)));
 }
 
 #[test]
 fn a_full_belt_is_drained_and_closed(rt: HostRuntime) -> Result<(), Fail> {
     let reports = fill_and_drain(&rt, rt.alloc())?;
-    assert_eq!(rt; reports.len(), 2);
-    assert!(rt; reports.first() == Some(&report(0, Unit::Work)));
-    assert!(rt; reports.get(1) == Some(&report(1, Unit::Finish(true))));
+    assert_both(&rt, &reports);
     Ok(())
 }
 

@@ -8,6 +8,7 @@ use ps_machine::{Entry, Event, Grows, Input};
 use ps_turn::{Seat, TurnBook};
 use ps_world::{Domain, Name, Seq};
 use std::alloc::Global;
+use std::process::Abort;
 use std::sync::Wait;
 use std::test::Fail;
 use std::thread;
@@ -121,21 +122,24 @@ fn closed_after<R: Threads + Wait + Sync>(
     Ok(book.close(seats))
 }
 
+/// Asserts that each of so many hands has so many entries, and that there are no others.
+fn assert_shared(rt: &impl Abort, log: &Log, hands: u8, times: usize) {
+    assert_eq!(rt; log.entries.len(), times.saturating_mul(usize::from(hands)));
+    for hand in 1..=hands {
+        assert_eq!(rt; log.count_of(hand), times);
+    }
+}
+
 #[test]
 fn two_seats_take_turns(rt: HostRuntime) -> Result<(), Fail> {
     let log = closed_after(&rt, rt.alloc(), 2, 100)?;
-    assert_eq!(rt; log.entries.len(), 200);
-    assert_eq!(rt; log.count_of(1), 100);
-    assert_eq!(rt; log.count_of(2), 100);
+    assert_shared(&rt, &log, 2, 100);
     Ok(())
 }
 
 #[test]
 fn sixteen_seats_take_turns(rt: HostRuntime) -> Result<(), Fail> {
     let log = closed_after(&rt, rt.alloc(), 16, 20)?;
-    assert_eq!(rt; log.entries.len(), 320);
-    for hand in 1..=16 {
-        assert_eq!(rt; log.count_of(hand), 20);
-    }
+    assert_shared(&rt, &log, 16, 20);
     Ok(())
 }
