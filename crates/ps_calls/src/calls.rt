@@ -84,7 +84,10 @@ fn do_work<R: Threads + Wait + Sync, O: Sink, E: Sink, G: Gate + Sync>(
         Work::Session(session) => end_session(rt, alloc, session.into_inner(), gate, out, err),
         Work::Planning(planning) => finish(do_plan(rt, alloc, planning.into_inner(), out), err),
         Work::Generation(generation) => {
-            finish(do_generation(rt, alloc, generation.into_inner(), gate, out), err)
+            finish(
+                do_generation(rt, alloc, generation.into_inner(), gate, out),
+                err,
+            )
         }
         quiet => finish(perform_quiet(alloc, quiet, out), err),
     }

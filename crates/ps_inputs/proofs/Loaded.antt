@@ -21,7 +21,7 @@ use Rattle.ps_inputs.specs.Input.{GoesBy, HasBadMembers, InputTexts, IsBegun, Is
 use Rattle.ps_rules.specs.Heads.{Settings}
 use Rattle.ps_inputs.specs.Input.Material.{for_session, for_check, for_validation, for_planning, for_replay, for_editing, for_generation}
 use Rattle.ps_inputs.specs.Faults.{ReadsPart}
-use Rattle.ps_inputs.specs.Parts.{Generates, IsAnswered, IsGenerated, IsJudged, IsJudgedAs, IsJudgedInput, IsScriptFrom, IsUnjudged, IsWordedFrom, Joins, Judges, LoadsRequest, ReadsDomainFile, ReadsInput, ReadsMembers, ReadsScript, ReadsText, flat, named}
+use Rattle.ps_inputs.specs.Parts.{Generates, IsAnswered, IsGenerated, IsJudged, IsJudgedAs, IsJudgedInput, IsScriptFrom, IsUnjudged, IsWordedFrom, Joins, Judges, LoadsRequest, ReadsDomainFile, ReadsInput, ReadsJournal, ReadsMembers, ReadsScript, ReadsText, flat, named}
 use Rattle.ps_inputs.specs.declared.judging.Loaded.{Loaded}
 use Rattle.ps_inputs.specs.declared.reading.domains.Judged.{Judged}
 use Rattle.ps_inputs.specs.declared.reading.inputs.Unjudged.{Unjudged}
@@ -363,6 +363,22 @@ module _ (domain_file script_file : List ℕ) (budget : ℕ) (old new : FilesVie
         planning_read (Err fault) (λ texts is. answered_fault old.told planning_request (for_planning budget texts) budget 0 fault (judges (read_file old.told domain_file) texts is))
 
 -- ---- a replay
+
+-- the text of a journal was read, and the settings to go by were found
+pub journal_read : (words : Settings) (file : List ℕ) (old new : FilesView) (text : Vec ℕ) (own : Settings) → ReadsText file old new (Ok text) → GoesBy words text.items own → ReadsJournal words file old new (Ok (text, own))
+journal_read words file old new text own h goes = record {
+  given = (h.given.0, h.given.1, h.given.2, h.given.3, (h.given.4, subst (λ (t : List ℕ). GoesBy words t own) h.given.4 goes));
+  ended = tt;
+  failed = h.failed;
+  same = h.same;
+}
+
+module _ (words : Settings) (file : List ℕ) (old new : FilesView) (journal : Vec ℕ × Settings) (h : ReadsJournal words file old new (Ok journal)) where
+  pub journal_text : ReadsText file old new (Ok journal.0)
+  journal_text = record { given = (h.given.0, h.given.1, h.given.2, h.given.3, h.given.4.0); ended = tt; failed = h.failed; same = h.same }
+
+  pub journal_goes : GoesBy words journal.0.items journal.1
+  journal_goes = subst (λ (t : List ℕ). GoesBy words t journal.1) (sym h.given.4.0) h.given.4.1
 
 module _ (s : ReplayRequest) (old : FilesView) where
   pub replay_unread : (new : FilesView) (why : Failure Fault) → ReadsInput s.domain s.script s.members old new (Err why) → LoadsRequest (a_replay s) old new (Err why)

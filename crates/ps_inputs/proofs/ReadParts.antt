@@ -173,6 +173,10 @@ pub then_ended : {A B C D : Type 0} {P : A → B → Type 0} {Q : C → D → Ty
 then_ended {B = B} {D = D} x y old new why h =
     record { given = tt; ended = ended_first x y old new why h.ended; failed = failed-alike B D why old.failed new.failed h.failed; same = h.same }
 
+-- reading that was ended is ended alike, whatever was to be made of it
+pub ended_alike : {A B D : Type 0} {P : A → B → Type 0} {Q : A → D → Type 0} (part : Reading A) (old new : FilesView) (why : Failure Fault) → ReadsPart part old new P (Err why) → ReadsPart part old new Q (Err why)
+ended_alike {B = B} {D = D} part old new why h = record { given = tt; ended = h.ended; failed = failed-alike B D why old.failed new.failed h.failed; same = h.same }
+
 -- nothing is read, and this is what it gives
 pub read_nothing : {A B : Type 0} {P : A → B → Type 0} (files : FilesView) (a : A) (b : B) → P a b → ReadsPart (gives [] a) files files P (Ok b)
 read_nothing files a b p = record { given = (0, a, (refl, refl), refl, p); ended = tt; failed = refl; same = refl }

@@ -14,6 +14,7 @@ use Rattle.ps_text.specs.Outside.{FilesView}
 use Rattle.ps_text.specs.ScriptLines.{script_lines}
 use Rattle.ps_script.specs.Lines.{IsRead}
 use Rattle.ps_script.specs.declared.reading.Read.TheVariants as read
+use Rattle.ps_rules.specs.Heads.{Settings}
 use Rattle.ps_words.specs.Words.{Request}
 use Rattle.ps_words.specs.Words.Request.{a_generation}
 use Rattle.ps_gen.specs.Texts as generator
@@ -23,7 +24,7 @@ use Rattle.ps_inputs.specs.Members.{AreAtFault, AreMembers, IsNoMember, NamedTex
 use Rattle.ps_inputs.specs.Flats.{Flat, Flattened, on_source, one_line, plain_line, plan_line, script_in, step, walk}
 use Rattle.ps_inputs.specs.Flats.Flattened.{plain, too_deep}
 use Rattle.ps_inputs.specs.Scripts.{IsScript, word_of}
-use Rattle.ps_inputs.specs.Input.{HasBadMembers, InputTexts, IsAsked, IsDomain, IsInput, IsNoDomain, IsWork, Material, domain_in, domain_text_of, generated, named_texts, reading_of, texts_in, texts_of}
+use Rattle.ps_inputs.specs.Input.{GoesBy, HasBadMembers, InputTexts, IsAsked, IsDomain, IsInput, IsNoDomain, IsWork, Material, domain_in, domain_text_of, generated, named_texts, reading_of, texts_in, texts_of}
 use Rattle.ps_inputs.specs.Faults.{ReadsPart}
 use Rattle.ps_inputs.specs.declared.faults.Fault.{Fault}
 use Rattle.ps_inputs.specs.declared.faults.Fault.TheVariants.{NoDomain, NoMember, Crowd, Twice, Lines}
@@ -241,6 +242,10 @@ Judges u budget replans r =
     (domain : Reading (List ℕ)) (texts : InputTexts) → IsUnjudged domain texts u → IsJudgedInput domain texts budget replans r
 
 -- ---- the work
+
+-- reading the text of a journal, and finding the settings that a replay of it goes by, where the words say these
+abbrev pub ReadsJournal : Settings → List ℕ → FilesView → FilesView → Result (Vec ℕ × Settings) (Failure Fault) → Type 0
+ReadsJournal words file old new r = ReadsPart (read_file old.told file) old new (λ t journal. (journal.0.items ≡ t) × GoesBy words t journal.1) r
 
 -- what the files hold is the work that is asked for, or it has this fault; where its domain's text is none, so is that text read alone,
 -- where it is told

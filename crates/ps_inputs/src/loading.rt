@@ -1,11 +1,12 @@
 //! Loading: the work that words and files give.
 ghost use Rattle.ps_words.specs.Words.{IsInRange, replay_said, said, settings_said};
 ghost use Rattle.ps_words.specs.Words.Request.{a_check, a_generation, a_planning, a_replay, a_session, a_validation, an_editing};
-ghost use Rattle.std.specs.Prelude.{IfOk};
+ghost use Rattle.std.specs.Prelude.{◌≤◌, length, IfOk};
 ghost use Rattle.ps_rules.specs.Heads.{AreSettings};
 ghost use Rattle.ps_inputs.specs.Faults.{Loads, word_texts};
 ghost use Rattle.ps_inputs.specs.Input.{GoesBy};
-ghost use Rattle.ps_inputs.specs.Parts.{Generates, LoadsRequest};
+ghost use Rattle.ps_inputs.specs.Parts.{Generates, LoadsRequest, ReadsJournal};
+ghost use Rattle.ps_inputs.specs.Reading.{longest_file};
 
 use crate::faults::Fault;
 use crate::judging::{Loaded, judge};
@@ -110,6 +111,23 @@ fn settings_for(alloc: Global, asked: (u32, u8), journal: &[u8]) -> Result<(u32,
     }
 }
 
+/// Reads the file of a journal, and finds the settings that a replay of it goes by, where the words say these.
+fn read_journal<F: Files>(
+    alloc: Global,
+    file: &str,
+    words: (u32, u8),
+    files: &mut F,
+) -> Result<(Vec<u8>, (u32, u8)), Failure<Fault>>
+    requires { AreSettings words }
+    ensures reads { ReadsJournal words file.now (F.shown files.old) (F.shown files.new) result }
+    ensures short { IfOk result (λ journal. length journal.0.items ≤ longest_file) }
+    ensures ranged { IfOk result (λ journal. AreSettings journal.1) }
+{
+    let text = read_text(alloc, file, files)?;
+    let own = settings_for(alloc, words, &text)?;
+    Ok((text, own))
+}
+
 /// Reads the files of a replay: the domain's, the script's with the files that it names, the members', and the journal's. Texts that are at
 /// fault are told after all files are read. Where the journal says its settings, those of the words aren't used.
 fn load_replay<'a, F: Files>(
@@ -123,9 +141,8 @@ fn load_replay<'a, F: Files>(
 {
     let members = settings.members.as_slice();
     let read = read_input(alloc, settings.domain, settings.script, members, files)?;
-    let journal = read_text(alloc, settings.journal, files)?;
-    let asked = (settings.budget, settings.replans as u8);
-    let own = settings_for(alloc, asked, &journal)?;
+    let words = (settings.budget, settings.replans as u8);
+    let (journal, own) = read_journal(alloc, settings.journal, words, files)?;
     let Loaded { names, input } = judge(alloc, read, own.0, own.1)?;
     let replay = Replay {
         names,
