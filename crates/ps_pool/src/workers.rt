@@ -109,7 +109,8 @@ fn work_beside<R: Threads + Wait + Sync, S: Solver + Sync, G: Gate + Sync>(
     let mut one = ||
         requires { MayWork book.now seat.now × StepsAside book.now.input aside seat.now.seen round_place.now.stand
             × IsCrew book.now.input crew.now.members.now crew.now.expert.now crew.now.budget crew.now.workers }
-        ensures { HasLeft seat.exit.now.seen round_place.exit.now.stand × HasStayed book.entry.now seat.entry.now seat.exit.now }
+        ensures { HasLeft seat.exit.now.seen round_place.exit.now.stand
+            × HasStayed book.entry.now seat.entry.now seat.exit.now }
     { crew.work_on(rt, book, seat, round_place, aside.take()) };
     thread::join_mut(rt, &mut others, &mut one);
 }
