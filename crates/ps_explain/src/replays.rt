@@ -1,5 +1,6 @@
 //! Explaining a replay: at which line a journal isn't legal.
 use ps_audit::{Finding, audit};
+use ps_boxes::Boxed;
 use ps_inputs::Replay;
 use ps_remarks::Page;
 use ps_solve::Forward;
@@ -21,8 +22,8 @@ fn finding_of(alloc: Global, replay: &mut Replay) -> Result<Finding, AllocError>
     Ok(audited.finding)
 }
 
-/// Says at which line a journal isn't legal.
-pub fn explain_replay(
+/// Says at which line the journal of a replay isn't legal.
+fn explain_journal(
     alloc: Global,
     file: &str,
     replay: &mut Replay,
@@ -67,4 +68,15 @@ fn say_illegal(
             b"the journal ends here, where more has to come",
         ),
     }
+}
+
+/// Says at which line a journal isn't legal.
+pub fn explain_replay(
+    alloc: Global,
+    file: &str,
+    replay: Boxed<Replay>,
+    page: &mut Page,
+) -> Result<(), AllocError> {
+    let mut replay = replay.into_inner();
+    explain_journal(alloc, file, &mut replay, page)
 }

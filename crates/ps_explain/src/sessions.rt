@@ -64,9 +64,9 @@ fn answers_line(event: &Event) -> bool {
 }
 
 impl Watch {
-    /// What is known before the first entry.
-    pub fn new(alloc: Global, expert: &Expert) -> Result<Watch, AllocError> {
-        Ok(Watch {
+    /// What is known before the first entry, in a box, so that whoever owns it owns one part.
+    pub fn new(alloc: Global, expert: &Expert) -> Result<Box<Watch>, AllocError> {
+        let watch = Watch {
             problem: Problem::new(alloc, expert)?,
             acts: Vec::new(alloc),
             grounds: Vec::new(alloc),
@@ -75,7 +75,8 @@ impl Watch {
             tally: Tally::new(alloc),
             goal: None,
             lines: 0,
-        })
+        };
+        Ok(Box::new(alloc, watch)?)
     }
 
     /// The first act of the plan that hasn't begun, with its place.
@@ -99,27 +100,22 @@ impl Watch {
         self.acts.as_slice().get(act as usize).copied()
     }
 
-    /// The ground action of each act of a plan.
-    fn grounds_of(
-        &self,
-        alloc: Global,
-        expert: &Expert,
-        acts: &[Act],
-    ) -> Result<Vec<Option<GroundAction>>, AllocError> {
-        let mut grounds = Vec::new(alloc);
+    /// Adds the ground action of each act of a plan.
+    fn add_grounds(&mut self, expert: &Expert, acts: &[Act]) -> Result<(), AllocError> {
         for act in acts {
-            grounds.push(ground_of(expert, &self.problem, act)?)?;
+            let ground = ground_of(expert, &self.problem, act)?;
+            self.grounds.push(ground)?;
         }
-        Ok(grounds)
+        Ok(())
     }
 
     /// Goes on with a plan.
     fn plan(&mut self, alloc: Global, expert: &Expert, acts: &[Act]) -> Result<(), AllocError> {
         self.begun = vec![in alloc; false; acts.len()]?;
         self.acts = Vec::from_slice(alloc, acts)?;
-        self.grounds = self.grounds_of(alloc, expert, acts)?;
+        self.grounds = Vec::new(alloc);
         self.went_wrong = false;
-        Ok(())
+        self.add_grounds(expert, acts)
     }
 
     /// The ground action of the act at a place of the plan.
@@ -212,6 +208,48 @@ fn mark_line(
         .count();
     let at = origin.from.saturating_add(place.unwrap_or(blanks));
     page.mark(source.file.as_str(), source.text.as_slice(), at, sentence)
+}
+
+/// What is said of how a run ended, or nothing where it succeeded.
+fn end_words(outcome: Outcome) -> Option<&'static [u8]> {
+    match outcome {
+        Outcome::Success => None,
+        Outcome::Act => Some(b"this run failed with its act"),
+        Outcome::Blocked => Some(b"this run is blocked: nothing of it can go on"),
+        Outcome::NoGoal => Some(b"this run ended: there is no goal any more"),
+        Outcome::Replans => Some(b"this run ended: its plan may not be made anew once more"),
+        Outcome::NoPlan => Some(b"this run ended: no plan reaches the goal any more"),
+        Outcome::Spent(_) => Some(b"this run ended: no new plan was found"),
+        Outcome::TooMany => Some(b"this run ended: there are too many ground actions"),
+    }
+}
+
+/// Why a run that ended has no plan any more, if it ended for that.
+fn unplanned(outcome: Outcome) -> Option<Refusal> {
+    match outcome {
+        Outcome::NoPlan => Some(Refusal::NoPlan),
+        Outcome::Spent(depth) => Some(Refusal::Spent(depth)),
+        Outcome::TooMany => Some(Refusal::TooMany),
+        _ => None,
+    }
+}
+
+/// An equal problem, in a box.
+fn copy_of(alloc: Global, problem: &Problem) -> Result<Box<Problem>, AllocError> {
+    Ok(Box::new(alloc, problem.copy()?)?)
+}
+
+/// Why effects can't be made, if they can't. Else they are made.
+fn fault_in(
+    problem: &mut Problem,
+    expert: &Expert,
+    effects: &[Spread],
+) -> Result<Option<EffectRefusal>, AllocError> {
+    match apply(problem, expert, effects) {
+        Ok(_) => Ok(None),
+        Err(Failure::Refused(why)) => Ok(Some(why)),
+        Err(Failure::OutOfMemory) => Err(AllocError),
+    }
 }
 
 impl<'a> Teller<'a> {
@@ -609,12 +647,8 @@ impl<'a> Teller<'a> {
         watch: &Watch,
         effects: &[Spread],
     ) -> Result<Option<EffectRefusal>, AllocError> {
-        let mut after = watch.problem.copy()?;
-        match apply(&mut after, self.expert, effects) {
-            Ok(_) => Ok(None),
-            Err(Failure::Refused(why)) => Ok(Some(why)),
-            Err(Failure::OutOfMemory) => Err(AllocError),
-        }
+        let mut after = copy_of(self.alloc, &watch.problem)?;
+        fault_in(&mut after, self.expert, effects)
     }
 
     /// Says which performer's work on an act went badly.
@@ -675,48 +709,35 @@ impl<'a> Teller<'a> {
         }
     }
 
-    /// Says how a run ended that didn't succeed.
-    fn over(&self, watch: &Watch, outcome: Outcome, page: &mut Page) -> Result<(), AllocError> {
-        let (words, why): (&[u8], Option<Refusal>) = match outcome {
-            Outcome::Success => return Ok(()),
-            Outcome::Act => (b"this run failed with its act", None),
-            Outcome::Blocked => (b"this run is blocked: nothing of it can go on", None),
-            Outcome::NoGoal => (b"this run ended: there is no goal any more", None),
-            Outcome::Replans => (
-                b"this run ended: its plan may not be made anew once more",
-                None,
-            ),
-            Outcome::NoPlan => (
-                b"this run ended: no plan reaches the goal any more",
-                Some(Refusal::NoPlan),
-            ),
-            Outcome::Spent(depth) => {
-                (
-                    b"this run ended: no new plan was found",
-                    Some(Refusal::Spent(depth)),
-                )
-            }
-            Outcome::TooMany => {
-                (
-                    b"this run ended: there are too many ground actions",
-                    Some(Refusal::TooMany),
-                )
-            }
-        };
-        self.mark(watch.lines, None, words, page)?;
-        if watch.is_blocked() {
-            self.blocked(watch, page)?;
-        }
+    /// Says more about how a run ended.
+    fn after_end(
+        &self,
+        watch: &Watch,
+        outcome: Outcome,
+        page: &mut Page,
+    ) -> Result<(), AllocError> {
         if let Outcome::Replans = outcome {
-            page.note("'--replans N' with up to 8 lets it be made anew more often.")?;
+            return page.note("'--replans N' with up to 8 lets it be made anew more often.");
         }
-        match why {
+        match unplanned(outcome) {
             Some(why) => {
                 let budget = self.input.budget;
                 say_no_answer(self.names, self.expert, &watch.problem, budget, why, page)
             }
             None => Ok(()),
         }
+    }
+
+    /// Says how a run ended that didn't succeed.
+    fn over(&self, watch: &Watch, outcome: Outcome, page: &mut Page) -> Result<(), AllocError> {
+        let Some(words) = end_words(outcome) else {
+            return Ok(());
+        };
+        self.mark(watch.lines, None, words, page)?;
+        if watch.is_blocked() {
+            self.blocked(watch, page)?;
+        }
+        self.after_end(watch, outcome, page)
     }
 
     /// Says what an entry has to say of what was refused or went wrong, where this is known before it.
