@@ -1,6 +1,6 @@
 //! Which ground actions keep their order.
 use super::worlds::{World, ground_of, world_of};
-use ps_action::Arcs;
+use ps_action::{Arcs, GroundAction};
 use ps_arcs::arcs_of;
 use std::alloc::Global;
 use std::process::Abort;
@@ -95,22 +95,57 @@ fn arcs_told(alloc: Global, arcs: &Arcs) -> Result<String, Fail> {
     Ok(told)
 }
 
-fn plan_arcs(alloc: Global, world: &mut World, plan: &str) -> Result<Arcs, Fail> {
-    let mut grounds = Vec::new(alloc);
+/// Adds the ground actions of a plan's acts.
+fn push_grounds(
+    alloc: Global,
+    world: &mut World,
+    plan: &str,
+    grounds: &mut Vec<GroundAction>,
+) -> Result<(), Fail> {
     for act in plan.lines() {
-        grounds.push(ground_of(alloc, world, act)?)?;
+        let ground = ground_of(alloc, world, act)?;
+        grounds.push(ground)?;
     }
+    Ok(())
+}
+
+/// The arcs of ground actions, of which a plan has 256 at most.
+fn arcs_among(alloc: Global, grounds: &[GroundAction]) -> Result<Arcs, Fail> {
     if grounds.len() > 256 {
         return Err(Fail::from("no plan"));
     }
-    Ok(arcs_of(alloc, &grounds)?)
+    Ok(arcs_of(alloc, grounds)?)
+}
+
+fn plan_arcs(alloc: Global, world: &mut World, plan: &str) -> Result<Arcs, Fail> {
+    let mut grounds = Vec::new(alloc);
+    push_grounds(alloc, world, plan, &mut grounds)?;
+    arcs_among(alloc, &grounds)
+}
+
+/// That arcs are told so, and are as many as they have lines.
+fn are_told(rt: &impl Abort, alloc: Global, arcs: &Arcs, want: &str) -> Result<(), Fail> {
+    let told = arcs_told(alloc, arcs)?;
+    assert_eq!(rt; told.as_str(), want);
+    assert_eq!(rt; arcs.count() as usize, want.lines().count());
+    Ok(())
+}
+
+/// That a plan has these arcs.
+fn keeps_these(
+    rt: &impl Abort,
+    alloc: Global,
+    world: &mut World,
+    plan: &str,
+    want: &str,
+) -> Result<(), Fail> {
+    let arcs = plan_arcs(alloc, world, plan)?;
+    are_told(rt, alloc, &arcs, want)
 }
 
 fn keeps_so(rt: &impl Abort, alloc: Global, world: &mut World) -> Result<(), Fail> {
-    for (plan, want) in PLANS {
-        let arcs = plan_arcs(alloc, world, plan)?;
-        assert_eq!(rt; arcs_told(alloc, &arcs)?.as_str(), want);
-        assert_eq!(rt; arcs.count() as usize, want.lines().count());
+    for (plan, want) in &PLANS {
+        keeps_these(rt, alloc, world, plan, want)?;
     }
     Ok(())
 }
@@ -123,16 +158,28 @@ fn plans_keep_these_orders(rt: HostRuntime) -> Result<(), Fail> {
 
 /// The arcs of two acts.
 fn arcs_between(alloc: Global, world: &mut World, one: &str, other: &str) -> Result<Arcs, Fail> {
-    let one = ground_of(alloc, world, one)?;
-    let other = ground_of(alloc, world, other)?;
-    Ok(arcs_of(alloc, &[one, other])?)
+    let mut grounds = Vec::new(alloc);
+    push_grounds(alloc, world, one, &mut grounds)?;
+    push_grounds(alloc, world, other, &mut grounds)?;
+    arcs_among(alloc, &grounds)
+}
+
+/// Whether two acts keep their order, and whether they keep the other one.
+fn order_of(
+    alloc: Global,
+    world: &mut World,
+    one: &str,
+    other: &str,
+) -> Result<(bool, bool), Fail> {
+    let arcs = arcs_between(alloc, world, one, other)?;
+    Ok((arcs.has(0, 1), arcs.has(1, 0)))
 }
 
 fn ties_so(rt: &impl Abort, alloc: Global, world: &mut World) -> Result<(), Fail> {
-    for (one, other, want) in PAIRS {
-        let arcs = arcs_between(alloc, world, one, other)?;
-        assert_eq!(rt; arcs.has(0, 1), want, "{one} {other}");
-        assert!(rt; !arcs.has(1, 0), "{one} {other}");
+    for (one, other, want) in &PAIRS {
+        let (is_kept, is_turned) = order_of(alloc, world, one, other)?;
+        assert_eq!(rt; is_kept, *want, "{one} {other}");
+        assert!(rt; !is_turned, "{one} {other}");
     }
     Ok(())
 }

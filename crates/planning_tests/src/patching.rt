@@ -65,12 +65,30 @@ fn after_act(alloc: Global, world: &mut World) -> Result<Box<Problem>, Fail> {
     Ok(after)
 }
 
+/// Whether two problems have the same instances.
+fn have_same_instances(one: &Problem, other: &Problem) -> Result<bool, Fail> {
+    let instances = one.instances()?;
+    Ok(instances == other.instances()?)
+}
+
+/// Whether two problems have the same facts.
+fn have_same_facts(one: &Problem, other: &Problem) -> Result<bool, Fail> {
+    let facts = one.facts()?;
+    Ok(facts == other.facts()?)
+}
+
+/// Whether two problems have the same values.
+fn have_same_values(one: &Problem, other: &Problem) -> Result<bool, Fail> {
+    let values = one.values()?;
+    Ok(values == other.values()?)
+}
+
 /// Whether two problems know the same, but for their goals.
 fn know_the_same(one: &Problem, other: &Problem) -> Result<bool, Fail> {
     Ok(
-        one.instances()? == other.instances()?
-            && one.facts()? == other.facts()?
-            && one.values()? == other.values()?,
+        have_same_instances(one, other)?
+            && have_same_facts(one, other)?
+            && have_same_values(one, other)?,
     )
 }
 

@@ -2,7 +2,7 @@
 use super::orders::ROOMS;
 use super::worlds::{World, world_of};
 use ps_domain::Expert;
-use ps_portfolio::{Found, Levels, Planner, portfolio};
+use ps_portfolio::{Chosen, Found, Levels, Planner, portfolio};
 use ps_problem::Problem;
 use std::alloc::{AllocError, Global};
 use std::process::Abort;
@@ -98,15 +98,24 @@ fn is_no_plan(found: &Found) -> bool {
     matches!(found, Found::NoPlan)
 }
 
-/// Has three planners that wait for each other plan at once.
-fn assert_meet<R: Threads + Sync + Abort>(
+/// That the first of three answers is the best, and each says that there is no plan.
+fn assert_no_plan(rt: &impl Abort, chosen: &Chosen) {
+    assert_eq!(rt; chosen.best, 0);
+    assert_eq!(rt; chosen.answers.len(), 3);
+    assert!(rt; chosen.answers.as_slice().iter().all(is_no_plan));
+}
+
+/// Has three planners that wait for each other by these flags plan at once.
+fn assert_none_found<R: Threads + Sync + Abort>(
     rt: &R,
     alloc: Global,
     world: &World,
+    came: &Flags,
+    saw: &Flags,
 ) -> Result<(), Fail> {
-    let came = Flags::new();
-    let saw = Flags::new();
-    let (came, saw) = (&came, &saw);
+    if world.problem.goal().is_none() {
+        return Err(Fail::from("no goal"));
+    }
     let a = Waiting {
         place: 0,
         came,
@@ -122,14 +131,21 @@ fn assert_meet<R: Threads + Sync + Abort>(
         came,
         saw,
     };
-    if world.problem.goal().is_none() {
-        return Err(Fail::from("no goal"));
-    }
     let chosen = portfolio(rt, alloc, &a, &b, &c, &world.expert, &world.problem, 20_000)?;
+    assert_no_plan(rt, &chosen);
+    Ok(())
+}
+
+/// Has three planners that wait for each other plan at once.
+fn assert_meet<R: Threads + Sync + Abort>(
+    rt: &R,
+    alloc: Global,
+    world: &World,
+) -> Result<(), Fail> {
+    let came = Flags::new();
+    let saw = Flags::new();
+    assert_none_found(rt, alloc, world, &came, &saw)?;
     assert!(rt; saw.are_all_set());
-    assert_eq!(rt; chosen.best, 0);
-    assert_eq!(rt; chosen.answers.len(), 3);
-    assert!(rt; chosen.answers.as_slice().iter().all(is_no_plan));
     Ok(())
 }
 

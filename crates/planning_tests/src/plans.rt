@@ -29,9 +29,22 @@ fn printed(alloc: Global, names: &mut Names, text: &str) -> Result<Vec<u8>, Fail
     Ok(print_plan(alloc, names, &steps)?)
 }
 
+/// That this is printed of a text.
+fn prints_this(
+    rt: &impl Abort,
+    alloc: Global,
+    names: &mut Names,
+    text: &str,
+    want: &str,
+) -> Result<(), Fail> {
+    let print = printed(alloc, names, text)?;
+    assert_eq!(rt; print.as_slice(), want.as_bytes());
+    Ok(())
+}
+
 fn prints_so(rt: &impl Abort, alloc: Global, names: &mut Names) -> Result<(), Fail> {
-    for (text, want) in TEXTS {
-        assert_eq!(rt; printed(alloc, names, text)?.as_slice(), want.as_bytes());
+    for (text, want) in &TEXTS {
+        prints_this(rt, alloc, names, text, want)?;
     }
     Ok(())
 }

@@ -71,6 +71,11 @@ fn answered<X: Expand>(
     told(problem.allocator(), &answer, plan)
 }
 
+/// What is told of a search, with how often it expanded.
+fn with_count(text: Result<String, Fail>, count: u64) -> Result<(String, u64), Fail> {
+    Ok((text?, count))
+}
+
 /// What is told of a search with a budget, and how often it expands.
 fn searched(world: &World, budget: u32, plan: &[Act]) -> Result<(String, u64), Fail>
     requires { 1 ≤ budget }
@@ -79,8 +84,25 @@ fn searched(world: &World, budget: u32, plan: &[Act]) -> Result<(String, u64), F
         return Err(Fail::from("no goal"));
     }
     let mut expander = Expander::new(&world.expert, &world.problem)?;
-    let text = answered(&mut expander, &world.problem, budget, plan)?;
-    Ok((text, expander.count()))
+    let text = answered(&mut expander, &world.problem, budget, plan);
+    with_count(text, expander.count())
+}
+
+/// That a search with a budget is told so, and expands so often.
+fn answers_this(
+    rt: &impl Abort,
+    world: &World,
+    plan: &[Act],
+    budget: u32,
+    want: &str,
+    expanded: u64,
+) -> Result<(), Fail>
+    requires { 1 ≤ budget }
+{
+    let (text, count) = searched(world, budget, plan)?;
+    assert_eq!(rt; text.as_str(), want);
+    assert_eq!(rt; count, expanded);
+    Ok(())
 }
 
 fn answers_so(
@@ -93,9 +115,7 @@ fn answers_so(
         if *budget == 0 {
             return Err(Fail::from("no budget"));
         }
-        let (text, count) = searched(world, *budget, plan)?;
-        assert_eq!(rt; text.as_str(), *want);
-        assert_eq!(rt; count, *expanded);
+        answers_this(rt, world, plan, *budget, want, *expanded)?;
     }
     Ok(())
 }

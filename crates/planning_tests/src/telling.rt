@@ -6,7 +6,7 @@ use std::test::Fail;
 
 /// Adds a name.
 pub fn push_name(names: &Names, name: Name, text: &mut String) -> Result<(), Fail> {
-    if name.0 < names.len() as u64 {
+    if (name.0 as usize) < names.len() {
         text.push_str(str::from_utf8(names.text(name))?)?;
     }
     Ok(())

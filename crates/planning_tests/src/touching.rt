@@ -1,8 +1,9 @@
 //! What conditions read, and what effects and edits change.
 use super::telling::{push_listed, push_name};
-use super::worlds::{World, cond_of, edit_of, ground_of, world_of};
+use super::worlds::{World, cond_of, edit_in, ground_of, line_of, world_of};
 use ps_action::{Place, Touched};
 use ps_eval::{changed_by, edited_by, reads};
+use ps_machine::Line;
 use ps_text::Names;
 use ps_world::Conds;
 use std::alloc::Global;
@@ -114,17 +115,40 @@ const EDITS: [(&str, &str); 8] = [
     ("remove goal", ""),
 ];
 
+/// What the edit of a line that is read changes, if it changes anything but the goal.
+fn touched_in(line: &Line) -> Result<Option<Touched>, Fail> {
+    Ok(edited_by(edit_in(line)?))
+}
+
+/// What the edit of a line changes, if it changes anything but the goal.
+fn touched_by(alloc: Global, names: &mut Names, line: &str) -> Result<Option<Touched>, Fail> {
+    let line = line_of(alloc, names, line)?;
+    touched_in(&line)
+}
+
 fn told_edited(alloc: Global, names: &mut Names, line: &str) -> Result<String, Fail> {
-    let edit = edit_of(alloc, names, line)?;
-    match edited_by(&edit) {
+    match touched_by(alloc, names, line)? {
         None => Ok(String::new(alloc)),
         Some(touched) => told_touched(alloc, names, &[touched]),
     }
 }
 
+/// That this is told of what the edit of a line changes.
+fn edit_changes(
+    rt: &impl Abort,
+    alloc: Global,
+    names: &mut Names,
+    line: &str,
+    want: &str,
+) -> Result<(), Fail> {
+    let told = told_edited(alloc, names, line)?;
+    assert_eq!(rt; told.as_str(), want, "{line}");
+    Ok(())
+}
+
 fn edits_so(rt: &impl Abort, alloc: Global, names: &mut Names) -> Result<(), Fail> {
-    for (line, want) in EDITS {
-        assert_eq!(rt; told_edited(alloc, names, line)?.as_str(), want, "{line}");
+    for (line, want) in &EDITS {
+        edit_changes(rt, alloc, names, line, want)?;
     }
     Ok(())
 }

@@ -62,16 +62,25 @@ const AFTER_THE_FIRST: &[u8] = b"parallel running
     act 2 idle
 ";
 
+/// That a tree has this text.
+fn is_written(rt: &impl Abort, tree: &Tree, want: &[u8]) -> Result<(), Fail> {
+    let text = tree.text()?;
+    assert!(rt; text.as_slice() == want);
+    Ok(())
+}
+
+fn writes_so(rt: &impl Abort, tree: &mut Tree) -> Result<(), Fail>
+    requires { length tree.old.waits ≡ 3 }
+{
+    is_written(rt, tree, AT_FIRST)?;
+    ticked(tree, [ActState::Done, ActState::Active, ActState::Waiting]);
+    is_written(rt, tree, AFTER_THE_FIRST)
+}
+
 #[test]
 fn writes_each_node(rt: HostRuntime) -> Result<(), Fail> {
     let mut tree = forked(rt.alloc())?;
-    assert!(rt; tree.text()?.as_slice() == AT_FIRST);
-    ticked(
-        &mut tree,
-        [ActState::Done, ActState::Active, ActState::Waiting],
-    );
-    assert!(rt; tree.text()?.as_slice() == AFTER_THE_FIRST);
-    Ok(())
+    writes_so(&rt, &mut tree)
 }
 
 /// States, the root's status with them, and which acts are ready then.

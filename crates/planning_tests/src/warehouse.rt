@@ -1,6 +1,6 @@
 //! Four carts that are carried over three spots, which a search by levels doesn't get done with a small budget.
 use super::worlds::{World, world_of};
-use ps_portfolio::{Found, Greedy, Levels, Marks, portfolio};
+use ps_portfolio::{Chosen, Found, Greedy, Levels, Marks, portfolio};
 use std::alloc::Global;
 use std::process::Abort;
 use std::test::Fail;
@@ -34,6 +34,15 @@ fn acts_in(found: &Found) -> usize {
     }
 }
 
+/// That the second of three answers is the best, and is a plan of eight acts, and the first found none.
+fn assert_second(rt: &impl Abort, chosen: &Chosen) {
+    assert_eq!(rt; chosen.best, 1);
+    let answers = chosen.answers.as_slice();
+    assert_eq!(rt; answers.len(), 3);
+    assert!(rt; matches!(answers[0], Found::Spent));
+    assert_eq!(rt; acts_in(&answers[1]), 8);
+}
+
 /// Has the three planners plan with a small budget: the second alone finds a plan of eight acts.
 fn assert_found<R: Threads + Sync + Abort>(
     rt: &R,
@@ -48,11 +57,7 @@ fn assert_found<R: Threads + Sync + Abort>(
     }
     let (expert, problem) = (&world.expert, &world.problem);
     let chosen = portfolio(rt, alloc, &levels, &landmarks, &goals, expert, problem, 30)?;
-    assert_eq!(rt; chosen.best, 1);
-    let answers = chosen.answers.as_slice();
-    assert_eq!(rt; answers.len(), 3);
-    assert!(rt; matches!(answers[0], Found::Spent));
-    assert_eq!(rt; acts_in(&answers[1]), 8);
+    assert_second(rt, &chosen);
     Ok(())
 }
 

@@ -3,7 +3,7 @@ ghost use Rattle.std.specs.Prelude.{◌≡◌, ◌<◌, ◌&&◌, IsTrue, false,
 ghost use Rattle.ps_monitor.specs.Hits.{HeldBefore, is_hit};
 ghost use Rattle.ps_monitor.specs.Watched.{watched};
 
-use super::worlds::{World, cond_of, edit_of, fact_of, world_of};
+use super::worlds::{World, cond_of, fact_of, take_line, world_of};
 use ps_action::Touched;
 use ps_domain::Expert;
 use ps_monitor::{Acts, Judging, Monitor};
@@ -48,12 +48,19 @@ fn condition_of(alloc: Global, names: &mut Names, act: u32) -> Result<Conds, Fai
     Ok(Conds::of(vec![in alloc; cond]?))
 }
 
+/// Watches an act with these conditions.
+fn watch_over(monitor: &mut Monitor, act: u32, over: &Conds) -> Result<(), Fail>
+    requires { act < 256 }
+{
+    monitor.watch(act, over)?;
+    Ok(())
+}
+
 fn watch_one(alloc: Global, names: &mut Names, act: u32, monitor: &mut Monitor) -> Result<(), Fail>
     requires { act < 256 }
 {
     let over = condition_of(alloc, names, act)?;
-    monitor.watch(act, &over)?;
-    Ok(())
+    watch_over(monitor, act, &over)
 }
 
 fn watch_all(alloc: Global, names: &mut Names, monitor: &mut Monitor) -> Result<(), Fail> {
@@ -104,7 +111,8 @@ fn push_act(alloc: Global, acts: &Acts, act: u32, text: &mut String) -> Result<(
 }
 
 fn is_told(rt: &impl Abort, alloc: Global, acts: &Acts, want: &str) -> Result<(), Fail> {
-    assert_eq!(rt; told_acts(alloc, acts)?.as_str(), want);
+    let told = told_acts(alloc, acts)?;
+    assert_eq!(rt; told.as_str(), want);
     Ok(())
 }
 
@@ -130,12 +138,6 @@ fn ready(alloc: Global, world: &mut World, text: &str) -> Result<[Touched; 1], F
     Ok([Touched::Fact(fact_of(alloc, &mut world.names, text)?)])
 }
 
-fn remove(alloc: Global, world: &mut World, line: &str) -> Result<(), Fail> {
-    let edit = edit_of(alloc, &mut world.names, line)?;
-    world.problem.edit(&world.expert, &edit)?;
-    Ok(())
-}
-
 fn judges_so(
     rt: &impl Abort,
     alloc: Global,
@@ -145,7 +147,7 @@ fn judges_so(
     watch_all(alloc, &mut world.names, monitor)?;
     let unread = ready(alloc, world, "(ready d)")?;
     breaks_so(rt, alloc, monitor, world, &unread, ("", 0))?;
-    remove(alloc, world, "remove predicate (ready c7)")?;
+    take_line(alloc, world, "remove predicate (ready c7)")?;
     let read = ready(alloc, world, "(ready c7)")?;
     breaks_so(rt, alloc, monitor, world, &read, (" 7", 1))
 }

@@ -22,6 +22,22 @@ fn send_one<R: Wait>(rt: &R, belt: &Belt, desk: &mut Desk, r: u64, unit: &Unit) 
     Some(desk.send(rt, belt, r, unit))
 }
 
+/// Sends a report of work on this request, where it may.
+fn send_work<R: Wait>(rt: &R, belt: &Belt, desk: &mut Desk, r: u64) -> Option<Sent>
+    requires { desk.old.belt ≡ belt.now }
+    ensures { desk.new.belt ≡ desk.old.belt }
+{
+    send_one(rt, belt, desk, r, &Unit::Work)
+}
+
+/// Sends a report of a job's end on this request, where it may.
+fn send_finish<R: Wait>(rt: &R, belt: &Belt, desk: &mut Desk, r: u64) -> Option<Sent>
+    requires { desk.old.belt ≡ belt.now }
+    ensures { desk.new.belt ≡ desk.old.belt }
+{
+    send_one(rt, belt, desk, r, &Unit::Finish(true))
+}
+
 /// Drains a belt.
 fn drain<R: Wait>(rt: &R, belt: &Belt, tray: &mut Tray) -> Result<u32, AllocError>
     requires { tray.old.belt ≡ belt.now }
@@ -36,17 +52,16 @@ fn send_two<R: Wait + Abort>(
     belt: &Belt,
     desk: &mut Desk,
     tray: &mut Tray,
-    finish: &Unit,
 ) -> Result<(), AllocError>
     requires desk { desk.old.belt ≡ belt.now }
     requires tray { tray.old.belt ≡ belt.now }
     ensures desk { desk.new.belt ≡ desk.old.belt }
     ensures tray { tray.new.belt ≡ tray.old.belt }
 {
-    assert!(rt; send_one(rt, belt, desk, 0, &Unit::Work) == Some(Sent::Put));
-    assert!(rt; send_one(rt, belt, desk, 0, finish) == Some(Sent::Full));
+    assert!(rt; send_work(rt, belt, desk, 0) == Some(Sent::Put));
+    assert!(rt; send_finish(rt, belt, desk, 0) == Some(Sent::Full));
     assert_eq!(rt; drain(rt, belt, tray)?, 1);
-    assert!(rt; send_one(rt, belt, desk, 0, finish) == Some(Sent::Put));
+    assert!(rt; send_finish(rt, belt, desk, 0) == Some(Sent::Put));
     Ok(())
 }
 
@@ -56,7 +71,6 @@ fn send_from_last<R: Wait + Abort>(
     belt: &Belt,
     desks: &mut Vec<Desk>,
     tray: &mut Tray,
-    finish: &Unit,
 ) -> Result<(), Fail>
     requires desks { All (λ d. d.belt ≡ belt.now) desks.old.items }
     requires tray { tray.old.belt ≡ belt.now }
@@ -65,16 +79,15 @@ fn send_from_last<R: Wait + Abort>(
     ensures tray { tray.new.belt ≡ tray.old.belt }
 {
     let mut desk = desks.pop().ok_or("no desk")?;
-    send_two(rt, belt, &mut desk, tray, finish)?;
+    send_two(rt, belt, &mut desk, tray)?;
     desks.push(desk)?;
     Ok(())
 }
 
 /// The reports of a belt with one desk and room for one report, over which two are sent.
 fn fill_and_drain<R: Wait + Abort>(rt: &R, alloc: Global) -> Result<Vec<Report>, Fail> {
-    let finish = Box::new(alloc, Unit::Finish(true))?;
     let (belt, mut desks, mut tray) = Belt::open(alloc, 1, 1)?;
-    send_from_last(rt, &belt, &mut desks, &mut tray, &finish)?;
+    send_from_last(rt, &belt, &mut desks, &mut tray)?;
     Ok(belt.close(rt, desks, tray)?)
 }
 
@@ -97,15 +110,28 @@ fn a_full_belt_is_drained_and_closed(rt: HostRuntime) -> Result<(), Fail> {
     Ok(())
 }
 
+/// Sends a report on a request, and then none on an earlier one.
+fn send_back<R: Wait + Abort>(
+    rt: &R,
+    belt: &Belt,
+    desk: &mut Desk,
+    tray: &mut Tray,
+) -> Result<(), Fail>
+    requires desk { desk.old.belt ≡ belt.now }
+    requires tray { tray.old.belt ≡ belt.now }
+{
+    assert!(rt; send_work(rt, belt, desk, 3) == Some(Sent::Put));
+    assert!(rt; send_work(rt, belt, desk, 2).is_none());
+    assert_eq!(rt; drain(rt, belt, tray)?, 1);
+    assert_eq!(rt; drain(rt, belt, tray)?, 0);
+    Ok(())
+}
+
 /// After a report on a request none may be sent on an earlier one.
 fn go_back<R: Wait + Abort>(rt: &R, alloc: Global) -> Result<(), Fail> {
     let (belt, mut desks, mut tray) = Belt::open(alloc, 1, 1)?;
     let mut desk = desks.pop().ok_or("no desk")?;
-    assert!(rt; send_one(rt, &belt, &mut desk, 3, &Unit::Work) == Some(Sent::Put));
-    assert!(rt; send_one(rt, &belt, &mut desk, 2, &Unit::Work).is_none());
-    assert_eq!(rt; drain(rt, &belt, &mut tray)?, 1);
-    assert_eq!(rt; drain(rt, &belt, &mut tray)?, 0);
-    Ok(())
+    send_back(rt, &belt, &mut desk, &mut tray)
 }
 
 #[test]
@@ -120,7 +146,7 @@ fn send_all<R: Wait>(rt: &R, belt: &Belt, desk: &mut Desk, times: u32)
 {
     for r in 0..10 {
         for _time in 0..times {
-            let _ = send_one(rt, belt, desk, r, &Unit::Work);
+            let _ = send_work(rt, belt, desk, r);
         }
     }
 }

@@ -4,10 +4,11 @@ ghost use Rattle.std.specs.List.{All};
 ghost use Rattle.ps_turn.specs.Books.{IsFree};
 ghost use Rattle.ps_turn.specs.Hands.{GoesOnBy};
 
+use ps_domain::Expert;
 use ps_machine::{Entry, Event, Grows, Input};
 use ps_turn::{Seat, TurnBook};
 use ps_world::{Domain, Name, Seq};
-use std::alloc::Global;
+use std::alloc::{AllocError, Global};
 use std::process::Abort;
 use std::sync::Wait;
 use std::test::Fail;
@@ -29,7 +30,7 @@ impl Grows for Log {
 
 impl Log {
     /// No entries, of a domain that declares nothing.
-    fn new(alloc: Global) -> Log {
+    fn new(alloc: Global) -> Result<Log, AllocError> {
         let domain = Domain {
             name: Name(1),
             types: Seq::new(alloc),
@@ -38,16 +39,16 @@ impl Log {
             functions: Seq::new(alloc),
             actions: Seq::new(alloc),
         };
-        Log {
+        Ok(Log {
             entries: Vec::new(alloc),
             input: Input {
-                domain,
+                domain: Expert::new(alloc, domain)?,
                 members: Seq::new(alloc),
                 lines: Seq::new(alloc),
                 budget: 0,
                 replans: 0,
             },
-        }
+        })
     }
 
     /// Adds a `quit` entry of this hand, if there is memory.
@@ -105,16 +106,17 @@ fn run<R: Threads + Wait + Sync>(rt: &R, book: &TurnBook<Log>, seats: &mut [Seat
     );
 }
 
-/// The value of a book once each of its seats has taken so many turns.
+/// The value of a book of this log once each of its seats has taken so many turns.
 fn closed_after<R: Threads + Wait + Sync>(
     rt: &R,
     alloc: Global,
+    log: Log,
     count: u8,
     times: u32,
 ) -> Result<Log, &'static str>
     requires { (1 ≤ count) × (count ≤ 16) }
 {
-    let opened = TurnBook::open(alloc, Log::new(alloc), count);
+    let opened = TurnBook::open(alloc, log, count);
     let Ok((book, mut seats)) = opened else {
         return Err("no memory");
     };
@@ -132,14 +134,14 @@ fn assert_shared(rt: &impl Abort, log: &Log, hands: u8, times: usize) {
 
 #[test]
 fn two_seats_take_turns(rt: HostRuntime) -> Result<(), Fail> {
-    let log = closed_after(&rt, rt.alloc(), 2, 100)?;
+    let log = closed_after(&rt, rt.alloc(), Log::new(rt.alloc())?, 2, 100)?;
     assert_shared(&rt, &log, 2, 100);
     Ok(())
 }
 
 #[test]
 fn sixteen_seats_take_turns(rt: HostRuntime) -> Result<(), Fail> {
-    let log = closed_after(&rt, rt.alloc(), 16, 20)?;
+    let log = closed_after(&rt, rt.alloc(), Log::new(rt.alloc())?, 16, 20)?;
     assert_shared(&rt, &log, 16, 20);
     Ok(())
 }
