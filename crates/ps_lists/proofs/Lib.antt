@@ -5,7 +5,9 @@ pub mod GrammaticalForms
 pub mod Judged
 pub mod JudgedForms
 pub mod Kept
+pub mod LayerSteps
 pub mod Layers
+pub mod Leftovers
 pub mod LexemeClasses
 pub mod LexemeSteps
 pub mod NestedLists

@@ -9,6 +9,7 @@ ghost use Rattle.ps_grammar.specs.declared.marks.Mark.TheVariants as mark;
 ghost use Rattle.ps_lists.specs.Lexemes.{IsTokenOf, fixed_names, keywords, lexeme_of, lexemes_of, mark_in, mark_of, name_within, named, number_or_zero, numbered, signs, table_after};
 ghost use Rattle.ps_text.specs.Names.{Keeps};
 
+use super::blocks::give_back_room;
 use ps_grammar::Mark;
 use ps_text::{Class, Names, Token, read_number};
 use ps_world::{Name, Num};
@@ -271,28 +272,31 @@ fn lexeme_of(names: &mut Names, bytes: &[u8], token: Token) -> Result<Lexeme, Al
     })
 }
 
-/// The words of a domain's text, in order. Their names are put into the table; old ones keep their numbers and texts. The classes
-/// that nearly all words have come first, so that each is made and kept by a way of its own.
+/// The words of a domain's text, in order. Their names are put into the table; old ones keep their numbers and texts. The room of the
+/// tokens is given back as they are read, so that a long text never has both whole. The classes that nearly all words have come first, so
+/// that each is made and kept by a way of its own.
 pub fn lexemes_of(
     alloc: Global,
     names: &mut Names,
     bytes: &[u8],
-    tokens: &[Token],
+    mut tokens: Vec<Token>,
 ) -> Result<Vec<Lexeme>, AllocError>
-    requires { AreTokens bytes.now tokens.now }
-    ensures ok { IfOk result (λ v. lexemes_of bytes.now names.old tokens.now
+    requires { AreTokens bytes.now tokens.items }
+    ensures ok { IfOk result (λ v. lexemes_of bytes.now names.old tokens.items
         ≡ (v.items, names.new)) }
     ensures kept { Keeps names.old names.new }
 {
     let mut lexemes = Vec::with_capacity(alloc, tokens.len())?;
-    for token in tokens {
+    tokens.reverse();
+    while let Some(token) = tokens.pop() {
         match token.class {
             Class::LeftParen => lexemes.push_reserved(paren(Mark::Open, token.from)),
             Class::RightParen => lexemes.push_reserved(paren(Mark::Close, token.from)),
-            Class::Name => lexemes.push_reserved(name_of(names, bytes, *token)?),
-            Class::Variable => lexemes.push_reserved(variable_of(names, bytes, *token)?),
-            _ => lexemes.push_reserved(lexeme_of(names, bytes, *token)?),
+            Class::Name => lexemes.push_reserved(name_of(names, bytes, token)?),
+            Class::Variable => lexemes.push_reserved(variable_of(names, bytes, token)?),
+            _ => lexemes.push_reserved(lexeme_of(names, bytes, token)?),
         }
+        give_back_room(&mut tokens);
     }
     Ok(lexemes)
 }

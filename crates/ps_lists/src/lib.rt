@@ -1,6 +1,7 @@
 //! The words of a domain's text, and the nested lists that they write.
 #![tactic(auto)]
 
+mod blocks;
 mod laws;
 mod lexemes;
 mod places;

@@ -5,6 +5,7 @@ ghost use Rattle.ps_lists.specs.NestedViews.{nested};
 ghost use Rattle.ps_lists.specs.Lexemes.{marks};
 ghost use Rattle.ps_lists.specs.Spelling.{SpellAll, is_balanced};
 
+use super::blocks::give_back_room;
 use super::lexemes::Lexeme;
 use ps_grammar::Mark;
 use std::alloc::{AllocError, Global};
@@ -62,13 +63,15 @@ impl Trees {
 
 /// The nested lists that words are, where each parenthesis has its other one. What stands in a list that isn't closed yet is kept at
 /// the end of those around it, with room for as many as there are words, so that a list asks for memory once, and for what it needs.
-pub fn trees_of(alloc: Global, words: &[Lexeme]) -> Result<Trees, AllocError>
-    requires { is_balanced 0 (marks words.now) ≡ true }
-    ensures { IfOk result (λ ts. SpellAll ts words.now) }
+/// The room of the words is given back as they are read, and at the end that of what stood in lists.
+pub fn trees_of(alloc: Global, mut words: Vec<Lexeme>) -> Result<Trees, AllocError>
+    requires { is_balanced 0 (marks words.items) ≡ true }
+    ensures { IfOk result (λ ts. SpellAll ts words.items) }
 {
     let mut trees: Vec<Tree> = Vec::with_capacity(alloc, words.len())?;
     let mut starts: Vec<usize> = Vec::new(alloc);
-    for word in words {
+    words.reverse();
+    while let Some(word) = words.pop() {
         match word.mark {
             Mark::Open => starts.push(trees.len())?,
             Mark::Close => {
@@ -78,8 +81,10 @@ pub fn trees_of(alloc: Global, words: &[Lexeme]) -> Result<Trees, AllocError>
                 let inside = trees.split_off(start)?;
                 trees.push_reserved(Tree::Group(Trees::of(inside)));
             }
-            _ => trees.push_reserved(Tree::Word(*word)),
+            _ => trees.push_reserved(Tree::Word(word)),
         }
+        give_back_room(&mut words);
     }
+    give_back_room(&mut trees);
     Ok(Trees::of(trees))
 }

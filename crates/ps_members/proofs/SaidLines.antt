@@ -18,8 +18,9 @@ use Rattle.ps_grammar.specs.declared.symbols.Symbol.{Symbol}
 use Rattle.ps_lists.specs.Lexemes.{lexemes_of, marks}
 use Rattle.ps_lists.specs.Nested.{Nesteds}
 use Rattle.ps_lists.specs.declared.lexemes.Lexeme.{Lexeme}
-use Rattle.ps_script.specs.Judged.{Fits, IsJudged, place}
+use Rattle.ps_script.specs.Judged.{BeginAlike, Fits, IsJudged, place}
 use Rattle.ps_script.specs.Lines.{cause_of}
+use Rattle.ps_script.proofs.Beginnings.{words_begin}
 use Rattle.ps_members.specs.Answers.{OnAnswer}
 use Rattle.ps_members.specs.Args.{first_other, pattern_of}
 use Rattle.ps_members.specs.Feedback.{feedback_of}
@@ -41,12 +42,12 @@ shape_at k = Err (cause.Shape k)
 pub names_back : (table now after : Table) (before : ℕ) → before ≡ length table → Keeps table now → after ≡ take before now → Keeps table after
 names_back table now after before count kept cut = kept_same table after (cut ∙ ap (λ k. take k now) count ∙ kept_front table now kept)
 
-module _ (table now : Table) (bytes part : List ℕ) (f : Form) (tokens : List Token) (ls same : List Lexeme) (found : Option ℕ) (judgement : Result Nesteds ℕ) (w : part ≡ worded bytes) (plain : is_plain f ≡ true) (words : lexemes_of part table tokens ≡ (ls, now)) (e : same ≡ ls) (judged : (start : List Symbol) → Fits start (marks same) found → IsJudged start part tokens same judgement) (fits : Fits (start_of f) (marks same) found) where
+module _ (table now : Table) (bytes part : List ℕ) (f : Form) (tokens : List Token) (ls : List Lexeme) (found : Option ℕ) (judgement : Result Nesteds ℕ) (w : part ≡ worded bytes) (plain : is_plain f ≡ true) (words : lexemes_of part table tokens ≡ (ls, now)) (judged : (start : List Symbol) (ts : List Token) → BeginAlike ts ls → Fits start (marks ls) found → IsJudged start part ts ls judgement) (fits : Fits (start_of f) (marks ls) found) where
   judged_words : (r : Result Nesteds ℕ) → judgement ≡ r → IsJudged (start_of f) (worded bytes) tokens ls r
   judged_words r is =
       subst (λ (x : List ℕ). IsJudged (start_of f) x tokens ls r) w
       (subst (λ (x : Result Nesteds ℕ). IsJudged (start_of f) part tokens ls x) is
-      (subst (λ (x : List Lexeme). IsJudged (start_of f) part tokens x judgement) e (judged (start_of f) fits)))
+      (judged (start_of f) tokens (words_begin part table now tokens ls words) fits))
 
   part_words : lexemes_of (worded bytes) table tokens ≡ (ls, now)
   part_words = ap (λ x. lexemes_of x table tokens) (sym w) ∙ words

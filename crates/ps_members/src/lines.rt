@@ -69,13 +69,13 @@ fn read_plain(
     bytes: &[u8],
     part: &[u8],
     form: Form,
-    tokens: &[Token],
+    tokens: Vec<Token>,
 ) -> Result<Said, Failure<LineCause>>
     requires part { part.now ≡ worded bytes.now }
     requires plain { is_plain form ≡ true }
     requires edit { may_edit form ≡ true }
-    requires tokens { AreTokens part.now tokens.now }
-    ensures read { OnAnswer (λ r. IsFormed names.old bytes.now tokens.now form r names.new)
+    requires tokens { AreTokens part.now tokens.items }
+    ensures read { OnAnswer (λ r. IsFormed names.old bytes.now tokens.items form r names.new)
         result }
     ensures kept { Keeps names.old names.new }
 {
@@ -83,7 +83,7 @@ fn read_plain(
     let words = lexemes_of(alloc, names, part, tokens)?;
     let marks = marks_of_words(alloc, &words)?;
     let misfit = form.first_misfit(alloc, &marks)?;
-    match judged(alloc, part, tokens, &words, misfit)? {
+    match judged(alloc, part, words, misfit)? {
         Ok(trees) => Ok(said_of(alloc, form, trees.as_slice())?),
         Err(at) => {
             names.cut_back(before);
@@ -121,11 +121,11 @@ fn read_feedback(
     names: &mut Names,
     bytes: &[u8],
     part: &[u8],
-    tokens: &[Token],
+    tokens: Vec<Token>,
 ) -> Result<Said, Failure<LineCause>>
     requires part { part.now ≡ worded bytes.now }
-    requires tokens { AreTokens part.now tokens.now }
-    ensures read { OnAnswer (λ r. IsFormed names.old bytes.now tokens.now kind.Feedback r names.new)
+    requires tokens { AreTokens part.now tokens.items }
+    ensures read { OnAnswer (λ r. IsFormed names.old bytes.now tokens.items kind.Feedback r names.new)
         result }
     ensures kept { Keeps names.old names.new }
 {
@@ -145,23 +145,32 @@ fn read_form(
     bytes: &[u8],
     part: &[u8],
     form: Form,
-    tokens: &[Token],
+    tokens: Vec<Token>,
 ) -> Result<Said, Failure<LineCause>>
     requires part { part.now ≡ worded bytes.now }
     requires edit { may_edit form ≡ true }
-    requires tokens { AreTokens part.now tokens.now }
-    ensures read { OnAnswer (λ r. IsFormed names.old bytes.now tokens.now form r names.new)
+    requires tokens { AreTokens part.now tokens.items }
+    ensures read { OnAnswer (λ r. IsFormed names.old bytes.now tokens.items form r names.new)
         result }
     ensures kept { Keeps names.old names.new }
 {
     match form {
-        Form::Args => read_args(alloc, names, bytes, part, tokens),
+        Form::Args => read_args(alloc, names, bytes, part, &tokens),
         Form::Feedback => read_feedback(alloc, names, bytes, part, tokens),
         _ => read_plain(alloc, names, bytes, part, form, tokens),
     }
 }
 
-/// What a line says here, by its part that is read as words.
+/// The form, allowed here, that the words of a part of a line begin with.
+fn form_in(alloc: Global, at: &Place, part: &[u8]) -> Result<Option<Form>, AllocError>
+    ensures { IfOk result (λ form. form ≡ form_at at.now (words part.now)) }
+{
+    let words = Words::of(alloc, part)?;
+    Ok(form_at(at, &words))
+}
+
+/// What a line says here, by its part that is read as words. Its form is found first, so that a long line's words are let go of before it has
+/// tokens.
 fn read_part(
     alloc: Global,
     names: &mut Names,
@@ -173,14 +182,12 @@ fn read_part(
     ensures read { OnAnswer (λ r. IsSaid at.now names.old bytes.now r names.new) result }
     ensures kept { Keeps names.old names.new }
 {
+    let allowed = form_in(alloc, at, part)?;
     match tokens(alloc, part) {
-        Ok(tokens) => {
-            let words = Words::of(alloc, part)?;
-            match form_at(at, &words) {
-                Some(form) => read_form(alloc, names, bytes, part, form, &tokens),
-                None => Err(Failure::Refused(LineCause::Command)),
-            }
-        }
+        Ok(tokens) => match allowed {
+            Some(form) => read_form(alloc, names, bytes, part, form, tokens),
+            None => Err(Failure::Refused(LineCause::Command)),
+        },
         Err(Failure::Refused(refusal)) => Err(Failure::Refused(cause_of(refusal))),
         Err(Failure::OutOfMemory) => Err(Failure::OutOfMemory),
     }

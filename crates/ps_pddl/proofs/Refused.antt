@@ -50,14 +50,14 @@ meant table bytes ls after ts us (Err (Refused r)) is e means = with_meaning ls 
 meant table bytes ls after ts us (Err OutOfMemory) is e means = tt
 
 -- the words of tokens are those of the text
-pub has_words : (table : Table) (bytes : List ℕ) (tokens same : List Token) (ls : List Lexeme) (after : Table) → AreTokens bytes tokens → same ≡ tokens → lexemes_of bytes table same ≡ (ls, after) → HasWords table bytes ls after
-has_words table bytes tokens same ls after are e words = record { tokens = tokens; are_tokens = are; words = ap (lexemes_of bytes table) (sym e) ∙ words }
+pub has_words : (table : Table) (bytes : List ℕ) (tokens : List Token) (ls : List Lexeme) (after : Table) → AreTokens bytes tokens → lexemes_of bytes table tokens ≡ (ls, after) → HasWords table bytes ls after
+has_words table bytes tokens ls after are words = record { tokens = tokens; are_tokens = are; words = words }
 
 -- the lists of words are those of the text
-pub is_spelt : (table : Table) (bytes : List ℕ) (ls judged built : List Lexeme) (after : Table) (ts : Nesteds) → HasWords table bytes ls after → judged ≡ ls → IsDomainShape (marks judged) × IsShallow (marks judged) → built ≡ ls → SpellAll ts built → IsSpelt table bytes ls after ts
-is_spelt table bytes ls judged built after ts words e shape f spelt = record {
+pub is_spelt : (table : Table) (bytes : List ℕ) (ls judged : List Lexeme) (after : Table) (ts : Nesteds) → HasWords table bytes ls after → judged ≡ ls → IsDomainShape (marks judged) × IsShallow (marks judged) → SpellAll ts ls → IsSpelt table bytes ls after ts
+is_spelt table bytes ls judged after ts words e shape spelt = record {
   words = words;
   shape = subst (λ (x : List Lexeme). IsDomainShape (marks x)) e shape.0;
   shallow = subst (λ (x : List Lexeme). IsShallow (marks x)) e shape.1;
-  spelt = subst (λ (x : List Lexeme). SpellAll ts x) f spelt;
+  spelt = spelt;
 }

@@ -50,9 +50,9 @@ fn read_known(
     ensures kept { Keeps names.old names.new }
 {
     let tokens = classed(alloc, bytes)?;
-    let words = lexemes_of(alloc, names, bytes, &tokens)?;
+    let words = lexemes_of(alloc, names, bytes, tokens)?;
     check_shape(alloc, bytes, &words)?;
-    let trees = trees_of(alloc, &words)?;
+    let trees = trees_of(alloc, words)?;
     domain_of(alloc, trees.as_slice())
 }
 

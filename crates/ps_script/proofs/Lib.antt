@@ -1,4 +1,5 @@
 pub mod Balance
+pub mod Beginnings
 pub mod FactsFit
 pub mod FactsSaid
 pub mod FileNames

@@ -23,13 +23,14 @@ use Rattle.ps_script.specs.Commands.{command_of}
 use Rattle.ps_script.specs.Files.{after_run, file_in, is_run_plan, is_source}
 use Rattle.ps_script.specs.Forms.{form_of, start_of}
 use Rattle.ps_script.specs.FactLines.{Means}
-use Rattle.ps_script.specs.Judged.{Fits, IsJudged}
+use Rattle.ps_script.specs.Judged.{BeginAlike, Fits, IsJudged}
 use Rattle.ps_script.specs.Judged.IsJudged.{fitting}
 use Rattle.ps_script.specs.Lines.{IsOfForm, IsPlain, IsRead, bad, cause_of, is_nothing, with_run_plan}
 use Rattle.ps_script.specs.Lines.IsRead.{good, run_nothing, run_plan, source, source_nothing, without_class, without_form, without_number, without_shape}
 use Rattle.ps_script.specs.declared.forms.Form.{Form}
 use Rattle.ps_script.specs.declared.reading.Read.{Read}
 use Rattle.ps_script.specs.declared.reading.Read.TheVariants.{Line, RunPlan, Source}
+use Rattle.ps_script.proofs.Beginnings.{words_begin}
 
 of_form : (bytes : List ℕ) (form : Form) (tokens : List Token) → IsPlain bytes → AreTokens bytes tokens → form_of (words bytes) ≡ Some form → IsOfForm bytes form tokens
 of_form bytes form tokens plain are is = record { plain = plain; are_tokens = are; form_is = is }
@@ -40,11 +41,11 @@ plain_read table now bytes form tokens ls same found command plain are is words 
     let told : Means form ls command = subst (λ (x : List Lexeme). Means form x command) e (subst (λ (o : Option Command). IfSome o (Means form same)) f means) in
     good form tokens ls now told.0 command (of_form bytes form tokens plain are is) words (fitting told.0 told.1.0 told.1.1 told.2 told.3) told.4
 
-module _ (table now : Table) (bytes : List ℕ) (form : Form) (tokens : List Token) (ls same : List Lexeme) (misfit : Option ℕ) (found : Result Nesteds ℕ) (plain : IsPlain bytes) (are : AreTokens bytes tokens) (is : form_of (words bytes) ≡ Some form) (words : lexemes_of bytes table tokens ≡ (ls, now)) (e : same ≡ ls) (judged : (start : List Symbol) → Fits start (marks same) misfit → IsJudged start bytes tokens same found) (fits : Fits (start_of form) (marks same) misfit) where
+module _ (table now : Table) (bytes : List ℕ) (form : Form) (tokens : List Token) (ls : List Lexeme) (misfit : Option ℕ) (found : Result Nesteds ℕ) (plain : IsPlain bytes) (are : AreTokens bytes tokens) (is : form_of (words bytes) ≡ Some form) (words : lexemes_of bytes table tokens ≡ (ls, now)) (judged : (start : List Symbol) (ts : List Token) → BeginAlike ts ls → Fits start (marks ls) misfit → IsJudged start bytes ts ls found) (fits : Fits (start_of form) (marks ls) misfit) where
   judged_words : (r : Result Nesteds ℕ) → found ≡ r → IsJudged (start_of form) bytes tokens ls r
   judged_words r f =
       subst (λ (x : Result Nesteds ℕ). IsJudged (start_of form) bytes tokens ls x) f
-      (subst (λ (x : List Lexeme). IsJudged (start_of form) bytes tokens x found) e (judged (start_of form) fits))
+      (judged (start_of form) tokens (words_begin bytes table now tokens ls words) fits)
 
   -- a line that fits its form is the command of its words
   pub good_read : (ts us : Nesteds) (command : Command) → found ≡ Ok ts → us ≡ ts → command ≡ command_of form us → IsRead table bytes (Line (Good command)) now

@@ -1,5 +1,5 @@
 -- What the words of a line are: nested lists that fit, or the place of the first fault.
-use Rattle.std.specs.Prelude.{◌≡◌, pos, ℕ, suc, ◌-◌, List, [], ◌∷◌, ◌++◌, Option, None, Some, Result, Ok, Err, length, replicate, slice_get, take, unwrap_or}
+use Rattle.std.specs.Prelude.{◌≡◌, pos, ℕ, suc, ◌-◌, List, [], ◌∷◌, ◌++◌, Option, None, Some, Result, Ok, Err, length, map, replicate, slice_get, take, unwrap_or}
 use Rattle.std.specs.Option.{option_map_or}
 use Rattle.ps_world.specs.Names.{object}
 use Rattle.ps_text.specs.declared.lexing.Token.{Token}
@@ -16,6 +16,14 @@ use Rattle.ps_script.specs.Scopes.{strays}
 -- the byte at which a token begins, or the line's length past the last
 abbrev pub place : List ℕ → List Token → ℕ → ℕ
 place bytes tokens i = option_map_or (λ t. t.from) (slice_get tokens i) (length bytes)
+
+-- the same of words
+abbrev pub begin_of : List ℕ → List Lexeme → ℕ → ℕ
+begin_of bytes ls i = option_map_or (λ l. l.at) (slice_get ls i) (length bytes)
+
+-- tokens and words that begin at the same bytes, one after another
+abbrev pub BeginAlike : List Token → List Lexeme → Type 0
+BeginAlike tokens ls = map (λ t. t.from) tokens ≡ map (λ l. l.at) ls
 
 -- ---- lists that may not be closed yet
 

@@ -9,7 +9,7 @@ use super::goals::{fact_of, first_condition};
 use ps_action::Act;
 use ps_lists::{Tree, head, items_at, rest};
 use ps_machine::{Command, Query};
-use ps_world::{Edit, Fact, Name};
+use ps_world::{Edit, Fact, Goal, Name};
 use std::alloc::{AllocError, Global};
 
 /// What stands after the two fixed words of an edit.
@@ -64,7 +64,10 @@ pub fn command_of(alloc: Global, form: Form, trees: &[Tree]) -> Result<Command, 
         }
         Form::SetPredicate => Command::Edit(Edit::AddFact(stated(trees))),
         Form::SetFunction => valued(items_at(after_two(trees))),
-        Form::SetGoal => { Command::Edit(Edit::SetGoal(first_condition(alloc, after_two(trees))?)) }
+        Form::SetGoal => {
+            let cond = first_condition(alloc, after_two(trees))?;
+            Command::Edit(Edit::SetGoal(Goal::new(alloc, cond)?))
+        }
         Form::RemoveInstance => Command::Edit(Edit::RemoveInstance(head(after_two(trees)).name)),
         Form::RemovePredicate => Command::Edit(Edit::RemoveFact(stated(trees))),
         Form::RemoveFunction => Command::Edit(Edit::RemoveValue(stated(trees))),

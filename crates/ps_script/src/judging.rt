@@ -1,10 +1,11 @@
 //! What the words of a line are: nested lists that fit, or the place of the first fault.
 ghost use Rattle.std.specs.Prelude.{◌≡◌, [], true, IfOk, List, take, unwrap_or};
+ghost use Rattle.ps_text.specs.declared.lexing.Token.{Token};
 ghost use Rattle.ps_grammar.specs.declared.symbols.Symbol.{Symbol};
 ghost use Rattle.ps_lists.specs.Lexemes.{marks};
 ghost use Rattle.ps_lists.specs.Nested.{Nesteds};
 ghost use Rattle.ps_lists.specs.Spelling.{SpellAll, is_balanced};
-ghost use Rattle.ps_script.specs.Judged.{Fits, IsJudged, closed, front, in_scope, open_after, place, shut};
+ghost use Rattle.ps_script.specs.Judged.{BeginAlike, Fits, IsJudged, begin_of, closed, front, in_scope, open_after, place, shut};
 ghost use Rattle.ps_script.specs.Scopes.{strays};
 
 use super::scopes::{InForce, strays};
@@ -20,6 +21,16 @@ pub fn place(bytes: &[u8], tokens: &[Token], i: usize) -> usize
 {
     match tokens.get(i) {
         Some(token) => token.from,
+        None => bytes.len(),
+    }
+}
+
+/// The byte at which a word begins, or the line's length past the last.
+fn begin_of(bytes: &[u8], words: &[Lexeme], i: usize) -> usize
+    ensures { result ≡ begin_of bytes.now words.now i }
+{
+    match words.get(i) {
+        Some(word) => word.at,
         None => bytes.len(),
     }
 }
@@ -80,33 +91,27 @@ fn first_stray(alloc: Global, words: &[Lexeme]) -> Result<Option<usize>, AllocEr
     ensures { IfOk result (λ at. (ts : Nesteds) × SpellAll ts (closed words.now) × (at ≡ strays [] ts)) }
 {
     let all = closed(alloc, words)?;
-    let trees = trees_of(alloc, &all)?;
+    let trees = trees_of(alloc, all)?;
     Ok(strays(InForce::Nothing, trees.as_slice()))
 }
 
 /// The place of the first fault of words of which the one at `i` doesn't fit: that of a variable out of its scope, where one stands before it.
-fn fault_at(
-    alloc: Global,
-    bytes: &[u8],
-    tokens: &[Token],
-    words: &[Lexeme],
-    i: usize,
-) -> Result<usize, AllocError>
+fn fault_at(alloc: Global, bytes: &[u8], words: &[Lexeme], i: usize) -> Result<usize, AllocError>
     requires { is_balanced 0 (marks (closed (take i words.now))) ≡ true }
     ensures { IfOk result (λ at. (ts : Nesteds) × SpellAll ts (closed (take i words.now))
-        × (at ≡ unwrap_or (strays [] ts) (place bytes.now tokens.now i))) }
+        × (at ≡ unwrap_or (strays [] ts) (begin_of bytes.now words.now i))) }
 {
     let count = i.min(words.len());
     match first_stray(alloc, &words[..count])? {
         Some(at) => Ok(at),
-        None => Ok(place(bytes, tokens, i)),
+        None => Ok(begin_of(bytes, words, i)),
     }
 }
 
 /// The nested lists of words that all fit, or the place of the first variable out of its scope.
-fn scoped(alloc: Global, words: &[Lexeme]) -> Result<Result<Trees, usize>, AllocError>
-    requires { is_balanced 0 (marks words.now) ≡ true }
-    ensures { IfOk result (λ found. (ts : Nesteds) × SpellAll ts words.now × (found ≡ in_scope (strays [] ts) ts)) }
+fn scoped(alloc: Global, words: Vec<Lexeme>) -> Result<Result<Trees, usize>, AllocError>
+    requires { is_balanced 0 (marks words.items) ≡ true }
+    ensures { IfOk result (λ found. (ts : Nesteds) × SpellAll ts words.items × (found ≡ in_scope (strays [] ts) ts)) }
 {
     let trees = trees_of(alloc, words)?;
     Ok(match strays(InForce::Nothing, trees.as_slice()) {
@@ -115,20 +120,21 @@ fn scoped(alloc: Global, words: &[Lexeme]) -> Result<Result<Trees, usize>, Alloc
     })
 }
 
-/// The nested lists that the words of a line are, or the place of the first fault. The first word that doesn't fit is known.
+/// The nested lists that the words of a line are, or the place of the first fault. The first word that doesn't fit is known. The words are
+/// those of any tokens that begin where they do.
 pub fn judged(
     alloc: Global,
     bytes: &[u8],
-    tokens: &[Token],
-    words: &[Lexeme],
+    words: Vec<Lexeme>,
     misfit: Option<usize>,
 ) -> Result<Result<Trees, usize>, AllocError>
-    requires { is_balanced 0 (marks (front misfit words.now)) ≡ true }
-    ensures { IfOk result (λ found. (start : List Symbol) → Fits start (marks words.now) misfit
-        → IsJudged start bytes.now tokens.now words.now found) }
+    requires { is_balanced 0 (marks (front misfit words.items)) ≡ true }
+    ensures { IfOk result (λ found. (start : List Symbol) (tokens : List Token)
+        → BeginAlike tokens words.items → Fits start (marks words.items) misfit
+        → IsJudged start bytes.now tokens words.items found) }
 {
     match misfit {
-        Some(i) => Ok(Err(fault_at(alloc, bytes, tokens, words, i)?)),
+        Some(i) => Ok(Err(fault_at(alloc, bytes, &words, i)?)),
         None => scoped(alloc, words),
     }
 }

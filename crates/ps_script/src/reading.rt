@@ -140,10 +140,10 @@ fn read_form(
     names: &mut Names,
     bytes: &[u8],
     form: Form,
-    tokens: &[Token],
+    tokens: Vec<Token>,
 ) -> Result<Read, AllocError>
     requires plain { IsPlain bytes.now }
-    requires tokens { AreTokens bytes.now tokens.now }
+    requires tokens { AreTokens bytes.now tokens.items }
     requires form { form_of (words bytes.now) ≡ Some form }
     ensures read { IfOk result (λ r. IsRead names.old bytes.now r names.new) }
     ensures err { OnErr result (Keeps names.old names.new) }
@@ -154,7 +154,7 @@ fn read_form(
         return Ok(Read::Line(Line::Good(command)));
     }
     let misfit = misfit_of(alloc, form, &words)?;
-    match judged(alloc, bytes, tokens, &words, misfit)? {
+    match judged(alloc, bytes, words, misfit)? {
         Ok(trees) => {
             let command = command_of(alloc, form, trees.as_slice())?;
             Ok(Read::Line(Line::Good(command)))
@@ -174,7 +174,7 @@ fn read_plain(alloc: Global, names: &mut Names, bytes: &[u8]) -> Result<Read, Al
 {
     match tokens(alloc, bytes) {
         Ok(tokens) => match form_of_tokens(bytes, &tokens) {
-            Some(form) => read_form(alloc, names, bytes, form, &tokens),
+            Some(form) => read_form(alloc, names, bytes, form, tokens),
             None => Ok(bad(LineCause::Command)),
         },
         Err(Failure::Refused(refusal)) => Ok(bad(cause_of(refusal))),

@@ -1,4 +1,4 @@
-use Rattle.std.proofs.Common.{List, subst, sym, ◌∙◌}
+use Rattle.std.proofs.Common.{List, subst}
 use Rattle.ps_lists.specs.Lexemes.{marks}
 use Rattle.ps_lists.specs.declared.lexemes.Lexeme.{Lexeme}
 use Rattle.ps_script.specs.Forms.{start_of}
@@ -10,24 +10,24 @@ use Rattle.ps_script.proofs.reading.read_form.Goals as goal
 
 pub judged-requires : goal.judged-requires
 judged-requires c =
-    let fits : Fits (start_of c.args.form) (marks c.deref-3.result.now) c.in_ok-misfit.misfit =
-    subst (λ (ls : List Lexeme). Fits (start_of c.args.form) (marks ls) c.in_ok-misfit.misfit) (c.deref-2.ensures.value ∙ sym c.deref-3.ensures.value) c.in_ok-misfit.ensures in
-    front_balance (start_of c.args.form) c.deref-3.result.now _ (start_paired c.args.form) (start_closed c.args.form) fits
+    let fits : Fits (start_of c.args.form) (marks c.in_ok-words.words.items) c.in_ok-misfit.misfit =
+    subst (λ (ls : List Lexeme). Fits (start_of c.args.form) (marks ls) c.in_ok-misfit.misfit) c.deref-2.ensures.value c.in_ok-misfit.ensures in
+    front_balance (start_of c.args.form) c.in_ok-words.words.items _ (start_paired c.args.form) (start_closed c.args.form) fits
 
-pub returns-in-Ok-clause-read : goal.returns-in-Ok-clause-read
-returns-in-Ok-clause-read c =
-    let fits : Fits (start_of c.args.form) (marks c.deref-3.result.now) c.in_ok-misfit.misfit =
-    subst (λ (ls : List Lexeme). Fits (start_of c.args.form) (marks ls) c.in_ok-misfit.misfit) (c.deref-2.ensures.value ∙ sym c.deref-3.ensures.value) c.in_ok-misfit.ensures in
-    good_read c.args.names.now c.lexemes_of.new.names c.args.bytes.now c.args.form c.args.tokens.now _ c.deref-3.result.now _ _ c.requires.plain c.requires.tokens c.requires.form c.in_ok-words.ensures.ok c.deref-3.ensures.value c.in_ok-trees.ensures fits
+pub returns-in_ok-command-in-Ok-clause-read : goal.returns-in_ok-command-in-Ok-clause-read
+returns-in_ok-command-in-Ok-clause-read c =
+    let fits : Fits (start_of c.args.form) (marks c.in_ok-words.words.items) c.in_ok-misfit.misfit =
+    subst (λ (ls : List Lexeme). Fits (start_of c.args.form) (marks ls) c.in_ok-misfit.misfit) c.deref-2.ensures.value c.in_ok-misfit.ensures in
+    good_read c.args.names.now c.lexemes_of.new.names c.args.bytes.now c.args.form c.args.tokens.items c.in_ok-words.words.items _ _ c.requires.plain c.requires.tokens c.requires.form c.in_ok-words.ensures.ok c.in_ok-trees.ensures fits
     _ _ _ c.in-Ok.is c.as_slice.ensures c.in_ok-command-in-Ok.ensures
 
-pub returns-clause-read : goal.returns-clause-read
-returns-clause-read c =
-    let fits : Fits (start_of c.args.form) (marks c.deref-3.result.now) c.in_ok-misfit.misfit =
-    subst (λ (ls : List Lexeme). Fits (start_of c.args.form) (marks ls) c.in_ok-misfit.misfit) (c.deref-2.ensures.value ∙ sym c.deref-3.ensures.value) c.in_ok-misfit.ensures in
-    bad_read c.args.names.now c.lexemes_of.new.names c.args.bytes.now c.args.form c.args.tokens.now _ c.deref-3.result.now _ _ c.requires.plain c.requires.tokens c.requires.form c.in_ok-words.ensures.ok c.deref-3.ensures.value c.in_ok-trees.ensures fits
+pub returns-in-Err-clause-read : goal.returns-in-Err-clause-read
+returns-in-Err-clause-read c =
+    let fits : Fits (start_of c.args.form) (marks c.in_ok-words.words.items) c.in_ok-misfit.misfit =
+    subst (λ (ls : List Lexeme). Fits (start_of c.args.form) (marks ls) c.in_ok-misfit.misfit) c.deref-2.ensures.value c.in_ok-misfit.ensures in
+    bad_read c.args.names.now c.lexemes_of.new.names c.args.bytes.now c.args.form c.args.tokens.items c.in_ok-words.words.items _ _ c.requires.plain c.requires.tokens c.requires.form c.in_ok-words.ensures.ok c.in_ok-trees.ensures fits
     _ _ _ _ c.len-before.ensures.count c.lexemes_of.ensures.kept c.cut_back.ensures c.in-Err.is c.bad.ensures
 
 pub returns-in-Some-clause-read : goal.returns-in-Some-clause-read
 returns-in-Some-clause-read c =
-    plain_read c.args.names.now c.lexemes_of.new.names c.args.bytes.now c.args.form c.args.tokens.now _ c.deref.result.now _ _ c.requires.plain c.requires.tokens c.requires.form c.in_ok-words.ensures.ok c.deref.ensures.value c.plain_command.ensures c.in-Some.is
+    plain_read c.args.names.now c.lexemes_of.new.names c.args.bytes.now c.args.form c.args.tokens.items _ c.deref.result.now _ _ c.requires.plain c.requires.tokens c.requires.form c.in_ok-words.ensures.ok c.deref.ensures.value c.plain_command.ensures c.in-Some.is
