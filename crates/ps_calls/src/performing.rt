@@ -180,9 +180,7 @@ fn judge(
     requires { AreNames names.old }
     ensures { Finds (verdict_after input.domain input.lines names.old plan.now) names.new result }
 {
-    let Input { domain, lines, .. } = input;
-    let expert = Expert::new(alloc, domain)?;
-    judge_lines(alloc, names, &expert, lines.as_slice(), plan)
+    judge_lines(alloc, names, &input.domain, input.lines.as_slice(), plan)
 }
 
 /// What is wrong with the text of a plan after the edits of these lines, if something is. The only error is out of memory.
@@ -240,14 +238,8 @@ fn plan<R: Threads + Sync>(
     ensures { IfOk result (λ told. (told.text.items, told.status)
         ≡ plan_after input.domain input.lines names.now input.budget) }
 {
-    let Input {
-        domain,
-        lines,
-        budget,
-        ..
-    } = input;
-    let expert = Expert::new(alloc, domain)?;
-    plan_lines(rt, alloc, names, &expert, lines.as_slice(), budget)
+    let lines = input.lines.as_slice();
+    plan_lines(rt, alloc, names, &input.domain, lines, input.budget)
 }
 
 /// What three planners find after the edits of these lines. The only error is out of memory.

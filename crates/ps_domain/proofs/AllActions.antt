@@ -10,7 +10,6 @@ use Rattle.std.specs.Ordering.{match_ordering, nat_cmp, ordering_then}
 use Rattle.std.specs.declared.cmp.Ordering.{Ordering}
 use Rattle.std.specs.declared.cmp.Ordering.TheVariants.{Less, Equal, Greater}
 use Rattle.std.proofs.lemmas.Cmp.{ranked}
-use Rattle.std.proofs.lemmas.Bool.Decides.{nat_tests}
 use Rattle.ps_world.specs.Names.{same_name, name_cmp}
 use Rattle.ps_world.specs.Knowledge.{action_of, is_below}
 use Rattle.ps_world.specs.declared.names.Name.{Name}

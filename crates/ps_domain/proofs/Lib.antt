@@ -8,3 +8,4 @@ pub mod Lookups
 pub mod Members
 pub mod Pairs
 pub mod PutParts
+pub mod Sends

@@ -5,16 +5,17 @@ ghost use Rattle.ps_world.specs.Knowledge.{is_type, is_below, predicate_of, func
 
 use super::declared::Declared;
 use ps_action::{Declares, Types};
-use ps_world::{ActionDef, Decl, Domain, Name};
+use ps_world::{ActionDef, Decl, Domain, Duplicate, Name};
 use std::alloc::{AllocError, Global};
 use std::marker::Model;
+use std::sync::Arc;
 
-/// The domain expert, which answers what its domain declares. Contracts see it as its domain.
+/// The domain expert, which answers what its domain declares. The domain takes its room once, however many hold an expert on it: the input
+/// of a session, what stands after its entries, and the searches of its runs. Contracts see it as its domain.
 #[derive(Drop)]
 pub struct Expert {
     pub(crate) alloc: Global,
-    /// In one box, so that whoever owns an expert owns one part.
-    declared: Box<Declared>,
+    declared: Arc<Declared>,
 }
 
 impl Model for Expert {
@@ -36,7 +37,7 @@ impl Expert {
         let declared = Declared::of(alloc, domain)?;
         Ok(Expert {
             alloc,
-            declared: Box::new(alloc, declared)?,
+            declared: Arc::new(alloc, declared)?,
         })
     }
 
@@ -81,6 +82,35 @@ impl Expert {
     {
         self.declared.action(name)
     }
+}
+
+impl Duplicate for Expert {
+    /// An expert on the same domain, held once more. Where no more holders can be counted it has a domain of its own.
+    fn copy(&self, alloc: Global) -> Result<Self, AllocError> {
+        match Arc::try_clone(&self.declared) {
+            Ok(declared) => Ok(Expert { alloc, declared }),
+            Err(AllocError) => Expert::new(alloc, self.domain().copy(alloc)?),
+        }
+    }
+}
+
+impl PartialEq for Expert {
+    ghost use Rattle.ps_world.specs.contracts.domains.DomainPartialEq.TheImpl.{ghosts};
+    ghost use Rattle.ps_world.specs.contracts.domains.DomainPartialEq.TheImpl.Laws as domain;
+
+    ghost eq = { ghosts.eq };
+
+    ghost laws = { domain.laws-law };
+
+    fn eq(&self, other: &Self) -> bool {
+        self.domain() == other.domain()
+    }
+}
+
+impl Eq for Expert {
+    ghost use Rattle.ps_world.specs.contracts.domains.DomainEq.TheImpl.Laws as domain;
+
+    ghost laws = { domain.laws-law };
 }
 
 impl Types for Expert {

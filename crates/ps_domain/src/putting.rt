@@ -3,9 +3,10 @@ ghost use Rattle.std.specs.Prelude.{◌≡◌, ◌≤◌, ◌<◌, ◌+◌, ◌^
 ghost use Rattle.ps_world.specs.CondViews.{cond_tree};
 ghost use Rattle.ps_action.specs.Grounding.{put_cond, put_condition, put_effect, put_guarded, put_spread, fitting, put_list};
 
-use ps_action::{put_effect, put_expr, put_lifted, put_term};
+use ps_action::{put_boxed_expr, put_effect, put_lifted, put_term};
 use ps_world::{
-    BoxedCond, Cond, Conds, Duplicate, Effect, Env, Guarded, Name, Param, Seq, Spread, Term,
+    BoxedCond, Cond, Conds, Duplicate, Effect, Env, Guarded, Name, PackedLifted, Param, Seq,
+    Spread, Term,
 };
 use std::alloc::{AllocError, Global};
 
@@ -23,11 +24,14 @@ fn put_cond(alloc: Global, env: &Env, cond: &Cond) -> Result<Cond, AllocError>
             let other = put_boxed_cond(alloc, &*env, other)?;
             Ok(Cond::Imply(one, other))
         }
-        Cond::Holds(lifted) => Ok(Cond::Holds(put_lifted(&*env, lifted))),
+        Cond::Holds(lifted) => {
+            let put = put_lifted(&*env, &lifted.get());
+            Ok(Cond::Holds(PackedLifted::new(alloc, put)?))
+        }
         Cond::Same(one, other) => Ok(Cond::Same(put_term(&*env, *one), put_term(&*env, *other))),
         Cond::Cmp(rel, left, right) => {
-            let left = put_expr(alloc, &*env, left)?;
-            let right = put_expr(alloc, &*env, right)?;
+            let left = put_boxed_expr(alloc, &*env, left)?;
+            let right = put_boxed_expr(alloc, &*env, right)?;
             Ok(Cond::Cmp(*rel, left, right))
         }
         Cond::IsA(term, kind) => Ok(Cond::IsA(put_term(&*env, *term), *kind)),

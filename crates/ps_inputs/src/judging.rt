@@ -11,7 +11,7 @@ use ps_journal::name_text;
 use ps_machine::{Input, Line, Member};
 use ps_members::read_member;
 use ps_text::Names;
-use ps_world::{Domain, Duplicate, Failure, Seq};
+use ps_world::{Domain, Failure, Seq};
 use std::alloc::Global;
 
 /// An input, with the table of all of its names.
@@ -105,8 +105,8 @@ fn join(
     ensures { Joins names domain lines.items (map named texts.now) budget replans result }
 {
     let mut names = names;
-    let expert = Expert::new(alloc, domain.copy(alloc)?)?;
-    let members = judge_members(alloc, &mut names, &expert, texts)?;
+    let domain = Expert::new(alloc, domain)?;
+    let members = judge_members(alloc, &mut names, &domain, texts)?;
     Ok(Loaded {
         names,
         input: Input {

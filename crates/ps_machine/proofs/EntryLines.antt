@@ -1,7 +1,7 @@
 -- Each entry's text is one line, where the names are and where what performers tell is.
-use Rattle.std.proofs.Common.{◌≡◌, ℕ, ◌==◌, ◌&&◌, nat_eq, nat_le, not, Bool, true, false, IsTrue, List, [], ◌∷◌, ◌++◌, codes, length, refl, arith}
+use Rattle.std.proofs.Common.{◌≡◌, ℕ, ◌&&◌, nat_eq, nat_le, not, Bool, true, false, IsTrue, List, [], ◌∷◌, ◌++◌, codes, length, refl, arith}
 use Rattle.std.specs.Fmt.{decimal}
-use Rattle.std.specs.List.{ends_with, list_all, flat_map, starts_with}
+use Rattle.std.specs.List.{ends_with, list_all, starts_with}
 use Rattle.std.proofs.lemmas.Bool.{and_parts}
 use Rattle.std.proofs.lemmas.Bool.Decides.{nat_tests}
 use Rattle.ps_world.specs.Names.{Table, name_text}

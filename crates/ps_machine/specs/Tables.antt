@@ -1,9 +1,8 @@
 -- What can be printed with a table of so many names: all of whose names the table has.
-use Rattle.std.specs.Prelude.{◌≡◌, ℕ, ◌≤◌, Bool, ◌&&◌, not, nat_eq, nat_le, Ok, Err, Option, Some, None, IfSome, All, List, codes, length, IsTrue}
+use Rattle.std.specs.Prelude.{ℕ, ◌≤◌, Bool, ◌&&◌, not, nat_eq, nat_le, Ok, Err, Option, IfSome, All, List, codes, length, IsTrue}
 use Rattle.std.specs.List.{ends_with, list_all, starts_with}
 use Rattle.ps_world.specs.CondViews.{cond_tree}
 use Rattle.ps_world.specs.Tables.{IsOf, IsGoalOf, IsEditOf, IsEditRefusalOf}
-use Rattle.ps_world.specs.declared.names.Name.{Name}
 use Rattle.ps_world.specs.declared.conditions.Cond.{Cond}
 use Rattle.ps_world.specs.declared.edits.Edit.{Edit}
 use Rattle.ps_action.specs.declared.acts.Act.{Act}

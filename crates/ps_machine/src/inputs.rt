@@ -1,7 +1,8 @@
 //! The input of a session.
 use super::members::Member;
 use ps_action::{Act, PlanStep, PlanTextRefusal};
-use ps_world::{Domain, Duplicate, Edit, Name, Seq};
+use ps_domain::Expert;
+use ps_world::{Duplicate, Edit, Name, Seq};
 use std::alloc::{AllocError, Global};
 
 /// Why a line is no command. Places count bytes from the line's beginning.
@@ -98,7 +99,8 @@ impl Duplicate for Line {
 /// All that a session is made of.
 #[derive(PartialEq, Eq, Drop)]
 pub struct Input {
-    pub domain: Domain,
+    /// What the session looks up in its domain. Contracts see the domain.
+    pub domain: Expert,
     /// The members, in the order of the words.
     pub members: Seq<Member>,
     /// The command lines of the script, in order. What stands after a `quit` counts for nothing.

@@ -1,6 +1,6 @@
--- A board may go to another thread, and threads may share an expert: a search for that from their types alone stops at its limits, so each
--- type within them that holds conditions has lemmas of its own.
-use denote.Param.Send.{IsSend, IsSync, sendable}
+-- A board may go to another thread: a search for that from its type alone stops at its limits, so each type within it that holds
+-- conditions has a lemma of its own.
+use denote.Param.Send.{IsSend, sendable}
 use Rattle.std.proofs.Crossing.{crosses}
 use Rattle.std.proofs.MapsCrossing.{crosses as maps}
 use Rattle.ps_world.proofs.names.Name.TheSendSync as name
@@ -8,11 +8,8 @@ use Rattle.ps_action.specs.contracts.acts.GroundAction as GroundAction
 use Rattle.ps_action.proofs.acts.Act.TheSendSync as act
 use Rattle.ps_action.proofs.arcs.Arcs.TheSendSync as arcs
 use Rattle.ps_action.proofs.touched.Touched.TheSendSync as touched
-use Rattle.ps_machine.proofs.Sends.{expr_send, conds_send, cond_send, conditions_send, effects_send, domain_send, domain_sync, parts}
 use Rattle.ps_users.proofs.users.Users.TheSendSync as users
-use Rattle.ps_domain.specs.contracts.declared.Declared as Declared
-use Rattle.ps_domain.specs.contracts.expert.Expert as Expert
-use Rattle.ps_domain.proofs.index.Index.TheSendSync as index
+use Rattle.ps_domain.proofs.Sends.{expr_send, conds_send, conditions_send, effects_send, goal_send, expert_send, parts}
 use Rattle.ps_problem.specs.contracts.problem.Problem as Problem
 use Rattle.ps_problem.proofs.problem.facts.Facts.TheSendSync as facts
 use Rattle.ps_problem.proofs.problem.values.Values.TheSendSync as values
@@ -28,20 +25,8 @@ use Rattle.ps_turn.proofs.Sends.{entry_send, input_send}
 
 -- ---- what a board holds
 
-declared_send : IsSend Declared.the_row
-declared_send = search (parts, domain_send, index.the_send) depth 12
-
-declared_sync : IsSync Declared.the_row
-declared_sync = search (parts, domain_sync, index.the_sync) depth 12
-
-expert_send : IsSend Expert.the_row
-expert_send = search (parts, declared_send) depth 12
-
-pub expert_sync : IsSync Expert.the_row
-expert_sync = search (parts, declared_sync) depth 12
-
 problem_send : IsSend Problem.the_row
-problem_send = search (sendable, crosses, maps, name.the_field_send, cond_send, facts.the_send, values.the_send) depth 20 fits 8000
+problem_send = search (sendable, crosses, maps, name.the_field_send, goal_send, facts.the_send, values.the_send) depth 20 fits 8000
 
 instance_send : IsSend GroundAction.the_field.row
 instance_send = search (parts, expr_send, conditions_send, effects_send, act.the_field_send) depth 12

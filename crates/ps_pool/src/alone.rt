@@ -33,7 +33,7 @@ fn take_member<R: Wait, G: Gate>(
     }
 }
 
-/// Takes the turns of the members that are at own_members with the first of so many workers, or of the others.
+/// Takes the turns of the first of so many workers' own members, or of the others.
 fn take_members<R: Wait, G: Gate>(
     rt: &R,
     board: &mut Board,
@@ -70,8 +70,8 @@ fn take_tick<S: Solver>(board: &mut Board, solver: &S) -> Result<bool, AllocErro
     }
 }
 
-/// Takes the turns of a round, as `work` has them: of each member that is at own_members with the worker, of the ticker, and of
-/// each other member. Answers whether the run was seen to be over or halted.
+/// Takes the turns of a round, as `work` has them: of each own member, of the ticker, and of each other member. Answers whether the run
+/// was seen to be over or halted.
 fn take_round<R: Wait, S: Solver, G: Gate>(
     rt: &R,
     board: &mut Board,

@@ -138,7 +138,7 @@ fn look_first<R: Wait>(
 /// The first begins alone, in this thread, and each other one is started, in a thread of its own if there are threads,
 /// when the one before it first steps aside. They take the board in turns, for one call in each, and nothing else is
 /// done to it. Each worker repeats rounds: a turn of each own member, one of the ticker, and one of
-/// each other member, in the order of the members. The member at place `m`, counted from 0, is at own_members with the worker
+/// each other member, in the order of the members. The member at place `m`, counted from 0, is an own member of the worker
 /// of the hand `m % seats + 1`. Units of work are done between turns, and so is solving: one worker at a time does
 /// rounds, and while it steps aside to do a unit or to solve, another goes on. Two at most solve at the same time, and
 /// where nothing is to be done before one of those aside hands something in, the others sleep. Afterwards each seat is

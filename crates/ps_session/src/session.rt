@@ -14,7 +14,6 @@ use super::lines::{Advanced, Session, advance};
 use super::texts::{write_entries, write_head};
 use super::ways::Turns;
 use ps_board::Board;
-use ps_domain::Expert;
 use ps_machine::{By, Entry, Event, Input, Outcome};
 use ps_plan::Solver;
 use ps_pool::Gate;
@@ -150,7 +149,7 @@ pub fn run_to_board<R: Threads + Wait + Sync, S: Solver + Sync, G: Gate + Sync, 
     requires turns { AreTurns turns }
     ensures { RunsTo turns input names.now (O.shown out.old) (O.shown out.new) result }
 {
-    let expert = Expert::new(alloc, input.domain.copy(alloc)?)?;
+    let expert = input.domain.copy(alloc)?;
     let board = Board::open(alloc, input)?;
     let session = Session {
         names,

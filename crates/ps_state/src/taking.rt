@@ -301,7 +301,7 @@ impl State {
     pub fn new(alloc: Global, input: &Input) -> Result<State, AllocError>
         ensures { IfOk result (Stands input.now []) }
     {
-        let expert = Expert::new(alloc, input.domain.copy(alloc)?)?;
+        let expert = input.domain.copy(alloc)?;
         let problem = Problem::new(alloc, &expert)?;
         let ledger = first_ledger(alloc, input)?;
         let (arcs, tree) = first_tree(alloc)?;

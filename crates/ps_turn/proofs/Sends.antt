@@ -23,7 +23,8 @@ use Rattle.ps_machine.proofs.journal.Outcome.TheSendSync as outcome
 use Rattle.ps_machine.proofs.journal.PassWhy.TheSendSync as pass
 use Rattle.ps_machine.proofs.journal.Refusal.TheSendSync as refusal
 use Rattle.ps_machine.proofs.journal.RunKind.TheSendSync as kind
-use Rattle.ps_machine.proofs.Sends.{cond_send, edit_send, unit_send, domain_send, cond_sync, domain_sync, edit_sync, lists}
+use Rattle.ps_domain.proofs.Sends.{cond_send, edit_send, expert_send, cond_sync, edit_sync, expert_sync}
+use Rattle.ps_machine.proofs.Sends.{unit_send, lists}
 
 -- ---- members
 
@@ -59,7 +60,7 @@ line_send : IsSend Line.the_field.row
 line_send = search (words, command_send) depth 12
 
 pub input_send : IsSend Input.the_field.row
-input_send = search (lists, domain_send, member_send, line_send) depth 20
+input_send = search (lists, expert_send, member_send, line_send) depth 20
 
 event_send : IsSend Event.the_field.row
 event_send = search (words, edit_send) depth 48 fits 20000
@@ -74,7 +75,7 @@ line_sync : IsSync Line.the_field.row
 line_sync = search (words, command_sync) depth 12
 
 pub input_sync : IsSync Input.the_field.row
-input_sync = search (lists, domain_sync, member_sync, line_sync) depth 20
+input_sync = search (lists, expert_sync, member_sync, line_sync) depth 20
 
 event_sync : IsSync Event.the_field.row
 event_sync = search (words, edit_sync) depth 48 fits 20000

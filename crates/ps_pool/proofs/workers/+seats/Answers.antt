@@ -12,7 +12,8 @@ use Rattle.ps_turn.proofs.book.TurnBook.TheSendSync as book
 use Rattle.ps_board.specs.contracts.board.Board as Board
 use Rattle.ps_board.specs.contracts.board.BoardGrows.TheImpl.{ghosts}
 use Rattle.ps_pool.specs.contracts.crew.Crew as Crew
-use Rattle.ps_pool.proofs.Sends.{board_send, expert_sync}
+use Rattle.ps_domain.proofs.Sends.{expert_sync}
+use Rattle.ps_pool.proofs.Sends.{board_send}
 use Rattle.ps_pool.proofs.outline.Who.TheSendSync as who
 use Rattle.ps_pool.proofs.workers.+seats.Goals as goal
 

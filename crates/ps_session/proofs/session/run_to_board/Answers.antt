@@ -5,14 +5,9 @@ use Rattle.ps_session.specs.Lines.{WritesLines}
 use Rattle.ps_session.proofs.Whole.{session-cut, session-done, unrun}
 use Rattle.ps_session.proofs.session.run_to_board.Goals as goal
 
-pub returns-in_err-copy : goal.returns-in_err-copy
-returns-in_err-copy g c =
-    let p = err_from_is_err_and c.from_residual.result c.from_residual.ensures.1 in
-    rw (p.1, p.2) (unrun c.args.turns c.args.input c.args.names.now (g.O.Sink.shown c.args.out.now))
-
 pub returns-in_err-expert : goal.returns-in_err-expert
 returns-in_err-expert g c =
-    let p = err_from_is_err_and c.from_residual-in_err-expert.result c.from_residual-in_err-expert.ensures.1 in
+    let p = err_from_is_err_and c.from_residual.result c.from_residual.ensures.1 in
     rw (p.1, p.2) (unrun c.args.turns c.args.input c.args.names.now (g.O.Sink.shown c.args.out.now))
 
 pub returns-in_err-board : goal.returns-in_err-board
