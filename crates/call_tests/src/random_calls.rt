@@ -72,7 +72,7 @@ fn some_grant(alloc: Global, out: &mut Vec<Grant>, dice: &mut Dice) -> Result<Gr
     } else {
         Ok(Grant {
             r: dice.roll(8),
-            by: Name(dice.roll(30)),
+            by: Name(dice.roll(30) as u32),
             unit: Boxed::new(alloc, Unit::Work)?,
         })
     }

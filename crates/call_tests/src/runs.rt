@@ -190,8 +190,7 @@ fn a_run_in_order_stops(rt: HostRuntime) -> Result<(), Fail> {
 fn workers_stop(rt: HostRuntime) -> Result<(), Fail> {
     let (_, mut board) = board_of(rt.alloc())?;
     open_run(&mut board)?;
-    let domain = board.input().domain.copy(rt.alloc())?;
-    let expert = Box::new(rt.alloc(), Expert::new(rt.alloc(), domain)?)?;
+    let expert = board.input().domain.copy(rt.alloc())?;
     stop_workers(&rt, rt.alloc(), Box::into_inner(board), &expert)
 }
 
@@ -199,7 +198,6 @@ fn workers_stop(rt: HostRuntime) -> Result<(), Fail> {
 fn workers_at_seats_see_the_end(rt: HostRuntime) -> Result<(), Fail> {
     let (_, mut board) = board_of(rt.alloc())?;
     open_run(&mut board)?;
-    let domain = board.input().domain.copy(rt.alloc())?;
-    let expert = Box::new(rt.alloc(), Expert::new(rt.alloc(), domain)?)?;
+    let expert = board.input().domain.copy(rt.alloc())?;
     work_at_seats(&rt, rt.alloc(), Box::into_inner(board), &expert)
 }

@@ -195,7 +195,7 @@ fn cond_fault_in<K: Known, D: Declares>(
             }
             boxed_cond_fault(known, domain, &*kinds, other)
         }
-        Cond::Holds(atom) => atom_fault(known, domain, kinds, atom),
+        Cond::Holds(atom) => atom_fault(known, domain, kinds, &atom.get()),
         Cond::Same(one, other) => {
             let first = side_fault(known, one);
             if first.is_some() {
@@ -204,11 +204,11 @@ fn cond_fault_in<K: Known, D: Declares>(
             side_fault(known, other)
         }
         Cond::Cmp(_, left, right) => {
-            let first = expr_fault(known, domain, kinds, left);
+            let first = expr_fault(known, domain, kinds, left.get());
             if first.is_some() {
                 return first;
             }
-            expr_fault(known, domain, kinds, right)
+            expr_fault(known, domain, kinds, right.get())
         }
         Cond::IsA(..) => None,
         Cond::ForSome(params, inner) | Cond::ForAll(params, inner) => {

@@ -28,7 +28,7 @@ pub use goals::cond_fault;
 pub use known::{Declares, Instances, Known, Types};
 pub use misfits::{fact_fault, first_misfit, value_fault};
 pub use places::{Holes, Place};
-pub use putting::{put_effect, put_expr, put_lifted, put_term};
+pub use putting::{put_boxed_expr, put_effect, put_expr, put_lifted, put_term};
 pub use refusals::{EffectRefusal, GroundRefusal, Misfit, PlanRefusal, PlanTextRefusal};
 pub use states::{ActState, Status};
 pub use touched::Touched;

@@ -54,8 +54,9 @@ pub fn put_expr(alloc: Global, env: &Env, expr: &Expr) -> Result<Expr, AllocErro
     }
 }
 
+/// The same of an expression in a box.
 #[cycle(put_expr)]
-fn put_boxed_expr(alloc: Global, env: &Env, boxed: &BoxedExpr) -> Result<BoxedExpr, AllocError>
+pub fn put_boxed_expr(alloc: Global, env: &Env, boxed: &BoxedExpr) -> Result<BoxedExpr, AllocError>
     ensures { IfOk result (λ put. put ≡ put_tree env.now boxed.now) }
 {
     let inner = put_expr(alloc, &*env, boxed.get())?;

@@ -72,11 +72,11 @@ pub(crate) fn is_true_with<K: Known, T: Types>(known: &K, types: &T, env: &Env, 
             !is_boxed_true_with(known, types, &*env, one)
                 || is_boxed_true_with(known, types, &*env, other)
         }
-        Cond::Holds(lifted) => known.has(&lifted.ground_in(env)),
+        Cond::Holds(lifted) => known.has(&lifted.get().ground_in(env)),
         Cond::Same(one, other) => one.name_in(env) == other.name_in(env),
         Cond::Cmp(rel, left, right) => {
-            let left = value_with(known, env, left);
-            let right = value_with(known, env, right);
+            let left = value_with(known, env, left.get());
+            let right = value_with(known, env, right.get());
             compare_so(*rel, left, right)
         }
         Cond::IsA(term, kind) => fits(types, known.kind_of(term.name_in(env)), *kind),

@@ -78,8 +78,8 @@ module _ (R : Type 0) (Q : R → Type 0) (w : Words (refusable R)) (words : AreR
 
   comparison_refuses : (rel : Rel) (a b : Nested) → Refuses Q (comparison (refusable R) w rel a b)
   comparison_refuses rel a b =
-      then_refuses Q (value (refusable R) w a) (λ x. value (refusable R) w b >>= λ y. Ok (cond.Cmp rel x y)) (value_refuses a)
-      (λ x. then_refuses Q (value (refusable R) w b) (λ y. Ok (cond.Cmp rel x y)) (value_refuses b) (λ y. tt))
+      then_refuses Q (value (refusable R) w a) (λ x. value (refusable R) w b >>= λ y. Ok (cond.Cmp rel (expr_tree x) (expr_tree y))) (value_refuses a)
+      (λ x. then_refuses Q (value (refusable R) w b) (λ y. Ok (cond.Cmp rel (expr_tree x) (expr_tree y))) (value_refuses b) (λ y. tt))
 
   same_as_refuses : (l : Lexeme) (b : Nested) → Refuses Q (same_as (refusable R) w l b)
   same_as_refuses l b =

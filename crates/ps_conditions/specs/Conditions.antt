@@ -1,6 +1,7 @@
 -- What a condition means.
 use Rattle.std.specs.Prelude.{if◌then◌else◌, Bool, true, false, Option, Some, None, List, [], ◌∷◌, ◌++◌}
 use Rattle.ps_world.specs.Trees.{CondTree}
+use Rattle.ps_world.specs.ExprViews.{expr_tree}
 use Rattle.ps_world.specs.CondViews.{cond_tree}
 use Rattle.ps_world.specs.declared.domains.Param.{Param}
 use Rattle.ps_world.specs.declared.conditions.Rel.{Rel}
@@ -23,7 +24,7 @@ nothing = cond.And []
 
 -- (REL X X)
 abbrev pub comparison : (s : Steps) → Words s → Rel → Nested → Nested → s.Step Cond
-comparison s w rel a b = s.then (value s w a) (λ a. s.then (value s w b) (λ b. s.done (cond.Cmp rel a b)))
+comparison s w rel a b = s.then (value s w a) (λ a. s.then (value s w b) (λ b. s.done (cond.Cmp rel (expr_tree a) (expr_tree b))))
 
 -- (= TERM TERM), by the word that the first operand is
 abbrev pub same_as : (s : Steps) → Words s → Lexeme → Nested → s.Step Cond

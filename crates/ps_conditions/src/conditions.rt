@@ -2,7 +2,8 @@
 ghost use Rattle.std.specs.Prelude.{◌≡◌, ◌≤◌, ◌++◌, ◌&&◌, is_none, length, [], IfOk, IsTrue, map};
 ghost use Rattle.ps_world.specs.Failures.{Gives};
 ghost use Rattle.ps_world.specs.CondViews.{cond_tree};
-ghost use Rattle.ps_world.specs.declared.conditions.Cond.TheVariants.{Imply as Implication, Not as Negated};
+ghost use Rattle.ps_world.specs.ExprViews.{expr_tree};
+ghost use Rattle.ps_world.specs.declared.conditions.Cond.TheVariants.{Cmp as Comparison, Holds as Known, Imply as Implication, Not as Negated};
 ghost use Rattle.ps_lists.specs.Nested.{more, nesteds, none};
 ghost use Rattle.ps_lists.specs.NestedViews.{nested};
 ghost use Rattle.ps_lists.specs.Places.{head as first_of, items as items_of, rest as rest_of};
@@ -16,8 +17,19 @@ use super::signs::{Head, head_of, is_number, rel_of};
 use super::values::value;
 use ps_grammar::Mark;
 use ps_lists::{Lexeme, Tree, head, items, rest};
-use ps_world::{BoxedCond, Cond, Conds, Failure, Param, Params, Rel};
+use ps_world::{
+    BoxedCond, BoxedExpr, Cond, Conds, Expr, Failure, Lifted, PackedLifted, Param, Params, Rel,
+};
 use std::alloc::{AllocError, Global};
+
+/// Two numeric expressions compared.
+fn compared(alloc: Global, rel: Rel, left: Expr, right: Expr) -> Result<Cond, AllocError>
+    ensures { IfOk result (λ c. c ≡ Comparison rel (expr_tree left) (expr_tree right)) }
+{
+    let left = BoxedExpr::new(alloc, left)?;
+    let right = BoxedExpr::new(alloc, right)?;
+    Ok(Cond::Cmp(rel, left, right))
+}
 
 /// Two numeric expressions compared. The first is judged first.
 fn comparison<S: Scope>(
@@ -34,7 +46,7 @@ fn comparison<S: Scope>(
 {
     let left = value(alloc, scope, params, left)?;
     let right = value(alloc, scope, params, right)?;
-    Ok(Cond::Cmp(rel, left, right))
+    Ok(compared(alloc, rel, left, right)?)
 }
 
 /// Two terms that are to be the same. The first is judged first.
@@ -81,7 +93,15 @@ fn equality<S: Scope>(
 }
 
 /// That a fact is known.
+fn known(alloc: Global, fact: Lifted) -> Result<Cond, AllocError>
+    ensures { IfOk result (λ c. c ≡ Known fact) }
+{
+    Ok(Cond::Holds(PackedLifted::new(alloc, fact)?))
+}
+
+/// That a fact is known, by its words.
 fn stated<S: Scope>(
+    alloc: Global,
     scope: &S,
     params: &[Param],
     word: Lexeme,
@@ -92,7 +112,7 @@ fn stated<S: Scope>(
         (stated (refusable S.Refusal) ((S.scopes scope.now).words params.now) word (nesteds (map nested trees.now))) }
 {
     match scope.fact(params, word, trees) {
-        Ok(fact) => Ok(Cond::Holds(fact)),
+        Ok(fact) => Ok(known(alloc, fact)?),
         Err(refusal) => Err(Failure::Refused(refusal)),
     }
 }
@@ -110,10 +130,10 @@ fn plain_condition<S: Scope>(
         (plain_condition (refusable S.Refusal) ((S.scopes scope.now).words params.now) word (nesteds (map nested trees.now))) }
 {
     match trees {
-        [] => stated(scope, params, word, trees),
-        [_] => stated(scope, params, word, trees),
+        [] => stated(alloc, scope, params, word, trees),
+        [_] => stated(alloc, scope, params, word, trees),
         [left, right, ..] => match rel_of(word.mark) {
-            None => stated(scope, params, word, trees),
+            None => stated(alloc, scope, params, word, trees),
             Some(Rel::Eq) => equality(alloc, scope, params, left, right),
             Some(rel) => comparison(alloc, scope, params, rel, left, right),
         },
@@ -388,7 +408,7 @@ pub fn add_condition<S: Scope>(
     let inside = items(tree);
     match scope.fact(params, head(inside), rest(inside)) {
         Ok(fact) => {
-            all.push(Cond::Holds(fact))?;
+            all.push(known(alloc, fact)?)?;
             Ok(())
         }
         Err(refusal) => Err(Failure::Refused(refusal)),

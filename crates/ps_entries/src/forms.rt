@@ -43,7 +43,7 @@ fn is_place(_n: usize) -> bool
 fn is_known(count: usize, name: Name) -> bool
     ensures { result ≡ is_known count name }
 {
-    name.0 < count as u64
+    (name.0 as usize) < count
 }
 
 fn is_line_cause(cause: LineCause) -> bool

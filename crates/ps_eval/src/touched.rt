@@ -60,17 +60,18 @@ pub(crate) fn push_cond(cond: &Cond, all: &mut Vec<Touched>) -> Result<(), Alloc
             push_boxed_cond(left, all)?;
             push_boxed_cond(right, all)
         }
-        Cond::Holds(lifted) => {
-            all.push(Touched::fact_of(lifted))?;
-            push_arguments(lifted, all)
+        Cond::Holds(packed) => {
+            let lifted = packed.get();
+            all.push(Touched::fact_of(&lifted))?;
+            push_arguments(&lifted, all)
         }
         Cond::Same(one, other) => {
             push_name(one, all)?;
             push_name(other, all)
         }
         Cond::Cmp(_, left, right) => {
-            push_expr(left, all)?;
-            push_expr(right, all)
+            push_boxed_expr(left, all)?;
+            push_boxed_expr(right, all)
         }
         Cond::IsA(term, _) => push_name(term, all),
         Cond::ForSome(_, part) | Cond::ForAll(_, part) => {

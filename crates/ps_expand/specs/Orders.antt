@@ -62,7 +62,7 @@ difference_is x y e = tells_apart exact_differences x y e
 
 -- what facts and values feed to a hash: the terms of values are mostly the same
 abbrev pub fact_fed : Fact → List (List ℕ)
-fact_fed f = fed.u64 f.head.0 ++ fed.slice (λ n. fed.u64 n.0) f.args
+fact_fed f = fed.u32 f.head.0 ++ fed.slice (λ n. fed.u32 n.0) f.args
 
 abbrev pub facts_fed : List Fact → List (List ℕ)
 facts_fed fs = flat_map fact_fed fs

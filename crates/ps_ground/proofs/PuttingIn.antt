@@ -19,7 +19,7 @@ use Rattle.ps_world.specs.declared.facts.Fact.{Fact}
 use Rattle.ps_world.specs.declared.known.Knowledge.{Knowledge}
 use Rattle.ps_world.specs.declared.names.Name.{Name}
 use Rattle.ps_world.specs.declared.schemas.Lifted.{Lifted}
-use Rattle.ps_action.proofs.Plainly.{no_effect, no_effects, no_expr, no_lifted, no_term, no_tree}
+use Rattle.ps_action.proofs.Plainly.{no_effect, no_effects, no_lifted, no_term, no_tree}
 use Rattle.ps_action.specs.Grounding.{fitting, grounded, put_cond, put_conds, put_condition, put_guarded, put_spread}
 use Rattle.ps_action.specs.Truth.{all_true, is_true}
 use Rattle.ps_action.specs.declared.acts.Act.{Act}
@@ -94,7 +94,7 @@ no_condition (to.Not c) = ap to.Not (no_cond c)
 no_condition (to.Imply a b) = λ i. to.Imply (no_cond a i) (no_cond b i)
 no_condition (to.Holds l) = ap to.Holds (no_lifted l)
 no_condition (to.Same s t) = λ i. to.Same (no_term s i) (no_term t i)
-no_condition (to.Cmp rel x y) = λ i. to.Cmp rel (no_expr x i) (no_expr y i)
+no_condition (to.Cmp rel x y) = λ i. to.Cmp rel (no_tree x i) (no_tree y i)
 no_condition (to.IsA t kind) = λ i. to.IsA (no_term t i) kind
 no_condition (to.ForSome ps c) = ap (to.ForSome ps) (no_cond c)
 no_condition (to.ForAll ps c) = ap (to.ForAll ps) (no_cond c)

@@ -24,9 +24,9 @@ pub fn rise(instances: &[(Name, Name)]) -> bool
     ensures first { result ≡ true → AreFirstInstances instances.now }
 {
     // All names before are below this number.
-    let mut bound: u64 = 0;
+    let mut bound: u32 = 0;
     for (name, _) in instances {
-        if name.0 < bound || name.0 == u64::MAX {
+        if name.0 < bound || name.0 == u32::MAX {
             return false;
         }
         bound = name.0 + 1;

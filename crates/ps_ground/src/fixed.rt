@@ -192,11 +192,12 @@ fn never_holds(fixed: &Fixed, before: &[Name], args: &[Name], cond: &Cond) -> bo
         → is_true d (at k s) (put_cond (first ++ tail) (cond_tree cond.now)) ≡ false }
 {
     match cond {
-        Cond::Holds(lifted) => {
+        Cond::Holds(packed) => {
+            let lifted = packed.get();
             if !is_first(before.len(), lifted.terms.as_slice()) {
                 return false;
             }
-            fixed.is_tied(lifted.head) && fixed.lacks(&ground_in(args, lifted))
+            fixed.is_tied(lifted.head) && fixed.lacks(&ground_in(args, &lifted))
         }
         _ => false,
     }
@@ -269,7 +270,8 @@ impl Fixed {
     /// Whether a condition says that a fact is known whose predicate is tied, and this variable is the first that it speaks of.
     fn asks(&self, number: usize, cond: &Cond) -> bool {
         match cond {
-            Cond::Holds(lifted) => {
+            Cond::Holds(packed) => {
+                let lifted = packed.get();
                 is_first(number, lifted.terms.as_slice()) && self.is_tied(lifted.head)
             }
             _ => false,

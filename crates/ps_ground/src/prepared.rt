@@ -207,7 +207,7 @@ fn take_in(
     ensures ready { IfOk result (λ taken. taken ≡ Taken.Unready → args.now ≡ [] → ⊥) }
 {
     match cond {
-        Cond::Holds(lifted) => match atoms.place_near(near, &ground_in(args, lifted)) {
+        Cond::Holds(lifted) => match atoms.place_near(near, &ground_in(args, &lifted.get())) {
             Some(place) => {
                 test.wanted.push(place)?;
                 Ok(Taken::Whole)

@@ -294,7 +294,7 @@ module _ (after : Table) (first : 0 < length after) where
       let stands : IsGoalHead after l.name = subst (λ (m : Mark). is_goal_name m ≡ true) (h.named (goal-is_name l.mark e)) e in
       (lifted_here ps (word l) ts h told, (lifted_short ps l ts, stands))
 
-  compared_here : (ps : List Param) (rel : Rel) (a b : Nested) → AllTold after a → AllTold after b → IsCondHere ps (cond.Cmp rel (value certain (line_words ps) a) (value certain (line_words ps) b))
+  compared_here : (ps : List Param) (rel : Rel) (a b : Nested) → AllTold after a → AllTold after b → IsCondHere ps (cond.Cmp rel (expr_tree (value certain (line_words ps) a)) (expr_tree (value certain (line_words ps) b)))
   compared_here ps rel a b p q =
       let x = value_here ps a p in
       let y = value_here ps b q in
@@ -303,7 +303,7 @@ module _ (after : Table) (first : 0 < length after) where
   equality_here : (ps : List Param) (a b : Nested) → AllTold after a → AllTold after b → IsCondHere ps (equality certain (line_words ps) a b)
   equality_here ps (group ts) b p q = compared_here ps Eq (group ts) b p q
   equality_here ps (word l) b p q =
-      elim (is mark.Number l.mark) as (λ x. IsCondHere ps (if x then cond.Cmp Eq (value certain (line_words ps) (word l)) (value certain (line_words ps) b) else cond.Same (term ps l) (term ps (word_of b)))) [
+      elim (is mark.Number l.mark) as (λ x. IsCondHere ps (if x then cond.Cmp Eq (expr_tree (value certain (line_words ps) (word l))) (expr_tree (value certain (line_words ps) b)) else cond.Same (term ps l) (term ps (word_of b)))) [
         | true ↦ compared_here ps Eq (word l) b p q
         | false ↦ ((term_here ps l p.below, term_here ps (word_of b) (word_name b q)), (tt, tt))
       ]

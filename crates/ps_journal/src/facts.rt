@@ -117,7 +117,7 @@ impl Printed for Edit {
                 push_value_after(b"set function ", fact, number, names, out)
             }
             Edit::RemoveValue(fact) => push_after(b"remove function ", fact, names, out),
-            Edit::SetGoal(goal) => push_after(b"set goal ", goal, names, out),
+            Edit::SetGoal(goal) => push_after(b"set goal ", goal.get(), names, out),
             Edit::RemoveGoal => {
                 out.extend_from_slice(b"remove goal")?;
                 Ok(())

@@ -132,7 +132,7 @@ impl Printed for usize {
 pub fn name_text(names: &Names, name: Name) -> &[u8]
     ensures { result.now ≡ name_text names.now name }
 {
-    if name.0 < names.len() as u64 {
+    if (name.0 as usize) < names.len() {
         names.text(name)
     } else {
         b""

@@ -60,7 +60,7 @@ fn same_edit(edit: &Edit, other: &Edit) -> bool
             _ => false,
         },
         Edit::SetGoal(goal) => match other {
-            Edit::SetGoal(c) => same_cond(goal, c),
+            Edit::SetGoal(c) => same_cond(goal.get(), c.get()),
             _ => false,
         },
         Edit::RemoveGoal => match other {

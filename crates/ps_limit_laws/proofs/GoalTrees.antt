@@ -103,7 +103,7 @@ module _ (ps : List Param) where
 
   -- ---- plain conditions
 
-  compared_fine : (n : ℕ) (rel : Rel) (a b : Nested) → rank a ≤ n → rank b ≤ n → IsFine ps (suc n) (cond.Cmp rel (value certain (line_words ps) a) (value certain (line_words ps) b))
+  compared_fine : (n : ℕ) (rel : Rel) (a b : Nested) → rank a ≤ n → rank b ≤ n → IsFine ps (suc n) (cond.Cmp rel (expr_tree (value certain (line_words ps) a)) (expr_tree (value certain (line_words ps) b)))
   compared_fine n rel a b p q =
       let left = value_fine a in
       let right = value_fine b in

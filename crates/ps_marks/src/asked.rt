@@ -18,7 +18,7 @@ fn push_atoms(cond: &Cond, facts: &mut Vec<Fact>) -> Result<(), AllocError>
     match cond {
         Cond::And(parts) => push_all_atoms(parts, facts),
         Cond::Holds(lifted) => {
-            facts.push(lifted.ground_in(&Env::of(&[])))?;
+            facts.push(lifted.get().ground_in(&Env::of(&[])))?;
             Ok(())
         }
         _ => Ok(()),

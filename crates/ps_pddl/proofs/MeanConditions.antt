@@ -51,7 +51,7 @@ uncond (no c) = cond.Not c
 uncond (implied a b) = cond.Imply a b
 uncond (holds f) = cond.Holds f
 uncond (same a b) = cond.Same a b
-uncond (compares r x y) = cond.Cmp r (untree x) (untree y)
+uncond (compares r x y) = cond.Cmp r x y
 uncond (is_a t kind) = cond.IsA t kind
 uncond (for_some ps c) = cond.ForSome ps c
 uncond (for_all ps c) = cond.ForAll ps c
@@ -67,7 +67,7 @@ cond_tree-uncond (no c) = refl
 cond_tree-uncond (implied a b) = refl
 cond_tree-uncond (holds f) = refl
 cond_tree-uncond (same a b) = refl
-cond_tree-uncond (compares r x y) = rw (expr_tree-untree x, expr_tree-untree y) refl
+cond_tree-uncond (compares r x y) = refl
 cond_tree-uncond (is_a t kind) = refl
 cond_tree-uncond (for_some ps c) = refl
 cond_tree-uncond (for_all ps c) = refl
@@ -79,7 +79,7 @@ uncond-cond_tree (cond.Not c) = refl
 uncond-cond_tree (cond.Imply a b) = refl
 uncond-cond_tree (cond.Holds f) = refl
 uncond-cond_tree (cond.Same s t) = refl
-uncond-cond_tree (cond.Cmp r x y) = rw (untree-expr_tree x, untree-expr_tree y) refl
+uncond-cond_tree (cond.Cmp r x y) = refl
 uncond-cond_tree (cond.IsA t kind) = refl
 uncond-cond_tree (cond.ForSome ps c) = refl
 uncond-cond_tree (cond.ForAll ps c) = refl
@@ -126,8 +126,8 @@ joined-none none = refl
 joined-none (more t ts) = ap (λ rest. more t rest) (joined-none ts)
 
 module _ (names : Table) (d : Domain) (acts : List ActionDef) (ps : List Param) (apart : AreApart (λ p. p.name) ps) (predicates : TakeFew d.predicates) (functions : TakeFew d.functions) (heads : HaveHeads names d.predicates) where
-  comparison-means : (r : Rel) (x y : ExprTree) (t u : Nested) → IsExpr d ps x → IsExpr d ps y → IsExprForm names ps x t → IsExprForm names ps y u → meant.comparison reads (words (acting d acts) ps) r t u ≡ Ok (cond.Cmp r (untree x) (untree y))
-  comparison-means r x y t u h k a b = rw (value-means names d acts ps apart functions x t h a, value-means names d acts ps apart functions y u k b) refl
+  comparison-means : (r : Rel) (x y : ExprTree) (t u : Nested) → IsExpr d ps x → IsExpr d ps y → IsExprForm names ps x t → IsExprForm names ps y u → meant.comparison reads (words (acting d acts) ps) r t u ≡ Ok (cond.Cmp r x y)
+  comparison-means r x y t u h k a b = rw (value-means names d acts ps apart functions x t h a, value-means names d acts ps apart functions y u k b, expr_tree-untree x, expr_tree-untree y) refl
 
   -- numbers are compared where the first operand is one
   equality-numbers : (x : ExprTree) (t u : Nested) → IsExprForm names ps x t → meant.equality reads (words (acting d acts) ps) t u ≡ meant.comparison reads (words (acting d acts) ps) Eq t u

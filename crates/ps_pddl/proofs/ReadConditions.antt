@@ -109,8 +109,8 @@ module _ (after : Table) (first : 0 < length after) (d : Domain) (ps : List Para
 
   comparison_here : (room : ℕ) (r : Rel) (a b : Nested) → IsValue room a → IsValue room b → AllTold after a → AllTold after b → Sound (IsCondHere (suc room)) (meant.comparison reads (words d ps) r a b)
   comparison_here room r a b v w h k =
-      then_sound (IsValueHere after first d ps room) (IsCondHere (suc room)) (value d ps a) (λ x. value d ps b >>= λ y. Ok (cond.Cmp r x y)) (value_here after first d ps room a v h)
-      (λ x one. then_sound (IsValueHere after first d ps room) (IsCondHere (suc room)) (value d ps b) (λ y. Ok (cond.Cmp r x y)) (value_here after first d ps room b w k)
+      then_sound (IsValueHere after first d ps room) (IsCondHere (suc room)) (value d ps a) (λ x. value d ps b >>= λ y. Ok (cond.Cmp r (expr_tree x) (expr_tree y))) (value_here after first d ps room a v h)
+      (λ x one. then_sound (IsValueHere after first d ps room) (IsCondHere (suc room)) (value d ps b) (λ y. Ok (cond.Cmp r (expr_tree x) (expr_tree y))) (value_here after first d ps room b w k)
       (λ y two. ((one.0, two.0), fits_comparison room r (expr_tree x) (expr_tree y) one.1 two.1)))
 
   -- a term that stands in the table

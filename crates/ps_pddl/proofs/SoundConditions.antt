@@ -1,6 +1,7 @@
 -- Conditions that are read are of what is declared.
 use Rattle.std.proofs.Common.{◌≡◌, ℕ, ◌+◌, Bool, true, false, All, List, [], ◌∷◌, ◌++◌, drop, length, Option, Some, None, Ok, Err, sym, subst, arith}
 use Rattle.std.proofs.lemmas.List.Elements.{All-push}
+use Rattle.ps_world.specs.ExprViews.{expr_tree}
 use Rattle.ps_world.specs.CondViews.{cond_tree}
 use Rattle.ps_world.specs.Knowledge.{is_type}
 use Rattle.ps_world.specs.Leaves.{AllIn, AllInEach}
@@ -54,8 +55,8 @@ module _ (d : Domain) (acts : List ActionDef) (own : ℕ) (ps : List Param) wher
 
   comparison_sound : (rel : Rel) (a b : Nested) → IsCounted a → IsCounted b → Sound IsHeld (meant.comparison reads (words d ps) rel a b)
   comparison_sound rel a b h k =
-      then_sound (IsValue d acts ps) IsHeld (value d ps a) (λ x. value d ps b >>= λ y. Ok (cond.Cmp rel x y)) (value_sound d acts ps a h)
-      (λ x one. then_sound (IsValue d acts ps) IsHeld (value d ps b) (λ y. Ok (cond.Cmp rel x y)) (value_sound d acts ps b k) (λ y two. (one, two)))
+      then_sound (IsValue d acts ps) IsHeld (value d ps a) (λ x. value d ps b >>= λ y. Ok (cond.Cmp rel (expr_tree x) (expr_tree y))) (value_sound d acts ps a h)
+      (λ x one. then_sound (IsValue d acts ps) IsHeld (value d ps b) (λ y. Ok (cond.Cmp rel (expr_tree x) (expr_tree y))) (value_sound d acts ps b k) (λ y two. (one, two)))
 
   -- a term that stands there
   abbrev IsThere : Term → Type 0

@@ -42,7 +42,7 @@ pub fn edit_plain(
         Edit::RemoveFact(fact) => remove_fact(alloc, domain, known, *fact),
         Edit::SetValue(fact, number) => set_value(alloc, domain, known, *fact, *number),
         Edit::RemoveValue(fact) => remove_value(alloc, domain, known, *fact),
-        Edit::SetGoal(goal) => set_goal(alloc, domain, known, goal),
+        Edit::SetGoal(goal) => set_goal(alloc, domain, known, goal.get()),
         Edit::RemoveGoal => remove_goal(alloc, domain, known),
     }
 }

@@ -137,7 +137,7 @@ pub fn write_condition(
             Ok(())
         }
         Cond::Holds(lifted) => {
-            write_lifted(text, names, params, lifted)?;
+            write_lifted(text, names, params, &lifted.get())?;
             Ok(())
         }
         Cond::Same(one, other) => {
@@ -145,7 +145,7 @@ pub fn write_condition(
             Ok(())
         }
         Cond::Cmp(rel, left, right) => {
-            write_comparison(text, names, params, *rel, left, right)?;
+            write_comparison(text, names, params, *rel, left.get(), right.get())?;
             Ok(())
         }
         Cond::IsA(..) => Ok(()),

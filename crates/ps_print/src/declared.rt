@@ -12,7 +12,7 @@ use std::alloc::AllocError;
 pub fn write_name(text: &mut Writer, names: &Names, name: Name) -> Result<(), AllocError>
     ensures { OnOk result (text.new ≡ text.old ++ name_text names.now name) }
 {
-    if name.0 >= names.len() as u64 {
+    if name.0 as usize >= names.len() {
         return Ok(());
     }
     match names.text(name) {

@@ -1,5 +1,5 @@
 //! Changes of what is known.
-use ps_world::{Cond, Fact, Name, Num, Seq};
+use ps_world::{Fact, Goal, Name, Num, Seq};
 
 /// What is changed of what is known: instances, facts and values that go or come, and perhaps the goal.
 #[derive(PartialEq, Eq, Drop)]
@@ -17,5 +17,5 @@ pub struct Change {
     /// The terms that lose their values.
     pub gone: Seq<Fact>,
     /// The goal, where it is set or removed.
-    pub goal: Option<Option<Cond>>,
+    pub goal: Option<Option<Goal>>,
 }

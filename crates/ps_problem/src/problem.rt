@@ -17,7 +17,7 @@ use self::facts::Facts;
 use self::instances::Instances;
 use self::values::Values;
 use ps_domain::Expert;
-use ps_world::{Cond, Duplicate, Edit, EditRefusal, Failure, Name};
+use ps_world::{Duplicate, Edit, EditRefusal, Failure, Goal, Name};
 use std::alloc::{AllocError, Global};
 use std::marker::Model;
 
@@ -28,7 +28,7 @@ pub struct Problem {
     instances: Instances,
     facts: Facts,
     values: Values,
-    goal: Option<Cond>,
+    goal: Option<Goal>,
 }
 
 impl Model for Problem {
@@ -83,7 +83,8 @@ impl Problem {
         })
     }
 
-    fn copied_goal(&self) -> Result<Option<Cond>, AllocError>
+    /// The goal, held once more. None exactly where there is none.
+    pub fn copied_goal(&self) -> Result<Option<Goal>, AllocError>
         ensures { IfOk result (λ goal. goal ≡ self.now.goal) }
     {
         match &self.goal {

@@ -55,9 +55,9 @@ fn say_part(
         Cond::Holds(_) => page.say(" isn't known"),
         Cond::Cmp(_, left, right) => {
             page.say(" is false: the left side is ")?;
-            say_value(problem, left, page)?;
+            say_value(problem, left.get(), page)?;
             page.say(", the right side ")?;
-            say_value(problem, right, page)
+            say_value(problem, right.get(), page)
         }
         _ => page.say(" is false"),
     }

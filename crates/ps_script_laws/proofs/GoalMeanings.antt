@@ -5,6 +5,7 @@ use Rattle.std.proofs.lemmas.Bool.{eq-eqb, lt-ltb}
 use Rattle.std.proofs.lemmas.List.{length-append, take_all}
 use Rattle.std.proofs.lemmas.List.Sums.{position_or_len_is}
 use Rattle.std.proofs.lemmas.List.Elements.{All-head, All-tail}
+use Rattle.ps_world.specs.ExprViews.{expr_tree}
 use Rattle.ps_world.specs.CondViews.{cond_tree}
 use Rattle.ps_world.specs.Knowledge.{name_of}
 use Rattle.ps_world.specs.Names.{Table, object, same_name}
@@ -149,13 +150,13 @@ module _ (names : Table) (count : ℕ) (ps : List Param) (apart : AreApart (λ p
       rw (m, operator_of-op o, value-means x t known.0 few.0 j, value-means y u known.1 few.1 k, expr_tree-untree x, expr_tree-untree y) refl
 
   -- numbers are compared where the first operand is one
-  equality-numbers : (x : ExprTree) (t u : Nested) → IsExprForm names ps x t → meant.equality certain (line_words ps) t u ≡ cond.Cmp Eq (worth.value certain (line_words ps) t) (worth.value certain (line_words ps) u)
+  equality-numbers : (x : ExprTree) (t u : Nested) → IsExprForm names ps x t → meant.equality certain (line_words ps) t u ≡ cond.Cmp Eq (expr_tree (worth.value certain (line_words ps) t)) (expr_tree (worth.value certain (line_words ps) u))
   equality-numbers _ _ u (a_number n l m e) = rw m refl
   equality-numbers _ _ u (a_value f _ (form.lifted _ l ts w k)) = refl
   equality-numbers _ _ u (a_negation x l t m k) = refl
   equality-numbers _ _ u (an_operation o x y l t v m j k) = refl
 
-  related-means : (r : Rel) (x : ExprTree) (t u : Nested) (other : Cond) → IsExprForm names ps x t → meant.related certain (line_words ps) (Some r) t u other ≡ cond.Cmp r (worth.value certain (line_words ps) t) (worth.value certain (line_words ps) u)
+  related-means : (r : Rel) (x : ExprTree) (t u : Nested) (other : Cond) → IsExprForm names ps x t → meant.related certain (line_words ps) (Some r) t u other ≡ cond.Cmp r (expr_tree (worth.value certain (line_words ps) t)) (expr_tree (worth.value certain (line_words ps) u))
   related-means Lt x t u other k = refl
   related-means Le x t u other k = refl
   related-means Eq x t u other k = equality-numbers x t u k
@@ -184,7 +185,7 @@ module _ (names : Table) (count : ℕ) where
     condition-means ps apart _ _ known heads (comparison_form _ r x y l t u m j k) =
         let plain : head_of l.mark ≡ Plain = rw m (head_of-rel r) in
         let sign : rel_of l.mark ≡ Some r = rw m (rel_of-rel r) in
-        rw (plain, sign, related-means names count ps apart r x t u (cond.Holds (lifted ps l (more t (more u none)))) j, value-means names count ps apart x t known.0 heads.0 j, value-means names count ps apart y u known.1 heads.1 k) refl
+        rw (plain, sign, related-means names count ps apart r x t u (cond.Holds (lifted ps l (more t (more u none)))) j, value-means names count ps apart x t known.0 heads.0 j, value-means names count ps apart y u known.1 heads.1 k, expr_tree-untree x, expr_tree-untree y) refl
 
     conditions-mean : (ps : List Param) → AreApart (λ p. p.name) ps → (cs : CondTrees) (ts : Nesteds) → AreCondsOf count ps cs → HaveGoalHeads names ps cs → AreCondForms names ps cs ts → each line_scopes ps ts ≡ list_of cs
     conditions-mean ps apart _ _ known heads (no_forms _) = refl

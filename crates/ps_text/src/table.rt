@@ -135,6 +135,10 @@ struct Texts {
     hints: Hints,
 }
 
+/// The most names of a table that may grow, since numbers of names have 32 bits. So many take over 100 GB of memory; a table that has more
+/// has no room for another.
+const MOST_NAMES: usize = 4_294_967_295;
+
 /// The names, each with the number of its place. Texts that differ only in the case of letters are one name, and `object` is 0.
 #[derive(Drop)]
 pub struct Names {
@@ -191,16 +195,19 @@ impl Names {
         ensures within { IfOk result (λ n. n.0 < length self.new) }
         ensures err { OnErr result (self.new ≡ self.old) }
     {
+        if self.texts.set.len() > MOST_NAMES {
+            return Err(AllocError);
+        }
         // The texts here are in lower case, so that a text that is found needs no folding.
         if let Some(place) = self.texts.set.get_index_of(text) {
-            return Ok(Name(place as u64));
+            return Ok(Name(place as u32));
         }
         let folded = lower_case(*self.texts.set.allocator(), text)?;
         let (place, _) = self.texts.set.insert_full(folded)?;
-        Ok(Name(place as u64))
+        Ok(Name(place as u32))
     }
 
-    /// The name that this text is, put at the end of the table if it is new. The only error is out of memory, which changes nothing.
+    /// The name that this text is, put at the end of the table if it is new. The only error is that there is no room, which changes nothing.
     pub fn intern_name(&mut self, text: &[u8]) -> Result<Name, AllocError>
         requires { is_name text.now ≡ true }
         ensures ok { IfOk result (λ n. n.0 ≡ place_of self.old (folded text.now)) }

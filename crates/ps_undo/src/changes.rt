@@ -5,11 +5,11 @@ ghost use Rattle.ps_world.specs.Knowledge.{is_among};
 ghost use Rattle.ps_undo.specs.Changes.{change_of, goal_left, kinds_at, known_at, leading_back, no_change, values_at, was_goal};
 
 use ps_problem::{Change, Problem};
-use ps_world::{Cond, Duplicate, Edit, Fact, Name, Num, Seq};
+use ps_world::{Duplicate, Edit, Fact, Goal, Name, Num, Seq};
 use std::alloc::{AllocError, Global};
 
 /// The change that changes nothing but perhaps the goal.
-fn with_goal(alloc: Global, goal: Option<Option<Cond>>) -> Change
+fn with_goal(alloc: Global, goal: Option<Option<Goal>>) -> Change
     ensures { result ≡ record no_change { goal = goal } }
 {
     Change {
@@ -42,7 +42,7 @@ fn push_terms(problem: &Problem, name: Name, out: &mut Seq<Fact>) -> Result<(), 
 }
 
 /// What becomes of the goal where an instance goes: it is removed if it names the instance.
-fn goal_left(problem: &Problem, name: Name) -> Option<Option<Cond>>
+fn goal_left(problem: &Problem, name: Name) -> Option<Option<Goal>>
     ensures { result ≡ goal_left name problem.now.goal }
 {
     match problem.goal() {
@@ -52,7 +52,7 @@ fn goal_left(problem: &Problem, name: Name) -> Option<Option<Cond>>
 }
 
 /// What becomes of the goal by an edit.
-fn goal_after(problem: &Problem, edit: &Edit) -> Result<Option<Option<Cond>>, AllocError>
+fn goal_after(problem: &Problem, edit: &Edit) -> Result<Option<Option<Goal>>, AllocError>
     ensures { IfOk result (λ goal. goal ≡ (change_of problem.now edit.now).goal) }
 {
     match edit {
@@ -179,16 +179,14 @@ fn push_values(
 }
 
 /// The goal, where a change sets or removes it.
-fn was_goal(problem: &Problem, change: &Change) -> Result<Option<Option<Cond>>, AllocError>
+fn was_goal(problem: &Problem, change: &Change) -> Result<Option<Option<Goal>>, AllocError>
     ensures { IfOk result (λ goal. goal ≡ was_goal change.now.goal problem.now.goal) }
 {
     if change.goal.is_none() {
         return Ok(None);
     }
-    match problem.goal() {
-        None => Ok(Some(None)),
-        Some(goal) => Ok(Some(Some(goal.copy(problem.allocator())?))),
-    }
+    let goal = problem.copied_goal()?;
+    Ok(Some(goal))
 }
 
 /// Writes which instances go on the way back, and which come.

@@ -30,7 +30,7 @@ pub trait Part: Copy + Ord {
 fn push_name(name: Name, names: &Names, out: &mut Vec<u8>) -> Result<(), AllocError>
     ensures { OnOk result (out.new.items ≡ out.old.items ++ name_text names.now name) }
 {
-    if name.0 < names.len() as u64 {
+    if (name.0 as usize) < names.len() {
         out.extend_from_slice(names.text(name))?;
     }
     Ok(())

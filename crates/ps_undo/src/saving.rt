@@ -97,8 +97,8 @@ fn new_instances(
 fn push_goal(problem: &Problem, edits: &mut Vec<Edit>) -> Result<(), AllocError>
     ensures { OnOk result (edits.new.items ≡ edits.old.items ++ set_goal problem.now.goal) }
 {
-    if let Some(goal) = problem.goal() {
-        edits.push(Edit::SetGoal(goal.copy(problem.allocator())?))?;
+    if let Some(goal) = problem.copied_goal()? {
+        edits.push(Edit::SetGoal(goal))?;
     }
     Ok(())
 }

@@ -26,10 +26,7 @@ cond_tree_one (Not c) (Not d) e = cc
 cond_tree_one (Imply a b) (Imply c d) e = cc
 cond_tree_one (Holds l) (Holds m) e = cc
 cond_tree_one (Same s t) (Same u v) e = cc
-cond_tree_one (Cmp r a b) (Cmp q c d) e =
-    let left : a ≡ c = expr_tree_one a c (cc) in
-    let right : b ≡ d = expr_tree_one b d (cc) in
-    cc
+cond_tree_one (Cmp r a b) (Cmp q c d) e = cc
 cond_tree_one (IsA t k) (IsA u l) e = cc
 cond_tree_one (ForSome ps c) (ForSome qs d) e = cc
 cond_tree_one (ForAll ps c) (ForAll qs d) e = cc

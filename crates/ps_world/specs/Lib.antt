@@ -17,6 +17,7 @@ pub mod Leaves
 pub mod Lines
 pub mod Names
 pub mod Numbers
+pub mod Packed
 pub mod Same
 pub mod ShortLists
 pub mod Tables

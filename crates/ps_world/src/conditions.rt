@@ -6,10 +6,11 @@ ghost use Rattle.ps_world.specs.Trees.{cond_tree_code, conds_code};
 ghost use Rattle.ps_world.specs.CondViews.{cond_tree};
 
 use super::domains::{Param, Params};
-use super::expressions::Expr;
+use super::expressions::BoxedExpr;
 use super::lists::Duplicate;
 use super::names::Name;
-use super::schemas::{Lifted, Term};
+use super::packed::PackedLifted;
+use super::schemas::Term;
 use std::alloc::{AllocError, Global};
 use std::marker::Model;
 
@@ -35,11 +36,11 @@ pub enum Cond {
     /// The second, where the first holds.
     Imply(BoxedCond, BoxedCond),
     /// The fact is known.
-    Holds(Lifted),
+    Holds(PackedLifted),
     /// Both are the same.
     Same(Term, Term),
     /// The numbers compare so.
-    Cmp(Rel, Expr, Expr),
+    Cmp(Rel, BoxedExpr, BoxedExpr),
     /// The instance has this type or one below it.
     IsA(Term, Name),
     /// Some choice of instances that fit these variables makes it true. In it they are numbered after the variables outside.
@@ -178,7 +179,7 @@ fn copy_cond(alloc: Global, cond: &Cond) -> Result<Cond, AllocError>
             let other = copy_boxed_cond(alloc, other)?;
             Ok(Cond::Imply(one, other))
         }
-        Cond::Holds(lifted) => Ok(Cond::Holds(*lifted)),
+        Cond::Holds(lifted) => Ok(Cond::Holds(lifted.copy(alloc)?)),
         Cond::Same(one, other) => Ok(Cond::Same(*one, *other)),
         Cond::Cmp(rel, left, right) => {
             let left = left.copy(alloc)?;
@@ -260,7 +261,7 @@ fn is_same_cond(a: &Cond, b: &Cond) -> bool
         (Cond::Imply(one, other), Cond::Imply(one_b, other_b)) => {
             is_same_boxed_cond(one, one_b) && is_same_boxed_cond(other, other_b)
         }
-        (Cond::Holds(a), Cond::Holds(b)) => a == b,
+        (Cond::Holds(a), Cond::Holds(b)) => a.get() == b.get(),
         (Cond::Same(one, other), Cond::Same(one_b, other_b)) => one == one_b && other == other_b,
         (Cond::Cmp(rel, left, right), Cond::Cmp(rel_b, left_b, right_b)) => {
             rel == rel_b && left == left_b && right == right_b

@@ -2,6 +2,7 @@
 
 use super::conditions::Cond;
 use super::facts::Fact;
+use super::goals::Goal;
 use super::lists::Duplicate;
 use super::names::Name;
 use super::numbers::Num;
@@ -19,7 +20,7 @@ pub enum Edit {
     /// A function at its arguments, and its value.
     SetValue(Fact, Num),
     RemoveValue(Fact),
-    SetGoal(Cond),
+    SetGoal(Goal),
     RemoveGoal,
 }
 

@@ -9,7 +9,7 @@ use std::marker::Model;
 
 /// A name, by its number in the table of names. The type `object` is 0.
 #[derive(Clone, Copy, PartialEq, Eq, PartialOrd, Ord, Hash, Debug)]
-pub struct Name(pub u64);
+pub struct Name(pub u32);
 
 impl Name {
     /// The type above all others.

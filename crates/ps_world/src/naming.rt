@@ -85,9 +85,9 @@ fn is_in_cond(name: Name, cond: &Cond) -> bool
         Cond::And(parts) | Cond::Or(parts) => is_in_conds(name, parts),
         Cond::Not(inner) => is_in_boxed_cond(name, inner),
         Cond::Imply(one, other) => is_in_boxed_cond(name, one) || is_in_boxed_cond(name, other),
-        Cond::Holds(lifted) => lifted.terms.contains(name),
+        Cond::Holds(lifted) => lifted.get().terms.contains(name),
         Cond::Same(one, other) => one.names(name) || other.names(name),
-        Cond::Cmp(_, left, right) => left.names(name) || right.names(name),
+        Cond::Cmp(_, left, right) => left.get().names(name) || right.get().names(name),
         Cond::IsA(term, _) => term.names(name),
         Cond::ForSome(_, inner) | Cond::ForAll(_, inner) => is_in_boxed_cond(name, inner),
     }

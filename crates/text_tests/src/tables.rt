@@ -56,13 +56,13 @@ pub fn lexemes_in(alloc: Global, text: &str) -> Result<Vec<Lexeme>, Failure<LexR
 fn numbered(alloc: Global, bytes: &[u8]) -> Result<Vec<Lexeme>, Failure<LexRefusal>> {
     let found = tokens(alloc, bytes)?;
     let mut names = Names::new(alloc)?;
-    Ok(lexemes_of(alloc, &mut names, bytes, &found)?)
+    Ok(lexemes_of(alloc, &mut names, bytes, found)?)
 }
 
 /// Adds the names of a table, each after a space.
 pub fn push_names(told: &mut String, names: &Names) -> Result<(), AllocError> {
-    for i in 0..names.len() {
-        let text = names.text(Name(i as u64));
+    for i in 0..u32::try_from(names.len()).unwrap_or(0) {
+        let text = names.text(Name(i));
         write!(told, " {}", str::from_utf8(text).unwrap_or("no text"))?;
     }
     Ok(())

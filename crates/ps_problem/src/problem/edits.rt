@@ -6,7 +6,7 @@ ghost use Rattle.ps_world.specs.declared.edits.Edit.TheVariants.{AddInstance, Re
 use super::Problem;
 use ps_action::{cond_fault, fact_fault, value_fault};
 use ps_domain::Expert;
-use ps_world::{Cond, Duplicate, EditRefusal, Fact, Failure, MOST_INSTANCES, Name, Num};
+use ps_world::{Duplicate, EditRefusal, Fact, Failure, Goal, MOST_INSTANCES, Name, Num};
 
 impl Problem {
     pub(crate) fn add_instance(
@@ -114,11 +114,11 @@ impl Problem {
     pub(crate) fn set_goal(
         &mut self,
         expert: &Expert,
-        goal: &Cond,
+        goal: &Goal,
     ) -> Result<bool, Failure<EditRefusal>>
         ensures { Edits expert.now (SetGoal goal.now) self.old result self.new }
     {
-        if let Some(fault) = cond_fault(&*self, expert, goal) {
+        if let Some(fault) = cond_fault(&*self, expert, goal.get()) {
             return Err(Failure::Refused(fault));
         }
         if self.has_goal(goal) {
@@ -139,7 +139,7 @@ impl Problem {
     }
 
     /// Whether this is the goal.
-    fn has_goal(&self, goal: &Cond) -> bool
+    fn has_goal(&self, goal: &Goal) -> bool
         ensures { IsTrue result ↔ (self.now.goal ≡ Some goal.now) }
     {
         match &self.goal {

@@ -16,7 +16,7 @@ use std::alloc::{AllocError, Global};
 use std::marker::Model;
 
 /// The most names whose types stand in a list by their numbers.
-const MOST_KINDS: u64 = 4_096;
+const MOST_KINDS: u32 = 4_096;
 
 /// The instances with their types, in the order of their names. Contracts see their list.
 #[derive(Drop)]
@@ -252,7 +252,7 @@ fn list_kinds(
         return Ok(());
     }
     for at in kinds.len()..name.0 as usize + 1 {
-        kinds.push(kind_of(all, Name(at as u64)))?;
+        kinds.push(kind_of(all, Name(at as u32)))?;
     }
     Ok(())
 }

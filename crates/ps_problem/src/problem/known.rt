@@ -49,7 +49,10 @@ impl Problem {
     pub fn goal(&self) -> Option<&Cond>
         ensures { option_copied result ≡ self.now.goal }
     {
-        self.goal.as_ref()
+        match &self.goal {
+            None => None,
+            Some(goal) => Some(goal.get()),
+        }
     }
 
     /// The instances with their types, in the order of their names.

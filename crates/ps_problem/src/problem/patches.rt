@@ -5,7 +5,7 @@ ghost use Rattle.ps_problem.specs.Patches.{changed, instances_after};
 use super::Problem;
 use super::instances::Instances;
 use crate::change::Change;
-use ps_world::{Cond, Duplicate};
+use ps_world::{Duplicate, Goal};
 use std::alloc::{AllocError, Global};
 
 impl Problem {
@@ -56,7 +56,7 @@ impl Problem {
     }
 
     /// Takes this goal in place of its own, if it is told one or that there is none, and answers whether it is another.
-    fn take_goal(&mut self, next: Option<Option<Cond>>) -> bool
+    fn take_goal(&mut self, next: Option<Option<Goal>>) -> bool
         ensures new { self.new ≡ record self.old { goal = unwrap_or next self.old.goal } }
         ensures changed { IsTrue result ↔ (self.new ≢ self.old) }
     {
@@ -72,7 +72,7 @@ impl Problem {
 }
 
 /// An equal goal.
-fn copied(alloc: Global, goal: &Option<Option<Cond>>) -> Result<Option<Option<Cond>>, AllocError>
+fn copied(alloc: Global, goal: &Option<Option<Goal>>) -> Result<Option<Option<Goal>>, AllocError>
     ensures { IfOk result (λ copy. copy ≡ goal.now) }
 {
     match goal {
@@ -83,7 +83,7 @@ fn copied(alloc: Global, goal: &Option<Option<Cond>>) -> Result<Option<Option<Co
 }
 
 /// Whether two goals are the same.
-fn is_same(one: &Option<Cond>, other: &Option<Cond>) -> bool
+fn is_same(one: &Option<Goal>, other: &Option<Goal>) -> bool
     ensures { IsTrue result ↔ (one.now ≡ other.now) }
 {
     match (one, other) {

@@ -46,7 +46,7 @@ impl Problem {
     {
         let named = match &self.goal {
             None => false,
-            Some(goal) => goal.names(name),
+            Some(goal) => goal.get().names(name),
         };
         if named {
             self.goal = None;

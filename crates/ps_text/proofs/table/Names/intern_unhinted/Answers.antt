@@ -6,16 +6,16 @@ use Rattle.ps_text.proofs.table.Names.intern_unhinted.Goals as goal
 
 pub returns-in-Some-clause-ok : goal.returns-in-Some-clause-ok
 returns-in-Some-clause-ok c =
-    let names = subst (λ s. AreNames (map (λ v. v.items) s.set.keys)) (sym c.deref.ensures) c.self.invariant in
-    place_of-seen (λ v. v.items) c.deref.result.now.set.keys c.args.text.now c.in-Some.place names (sym c.in-Some.ensures.index)
-    ∙ ap (λ s. place_of (map (λ v. v.items) s.set.keys) (folded c.args.text.now)) c.deref.ensures
+    let names = subst (λ s. AreNames (map (λ v. v.items) s.set.keys)) (sym c.deref-2.ensures) c.self.invariant in
+    place_of-seen (λ v. v.items) c.deref-2.result.now.set.keys c.args.text.now c.in-Some.place names (sym c.in-Some.ensures.index)
+    ∙ ap (λ s. place_of (map (λ v. v.items) s.set.keys) (folded c.args.text.now)) c.deref-2.ensures
     ∙ ap (λ t. place_of t (folded c.args.text.now)) c.self.view_is
 
 pub returns-in-Some-clause-table : goal.returns-in-Some-clause-table
 returns-in-Some-clause-table c =
-    let names = subst (λ s. AreNames (map (λ v. v.items) s.set.keys)) (sym c.deref.ensures) c.self.invariant in
-    let same = interned-seen (λ v. v.items) c.deref.result.now.set.keys c.args.text.now c.in-Some.place names (sym c.in-Some.ensures.index) in
-    subst (λ t. t ≡ interned t (folded c.args.text.now)) (ap (λ s. map (λ v. v.items) s.set.keys) c.deref.ensures ∙ c.self.view_is) same
+    let names = subst (λ s. AreNames (map (λ v. v.items) s.set.keys)) (sym c.deref-2.ensures) c.self.invariant in
+    let same = interned-seen (λ v. v.items) c.deref-2.result.now.set.keys c.args.text.now c.in-Some.place names (sym c.in-Some.ensures.index) in
+    subst (λ t. t ≡ interned t (folded c.args.text.now)) (ap (λ s. map (λ v. v.items) s.set.keys) c.deref-2.ensures ∙ c.self.view_is) same
 
 pub returns-clause-ok : goal.returns-clause-ok
 returns-clause-ok c =
